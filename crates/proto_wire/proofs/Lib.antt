@@ -1,0 +1,5 @@
+pub mod Steps
+pub mod Numbers
+pub mod Fields
+pub mod Fronts
+pub mod Texts

@@ -1,0 +1,4 @@
+pub mod Varint
+pub mod Field
+pub mod Reading
+pub mod Writing

@@ -1,0 +1,34 @@
+//! Laws of the definitions that every reader and writer here is proved against.
+
+ghost use Rattle.std.specs.Prelude.{◌≡◌, ℕ, ◌<◌, ◌≤◌, ◌^◌, List, length, Ok};
+ghost use Rattle.std.specs.List.{AllByRecursion};
+ghost use Rattle.proto_wire.specs.Varint.{IsVarint, varint_text};
+ghost use Rattle.proto_wire.specs.Field.{Field, BeginsWith, IsFields, FitsField, fields_text};
+ghost use Rattle.proto_wire.specs.Reading.{IsBytes, field_read};
+
+/// A text is a list of fields in at most one way.
+pub fn fields_are_one()
+    ensures { (text : List ℕ) (fs gs : List Field) → IsFields text fs → IsFields text gs → fs ≡ gs }
+{}
+
+/// At most one field stands at the front of a text, so no field's spelling begins another's.
+pub fn front_field_is_one()
+    ensures { (text : List ℕ) (f g : Field) (x y : List ℕ) → BeginsWith text f x → BeginsWith text g y → (f ≡ g) × (x ≡ y) }
+{}
+
+/// What is written for fields that have a spelling is a spelling of them.
+pub fn canonical_fields_are_fields()
+    ensures { (fields : List Field) → AllByRecursion FitsField fields → IsFields (fields_text fields) fields }
+{}
+
+/// What is written for a number of 64 bits spells it, and no spelling is shorter.
+pub fn canonical_varint_is_shortest()
+    ensures spells { (n : ℕ) → n < 2 ^ 64 → IsVarint (varint_text n) n }
+    ensures shortest { (bytes : List ℕ) (n : ℕ) → IsVarint bytes n → length (varint_text n) ≤ length bytes }
+{}
+
+/// Reading a text of bytes from left to right finds a field at its front exactly where one is spelled there.
+pub fn reading_is_spelling()
+    ensures read { (text : List ℕ) (f : Field) (rest : List ℕ) → IsBytes text → field_read text ≡ Ok (f, rest) → BeginsWith text f rest }
+    ensures spelled { (text : List ℕ) (f : Field) (rest : List ℕ) → BeginsWith text f rest → field_read text ≡ Ok (f, rest) }
+{}

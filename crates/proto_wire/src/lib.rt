@@ -1,0 +1,23 @@
+//! The wire format under everything else: protobuf fields and length-prefixed frames, read from bytes that
+//! nobody has checked and written in one spelling each.
+//!
+//! What a text spells is defined in `specs/`, apart from how it is read: `Varint` and `Field` after Protocol
+//! Buffers, "Encoding"; `Frame` after gRPC's length-prefixed messages. A call that reads is `Ok` exactly where the
+//! text begins with such a spelling, memory and failed reads apart, and a fault is told only where it stands. A call
+//! that writes appends exactly the one canonical spelling, and leaves its vector as it was where memory is refused.
+#![tactic(auto)]
+
+mod fault;
+mod field;
+mod laws;
+mod varint;
+mod writing;
+
+pub use fault::{FrameFault, WireFault};
+pub use field::{Content, MAX_FIELD_NUMBER, Part, read_fields, split_field};
+pub use laws::{
+    canonical_fields_are_fields, canonical_varint_is_shortest, fields_are_one, front_field_is_one,
+    reading_is_spelling,
+};
+pub use varint::MAX_VARINT_BYTES;
+pub use writing::{write_bytes, write_present_bytes, write_present_varint, write_varint};

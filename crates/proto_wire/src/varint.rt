@@ -1,0 +1,43 @@
+//! Numbers of 64 bits at the front of a text (Protocol Buffers, "Base 128 Varints").
+
+ghost use Rattle.std.specs.Prelude.{◌≡◌, ℕ, ◌<◌, ◌≤◌, List, length, IfOk};
+ghost use Rattle.proto_wire.specs.Reading.{Gives, number_at, varint_at};
+
+use crate::fault::WireFault;
+
+/// The most bytes of a varint: ten hold 64 bits.
+pub const MAX_VARINT_BYTES: usize = 10;
+
+/// What follows a byte has at most 57 bits, so that both fit in 64.
+const HIGH_LIMIT: u64 = 1 << 57;
+
+#[tactic(auto, unfolding(crate::specs::Reading::number_at, crate::specs::Reading::joined))]
+fn number_within(text: &[u8], most: usize) -> Result<(u64, &[u8]), WireFault>
+    ensures { Gives (λ x. (x.0, x.1.now)) result (number_at most text.now) }
+{
+    match text {
+        [] if most == 0 => Err(WireFault::BadVarint),
+        [] => Err(WireFault::CutShort),
+        [first, rest @ ..] => {
+            if most == 0 {
+                return Err(WireFault::BadVarint);
+            }
+            if *first < 128 {
+                return Ok((u64::from(*first), rest));
+            }
+            let (high, rest) = number_within(rest, most - 1)?;
+            if high >= HIGH_LIMIT {
+                return Err(WireFault::BadVarint);
+            }
+            Ok((high * 128 + u64::from(*first - 128), rest))
+        }
+    }
+}
+
+/// The number at the front of the text, and the text after it.
+#[tactic(auto, unfolding(crate::specs::Reading::varint_at))]
+pub(crate) fn split_varint(text: &[u8]) -> Result<(u64, &[u8]), WireFault>
+    ensures { Gives (λ x. (x.0, x.1.now)) result (varint_at text.now) }
+{
+    number_within(text, MAX_VARINT_BYTES)
+}

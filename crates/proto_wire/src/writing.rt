@@ -1,0 +1,102 @@
+//! Fields written at the end of a vector, each in its one canonical spelling (Protocol Buffers, "Encoding").
+
+ghost use Rattle.std.specs.Prelude.{◌≡◌, ◌+◌, ◌*◌, ◌≤◌, ◌<◌, ◌^◌, ◌++◌, ◌∷◌, [], length, OnOk, OnErr};
+ghost use Rattle.proto_wire.specs.Varint.{varint_text};
+ghost use Rattle.proto_wire.specs.Field.{Varint, Bytes, IsFieldNumber, field_text, fields_text, present};
+ghost use Rattle.proto_wire.specs.Writing.{Grows};
+
+use std::alloc::AllocError;
+
+/// Protocol Buffers' wire types of a number and of bytes behind their length.
+const VARINT: u64 = 0;
+
+const LENGTH_DELIMITED: u64 = 2;
+
+#[tactic(auto, using(crate::proofs::Texts::texts))]
+fn append_number(out: &mut Vec<u8>, number: u64) -> Result<(), AllocError>
+    ensures ok { OnOk result (out.new.items ≡ out.old.items ++ varint_text number) }
+    ensures err { Grows out.old.items out.new.items }
+{
+    let mut left = number;
+    while left >= 128 {
+        out.push((left % 128) as u8 + 128)?;
+        left /= 128;
+    }
+    out.push(left as u8)?;
+    Ok(())
+}
+
+fn append_varint(out: &mut Vec<u8>, number: u32, value: u64) -> Result<(), AllocError>
+    ensures ok { OnOk result (out.new.items ≡ out.old.items ++ field_text (record { number = number; held = Varint value })) }
+    ensures err { Grows out.old.items out.new.items }
+{
+    let key = 8 * u64::from(number) + VARINT;
+    append_number(out, key)?;
+    append_number(out, value)?;
+    Ok(())
+}
+
+fn append_bytes(out: &mut Vec<u8>, number: u32, bytes: &[u8]) -> Result<(), AllocError>
+    ensures ok { OnOk result (out.new.items ≡ out.old.items ++ field_text (record { number = number; held = Bytes bytes.now })) }
+    ensures err { Grows out.old.items out.new.items }
+{
+    let key = 8 * u64::from(number) + LENGTH_DELIMITED;
+    append_number(out, key)?;
+    append_number(out, bytes.len() as u64)?;
+    out.extend_from_slice(bytes)?;
+    Ok(())
+}
+
+/// Appends a field with a number of 64 bits, wire type 0. A refused one leaves the vector as it was.
+pub fn write_varint(out: &mut Vec<u8>, number: u32, value: u64) -> Result<(), AllocError>
+    requires { IsFieldNumber number }
+    ensures ok { OnOk result (out.new.items ≡ out.old.items ++ field_text (record { number = number; held = Varint value })) }
+    ensures err { OnErr result (out.new.items ≡ out.old.items) }
+{
+    let start = out.len();
+    let result = append_varint(out, number, value);
+    if result.is_err() {
+        out.truncate(start);
+    }
+    result
+}
+
+/// Appends a field with bytes behind their length, wire type 2. A refused one leaves the vector as it was.
+pub fn write_bytes(out: &mut Vec<u8>, number: u32, bytes: &[u8]) -> Result<(), AllocError>
+    requires { IsFieldNumber number }
+    ensures ok { OnOk result (out.new.items ≡ out.old.items ++ field_text (record { number = number; held = Bytes bytes.now })) }
+    ensures err { OnErr result (out.new.items ≡ out.old.items) }
+{
+    let start = out.len();
+    let result = append_bytes(out, number, bytes);
+    if result.is_err() {
+        out.truncate(start);
+    }
+    result
+}
+
+/// Appends what [`write_varint`] does, and nothing for a 0, which an absent field means.
+pub fn write_present_varint(out: &mut Vec<u8>, number: u32, value: u64) -> Result<(), AllocError>
+    requires { IsFieldNumber number }
+    ensures ok { OnOk result (out.new.items
+        ≡ out.old.items ++ fields_text (present (record { number = number; held = Varint value } ∷ []))) }
+    ensures err { OnErr result (out.new.items ≡ out.old.items) }
+{
+    if value == 0 {
+        return Ok(());
+    }
+    write_varint(out, number, value)
+}
+
+/// Appends what [`write_bytes`] does, and nothing for no bytes, which an absent field means.
+pub fn write_present_bytes(out: &mut Vec<u8>, number: u32, bytes: &[u8]) -> Result<(), AllocError>
+    requires { IsFieldNumber number }
+    ensures ok { OnOk result (out.new.items
+        ≡ out.old.items ++ fields_text (present (record { number = number; held = Bytes bytes.now } ∷ []))) }
+    ensures err { OnErr result (out.new.items ≡ out.old.items) }
+{
+    if bytes.is_empty() {
+        return Ok(());
+    }
+    write_bytes(out, number, bytes)
+}
