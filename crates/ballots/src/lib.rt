@@ -1,0 +1,17 @@
+//! Ballots, slots, values and the messages of Paxos (Lamport, *Paxos Made Simple*, 2001), with their bytes.
+//!
+//! The nodes agree on one list of uploads, one decision for each slot. A ballot is a round and the node that began it,
+//! and ballots are ordered by round, then by node. What a message's bytes mean is defined in `specs/`, as a relation
+//! between a message and a list of protobuf fields; `decode` is `Ok` exactly where the bytes mean a message, memory
+//! apart, and `encode` appends the one canonical spelling.
+#![tactic(auto)]
+
+mod ballot;
+mod node;
+mod slot;
+mod value;
+
+pub use ballot::{Ballot, MAX_ROUND};
+pub use node::{MAX_NODE, NodeId};
+pub use slot::{MAX_SLOT, Slot};
+pub use value::{MAX_UPLOAD_BYTES, OutOfMemory, UploadBytes, Value};
