@@ -3,3 +3,4 @@ pub mod Numbers
 pub mod Fields
 pub mod Fronts
 pub mod Texts
+pub mod Meanings

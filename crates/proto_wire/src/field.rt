@@ -3,6 +3,8 @@
 ghost use Rattle.std.specs.Prelude.{◌≡◌, ◌<◌, ◌++◌, ◌∷◌, [], List, ℕ, length, IfOk, IfErr, OnOk, IsOkAnd};
 ghost use Rattle.proto_wire.specs.declared.fault.WireFault.TheVariants.{OutOfMemory};
 ghost use Rattle.proto_wire.specs.Field.{Field, BeginsWith, FieldFault, IsFields, IsFaultOf, IsUnlessRefused, fields_of, held_of, held_at, field_at};
+ghost use Rattle.std.specs.Option.{option_map};
+ghost use Rattle.proto_wire.specs.Meaning.{number_in, bytes_in};
 ghost use Rattle.proto_wire.specs.Reading.{Gives, held_read, bytes_at, number_of_key, field_read};
 
 use crate::fault::WireFault;
@@ -134,7 +136,27 @@ pub fn split_field(text: &[u8]) -> Result<(u32, Part<'_>, &[u8]), WireFault>
     split_front(text)
 }
 
-impl Part<'_> {
+impl<'a> Part<'a> {
+    /// The number of a varint, `None` of another wire type.
+    pub fn number(&self) -> Option<u64>
+        ensures { result ≡ number_in (held_at self.now) }
+    {
+        match self {
+            Part::Varint(number) => Some(*number),
+            _ => None,
+        }
+    }
+
+    /// The bytes behind a length, still in the text, `None` of another wire type.
+    pub fn bytes(&self) -> Option<&'a [u8]>
+        ensures { option_map (λ bytes. bytes.now) result ≡ bytes_in (held_at self.now) }
+    {
+        match self {
+            Part::Bytes(bytes) => Some(*bytes),
+            _ => None,
+        }
+    }
+
     /// The same content with its bytes copied out of the text.
     pub fn to_content(&self, alloc: Global) -> Result<Content, AllocError>
         ensures { IfOk result (λ content. held_of content ≡ held_at self.now) }

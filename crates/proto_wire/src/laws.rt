@@ -1,9 +1,10 @@
 //! Laws of the definitions that every reader and writer here is proved against.
 
-ghost use Rattle.std.specs.Prelude.{◌≡◌, ℕ, ◌<◌, ◌≤◌, ◌^◌, List, length, Ok};
+ghost use Rattle.std.specs.Prelude.{◌≡◌, ℕ, ◌<◌, ◌≤◌, ◌^◌, ◌==◌, if◌then◌else◌, true, List, [], ◌∷◌, ◌++◌, length, Ok};
 ghost use Rattle.std.specs.List.{AllByRecursion};
 ghost use Rattle.proto_wire.specs.Varint.{IsVarint, varint_text};
-ghost use Rattle.proto_wire.specs.Field.{Field, BeginsWith, IsFields, FitsField, fields_text};
+ghost use Rattle.proto_wire.specs.Field.{Field, BeginsWith, IsFields, FitsField, fields_text, present};
+ghost use Rattle.proto_wire.specs.Meaning.{number_in, bytes_in, all_hold, things_of, number_meant, bytes_meant, after};
 ghost use Rattle.proto_wire.specs.Reading.{IsBytes, field_read};
 
 /// A text is a list of fields in at most one way.
@@ -31,4 +32,21 @@ pub fn canonical_varint_is_shortest()
 pub fn reading_is_spelling()
     ensures read { (text : List ℕ) (f : Field) (rest : List ℕ) → IsBytes text → field_read text ≡ Ok (f, rest) → BeginsWith text f rest }
     ensures spelled { (text : List ℕ) (f : Field) (rest : List ℕ) → BeginsWith text f rest → field_read text ≡ Ok (f, rest) }
+{}
+
+/// One field more of a number decides what the number's fields mean, and every other number means what it did
+/// (Protocol Buffers, "Last One Wins").
+pub fn last_one_wins()
+    ensures number { (n : ℕ) (fields : List Field) (f : Field) → number_meant n (fields ++ f ∷ [])
+        ≡ (if f.number == n then after (number_meant n fields) (number_in f.held) else number_meant n fields) }
+    ensures bytes { (n : ℕ) (fields : List Field) (f : Field) → bytes_meant n (fields ++ f ∷ [])
+        ≡ (if f.number == n then after (bytes_meant n fields) (bytes_in f.held) else bytes_meant n fields) }
+{}
+
+/// Fields that hold their default may be left out: what is written means the same, where at most one field has a number.
+pub fn defaults_are_left_out()
+    ensures number { (n : ℕ) (fields : List Field) → all_hold number_in n fields ≡ true → length (things_of number_in n fields) ≤ 1
+        → number_meant n (present fields) ≡ number_meant n fields }
+    ensures bytes { (n : ℕ) (fields : List Field) → all_hold bytes_in n fields ≡ true → length (things_of bytes_in n fields) ≤ 1
+        → bytes_meant n (present fields) ≡ bytes_meant n fields }
 {}

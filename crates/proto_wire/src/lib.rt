@@ -16,8 +16,8 @@ mod writing;
 pub use fault::{FrameFault, WireFault};
 pub use field::{Content, MAX_FIELD_NUMBER, Part, read_fields, split_field};
 pub use laws::{
-    canonical_fields_are_fields, canonical_varint_is_shortest, fields_are_one, front_field_is_one,
-    reading_is_spelling,
+    canonical_fields_are_fields, canonical_varint_is_shortest, defaults_are_left_out,
+    fields_are_one, front_field_is_one, last_one_wins, reading_is_spelling,
 };
 pub use varint::MAX_VARINT_BYTES;
 pub use writing::{write_bytes, write_present_bytes, write_present_varint, write_varint};
