@@ -1,2 +1,5 @@
 pub mod Ballot
 pub mod Value
+pub mod Message
+pub mod MessageReading
+pub mod Parts

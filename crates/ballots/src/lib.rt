@@ -7,11 +7,17 @@
 #![tactic(auto)]
 
 mod ballot;
+mod decoding;
+mod fault;
+mod message;
 mod node;
+mod parts;
 mod slot;
 mod value;
 
 pub use ballot::{Ballot, MAX_ROUND};
+pub use fault::MessageFault;
+pub use message::Message;
 pub use node::{MAX_NODE, NodeId};
 pub use slot::{MAX_SLOT, Slot};
 pub use value::{MAX_UPLOAD_BYTES, OutOfMemory, UploadBytes, Value};

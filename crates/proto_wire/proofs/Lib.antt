@@ -4,3 +4,6 @@ pub mod Fields
 pub mod Fronts
 pub mod Texts
 pub mod Meanings
+pub mod Transfers
+pub mod FrameTexts
+pub mod FrameParts

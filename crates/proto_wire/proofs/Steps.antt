@@ -16,12 +16,12 @@ IsBytes-right [] bytes h = h
 IsBytes-right (b ∷ front) bytes h = IsBytes-right front bytes (IsBytes-rest b (front ++ bytes) h)
 
 -- the value of a step that went well
-pub bind_ok : {A B : Type 0} (r : Result A WireFault) (f : A → Result B WireFault) (y : B) → (r >>= f) ≡ Ok y → (x : A) × (r ≡ Ok x) × (f x ≡ Ok y)
+pub bind_ok : {E A B : Type 0} (r : Result A E) (f : A → Result B E) (y : B) → (r >>= f) ≡ Ok y → (x : A) × (r ≡ Ok x) × (f x ≡ Ok y)
 bind_ok (Ok x) f y e = (x, refl, e)
 bind_ok (Err d) f y e = absurd cc
 
 -- a step that failed, or the next one
-pub bind_err : {A B : Type 0} (r : Result A WireFault) (f : A → Result B WireFault) (d : WireFault) → (r >>= f) ≡ Err d → (r ≡ Err d) ⊎ ((x : A) × (r ≡ Ok x) × (f x ≡ Err d))
+pub bind_err : {E A B : Type 0} (r : Result A E) (f : A → Result B E) (d : E) → (r >>= f) ≡ Err d → (r ≡ Err d) ⊎ ((x : A) × (r ≡ Ok x) × (f x ≡ Err d))
 bind_err (Ok x) f d e = inr (x, refl, e)
 bind_err (Err c) f d e = inl cc
 
@@ -30,20 +30,14 @@ pub chosen : {A : Type 0} (b : Bool) (x y z : A) → cond b x y ≡ z → ((b �
 chosen true x y z e = inl (refl, e)
 chosen false x y z e = inr (refl, e)
 
-abbrev done : {A : Type 0} → A → Result A WireFault
-done x = Ok x
-
-abbrev failed : {A : Type 0} → WireFault → Result A WireFault
-failed e = Err e
-
-pub ok_is : {A : Type 0} (x y : A) → done x ≡ done y → x ≡ y
+pub ok_is : {E A : Type 0} (x y : A) → ◌≡◌ {A = Result A E} (Ok x) (Ok y) → x ≡ y
 ok_is x y e = cc
 
-pub err_is : {A : Type 0} (x y : WireFault) → failed {A = A} x ≡ failed y → x ≡ y
+pub err_is : {E A : Type 0} (x y : E) → ◌≡◌ {A = Result A E} (Err x) (Err y) → x ≡ y
 err_is x y e = cc
 
-pub not_ok : {A : Type 0} {P : Type 0} (x : A) (e : WireFault) → done x ≡ failed e → P
+pub not_ok : {E A : Type 0} {P : Type 0} (x : A) (e : E) → ◌≡◌ {A = Result A E} (Ok x) (Err e) → P
 not_ok x e h = absurd cc
 
-pub not_err : {A : Type 0} {P : Type 0} (x : A) (e : WireFault) → failed e ≡ done x → P
+pub not_err : {E A : Type 0} {P : Type 0} (x : A) (e : E) → ◌≡◌ {A = Result A E} (Err e) (Ok x) → P
 not_err x e h = absurd cc

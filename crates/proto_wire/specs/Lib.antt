@@ -1,5 +1,9 @@
 pub mod Varint
 pub mod Field
+pub mod Meaning
 pub mod Reading
 pub mod Writing
-pub mod Meaning
+pub mod Frame
+pub mod FrameFaults
+pub mod FrameSteps
+pub mod FrameLaws

@@ -9,12 +9,19 @@
 
 mod fault;
 mod field;
+mod frame;
+mod frame_laws;
 mod laws;
+#[cfg(test)]
+mod tests;
+mod transfer;
 mod varint;
 mod writing;
 
 pub use fault::{FrameFault, WireFault};
 pub use field::{Content, MAX_FIELD_NUMBER, Part, read_fields, split_field};
+pub use frame::{END_FLAG, Frame, MAX_FRAME_PAYLOAD, MESSAGE_FLAG, read_frame, write_frame};
+pub use frame_laws::{frames_are_one, no_frame_begins_another};
 pub use laws::{
     canonical_fields_are_fields, canonical_varint_is_shortest, defaults_are_left_out,
     fields_are_one, front_field_is_one, last_one_wins, reading_is_spelling,

@@ -1,0 +1,4 @@
+pub mod Gathering
+pub mod Numbers
+pub mod Bodies
+pub mod Decodes

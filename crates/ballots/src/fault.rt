@@ -1,0 +1,21 @@
+//! Why bytes are no message.
+
+use proto_wire::WireFault;
+use thiserror::Error;
+
+/// What is wrong with a text that should be a message. Which fault is told where several stand is open.
+#[derive(Clone, Copy, Debug, PartialEq, Eq, Error)]
+pub enum MessageFault {
+    /// The text is no list of fields, or a field that the kind of message has is of another wire type.
+    #[error("{0}")]
+    Wire(WireFault),
+    /// The kind is none of the seven.
+    #[error("BadKind")]
+    BadKind,
+    /// A number is outside its limits, or the value is too long.
+    #[error("OutOfRange")]
+    OutOfRange,
+    /// Memory was refused.
+    #[error("OutOfMemory")]
+    OutOfMemory,
+}

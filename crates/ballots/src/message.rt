@@ -1,0 +1,113 @@
+//! The messages that nodes send each other (Lamport, *Paxos Made Simple*, sections 2.2 and 2.3).
+
+use crate::ballot::Ballot;
+use crate::node::NodeId;
+use crate::slot::Slot;
+use crate::value::Value;
+
+/// A message. It names its sender and never its receiver: any node may be handed any message at any time.
+#[derive(Debug, PartialEq, Eq, Drop)]
+pub enum Message {
+    /// Phase 1a: asks for a promise to take no Accept below the ballot for this slot.
+    Prepare {
+        /// Who asks.
+        sender: NodeId,
+        /// For which slot.
+        slot: Slot,
+        /// At which ballot.
+        ballot: Ballot,
+    },
+    /// Phase 1b: the promise, with what the sender has accepted for the slot, if anything.
+    Promise {
+        /// Who promises.
+        sender: NodeId,
+        /// For which slot.
+        slot: Slot,
+        /// The ballot of the Prepare.
+        ballot: Ballot,
+        /// What the sender has accepted, and at which ballot.
+        report: Option<(Ballot, Value)>,
+    },
+    /// The refusal of a Prepare or an Accept below what the sender has promised.
+    Nack {
+        /// Who refuses.
+        sender: NodeId,
+        /// For which slot.
+        slot: Slot,
+        /// The refused ballot.
+        ballot: Ballot,
+        /// What the sender has promised.
+        promised: Ballot,
+    },
+    /// Phase 2a: asks to accept a value.
+    Accept {
+        /// Who asks.
+        sender: NodeId,
+        /// For which slot.
+        slot: Slot,
+        /// At which ballot.
+        ballot: Ballot,
+        /// What is to be accepted.
+        value: Value,
+    },
+    /// Phase 2b: the value is accepted.
+    Accepted {
+        /// Who has accepted it.
+        sender: NodeId,
+        /// For which slot.
+        slot: Slot,
+        /// At which ballot.
+        ballot: Ballot,
+        /// What is accepted.
+        value: Value,
+    },
+    /// Asks for the values decided from this slot on.
+    Ask {
+        /// Who asks.
+        sender: NodeId,
+        /// The first slot that the sender does not know.
+        slot: Slot,
+    },
+    /// The value that is decided for a slot.
+    Decided {
+        /// Who says so.
+        sender: NodeId,
+        /// For which slot.
+        slot: Slot,
+        /// What is decided.
+        value: Value,
+    },
+}
+
+/// The numbers of a message's fields, and of its kinds.
+pub(crate) mod numbers {
+    pub const KIND: u32 = 1;
+
+    pub const SENDER: u32 = 2;
+
+    pub const SLOT: u32 = 3;
+
+    pub const ROUND: u32 = 5;
+
+    pub const NODE: u32 = 6;
+
+    pub const SECOND_ROUND: u32 = 7;
+
+    pub const SECOND_NODE: u32 = 8;
+
+    pub const VALUE: u32 = 9;
+
+    pub const PREPARE: u64 = 1;
+
+    pub const PROMISE: u64 = 2;
+
+    pub const NACK: u64 = 3;
+
+    pub const ACCEPT: u64 = 4;
+
+    pub const ACCEPTED: u64 = 5;
+
+    pub const ASK: u64 = 6;
+
+    pub const DECIDED: u64 = 7;
+}

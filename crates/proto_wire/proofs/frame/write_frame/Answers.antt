@@ -1,0 +1,15 @@
+use Rattle.std.proofs.Common.{sym, subst}
+use Rattle.proto_wire.specs.Frame.{frame_text}
+use Rattle.proto_wire.specs.FrameFaults.{WhereKnown, Writes}
+use Rattle.proto_wire.proofs.FrameParts.{frame_written, frame_cut, residual}
+use Rattle.proto_wire.proofs.frame.write_frame.Goals as goal
+
+pub returns-in_err-put-clause-written : goal.returns-in_err-put-clause-written
+returns-in_err-put-clause-written g c =
+    let e = c.in_err-put.field-0.0 in
+    subst (λ r. WhereKnown (g.W.Write.contents c.args.w.now) (g.W.Write.contents c.put.new.w) (Writes r (frame_text (record { flag = c.args.flag; payload = c.args.payload.now })))) (sym (residual c.from_residual.result e c.from_residual.ensures.1))
+    (frame_cut _ _ c.args.flag c.to_be_bytes.result c.args.payload.now e c.to_be_bytes.ensures c.in_err-put.ensures.written)
+
+pub returns-clause-written : goal.returns-clause-written
+returns-clause-written g c =
+    frame_written _ _ _ c.args.flag c.to_be_bytes.result c.args.payload.now _ c.to_be_bytes.ensures c.in_ok-put.ensures.written c.put-2.ensures.written

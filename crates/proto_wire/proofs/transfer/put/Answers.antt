@@ -1,0 +1,17 @@
+use Rattle.std.proofs.Common.{rules}
+use Rattle.std.proofs.KnownBytes.{Appends-kept}
+use Rattle.proto_wire.specs.declared.fault.FrameFault.TheVariants.{Io}
+use Rattle.proto_wire.proofs.Transfers.{Appends-more, Writes-part}
+use Rattle.proto_wire.proofs.transfer.put.Goals as goal
+
+pub returns-in-Ok-eq0-clause-written : goal.returns-in-Ok-eq0-clause-written
+returns-in-Ok-eq0-clause-written g c =
+    Writes-part _ _ _ _ Io (Appends-more _ _ _ _ _ c.args.bytes.now c.loop-at.invariant.1 c.in-Ok-eq0.ensures.bytes)
+
+pub loop-at-preserved : goal.loop-at-preserved
+loop-at-preserved g c =
+    (search rules, Appends-more _ _ _ _ _ c.args.bytes.now c.loop-at.invariant.1 c.in-Ok.ensures.bytes)
+
+pub returns-in-Err-clause-written : goal.returns-in-Err-clause-written
+returns-in-Err-clause-written g c =
+    Writes-part _ _ c.loop-at.at _ Io (Appends-kept _ _ _ _ c.loop-at.invariant.1 c.in-Err.ensures.bytes)
