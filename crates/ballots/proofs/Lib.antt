@@ -2,3 +2,5 @@ pub mod Gathering
 pub mod Numbers
 pub mod Bodies
 pub mod Decodes
+pub mod Written
+pub mod Canonical

@@ -89,6 +89,18 @@ Means p (Accepted sender slot ballot value) =
 Means p (Ask sender slot) = MeansHead p ASK sender slot
 Means p (Decided sender slot value) = MeansHead p DECIDED sender slot × MeansValue p.value value
 
+-- the messages that there are
+abbrev pub IsInRange : Message → Type 0
+IsInRange (Prepare sender slot ballot) = (sender ≤ MAX_NODE) × (slot ≤ MAX_SLOT) × IsBallot ballot
+IsInRange (Promise sender slot ballot None) = (sender ≤ MAX_NODE) × (slot ≤ MAX_SLOT) × IsBallot ballot
+IsInRange (Promise sender slot ballot (Some report)) =
+    (sender ≤ MAX_NODE) × (slot ≤ MAX_SLOT) × IsBallot ballot × IsBallot report.0 × IsValue report.1
+IsInRange (Nack sender slot ballot promised) = (sender ≤ MAX_NODE) × (slot ≤ MAX_SLOT) × IsBallot ballot × IsBallot promised
+IsInRange (Accept sender slot ballot value) = (sender ≤ MAX_NODE) × (slot ≤ MAX_SLOT) × IsBallot ballot × IsValue value
+IsInRange (Accepted sender slot ballot value) = (sender ≤ MAX_NODE) × (slot ≤ MAX_SLOT) × IsBallot ballot × IsValue value
+IsInRange (Ask sender slot) = (sender ≤ MAX_NODE) × (slot ≤ MAX_SLOT)
+IsInRange (Decided sender slot value) = (sender ≤ MAX_NODE) × (slot ≤ MAX_SLOT) × IsValue value
+
 -- the text is a list of fields that mean the message
 pub record IsMessageText (text : List ℕ) (m : Message) : Type 0 where
   pub fields : List Field

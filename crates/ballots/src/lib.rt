@@ -8,6 +8,7 @@
 
 mod ballot;
 mod decoding;
+mod encoding;
 mod fault;
 mod message;
 mod node;

@@ -1,0 +1,167 @@
+-- The one spelling of a message means it.
+use Rattle.std.proofs.Common.{◌≡◌, ℕ, ◌+◌, ◌^◌, ◌<◌, ◌≤◌, Bool, true, false, cond, List, [], ◌∷◌, ◌++◌, length, Option, Some, None, refl, sym, ap, subst, ◌∙◌, arith}
+use Rattle.std.specs.Prelude.{not, filter, ◌&&◌, nat_le}
+use Rattle.std.specs.List.{AllByRecursion}
+use Rattle.std.proofs.lemmas.Bool.{leb-true}
+use Rattle.proto_wire.specs.declared.field.TheConstants.{MAX_FIELD_NUMBER}
+use Rattle.proto_wire.specs.Field.{Held, Varint, Bytes, Field, FitsField, IsFields, is_default, present, fields_text}
+use Rattle.proto_wire.specs.Meaning.{number_in, bytes_in, all_hold, things_of, number_meant, bytes_meant}
+use Rattle.proto_wire.proofs.Texts.{fields_text-spells}
+use Rattle.proto_wire.proofs.Meanings.{number_meant-present, bytes_meant-present}
+use Rattle.ballots.specs.declared.node.TheConstants.{MAX_NODE}
+use Rattle.ballots.specs.declared.slot.TheConstants.{MAX_SLOT}
+use Rattle.ballots.specs.declared.ballot.TheConstants.{MAX_ROUND}
+use Rattle.ballots.specs.declared.value.TheConstants.{MAX_UPLOAD_BYTES}
+use Rattle.ballots.specs.declared.message.numbers.TheConstants.{KIND, SENDER, SLOT, ROUND, NODE, SECOND_ROUND, SECOND_NODE, VALUE, PREPARE, PROMISE, NACK, ACCEPT, ACCEPTED, ASK, DECIDED}
+use Rattle.ballots.specs.declared.value.Value.{Value}
+use Rattle.ballots.specs.declared.value.Value.TheVariants.{Noop, Upload}
+use Rattle.ballots.specs.declared.message.Message.{Message}
+use Rattle.ballots.specs.declared.message.Message.TheVariants.{Prepare, Promise, Nack, Accept, Accepted, Ask, Decided}
+use Rattle.ballots.specs.Ballot.{Ballot, IsBallot}
+use Rattle.ballots.specs.Message.{Parts, parts_of, MeansHead, MeansBallot, MeansValue, Means, IsInRange, IsValue, IsMessageText, value_bytes, number_field, head_fields, ballot_fields, second_fields, value_fields, all_fields, written, canonical}
+
+-- ---- each field has a spelling
+
+number_fits : (number n : ℕ) → (0 < number) × (number ≤ MAX_FIELD_NUMBER) → n < 2 ^ 64 → FitsField (number_field number n)
+number_fits number n is lt = record { number = is; held = lt }
+
+all_fit-append : (xs ys : List Field) → AllByRecursion FitsField xs → AllByRecursion FitsField ys → AllByRecursion FitsField (xs ++ ys)
+all_fit-append [] ys a b = b
+all_fit-append (x ∷ xs) ys a b = (a.0, all_fit-append xs ys a.1 b)
+
+all_fit-filter : (p : Field → Bool) (xs : List Field) → AllByRecursion FitsField xs → AllByRecursion FitsField (filter p xs)
+all_fit-filter p [] a = tt
+all_fit-filter p (x ∷ xs) a =
+    elim (p x) as (λ b. AllByRecursion FitsField (cond b (x ∷ filter p xs) (filter p xs))) [
+      | true ↦ (a.0, all_fit-filter p xs a.1)
+      | false ↦ all_fit-filter p xs a.1
+    ]
+
+head_fits : (kind sender slot : ℕ) → kind ≤ DECIDED → sender ≤ MAX_NODE → slot ≤ MAX_SLOT → AllByRecursion FitsField (head_fields kind sender slot)
+head_fits kind sender slot a b c =
+    (number_fits KIND kind (omega arith, omega arith) (omega arith), (number_fits SENDER sender (omega arith, omega arith) (omega arith), (number_fits SLOT slot (omega arith, omega arith) (omega arith), tt)))
+
+ballot_fits : (b : Ballot) → IsBallot b → AllByRecursion FitsField (ballot_fields b)
+ballot_fits b is =
+    (number_fits ROUND b.round (omega arith, omega arith) (omega (arith, is.round)), (number_fits NODE b.node (omega arith, omega arith) (omega (arith, is.node)), tt))
+
+second_fits : (b : Ballot) → IsBallot b → AllByRecursion FitsField (second_fields b)
+second_fits b is =
+    (number_fits SECOND_ROUND b.round (omega arith, omega arith) (omega (arith, is.round)), (number_fits SECOND_NODE b.node (omega arith, omega arith) (omega (arith, is.node)), tt))
+
+value_is_short : (v : Value) → IsValue v → length (value_bytes v) < 2 ^ 64
+value_is_short Noop is = omega arith
+value_is_short (Upload bytes) is = omega (arith, is.within)
+
+value_fits : (v : Value) → IsValue v → AllByRecursion FitsField (value_fields v)
+value_fits v is = (record { number = (omega arith, omega arith); held = value_is_short v is }, tt)
+
+-- after the head, after a ballot, and after a second one
+after_head : (kind sender slot : ℕ) (fields : List Field) → kind ≤ DECIDED → sender ≤ MAX_NODE → slot ≤ MAX_SLOT → AllByRecursion FitsField fields → AllByRecursion FitsField (head_fields kind sender slot ++ fields)
+after_head kind sender slot fields a b c rest = all_fit-append (head_fields kind sender slot) fields (head_fits kind sender slot a b c) rest
+
+after_ballot : (b : Ballot) (fields : List Field) → IsBallot b → AllByRecursion FitsField fields → AllByRecursion FitsField (ballot_fields b ++ fields)
+after_ballot b fields is rest = all_fit-append (ballot_fields b) fields (ballot_fits b is) rest
+
+after_second : (b : Ballot) (fields : List Field) → IsBallot b → AllByRecursion FitsField fields → AllByRecursion FitsField (second_fields b ++ fields)
+after_second b fields is rest = all_fit-append (second_fields b) fields (second_fits b is) rest
+
+all_fits : (m : Message) → IsInRange m → AllByRecursion FitsField (all_fields m)
+all_fits (Prepare sender slot b) h = after_head PREPARE sender slot (ballot_fields b) (omega arith) h.0 h.1 (ballot_fits b h.2)
+all_fits (Promise sender slot b None) h = after_head PROMISE sender slot (ballot_fields b) (omega arith) h.0 h.1 (ballot_fits b h.2)
+all_fits (Promise sender slot b (Some r)) h =
+    after_head PROMISE sender slot (ballot_fields b ++ (second_fields r.0 ++ value_fields r.1)) (omega arith) h.0 h.1
+    (after_ballot b (second_fields r.0 ++ value_fields r.1) h.2 (after_second r.0 (value_fields r.1) h.3 (value_fits r.1 h.4)))
+all_fits (Nack sender slot b c) h =
+    after_head NACK sender slot (ballot_fields b ++ second_fields c) (omega arith) h.0 h.1 (after_ballot b (second_fields c) h.2 (second_fits c h.3))
+all_fits (Accept sender slot b v) h =
+    after_head ACCEPT sender slot (ballot_fields b ++ value_fields v) (omega arith) h.0 h.1 (after_ballot b (value_fields v) h.2 (value_fits v h.3))
+all_fits (Accepted sender slot b v) h =
+    after_head ACCEPTED sender slot (ballot_fields b ++ value_fields v) (omega arith) h.0 h.1 (after_ballot b (value_fields v) h.2 (value_fits v h.3))
+all_fits (Ask sender slot) h = head_fits ASK sender slot (omega arith) h.0 h.1
+all_fits (Decided sender slot v) h = after_head DECIDED sender slot (value_fields v) (omega arith) h.0 h.1 (value_fits v h.2)
+
+-- ---- each field means what it says, written or left out
+
+abbrev is_single : {A : Type 0} → (Held → Option A) → ℕ → List Field → Bool
+is_single thing number fields = all_hold thing number fields && nat_le (length (things_of thing number fields)) 1
+
+abbrev are_single : List Field → Bool
+are_single fields =
+    is_single number_in KIND fields && (is_single number_in SENDER fields && (is_single number_in SLOT fields && (is_single number_in ROUND fields
+    && (is_single number_in NODE fields && (is_single number_in SECOND_ROUND fields && (is_single number_in SECOND_NODE fields && is_single bytes_in VALUE fields))))))
+
+and_true : (a b : Bool) → (a && b) ≡ true → (a ≡ true) × (b ≡ true)
+and_true true true e = (refl, refl)
+and_true true false e = absurd cc
+and_true false b e = absurd cc
+
+number_same : (number : ℕ) (fields : List Field) → is_single number_in number fields ≡ true → number_meant number (present fields) ≡ number_meant number fields
+number_same number fields e =
+    let p = and_true (all_hold number_in number fields) (nat_le (length (things_of number_in number fields)) 1) e in
+    number_meant-present number fields p.0 (leb-true _ _ p.1)
+
+bytes_same : (number : ℕ) (fields : List Field) → is_single bytes_in number fields ≡ true → bytes_meant number (present fields) ≡ bytes_meant number fields
+bytes_same number fields e =
+    let p = and_true (all_hold bytes_in number fields) (nat_le (length (things_of bytes_in number fields)) 1) e in
+    bytes_meant-present number fields p.0 (leb-true _ _ p.1)
+
+parts_of-present : (fields : List Field) → are_single fields ≡ true → parts_of (present fields) ≡ parts_of fields
+parts_of-present fields e =
+    let a = and_true _ _ e in
+    let b = and_true _ _ a.1 in
+    let c = and_true _ _ b.1 in
+    let d = and_true _ _ c.1 in
+    let f = and_true _ _ d.1 in
+    let g = and_true _ _ f.1 in
+    let h = and_true _ _ g.1 in
+    rw (number_same KIND fields a.0, number_same SENDER fields b.0, number_same SLOT fields c.0, number_same ROUND fields d.0, number_same NODE fields f.0, number_same SECOND_ROUND fields g.0, number_same SECOND_NODE fields h.0, bytes_same VALUE fields h.1) refl
+
+fields_single : (m : Message) → are_single (all_fields m) ≡ true
+fields_single (Prepare sender slot b) = refl
+fields_single (Promise sender slot b None) = refl
+fields_single (Promise sender slot b (Some r)) = refl
+fields_single (Nack sender slot b c) = refl
+fields_single (Accept sender slot b v) = refl
+fields_single (Accepted sender slot b v) = refl
+fields_single (Ask sender slot) = refl
+fields_single (Decided sender slot v) = refl
+
+all_fields-mean : (m : Message) → IsInRange m → Means (parts_of (all_fields m)) m
+unfolding number_meant bytes_meant
+all_fields-mean (Prepare sender slot b) h =
+    (record { kind_is = refl; sender_is = refl; slot_is = refl; sender_within = h.0; slot_within = h.1 }, record { round_is = refl; node_is = refl; within = h.2 })
+all_fields-mean (Promise sender slot b None) h =
+    (record { kind_is = refl; sender_is = refl; slot_is = refl; sender_within = h.0; slot_within = h.1 }, record { round_is = refl; node_is = refl; within = h.2 }, refl)
+all_fields-mean (Promise sender slot b (Some r)) h = (
+  record { kind_is = refl; sender_is = refl; slot_is = refl; sender_within = h.0; slot_within = h.1 },
+  record { round_is = refl; node_is = refl; within = h.2 },
+  record { round_is = refl; node_is = refl; within = h.3 },
+  record { bytes_are = refl; within = h.4 },
+)
+all_fields-mean (Nack sender slot b c) h = (
+  record { kind_is = refl; sender_is = refl; slot_is = refl; sender_within = h.0; slot_within = h.1 },
+  record { round_is = refl; node_is = refl; within = h.2 },
+  record { round_is = refl; node_is = refl; within = h.3 },
+)
+all_fields-mean (Accept sender slot b v) h = (
+  record { kind_is = refl; sender_is = refl; slot_is = refl; sender_within = h.0; slot_within = h.1 },
+  record { round_is = refl; node_is = refl; within = h.2 },
+  record { bytes_are = refl; within = h.3 },
+)
+all_fields-mean (Accepted sender slot b v) h = (
+  record { kind_is = refl; sender_is = refl; slot_is = refl; sender_within = h.0; slot_within = h.1 },
+  record { round_is = refl; node_is = refl; within = h.2 },
+  record { bytes_are = refl; within = h.3 },
+)
+all_fields-mean (Ask sender slot) h = record { kind_is = refl; sender_is = refl; slot_is = refl; sender_within = h.0; slot_within = h.1 }
+all_fields-mean (Decided sender slot v) h =
+    (record { kind_is = refl; sender_is = refl; slot_is = refl; sender_within = h.0; slot_within = h.1 }, record { bytes_are = refl; within = h.2 })
+
+pub canonical_means : (m : Message) → IsInRange m → IsMessageText (canonical m) m
+unfolding canonical
+canonical_means m h = record {
+  fields = present (all_fields m);
+  spells = fields_text-spells (present (all_fields m)) (all_fit-filter (λ (f : Field). not (is_default f.held)) (all_fields m) (all_fits m h));
+  means = subst (λ (p : Parts). Means p m) (sym (parts_of-present (all_fields m) (fields_single m))) (all_fields-mean m h);
+}
