@@ -1,0 +1,10 @@
+use Rattle.acceptor.proofs.Rows.{promises-set, promises-push}
+use Rattle.acceptor.proofs.acceptor.set_promise.Goals as goal
+
+pub returns-in-Some-clause-ok : goal.returns-in-Some-clause-ok
+returns-in-Some-clause-ok c =
+    promises-set _ _ _ _ _ (rw c.deref.ensures.value at c.in-Some.ensures) c.index_mut.ensures.value
+
+pub returns-in_ok-push-in-None-clause-ok : goal.returns-in_ok-push-in-None-clause-ok
+returns-in_ok-push-in-None-clause-ok c =
+    rw c.in_ok-push-in-None.ensures.items (promises-push _ _ _ (rw c.deref.ensures.value at c.in-None.ensures))

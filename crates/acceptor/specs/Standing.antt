@@ -1,0 +1,25 @@
+-- How an acceptor stands, by what each slot has promised and accepted: Lamport, "Paxos Made Simple", section 2.2.
+use Rattle.std.specs.Prelude.{◌≡◌, ◌≢◌, ℕ, Option, Some, None}
+use Rattle.ballots.specs.Ballot.{Ballot}
+use Rattle.ballots.specs.declared.value.Value.{Value}
+
+pub record Standing : Type 0 where
+  pub promised : ℕ → Option Ballot
+  pub accepted : ℕ → Option (Ballot × Value)
+
+-- nothing is promised or accepted
+pub record IsFresh (now : Standing) : Type 0 where
+  pub promises : (slot : ℕ) → now.promised slot ≡ None
+  pub acceptances : (slot : ℕ) → now.accepted slot ≡ None
+
+-- every slot is as before
+pub record IsSame (old new : Standing) : Type 0 where
+  pub promises : (slot : ℕ) → new.promised slot ≡ old.promised slot
+  pub acceptances : (slot : ℕ) → new.accepted slot ≡ old.accepted slot
+
+-- the slot has this promise and this acceptance, and every other slot is as before
+pub record Sets (old new : Standing) (slot : ℕ) (ballot : Ballot) (held : Option (Ballot × Value)) : Type 0 where
+  pub promise : new.promised slot ≡ Some ballot
+  pub acceptance : new.accepted slot ≡ held
+  pub other_promises : (other : ℕ) → other ≢ slot → new.promised other ≡ old.promised other
+  pub other_acceptances : (other : ℕ) → other ≢ slot → new.accepted other ≡ old.accepted other
