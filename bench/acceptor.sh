@@ -1,0 +1,49 @@
+#!/usr/bin/env bash
+# Times `flightd acceptor` on 200,000 frames over 1,000 slots beside the same job in plain Rust (bench/plain_acceptor.rs,
+# rustc -O) on the same file, and prints frames a second of both and their ratio. Then it shows that memory grows with the
+# slots and not with the frames: peak resident size for 1,000 and for 999,999 frames on ten slots.
+set -euo pipefail
+cd "$(dirname "${BASH_SOURCE[0]}")/.."
+work=$(mktemp -d)
+trap 'rm -rf "$work"' EXIT
+rustc -O --edition 2021 -o "$work/plain" bench/plain_acceptor.rs
+./flightd --version >"$work/version"
+
+best() { # the best of five runs of a command on a file, in seconds
+  python3 - "$@" <<'P'
+import subprocess, sys, time
+file, words = sys.argv[1], sys.argv[2:]
+times = []
+for _ in range(5):
+    with open(file, "rb") as frames:
+        start = time.monotonic()
+        subprocess.run(words, stdin=frames, stdout=subprocess.DEVNULL, check=True)
+        times.append(time.monotonic() - start)
+print(f"{min(times):.3f}")
+P
+}
+
+"$work/plain" generate 200000 1000 >"$work/frames"
+"$work/plain" <"$work/frames" >"$work/plain.answers"
+crates/flightd/out/flightd acceptor <"$work/frames" >"$work/flightd.answers"
+cmp "$work/plain.answers" "$work/flightd.answers" && echo "both give the same $(stat -c %s "$work/plain.answers") bytes"
+proved=$(best "$work/frames" crates/flightd/out/flightd acceptor)
+plain=$(best "$work/frames" "$work/plain")
+python3 -c "print(f'flightd {200000/$proved:,.0f} frames/s, plain Rust {200000/$plain:,.0f} frames/s, ratio {$proved/$plain:.2f}')"
+
+peak() { # peak resident size in KiB, once every frame of the file is answered and before the input ends
+  mkfifo "$work/input"
+  crates/flightd/out/flightd acceptor <"$work/input" >/dev/null &
+  local pid=$!
+  exec 3>"$work/input"
+  cat "$1" >&3
+  sleep 1
+  awk '/^VmHWM/ {print $2}' "/proc/$pid/status"
+  exec 3>&-
+  wait "$pid"
+  rm "$work/input"
+}
+for frames in 1000 999999; do
+  "$work/plain" generate "$frames" 10 >"$work/frames"
+  echo "$frames frames on ten slots: peak $(peak "$work/frames") KiB"
+done
