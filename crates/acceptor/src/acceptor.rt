@@ -83,10 +83,11 @@ impl Acceptor {
         }
     }
 
-    /// Answers a Prepare. A promise is kept before it is answered.
+    /// Answers a Prepare. A promise is kept before it is answered. Only a promise takes memory.
     pub fn on_prepare(&mut self, slot: Slot, ballot: Ballot) -> Result<Answer, OutOfMemory>
         ensures answered { IfOk result (Prepares (standing self.old) (standing self.new) slot ballot) }
         ensures err { OnErr result (self.new ≡ self.old) }
+        ensures memory { OnErr result (IsAbove ballot (promised_at self.old slot)) }
     {
         if let Some(promised) = self.promised(slot) {
             if !promised.is_below(ballot) {
@@ -100,7 +101,7 @@ impl Acceptor {
         Ok(Answer::Promise(report))
     }
 
-    /// Answers an Accept. What is accepted is kept before it is answered.
+    /// Answers an Accept. What is accepted is kept before it is answered. Only a grant takes memory.
     pub fn on_accept(
         &mut self,
         slot: Slot,
@@ -109,6 +110,7 @@ impl Acceptor {
     ) -> Result<Answer, OutOfMemory>
         ensures answered { IfOk result (Accepts (standing self.old) (standing self.new) slot ballot value) }
         ensures err { OnErr result (self.new ≡ self.old) }
+        ensures memory { OnErr result (IsAtLeast ballot (promised_at self.old slot)) }
     {
         if let Some(promised) = self.promised(slot) {
             if ballot.is_below(promised) {
