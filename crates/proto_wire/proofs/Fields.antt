@@ -1,13 +1,13 @@
 -- A field that is read is spelled so, what is spelled so is read, and each fault stands where it is told.
-use Rattle.std.proofs.Common.{◌≡◌, ◌≢◌, ℕ, zero, suc, ◌+◌, ◌-◌, ◌*◌, ◌/◌, ◌%◌, ◌^◌, ◌<◌, ◌≤◌, Bool, true, false, cond, ltb, eqb, List, [], ◌∷◌, ◌++◌, length, take, drop, Result, Ok, Err, refl, sym, ap, subst, ◌∙◌, arith, ◌⊎◌, inl, inr, append_assoc}
+use Rattle.std.proofs.Common.{◌≡◌, ◌≢◌, ℕ, ◌+◌, ◌*◌, ◌/◌, ◌%◌, ◌<◌, ◌≤◌, Bool, true, false, cond, ltb, eqb, List, ◌++◌, length, take, drop, Result, Ok, Err, refl, sym, ap, subst, ◌∙◌, arith, ◌⊎◌, inl, inr, append_assoc}
 use Rattle.std.specs.Prelude.{◌&&◌, nat_lt, nat_le}
-use Rattle.std.proofs.lemmas.Bool.{ltb-true, ltb-false, le-ltb, lt-ltb, eqb-true, eqb-false, ne_eqb, leb-true, le-leb, cases_eq}
+use Rattle.std.proofs.lemmas.Bool.{ltb-true, ltb-false, le-ltb, lt-ltb, eqb-true, eqb-false, leb-true, le-leb, cases_eq}
 use Rattle.std.proofs.lemmas.List.{take_at, drop_at, take-append-drop, length-take, length-append}
 use Rattle.proto_wire.specs.declared.fault.WireFault.{WireFault}
 use Rattle.proto_wire.specs.declared.fault.WireFault.TheVariants.{BadVarint, BadKey, BadWireType, CutShort, NotUtf8, OutOfMemory}
 use Rattle.proto_wire.specs.declared.field.TheConstants.{MAX_FIELD_NUMBER}
 use Rattle.proto_wire.specs.Varint.{IsVarint, IsCutVarint, IsBadVarint}
-use Rattle.proto_wire.specs.Field.{Held, Varint, Eight, Bytes, Four, Field, wire_type, IsFieldNumber, SpellsHeld, SpellsField, KeyThen, AfterKey, IsCutBytes, FieldFault}
+use Rattle.proto_wire.specs.Field.{Held, Varint, Eight, Bytes, Four, Field, wire_type, IsFieldNumber, SpellsHeld, SpellsField, KeyThen, IsCutBytes, FieldFault}
 use Rattle.proto_wire.specs.Reading.{IsBytes, ◌>>=◌, varint_at, bytes_at, held_read, number_of_key, field_read}
 use Rattle.proto_wire.proofs.Steps.{IsBytes-right, bind_ok, bind_err, chosen, ok_is, err_is, not_ok, not_err}
 use Rattle.proto_wire.proofs.Numbers.{varint_takes, varint_again, VarintFault, varint_faults}

@@ -1,5 +1,5 @@
 -- Fields at the front of a text, one after the other.
-use Rattle.std.proofs.Common.{◌≡◌, ◌≢◌, ℕ, zero, suc, ◌+◌, ◌<◌, ◌≤◌, Bool, true, false, eqb, List, [], ◌∷◌, ◌++◌, length, Result, Ok, Err, refl, sym, ap, subst, ◌∙◌, arith, append_assoc}
+use Rattle.std.proofs.Common.{◌≡◌, ◌≢◌, ℕ, ◌<◌, Bool, true, false, eqb, List, [], ◌∷◌, ◌++◌, length, Result, Ok, Err, refl, sym, ap, subst, ◌∙◌, arith}
 use Rattle.std.specs.Prelude.{IfOk, IfErr, IsOkAnd}
 use Rattle.std.proofs.lemmas.List.{length-append, nil_from_length, append-nil}
 use Rattle.std.proofs.lemmas.Bool.{eqb-true, false≢true}
@@ -7,7 +7,7 @@ use Rattle.proto_wire.specs.declared.fault.WireFault.{WireFault}
 use Rattle.proto_wire.specs.Varint.{IsVarint}
 use Rattle.proto_wire.specs.Field.{Field, SpellsField, BeginsWith, FieldFault, FieldsThen, IsFields}
 use Rattle.proto_wire.specs.Reading.{IsBytes, Gives, field_read}
-use Rattle.proto_wire.proofs.Steps.{ok_is, not_ok, not_err}
+use Rattle.proto_wire.proofs.Steps.{ok_is, not_ok}
 use Rattle.proto_wire.proofs.Fields.{field_takes, field_again, field_faults}
 
 -- a field takes at least a byte

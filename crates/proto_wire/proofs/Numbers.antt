@@ -1,11 +1,10 @@
 -- A varint that is read is spelled so, what is spelled so is read, and each fault stands where it is told.
-use Rattle.std.proofs.Common.{◌≡◌, ℕ, zero, suc, ◌+◌, ◌-◌, ◌*◌, ◌^◌, ◌<◌, ◌≤◌, Bool, true, false, cond, ltb, eqb, List, [], ◌∷◌, ◌++◌, length, Result, Ok, Err, refl, sym, ap, subst, ◌∙◌, arith, ◌⊎◌, inl, inr}
+use Rattle.std.proofs.Common.{◌≡◌, ℕ, ◌+◌, ◌-◌, ◌*◌, ◌^◌, ◌<◌, ◌≤◌, true, false, cond, ltb, eqb, List, [], ◌∷◌, ◌++◌, length, Ok, Err, refl, sym, ap, subst, arith, ◌⊎◌, inl, inr}
 use Rattle.std.proofs.lemmas.Bool.{ltb-true, ltb-false, le-ltb, lt-ltb, eqb-true, eqb-false, ne_eqb}
-use Rattle.std.specs.List.{AllByRecursion}
 use Rattle.proto_wire.specs.declared.fault.WireFault.{WireFault}
 use Rattle.proto_wire.specs.declared.fault.WireFault.TheVariants.{BadVarint, BadKey, BadWireType, CutShort, NotUtf8, OutOfMemory}
 use Rattle.proto_wire.specs.Varint.{SpellsNumber, IsVarint, AllGoOn, IsCutVarint, IsBadVarint}
-use Rattle.proto_wire.specs.Reading.{IsBytes, ◌>>=◌, joined, number_at, varint_at}
+use Rattle.proto_wire.specs.Reading.{IsBytes, joined, number_at, varint_at}
 use Rattle.proto_wire.proofs.Steps.{IsBytes-rest, bind_ok, bind_err, chosen, ok_is, err_is, not_ok, not_err}
 
 -- what a text begins with when this number was read and this is left

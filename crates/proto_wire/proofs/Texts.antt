@@ -1,5 +1,5 @@
 -- The canonical spelling of a number and of a field: it spells them, and no spelling is shorter.
-use Rattle.std.proofs.Common.{◌≡◌, ℕ, zero, suc, ◌+◌, ◌-◌, ◌*◌, ◌/◌, ◌%◌, ◌^◌, ◌<◌, ◌≤◌, Bool, true, false, cond, ltb, List, [], ◌∷◌, ◌++◌, length, take, refl, sym, ap, subst, ◌∙◌, arith, ◌⊎◌, inl, inr, append_assoc}
+use Rattle.std.proofs.Common.{◌≡◌, ℕ, zero, suc, ◌+◌, ◌*◌, ◌/◌, ◌%◌, ◌^◌, ◌<◌, ◌≤◌, true, ltb, List, [], ◌∷◌, ◌++◌, length, take, refl, sym, ap, subst, ◌∙◌, arith, inl, inr, append_assoc}
 use Rattle.std.proofs.lemmas.Bool.{le-ltb, lt-ltb, cases_lt}
 use Rattle.std.proofs.lemmas.Nat.{div_below}
 use Rattle.std.proofs.Math.Nat.{pow-suc}
@@ -7,7 +7,6 @@ use Rattle.proto_wire.specs.Varint.{SpellsNumber, IsVarint, digits, varint_text}
 use Rattle.proto_wire.specs.Writing.{Grows}
 use Rattle.std.specs.List.{AllByRecursion}
 use Rattle.std.proofs.lemmas.List.{take_at}
-use Rattle.proto_wire.specs.declared.field.TheConstants.{MAX_FIELD_NUMBER}
 use Rattle.proto_wire.specs.Field.{Held, Varint, Eight, Bytes, Four, Field, wire_type, SpellsHeld, SpellsField, FitsHeld, FitsField, IsFields, held_text, field_text, fields_text}
 
 -- one byte more is allowed than is needed

@@ -2,7 +2,6 @@
 -- varint of eight times its number plus its wire type, and a content.
 use Rattle.std.specs.Prelude.{◌≡◌, ◌≢◌, ℕ, ◌+◌, ◌*◌, ◌^◌, ◌<◌, ◌≤◌, ◌⊎◌, Bool, not, ◌==◌, List, [], ◌∷◌, ◌++◌, length, map, filter, Result, Ok, Err}
 use Rattle.std.specs.List.{flat_map, list_all}
-use Rattle.std.specs.Borrow.{Bor}
 use Rattle.proto_wire.specs.declared.fault.WireFault.{WireFault}
 use Rattle.proto_wire.specs.declared.fault.WireFault.TheVariants.{BadVarint, BadKey, BadWireType, CutShort, NotUtf8, OutOfMemory}
 use Rattle.proto_wire.specs.declared.field.TheConstants.{MAX_FIELD_NUMBER}

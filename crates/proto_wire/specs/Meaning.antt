@@ -1,6 +1,6 @@
 -- What the fields of one number mean for a message: Protocol Buffers, "Encoding", "Last One Wins". A field that is absent
 -- means its default, and one of another wire type than the message gives it means nothing.
-use Rattle.std.specs.Prelude.{◌≡◌, ℕ, Bool, true, false, not, ◌||◌, ◌==◌, if◌then◌else◌, List, [], ◌∷◌, Option, Some, None}
+use Rattle.std.specs.Prelude.{ℕ, Bool, true, false, not, ◌||◌, ◌==◌, if◌then◌else◌, List, [], ◌∷◌, Option, Some, None}
 use Rattle.std.specs.List.{list_all, filter_map}
 use Rattle.proto_wire.specs.Field.{Held, Varint, Eight, Bytes, Four, Field}
 

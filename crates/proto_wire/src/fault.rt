@@ -1,4 +1,4 @@
-//! Why a text could not be read.
+//! Why a text could not be read, or a frame not written.
 
 use thiserror::Error;
 
@@ -11,13 +11,14 @@ pub enum WireFault {
     /// A field number is 0 or above [`crate::MAX_FIELD_NUMBER`].
     #[error("BadKey")]
     BadKey,
-    /// A wire type is 3, 4, 6 or 7, or is not that of a field that the message knows.
+    /// A wire type is 3, 4, 6 or 7. A reader of messages says it too where a field has another wire type than its
+    /// message gives it.
     #[error("BadWireType")]
     BadWireType,
     /// The text ends inside a field.
     #[error("CutShort")]
     CutShort,
-    /// A text field is not UTF-8.
+    /// A text field is not UTF-8. Only a reader of messages says it, since fields hold bytes.
     #[error("NotUtf8")]
     NotUtf8,
     /// Memory was refused.

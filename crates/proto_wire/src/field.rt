@@ -11,7 +11,7 @@ use crate::fault::WireFault;
 use crate::varint::split_varint;
 use std::alloc::{AllocError, Global};
 
-/// The greatest field number of Protocol Buffers.
+/// The greatest field number of Protocol Buffers, 2^29 - 1. The least is 1.
 pub const MAX_FIELD_NUMBER: u32 = 536_870_911;
 
 /// What a field holds, by its wire type.
@@ -40,6 +40,7 @@ pub enum Part<'a> {
     Four([u8; 4]),
 }
 
+/// The first `count` bytes of the text and what follows them, or `CutShort` where there are fewer.
 #[tactic(auto, unfolding(crate::specs::Reading::bytes_at))]
 fn split_bytes(text: &[u8], count: u64) -> Result<(&[u8], &[u8]), WireFault>
     ensures { Gives (λ x. (x.0.now, x.1.now)) result (bytes_at count text.now) }
@@ -51,6 +52,7 @@ fn split_bytes(text: &[u8], count: u64) -> Result<(&[u8], &[u8]), WireFault>
     Ok(text.split_at(count as usize))
 }
 
+/// The first eight bytes of the text and what follows them, or `CutShort` where there are fewer.
 #[tactic(auto, unfolding(crate::specs::Reading::bytes_at))]
 fn split_eight(text: &[u8]) -> Result<([u8; 8], &[u8]), WireFault>
     ensures { Gives (λ x. (x.0, x.1.now)) result (bytes_at 8 text.now) }
@@ -61,6 +63,7 @@ fn split_eight(text: &[u8]) -> Result<([u8; 8], &[u8]), WireFault>
     }
 }
 
+/// The first four bytes of the text and what follows them, or `CutShort` where there are fewer.
 #[tactic(auto, unfolding(crate::specs::Reading::bytes_at))]
 fn split_four(text: &[u8]) -> Result<([u8; 4], &[u8]), WireFault>
     ensures { Gives (λ x. (x.0, x.1.now)) result (bytes_at 4 text.now) }
@@ -71,6 +74,7 @@ fn split_four(text: &[u8]) -> Result<([u8; 4], &[u8]), WireFault>
     }
 }
 
+/// What a field of this wire type holds at the front of the text behind its key, and the text after it.
 #[tactic(auto, unfolding(crate::specs::Reading::held_read))]
 fn split_part(wire_type: u64, text: &[u8]) -> Result<(Part<'_>, &[u8]), WireFault>
     ensures { Gives (λ x. (held_at x.0, x.1.now)) result (held_read wire_type text.now) }
@@ -97,6 +101,7 @@ fn split_part(wire_type: u64, text: &[u8]) -> Result<(Part<'_>, &[u8]), WireFaul
     }
 }
 
+/// The field number in a key, or `BadKey` where there is no such field.
 #[tactic(auto, unfolding(crate::specs::Reading::number_of_key))]
 fn number_of(key: u64) -> Result<u32, WireFault>
     ensures { Gives (λ x. x) result (number_of_key key) }
@@ -108,6 +113,7 @@ fn number_of(key: u64) -> Result<u32, WireFault>
     Ok(number as u32)
 }
 
+/// The field at the front of the text and the text after it, or the fault that is met first from left to right.
 #[tactic(auto, unfolding(crate::specs::Reading::field_read))]
 fn split_front(text: &[u8]) -> Result<(u32, Part<'_>, &[u8]), WireFault>
     ensures { Gives (λ x. (field_at x.0 x.1, x.2.now)) result (field_read text.now) }
@@ -118,11 +124,13 @@ fn split_front(text: &[u8]) -> Result<(u32, Part<'_>, &[u8]), WireFault>
     Ok((number, part, rest))
 }
 
-/// The field at the front of a text, its bytes still in the text, and the text after it. No memory is taken.
+/// The field at the front of a text, as its number, what it holds and the text after it (Protocol Buffers, "Encoding",
+/// "Message Structure"). Its bytes still stand in the text, and no memory is taken.
 ///
-/// A text that does not begin with a field is refused with what is wrong at its front: [`WireFault::BadVarint`],
-/// [`WireFault::BadKey`], [`WireFault::BadWireType`] (3, 4, 6 and 7) or [`WireFault::CutShort`], the last for an
-/// empty text too. (Protocol Buffers, "Encoding", "Message Structure")
+/// A text that does not begin with a field is refused with what is wrong there: [`WireFault::BadVarint`] for a key,
+/// number or length past ten bytes or 64 bits, [`WireFault::BadKey`] for a field number of 0 or above
+/// [`MAX_FIELD_NUMBER`], [`WireFault::BadWireType`] for wire types 3, 4, 6 and 7, and [`WireFault::CutShort`] where the
+/// text ends inside the field, also for an empty text.
 pub fn split_field(text: &[u8]) -> Result<(u32, Part<'_>, &[u8]), WireFault>
     // What is read stands at the front, and takes at least a byte.
     ensures read { IfOk result (λ x. BeginsWith text.now (field_at x.0 x.1) x.2.now) }
@@ -137,7 +145,7 @@ pub fn split_field(text: &[u8]) -> Result<(u32, Part<'_>, &[u8]), WireFault>
 }
 
 impl<'a> Part<'a> {
-    /// The number of a varint, `None` of another wire type.
+    /// The number of a varint, and `None` for another wire type.
     pub fn number(&self) -> Option<u64>
         ensures { result ≡ number_in (held_at self.now) }
     {
@@ -147,7 +155,7 @@ impl<'a> Part<'a> {
         }
     }
 
-    /// The bytes behind a length, still in the text, `None` of another wire type.
+    /// The bytes behind a length, still in the text, and `None` for another wire type.
     pub fn bytes(&self) -> Option<&'a [u8]>
         ensures { option_map (λ bytes. bytes.now) result ≡ bytes_in (held_at self.now) }
     {
@@ -157,7 +165,7 @@ impl<'a> Part<'a> {
         }
     }
 
-    /// The same content with its bytes copied out of the text.
+    /// The same content with its bytes copied out of the text. [`AllocError`] says that memory for them was refused.
     pub fn to_content(&self, alloc: Global) -> Result<Content, AllocError>
         ensures { IfOk result (λ content. held_of content ≡ held_at self.now) }
     {
@@ -170,10 +178,11 @@ impl<'a> Part<'a> {
     }
 }
 
-/// The fields of a text, in order: each field's number and what it holds.
+/// The fields of a text, in order: each field's number and what it holds (Protocol Buffers, "Encoding", "Message
+/// Structure"). An empty text has none.
 ///
-/// A text that is no list of fields is refused with a fault that stands in it, after the fields before it. The only
-/// other refusal is [`WireFault::OutOfMemory`]. (Protocol Buffers, "Encoding", "Message Structure")
+/// A text that is no list of fields is refused with what is wrong behind the fields at its front, as [`split_field`]
+/// tells it. The only other refusal is [`WireFault::OutOfMemory`].
 pub fn read_fields(alloc: Global, text: &[u8]) -> Result<Vec<(u32, Content)>, WireFault>
     ensures read { IfOk result (λ fields. IsFields text.now (fields_of fields.items)) }
     ensures only { (fields : List Field) → IsFields text.now fields
@@ -190,6 +199,7 @@ pub fn read_fields(alloc: Global, text: &[u8]) -> Result<Vec<(u32, Content)>, Wi
     Ok(fields)
 }
 
+/// Appends a field with its bytes copied out of the text, or `OutOfMemory`.
 fn push_field(
     alloc: Global,
     fields: &mut Vec<(u32, Content)>,

@@ -8,9 +8,10 @@ use crate::fault::WireFault;
 /// The most bytes of a varint: ten hold 64 bits.
 pub const MAX_VARINT_BYTES: usize = 10;
 
-/// What follows a byte has at most 57 bits, so that both fit in 64.
+/// The number that follows a byte is below this: 57 bits and the byte's seven make 64.
 const HIGH_LIMIT: u64 = 1 << 57;
 
+/// The number at the front of the text in at most `most` bytes, and the text after it.
 #[tactic(auto, unfolding(crate::specs::Reading::number_at, crate::specs::Reading::joined))]
 fn number_within(text: &[u8], most: usize) -> Result<(u64, &[u8]), WireFault>
     ensures { Gives (λ x. (x.0, x.1.now)) result (number_at most text.now) }
@@ -34,7 +35,10 @@ fn number_within(text: &[u8], most: usize) -> Result<(u64, &[u8]), WireFault>
     }
 }
 
-/// The number at the front of the text, and the text after it.
+/// The number at the front of the text, and the text after it. It need not be in its shortest spelling.
+///
+/// The faults are `BadVarint`, where it goes on past ten bytes or takes more than 64 bits, and `CutShort`, where the
+/// text ends before it does.
 #[tactic(auto, unfolding(crate::specs::Reading::varint_at))]
 pub(crate) fn split_varint(text: &[u8]) -> Result<(u64, &[u8]), WireFault>
     ensures { Gives (λ x. (x.0, x.1.now)) result (varint_at text.now) }

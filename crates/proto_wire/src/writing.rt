@@ -7,11 +7,13 @@ ghost use Rattle.proto_wire.specs.Writing.{Grows};
 
 use std::alloc::AllocError;
 
-/// Protocol Buffers' wire types of a number and of bytes behind their length.
+/// The wire type of a number of 64 bits.
 const VARINT: u64 = 0;
 
+/// The wire type of bytes behind their length.
 const LENGTH_DELIMITED: u64 = 2;
 
+/// Appends the shortest varint of the number. Where memory is refused, a beginning of it may stay.
 #[tactic(auto, using(crate::proofs::Texts::texts))]
 fn append_number(out: &mut Vec<u8>, number: u64) -> Result<(), AllocError>
     ensures ok { OnOk result (out.new.items ≡ out.old.items ++ varint_text number) }
@@ -26,6 +28,7 @@ fn append_number(out: &mut Vec<u8>, number: u64) -> Result<(), AllocError>
     Ok(())
 }
 
+/// Appends a field with a number. Where memory is refused, a beginning of it may stay.
 fn append_varint(out: &mut Vec<u8>, number: u32, value: u64) -> Result<(), AllocError>
     ensures ok { OnOk result (out.new.items ≡ out.old.items ++ field_text (record { number = number; held = Varint value })) }
     ensures err { Grows out.old.items out.new.items }
@@ -36,6 +39,7 @@ fn append_varint(out: &mut Vec<u8>, number: u32, value: u64) -> Result<(), Alloc
     Ok(())
 }
 
+/// Appends a field with bytes behind their length. Where memory is refused, a beginning of it may stay.
 fn append_bytes(out: &mut Vec<u8>, number: u32, bytes: &[u8]) -> Result<(), AllocError>
     ensures ok { OnOk result (out.new.items ≡ out.old.items ++ field_text (record { number = number; held = Bytes bytes.now })) }
     ensures err { Grows out.old.items out.new.items }
@@ -47,7 +51,10 @@ fn append_bytes(out: &mut Vec<u8>, number: u32, bytes: &[u8]) -> Result<(), Allo
     Ok(())
 }
 
-/// Appends a field with a number of 64 bits, wire type 0. A refused one leaves the vector as it was.
+/// Appends a field with a number of 64 bits, wire type 0, its key and the number as the shortest varints.
+///
+/// The field's number is from 1 to [`crate::MAX_FIELD_NUMBER`]. [`AllocError`] says that memory was refused, and the
+/// vector then holds what it did before the call.
 pub fn write_varint(out: &mut Vec<u8>, number: u32, value: u64) -> Result<(), AllocError>
     requires { IsFieldNumber number }
     ensures ok { OnOk result (out.new.items ≡ out.old.items ++ field_text (record { number = number; held = Varint value })) }
@@ -61,7 +68,10 @@ pub fn write_varint(out: &mut Vec<u8>, number: u32, value: u64) -> Result<(), Al
     result
 }
 
-/// Appends a field with bytes behind their length, wire type 2. A refused one leaves the vector as it was.
+/// Appends a field with bytes behind their length, wire type 2, its key and the length as the shortest varints.
+///
+/// The field's number is from 1 to [`crate::MAX_FIELD_NUMBER`]. [`AllocError`] says that memory was refused, and the
+/// vector then holds what it did before the call.
 pub fn write_bytes(out: &mut Vec<u8>, number: u32, bytes: &[u8]) -> Result<(), AllocError>
     requires { IsFieldNumber number }
     ensures ok { OnOk result (out.new.items ≡ out.old.items ++ field_text (record { number = number; held = Bytes bytes.now })) }
@@ -75,7 +85,8 @@ pub fn write_bytes(out: &mut Vec<u8>, number: u32, bytes: &[u8]) -> Result<(), A
     result
 }
 
-/// Appends what [`write_varint`] does, and nothing for a 0, which an absent field means.
+/// Appends what [`write_varint`] does, and nothing for a 0, which is what an absent field means. Its limits and its
+/// error are those of [`write_varint`].
 pub fn write_present_varint(out: &mut Vec<u8>, number: u32, value: u64) -> Result<(), AllocError>
     requires { IsFieldNumber number }
     ensures ok { OnOk result (out.new.items
@@ -88,7 +99,8 @@ pub fn write_present_varint(out: &mut Vec<u8>, number: u32, value: u64) -> Resul
     write_varint(out, number, value)
 }
 
-/// Appends what [`write_bytes`] does, and nothing for no bytes, which an absent field means.
+/// Appends what [`write_bytes`] does, and nothing for no bytes, which is what an absent field means. Its limits and
+/// its error are those of [`write_bytes`].
 pub fn write_present_bytes(out: &mut Vec<u8>, number: u32, bytes: &[u8]) -> Result<(), AllocError>
     requires { IsFieldNumber number }
     ensures ok { OnOk result (out.new.items

@@ -1,4 +1,4 @@
-use Rattle.std.proofs.Common.{[], ◌∷◌, ◌++◌, ◌+◌, ◌%◌, arith}
+use Rattle.std.proofs.Common.{[], ◌∷◌, ◌+◌, ◌%◌, arith}
 use Rattle.proto_wire.proofs.Texts.{number_goes_on, grows_more}
 use Rattle.proto_wire.proofs.writing.append_number.Goals as goal
 
