@@ -1,8 +1,6 @@
 -- Messages by their kind: what is read is meant, what is meant is read, and each fault stands.
-use Rattle.std.proofs.Common.{◌≡◌, ◌≢◌, ℕ, ◌<◌, ◌≤◌, Bool, true, false, cond, eqb, List, Option, Some, None, Result, Ok, Err, refl, sym, ap, subst, ◌∙◌, arith, ◌⊎◌, inl, inr}
-use Rattle.std.specs.Prelude.{IfOk, IfErr}
+use Rattle.std.proofs.Common.{◌≡◌, ◌≢◌, ℕ, true, cond, eqb, Option, Some, None, Result, Ok, Err, refl, sym, ap, subst, ◌∙◌, arith, ◌⊎◌, inl, inr}
 use Rattle.std.proofs.lemmas.Bool.{eqb-true, eqb-false, cases_lt}
-use Rattle.proto_wire.specs.declared.fault.WireFault.TheVariants.{BadWireType}
 use Rattle.proto_wire.specs.Reading.{◌>>=◌}
 use Rattle.proto_wire.proofs.Steps.{bind_ok, bind_err, chosen, ok_is, err_is, not_ok, not_err}
 use Rattle.ballots.specs.declared.node.TheConstants.{MAX_NODE}
@@ -12,11 +10,11 @@ use Rattle.ballots.specs.declared.value.Value.{Value}
 use Rattle.ballots.specs.declared.message.Message.{Message}
 use Rattle.ballots.specs.declared.message.Message.TheVariants.{Prepare, Promise, Nack, Accept, Accepted, Ask, Decided}
 use Rattle.ballots.specs.declared.fault.MessageFault.{MessageFault}
-use Rattle.ballots.specs.declared.fault.MessageFault.TheVariants.{Wire, BadKind, OutOfRange, OutOfMemory}
+use Rattle.ballots.specs.declared.fault.MessageFault.TheVariants.{BadKind}
 use Rattle.ballots.specs.Ballot.{Ballot}
 use Rattle.ballots.specs.Message.{Parts, MeansHead, MeansBallot, MeansValue, Means, HeadFault, BodyFault, in_prepare, in_promise, in_report, in_nack, in_accept, in_accepted, in_decided, PartsFault, IsUnknownKind, BallotFault, ValueFault}
 use Rattle.ballots.specs.MessageReading.{known, within, ballot_at, value_at, report_at, body_at, message_at}
-use Rattle.ballots.proofs.Numbers.{within_takes, within_again, within_faults, ballot_takes, ballot_again, ballot_faults, value_takes, value_again, value_faults, MeansReport, report_takes, report_again, ReportFault, report_faults, misfit_of, known_takes, known_faults}
+use Rattle.ballots.proofs.Numbers.{within_takes, within_again, within_faults, ballot_takes, ballot_again, ballot_faults, value_takes, value_again, value_faults, MeansReport, report_takes, report_again, report_faults, misfit_of, known_takes, known_faults}
 
 abbrev Read : Type 0
 Read = Result Message MessageFault

@@ -1,24 +1,22 @@
 -- The one spelling of a message means it.
-use Rattle.std.proofs.Common.{◌≡◌, ℕ, ◌+◌, ◌^◌, ◌<◌, ◌≤◌, Bool, true, false, cond, List, [], ◌∷◌, ◌++◌, length, Option, Some, None, refl, sym, ap, subst, ◌∙◌, arith}
+use Rattle.std.proofs.Common.{◌≡◌, ℕ, ◌^◌, ◌<◌, ◌≤◌, Bool, true, false, cond, List, [], ◌∷◌, ◌++◌, length, Option, Some, None, refl, sym, subst, arith}
 use Rattle.std.specs.Prelude.{not, filter, ◌&&◌, nat_le}
 use Rattle.std.specs.List.{AllByRecursion}
 use Rattle.std.proofs.lemmas.Bool.{leb-true}
 use Rattle.proto_wire.specs.declared.field.TheConstants.{MAX_FIELD_NUMBER}
-use Rattle.proto_wire.specs.Field.{Held, Varint, Bytes, Field, FitsField, IsFields, is_default, present, fields_text}
+use Rattle.proto_wire.specs.Field.{Held, Field, FitsField, is_default, present}
 use Rattle.proto_wire.specs.Meaning.{number_in, bytes_in, all_hold, things_of, number_meant, bytes_meant}
 use Rattle.proto_wire.proofs.Texts.{fields_text-spells}
 use Rattle.proto_wire.proofs.Meanings.{number_meant-present, bytes_meant-present}
 use Rattle.ballots.specs.declared.node.TheConstants.{MAX_NODE}
 use Rattle.ballots.specs.declared.slot.TheConstants.{MAX_SLOT}
-use Rattle.ballots.specs.declared.ballot.TheConstants.{MAX_ROUND}
-use Rattle.ballots.specs.declared.value.TheConstants.{MAX_UPLOAD_BYTES}
 use Rattle.ballots.specs.declared.message.numbers.TheConstants.{KIND, SENDER, SLOT, ROUND, NODE, SECOND_ROUND, SECOND_NODE, VALUE, PREPARE, PROMISE, NACK, ACCEPT, ACCEPTED, ASK, DECIDED}
 use Rattle.ballots.specs.declared.value.Value.{Value}
 use Rattle.ballots.specs.declared.value.Value.TheVariants.{Noop, Upload}
 use Rattle.ballots.specs.declared.message.Message.{Message}
 use Rattle.ballots.specs.declared.message.Message.TheVariants.{Prepare, Promise, Nack, Accept, Accepted, Ask, Decided}
 use Rattle.ballots.specs.Ballot.{Ballot, IsBallot}
-use Rattle.ballots.specs.Message.{Parts, parts_of, MeansHead, MeansBallot, MeansValue, Means, IsInRange, IsValue, IsMessageText, value_bytes, number_field, head_fields, ballot_fields, second_fields, value_fields, all_fields, written, canonical}
+use Rattle.ballots.specs.Message.{Parts, parts_of, Means, IsInRange, IsValue, IsMessageText, value_bytes, number_field, head_fields, ballot_fields, second_fields, value_fields, all_fields, canonical}
 
 -- ---- each field has a spelling
 

@@ -1,9 +1,9 @@
 -- What reading a message from its parts gives, in the words of the text.
 use Rattle.std.proofs.Common.{◌≡◌, List, ℕ, Result, Ok, Err, refl, sym, ap, subst, ◌∙◌, ◌⊎◌, inl, inr}
 use Rattle.std.specs.Prelude.{IfOk, IfErr}
-use Rattle.proto_wire.specs.declared.fault.WireFault.{WireFault}
 use Rattle.proto_wire.specs.Field.{Field, IsFields}
 use Rattle.proto_wire.proofs.Steps.{ok_is, not_ok}
+use Rattle.proto_wire.proofs.Fronts.{fields_same}
 use Rattle.ballots.specs.declared.message.Message.{Message}
 use Rattle.ballots.specs.declared.fault.MessageFault.{MessageFault}
 use Rattle.ballots.specs.declared.fault.MessageFault.TheVariants.{Wire, BadKind, OutOfRange, OutOfMemory}
@@ -37,3 +37,10 @@ module _ (text : List ℕ) (p : Parts) (only : (fields : List Field) → IsField
   decodes_only (Err (Wire fault)) e = not_ok m (Wire fault) (sym again ∙ e)
   decodes_only (Err BadKind) e = not_ok m BadKind (sym again ∙ e)
   decodes_only (Err OutOfRange) e = not_ok m OutOfRange (sym again ∙ e)
+
+-- a text means one message at most: both are what the parts of its one list of fields give
+pub one_message : (text : List ℕ) (m n : Message) → IsMessageText text m → IsMessageText text n → m ≡ n
+one_message text m n a b =
+    let same : b.fields ≡ a.fields = fields_same text a.fields b.fields a.spells b.spells in
+    let means : Means (parts_of a.fields) n = subst (λ (fields : List Field). Means (parts_of fields) n) same b.means in
+    ok_is m n (sym (message_again (parts_of a.fields) m a.means) ∙ message_again (parts_of a.fields) n means)

@@ -1,5 +1,5 @@
 -- Gathering what the fields of a text mean, one after the other.
-use Rattle.std.proofs.Common.{◌≡◌, ◌≢◌, ℕ, List, [], ◌∷◌, ◌++◌, Option, refl, sym, ap, subst, ◌∙◌}
+use Rattle.std.proofs.Common.{◌≡◌, ℕ, List, [], ◌∷◌, ◌++◌, refl, sym, ap, subst, ◌∙◌}
 use Rattle.proto_wire.specs.Field.{Field, FieldsThen, IsFields, BeginsWith}
 use Rattle.proto_wire.proofs.Meanings.{number_meant-push, bytes_meant-push}
 use Rattle.proto_wire.proofs.Fronts.{fields_push, fields_same}

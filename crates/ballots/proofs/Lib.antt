@@ -4,3 +4,4 @@ pub mod Bodies
 pub mod Decodes
 pub mod Written
 pub mod Canonical
+pub mod Rows

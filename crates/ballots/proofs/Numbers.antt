@@ -1,8 +1,7 @@
 -- The numbers, ballots and values of a message: what is read is meant, what is meant is read, and each fault stands.
-use Rattle.std.proofs.Common.{◌≡◌, ◌≢◌, ℕ, suc, ◌<◌, ◌≤◌, Bool, true, false, cond, ltb, eqb, List, [], length, Option, Some, None, Result, Ok, Err, refl, sym, ap, subst, ◌∙◌, arith, ◌⊎◌, inl, inr}
-use Rattle.std.proofs.lemmas.Bool.{ltb-true, ltb-false, le-ltb, lt-ltb, eqb-true, eqb-false, ne_eqb}
+use Rattle.std.proofs.Common.{◌≡◌, ◌≢◌, ℕ, ◌≤◌, false, cond, ltb, eqb, List, length, Option, Some, None, Result, Ok, Err, refl, sym, ap, subst, ◌∙◌, arith, ◌⊎◌, inl, inr}
+use Rattle.std.proofs.lemmas.Bool.{ltb-true, ltb-false, le-ltb, eqb-true, eqb-false, ne_eqb}
 use Rattle.std.proofs.lemmas.List.{nil_from_length}
-use Rattle.proto_wire.specs.declared.fault.WireFault.{WireFault}
 use Rattle.proto_wire.specs.declared.fault.WireFault.TheVariants.{BadVarint, BadKey, BadWireType, CutShort, NotUtf8, OutOfMemory as WireMemory}
 use Rattle.proto_wire.specs.Reading.{◌>>=◌}
 use Rattle.proto_wire.proofs.Steps.{bind_ok, bind_err, chosen, ok_is, err_is, not_ok, not_err}
@@ -14,7 +13,7 @@ use Rattle.ballots.specs.declared.value.Value.TheVariants.{Noop, Upload}
 use Rattle.ballots.specs.declared.fault.MessageFault.{MessageFault}
 use Rattle.ballots.specs.declared.fault.MessageFault.TheVariants.{Wire, BadKind, OutOfRange, OutOfMemory}
 use Rattle.ballots.specs.Ballot.{Ballot}
-use Rattle.ballots.specs.Message.{Parts, MeansBallot, MeansValue, Misfit, IsAbove, BallotFault, ValueFault, value_bytes}
+use Rattle.ballots.specs.Message.{Parts, MeansBallot, MeansValue, Misfit, IsAbove, BallotFault, ValueFault}
 use Rattle.ballots.specs.MessageReading.{known, within, ballot_at, value_at, report_at}
 
 -- a fault of a part is one of the whole

@@ -3,3 +3,4 @@ pub mod Value
 pub mod Message
 pub mod MessageReading
 pub mod Parts
+pub mod Row

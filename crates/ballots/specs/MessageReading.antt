@@ -1,6 +1,6 @@
 -- Reading a message from what its fields mean, with the fault that is met first: a tool of the proofs. What a text means is
 -- defined in `Message`.
-use Rattle.std.specs.Prelude.{◌≡◌, ℕ, ◌<◌, ◌≤◌, Bool, List, [], ◌∷◌, length, Option, Some, None, Result, Ok, Err, nat_lt, ◌==◌, ◌||◌, if◌then◌else◌}
+use Rattle.std.specs.Prelude.{◌≡◌, ℕ, List, length, Option, Some, None, Result, Ok, Err, nat_lt, ◌==◌, if◌then◌else◌}
 use Rattle.proto_wire.specs.declared.fault.WireFault.TheVariants.{BadWireType}
 use Rattle.proto_wire.specs.Reading.{◌>>=◌}
 use Rattle.ballots.specs.declared.node.TheConstants.{MAX_NODE}
@@ -46,16 +46,21 @@ report_at p = known p.second_round >>= λ round. if round == 0 then Ok None else
   v ← value_at p.value
   Ok (Some (b, v)))
 
+-- a message about a vote, or what was decided of the votes
+abbrev pub vote_at : ℕ → ℕ → ℕ → Parts → Result Message MessageFault
+vote_at kind sender slot p =
+    if kind == ACCEPT then (ballot_at p.round p.node >>= λ b. value_at p.value >>= λ v. Ok (Accept sender slot b v))
+    else if kind == ACCEPTED then (ballot_at p.round p.node >>= λ b. value_at p.value >>= λ v. Ok (Accepted sender slot b v))
+    else if kind == ASK then Ok (Ask sender slot)
+    else if kind == DECIDED then (value_at p.value >>= λ v. Ok (Decided sender slot v))
+    else Err BadKind
+
 unfoldable pub body_at : ℕ → ℕ → ℕ → Parts → Result Message MessageFault
 body_at kind sender slot p =
     if kind == PREPARE then (ballot_at p.round p.node >>= λ b. Ok (Prepare sender slot b))
     else if kind == PROMISE then (ballot_at p.round p.node >>= λ b. report_at p >>= λ r. Ok (Promise sender slot b r))
     else if kind == NACK then (ballot_at p.round p.node >>= λ b. ballot_at p.second_round p.second_node >>= λ c. Ok (Nack sender slot b c))
-    else if kind == ACCEPT then (ballot_at p.round p.node >>= λ b. value_at p.value >>= λ v. Ok (Accept sender slot b v))
-    else if kind == ACCEPTED then (ballot_at p.round p.node >>= λ b. value_at p.value >>= λ v. Ok (Accepted sender slot b v))
-    else if kind == ASK then Ok (Ask sender slot)
-    else if kind == DECIDED then (value_at p.value >>= λ v. Ok (Decided sender slot v))
-    else Err BadKind
+    else vote_at kind sender slot p
 
 unfoldable pub message_at : Parts → Result Message MessageFault
 message_at p = do

@@ -1,5 +1,5 @@
 -- What the code keeps while it reads a message's fields.
-use Rattle.std.specs.Prelude.{◌≡◌, ℕ, ◌==◌, if◌then◌else◌, List, Option, IfErr}
+use Rattle.std.specs.Prelude.{◌≡◌, ℕ, ◌==◌, if◌then◌else◌, List, Option}
 use Rattle.std.specs.Option.{option_map}
 use Rattle.proto_wire.specs.Field.{Field, IsFields}
 use Rattle.proto_wire.specs.Meaning.{number_in, bytes_in, after}

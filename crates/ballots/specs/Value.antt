@@ -1,5 +1,5 @@
 -- Values: what is decided for a slot is opaque to agreement.
-use Rattle.std.specs.Prelude.{ℕ, ◌<◌, ◌≤◌, List, [], length}
+use Rattle.std.specs.Prelude.{ℕ, ◌<◌, ◌≤◌, List, length}
 use Rattle.ballots.specs.declared.value.TheConstants.{MAX_UPLOAD_BYTES}
 
 -- what may stand behind an upload's value: at least one byte, and no more than the limit

@@ -6,7 +6,7 @@ ghost use Rattle.ballots.specs.declared.message.Message.{Message as Meant};
 ghost use Rattle.ballots.specs.declared.fault.MessageFault.TheVariants.{OutOfMemory};
 ghost use Rattle.ballots.specs.Message.{IsMessageText, IsFaultOf};
 ghost use Rattle.ballots.specs.Parts.{parts_at};
-ghost use Rattle.ballots.specs.MessageReading.{Gives, within, ballot_at, value_at, report_at, body_at, message_at, known};
+ghost use Rattle.ballots.specs.MessageReading.{Gives, within, ballot_at, value_at, report_at, vote_at, body_at, message_at, known};
 
 use crate::ballot::{Ballot, MAX_ROUND};
 use crate::fault::MessageFault;
@@ -141,6 +141,21 @@ fn body_of(
                 promised,
             })
         }
+        _ => vote_of(alloc, kind, sender, slot, parts),
+    }
+}
+
+// A message about a vote, or what was decided of the votes.
+fn vote_of(
+    alloc: Global,
+    kind: u64,
+    sender: NodeId,
+    slot: Slot,
+    parts: &Parts<'_>,
+) -> Result<Message, MessageFault>
+    ensures { Gives result (vote_at kind sender slot (parts_at parts.now)) }
+{
+    match kind {
         ACCEPT => {
             let ballot = ballot_of(parts.round, parts.node)?;
             let value = value_of(alloc, parts.value)?;

@@ -144,8 +144,77 @@ fn append_promise(
     }
 }
 
+#[tactic(auto, using(crate::proofs::Written::written_rules))]
+fn append_prepare(
+    out: &mut Vec<u8>,
+    sender: NodeId,
+    slot: Slot,
+    ballot: Ballot,
+) -> Result<(), OutOfMemory>
+    ensures ok { OnOk result (out.new.items ≡ out.old.items ++ written (head_fields PREPARE sender slot ++ ballot_fields ballot)) }
+    ensures err { Grows out.old.items out.new.items }
+    ensures within { OnOk result ((sender ≤ MAX_NODE) × (slot ≤ MAX_SLOT) × IsBallot ballot) }
+{
+    append_head(out, PREPARE, sender, slot)?;
+    append_ballot(out, ballot)?;
+    Ok(())
+}
+
+#[tactic(auto, using(crate::proofs::Written::written_rules))]
+fn append_nack(
+    out: &mut Vec<u8>,
+    sender: NodeId,
+    slot: Slot,
+    ballot: Ballot,
+    promised: Ballot,
+) -> Result<(), OutOfMemory>
+    ensures ok { OnOk result (out.new.items
+        ≡ out.old.items ++ written (head_fields NACK sender slot ++ (ballot_fields ballot ++ second_fields promised))) }
+    ensures err { Grows out.old.items out.new.items }
+    ensures within { OnOk result ((sender ≤ MAX_NODE) × (slot ≤ MAX_SLOT) × IsBallot ballot × IsBallot promised) }
+{
+    append_head(out, NACK, sender, slot)?;
+    append_ballots(out, ballot, promised)?;
+    Ok(())
+}
+
+// An Accept or an Accepted.
+#[tactic(auto, using(crate::proofs::Written::written_rules))]
+fn append_vote(
+    out: &mut Vec<u8>,
+    kind: u64,
+    sender: NodeId,
+    slot: Slot,
+    ballot: Ballot,
+    value: &Value,
+) -> Result<(), OutOfMemory>
+    ensures ok { OnOk result (out.new.items
+        ≡ out.old.items ++ written (head_fields kind sender slot ++ (ballot_fields ballot ++ value_fields value.now))) }
+    ensures err { Grows out.old.items out.new.items }
+    ensures within { OnOk result ((sender ≤ MAX_NODE) × (slot ≤ MAX_SLOT) × IsBallot ballot × IsValue value.now) }
+{
+    append_head(out, kind, sender, slot)?;
+    append_voted(out, ballot, value)?;
+    Ok(())
+}
+
+#[tactic(auto, using(crate::proofs::Written::written_rules))]
+fn append_decided(
+    out: &mut Vec<u8>,
+    sender: NodeId,
+    slot: Slot,
+    value: &Value,
+) -> Result<(), OutOfMemory>
+    ensures ok { OnOk result (out.new.items ≡ out.old.items ++ written (head_fields DECIDED sender slot ++ value_fields value.now)) }
+    ensures err { Grows out.old.items out.new.items }
+    ensures within { OnOk result ((sender ≤ MAX_NODE) × (slot ≤ MAX_SLOT) × IsValue value.now) }
+{
+    append_head(out, DECIDED, sender, slot)?;
+    append_value(out, value)?;
+    Ok(())
+}
+
 impl Message {
-    #[tactic(auto, using(crate::proofs::Written::written_rules))]
     fn append(&self, out: &mut Vec<u8>) -> Result<(), OutOfMemory>
         ensures ok { OnOk result (out.new.items ≡ out.old.items ++ written (all_fields self.now)) }
         ensures err { Grows out.old.items out.new.items }
@@ -156,10 +225,7 @@ impl Message {
                 sender,
                 slot,
                 ballot,
-            } => {
-                append_head(out, PREPARE, *sender, *slot)?;
-                append_ballot(out, *ballot)
-            }
+            } => append_prepare(out, *sender, *slot, *ballot),
             Message::Promise {
                 sender,
                 slot,
@@ -171,37 +237,25 @@ impl Message {
                 slot,
                 ballot,
                 promised,
-            } => {
-                append_head(out, NACK, *sender, *slot)?;
-                append_ballots(out, *ballot, *promised)
-            }
+            } => append_nack(out, *sender, *slot, *ballot, *promised),
             Message::Accept {
                 sender,
                 slot,
                 ballot,
                 value,
-            } => {
-                append_head(out, ACCEPT, *sender, *slot)?;
-                append_voted(out, *ballot, value)
-            }
+            } => append_vote(out, ACCEPT, *sender, *slot, *ballot, value),
             Message::Accepted {
                 sender,
                 slot,
                 ballot,
                 value,
-            } => {
-                append_head(out, ACCEPTED, *sender, *slot)?;
-                append_voted(out, *ballot, value)
-            }
+            } => append_vote(out, ACCEPTED, *sender, *slot, *ballot, value),
             Message::Ask { sender, slot } => append_head(out, ASK, *sender, *slot),
             Message::Decided {
                 sender,
                 slot,
                 value,
-            } => {
-                append_head(out, DECIDED, *sender, *slot)?;
-                append_value(out, value)
-            }
+            } => append_decided(out, *sender, *slot, value),
         }
     }
 

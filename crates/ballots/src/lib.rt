@@ -10,14 +10,23 @@ mod ballot;
 mod decoding;
 mod encoding;
 mod fault;
+mod laws;
 mod message;
 mod node;
 mod parts;
 mod slot;
+#[cfg(test)]
+mod spelled;
+#[cfg(test)]
+mod tests;
 mod value;
 
 pub use ballot::{Ballot, MAX_ROUND};
 pub use fault::MessageFault;
+pub use laws::{
+    ballots_are_ordered, canonical_means_its_message, comparison_is_the_order, messages_are_one,
+    messages_are_rows,
+};
 pub use message::Message;
 pub use node::{MAX_NODE, NodeId};
 pub use slot::{MAX_SLOT, Slot};

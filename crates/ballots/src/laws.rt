@@ -1,0 +1,51 @@
+//! Laws of the definitions that every call here is proved against.
+
+ghost use Rattle.std.specs.Prelude.{◌≡◌, ℕ, ◌⊎◌, ◌↔◌, List, [], Some, None};
+ghost use Rattle.std.specs.declared.cmp.Ordering.TheVariants.{Less, Equal, Greater};
+ghost use Rattle.ballots.specs.declared.value.Value.{Value};
+ghost use Rattle.ballots.specs.declared.message.Message.{Message as Meant};
+ghost use Rattle.ballots.specs.declared.message.Message.TheVariants.{Prepare, Promise, Nack, Accept, Accepted, Ask, Decided};
+ghost use Rattle.ballots.specs.declared.message.numbers.TheConstants.{PREPARE, PROMISE, NACK, ACCEPT, ACCEPTED, ASK, DECIDED};
+ghost use Rattle.ballots.specs.Ballot.{Ballot as Pair, IsBelow, ballot_cmp};
+ghost use Rattle.ballots.specs.Message.{IsMessageText, IsInRange, canonical, value_bytes};
+ghost use Rattle.ballots.specs.Row.{row_text};
+
+/// Of two ballots that are not the same, exactly one is below the other, and below is carried along.
+pub fn ballots_are_ordered()
+    ensures not_below_itself { (a : Pair) → IsBelow a a → ⊥ }
+    ensures carried { (a b c : Pair) → IsBelow a b → IsBelow b c → IsBelow a c }
+    ensures either { (a b : Pair) → IsBelow a b ⊎ (a ≡ b) ⊎ IsBelow b a }
+{}
+
+/// Comparing by round and then by node answers by that order, and says that two are equal only of the same.
+pub fn comparison_is_the_order()
+    ensures less { (a b : Pair) → (ballot_cmp a b ≡ Less) ↔ IsBelow a b }
+    ensures equal { (a b : Pair) → (ballot_cmp a b ≡ Equal) ↔ (a ≡ b) }
+    ensures greater { (a b : Pair) → (ballot_cmp a b ≡ Greater) ↔ IsBelow b a }
+{}
+
+/// A text means one message at most.
+pub fn messages_are_one()
+    ensures { (text : List ℕ) (m n : Meant) → IsMessageText text m → IsMessageText text n → m ≡ n }
+{}
+
+/// The one written spelling of a message means that message.
+pub fn canonical_means_its_message()
+    ensures { (m : Meant) → IsInRange m → IsMessageText (canonical m) m }
+{}
+
+/// Whatever its kind, a message is written as all eight fields in their order, those left out that are 0 or no bytes.
+#[tactic(auto, using(crate::proofs::Rows::rows))]
+pub fn messages_are_rows()
+    ensures prepare { (s t : ℕ) (b : Pair) → canonical (Prepare s t b) ≡ row_text PREPARE s t b.round b.node 0 0 [] }
+    ensures promise { (s t : ℕ) (b : Pair) → canonical (Promise s t b None) ≡ row_text PROMISE s t b.round b.node 0 0 [] }
+    ensures report { (s t : ℕ) (b r : Pair) (v : Value) → canonical (Promise s t b (Some (r, v)))
+        ≡ row_text PROMISE s t b.round b.node r.round r.node (value_bytes v) }
+    ensures nack { (s t : ℕ) (b c : Pair) → canonical (Nack s t b c) ≡ row_text NACK s t b.round b.node c.round c.node [] }
+    ensures accept { (s t : ℕ) (b : Pair) (v : Value) → canonical (Accept s t b v)
+        ≡ row_text ACCEPT s t b.round b.node 0 0 (value_bytes v) }
+    ensures accepted { (s t : ℕ) (b : Pair) (v : Value) → canonical (Accepted s t b v)
+        ≡ row_text ACCEPTED s t b.round b.node 0 0 (value_bytes v) }
+    ensures ask { (s t : ℕ) → canonical (Ask s t) ≡ row_text ASK s t 0 0 0 0 [] }
+    ensures decided { (s t : ℕ) (v : Value) → canonical (Decided s t v) ≡ row_text DECIDED s t 0 0 0 0 (value_bytes v) }
+{}
