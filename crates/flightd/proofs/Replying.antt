@@ -1,5 +1,5 @@
 -- One frame answered, or the end of a run.
-use Rattle.std.proofs.Common.{◌≡◌, ◌≢◌, ℕ, ◌<◌, Bool, true, false, List, [], ◌∷◌, ◌++◌, length, Option, Some, None, Result, Ok, Err, refl, sym, ap, subst, ◌∙◌, append-nil, ◌⊎◌, inl, inr}
+use Rattle.std.proofs.Common.{◌≡◌, ℕ, true, false, List, [], ◌++◌, Option, Some, None, Result, Ok, Err, refl, sym, subst, append-nil, inl, inr}
 use Rattle.proto_wire.specs.Frame.{Frame, IsFlag, frame_text}
 use Rattle.proto_wire.specs.FrameFaults.{WhereKnown, ReadsFrame}
 use Rattle.proto_wire.specs.declared.fault.FrameFault.{FrameFault}
@@ -8,8 +8,8 @@ use Rattle.ballots.specs.Message.{IsMessageText}
 use Rattle.acceptor.specs.Standing.{Standing}
 use Rattle.flightd.specs.declared.fault.RunFault.{RunFault}
 use Rattle.flightd.specs.declared.fault.RunFault.TheVariants as faults
-use Rattle.flightd.specs.Conversation.{Answers, Turn, reply_text}
-use Rattle.flightd.specs.Serving.{Replies, FrameEnds, FrontEnds, Ends, Sends, AnswersFrame, FrontTurn, Steps}
+use Rattle.flightd.specs.Conversation.{Answers, reply_text}
+use Rattle.flightd.specs.Serving.{Replies, FrameEnds, FrontEnds, Ends, Sends, AnswersFrame, Steps}
 
 -- a flag that is not the one is the other
 pub message_flag : (flag : ℕ) → IsFlag flag → (flag ≡ 128 → ⊥) → flag ≡ 0

@@ -1,14 +1,14 @@
 -- A whole run, frame after frame.
-use Rattle.std.proofs.Common.{◌≡◌, ◌≢◌, ℕ, zero, suc, ◌+◌, ◌<◌, ◌≤◌, Bool, true, false, List, [], ◌∷◌, ◌++◌, length, Option, Some, None, Result, Ok, Err, refl, sym, ap, subst, ◌∙◌, append-nil, append_assoc, arith}
+use Rattle.std.proofs.Common.{◌≡◌, ℕ, ◌+◌, ◌<◌, Bool, true, false, List, [], ◌∷◌, ◌++◌, Option, Some, None, Result, Ok, Err, refl, sym, ap, subst, ◌∙◌, append-nil, append_assoc, arith}
 use Rattle.std.specs.List.{flat_map}
 use Rattle.std.proofs.lemmas.List.{length_push, flat_map_more}
 use Rattle.proto_wire.specs.Frame.{Frame, frame_text}
 use Rattle.proto_wire.specs.FrameFaults.{WhereKnown}
-use Rattle.acceptor.specs.Standing.{Standing, IsFresh, IsSame}
+use Rattle.acceptor.specs.Standing.{Standing, IsFresh}
 use Rattle.flightd.specs.declared.fault.RunFault.{RunFault}
 use Rattle.flightd.specs.declared.fault.RunFault.TheVariants as faults
 use Rattle.flightd.specs.Conversation.{Turn, Turns}
-use Rattle.flightd.specs.Serving.{frame_limit, joined, Served, SoFar, FrontTurn, Steps, Ends, RunsToTheEnd, RunsInto, Runs}
+use Rattle.flightd.specs.Serving.{frame_limit, SoFar, FrontTurn, Steps, Ends, Runs}
 
 turns_push : (start mid next : Standing) (frames : List Frame) (texts : List (List ℕ)) (f : Frame) (text : List ℕ) → Turns start frames texts mid → Turn mid f text next
     → Turns start (frames ++ f ∷ []) (texts ++ text ∷ []) next

@@ -1,6 +1,6 @@
 -- What node 0 answers as an acceptor, over a whole list of frames: Lamport, "Paxos Made Simple", section 2.2. A standing
 -- says what each slot has promised and accepted; this is about no code's lists.
-use Rattle.std.specs.Prelude.{◌≡◌, ℕ, ◌≤◌, List, [], ◌∷◌, ◌++◌, length, Option, Some, None}
+use Rattle.std.specs.Prelude.{◌≡◌, ℕ, List, [], ◌∷◌, Option, Some, None}
 use Rattle.proto_wire.specs.Frame.{Frame, frame_text}
 use Rattle.ballots.specs.declared.value.Value.{Value}
 use Rattle.ballots.specs.declared.message.Message.{Message}
@@ -9,7 +9,7 @@ use Rattle.ballots.specs.Ballot.{Ballot}
 use Rattle.ballots.specs.Message.{IsMessageText, canonical}
 use Rattle.acceptor.specs.declared.answer.Answer.{Answer}
 use Rattle.acceptor.specs.declared.answer.Answer.TheVariants.{Promise, Granted, Nack}
-use Rattle.acceptor.specs.Standing.{Standing, IsFresh, IsSame}
+use Rattle.acceptor.specs.Standing.{Standing, IsSame}
 use Rattle.acceptor.specs.Answering.{Prepares, Accepts}
 
 -- the number of the node that answers

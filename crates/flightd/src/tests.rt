@@ -1,0 +1,8 @@
+//! What no clause says: bytes worked out by hand, the lines on standard error, streams that fail, and the words.
+
+mod command_line;
+mod conversations;
+mod faults;
+mod plain;
+mod streams;
+mod support;

@@ -1,5 +1,5 @@
-use Rattle.std.proofs.Common.{ap, sym, ◌∙◌, subst}
-use Rattle.proto_wire.specs.Frame.{Frame, IsFlag}
+use Rattle.std.proofs.Common.{ap, ◌∙◌}
+use Rattle.proto_wire.specs.Frame.{Frame}
 use Rattle.acceptor.specs.Holding.{standing}
 use Rattle.flightd.proofs.Replying.{message_flag, answered_none, answered_some}
 use Rattle.flightd.proofs.serving.answer_frame.Goals as goal

@@ -1,0 +1,99 @@
+//! Runs in memory, and the first conversation.
+
+use crate::runs::acceptor_run;
+use std::alloc::Global;
+use std::process::Abort;
+use std::test::Fail;
+
+/// A fresh acceptor promises, accepts, refuses what it has promised already, and reports what it has accepted.
+pub const CONVERSATION: &str =
+    "00 00000004 08012801 00 00000008 0804100128023001 00 00000004 08042801 00 00000008 0801100228033002";
+
+/// Its answers.
+pub const ANSWERS: &str =
+    "00 00000004 08022801 00 00000006 080528023001 00 00000008 0803280138024001 00 0000000a 08022803300238024001";
+
+/// Where each of its frames ends, and where that frame's answer does.
+const ENDS: [(usize, usize); 4] = [(9, 9), (22, 20), (31, 33), (44, 48)];
+
+/// How many frames of the conversation end within its first `given` bytes, and where the last one's answer ends.
+pub fn answered_within(given: usize) -> (usize, usize) {
+    let mut frames = 0;
+    let mut written = 0;
+    for (at, (end, answer_end)) in ENDS.iter().enumerate() {
+        if *end <= given {
+            frames = at + 1;
+            written = *answer_end;
+        }
+    }
+    (frames, written)
+}
+
+/// How many answers of the conversation end within the first `room` bytes.
+pub fn answers_within(room: usize) -> usize {
+    ENDS.iter()
+        .filter(|(_, answer_end)| *answer_end <= room)
+        .count()
+}
+
+/// What a run gave.
+#[derive(Debug, Drop)]
+pub struct Outcome {
+    pub status: u8,
+    pub output: Vec<u8>,
+    pub said: Vec<u8>,
+}
+
+/// Runs the acceptor over these bytes.
+pub fn run_over(alloc: Global, input: &[u8]) -> Outcome {
+    let mut reader = input;
+    let mut output = Vec::new(alloc);
+    let mut said = Vec::new(alloc);
+    let status = acceptor_run(alloc, &mut reader, &mut output, &mut said);
+    Outcome {
+        status,
+        output,
+        said,
+    }
+}
+
+/// The bytes that hexadecimal digits spell, spaces passed over.
+pub fn spelled(alloc: Global, digits: &str) -> Result<Vec<u8>, Fail> {
+    let mut bytes = Vec::new(alloc);
+    let mut first = None;
+    for digit in digits.chars() {
+        if digit == ' ' {
+            continue;
+        }
+        let value = (digit.to_digit(16).ok_or("no hexadecimal digit")? % 16) as u8;
+        first = match first {
+            None => Some(value),
+            Some(high) => {
+                bytes.push((high << 4) | value)?;
+                None
+            }
+        };
+    }
+    Ok(bytes)
+}
+
+/// What a run over `input` is to give, both in hexadecimal digits, and to say. Without a line its status is 0.
+pub fn expect(
+    rt: &impl Abort,
+    alloc: Global,
+    input: &str,
+    output: &str,
+    said: &str,
+) -> Result<(), Fail> {
+    let outcome = run_over(alloc, &spelled(alloc, input)?);
+    let wanted = spelled(alloc, output)?;
+    assert_eq!(rt;
+        outcome.output.as_slice(),
+        wanted.as_slice(),
+        "over {input}"
+    );
+    assert_eq!(rt; outcome.said.as_slice(), said.as_bytes(), "over {input}");
+    let status = if said.is_empty() { 0 } else { 1 };
+    assert_eq!(rt; outcome.status, status, "over {input}");
+    Ok(())
+}
