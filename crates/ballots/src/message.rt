@@ -81,33 +81,48 @@ pub enum Message {
 
 /// The numbers of a message's fields, and of its kinds.
 pub(crate) mod numbers {
+    /// Which message it is: one of the kinds below.
     pub const KIND: u32 = 1;
 
+    /// The node that sends.
     pub const SENDER: u32 = 2;
 
+    /// The slot that the message is about.
     pub const SLOT: u32 = 3;
 
+    /// The round of the message's ballot.
     pub const ROUND: u32 = 5;
 
+    /// The node of the message's ballot.
     pub const NODE: u32 = 6;
 
+    /// The round of the ballot that is reported, or that refused.
     pub const SECOND_ROUND: u32 = 7;
 
+    /// The node of that ballot.
     pub const SECOND_NODE: u32 = 8;
 
+    /// The value's bytes, none for a Noop.
     pub const VALUE: u32 = 9;
 
+    /// A Prepare.
     pub const PREPARE: u64 = 1;
 
+    /// A Promise.
     pub const PROMISE: u64 = 2;
 
+    /// A Nack.
     pub const NACK: u64 = 3;
 
+    /// An Accept.
     pub const ACCEPT: u64 = 4;
 
+    /// An Accepted.
     pub const ACCEPTED: u64 = 5;
 
+    /// An Ask.
     pub const ASK: u64 = 6;
 
+    /// A Decided.
     pub const DECIDED: u64 = 7;
 }

@@ -9,9 +9,10 @@ use crate::serving::serve;
 use std::alloc::Global;
 use std::io::{Read, Write};
 
-/// The status of a run that met no fault, and of one that did.
+/// The status of a run that met no fault.
 pub const SUCCESS: u8 = 0;
 
+/// The status of a run that met one.
 pub const FAILURE: u8 = 1;
 
 /// `flightd acceptor`: serves the frames of `r` as node 0 of three, writes the answers' frames to `w`, and gives the

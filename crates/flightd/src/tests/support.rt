@@ -17,7 +17,7 @@ pub const ANSWERS: &str =
 const ENDS: [(usize, usize); 4] = [(9, 9), (22, 20), (31, 33), (44, 48)];
 
 /// How many frames of the conversation end within its first `given` bytes, and where the last one's answer ends.
-pub fn answered_within(given: usize) -> (usize, usize) {
+pub(super) fn answered_within(given: usize) -> (usize, usize) {
     let mut frames = 0;
     let mut written = 0;
     for (at, (end, answer_end)) in ENDS.iter().enumerate() {
@@ -30,7 +30,7 @@ pub fn answered_within(given: usize) -> (usize, usize) {
 }
 
 /// How many answers of the conversation end within the first `room` bytes.
-pub fn answers_within(room: usize) -> usize {
+pub(super) fn answers_within(room: usize) -> usize {
     ENDS.iter()
         .filter(|(_, answer_end)| *answer_end <= room)
         .count()
@@ -45,7 +45,7 @@ pub struct Outcome {
 }
 
 /// Runs the acceptor over these bytes.
-pub fn run_over(alloc: Global, input: &[u8]) -> Outcome {
+pub(super) fn run_over(alloc: Global, input: &[u8]) -> Outcome {
     let mut reader = input;
     let mut output = Vec::new(alloc);
     let mut said = Vec::new(alloc);
@@ -58,7 +58,7 @@ pub fn run_over(alloc: Global, input: &[u8]) -> Outcome {
 }
 
 /// The bytes that hexadecimal digits spell, spaces passed over.
-pub fn spelled(alloc: Global, digits: &str) -> Result<Vec<u8>, Fail> {
+pub(super) fn spelled(alloc: Global, digits: &str) -> Result<Vec<u8>, Fail> {
     let mut bytes = Vec::new(alloc);
     let mut first = None;
     for digit in digits.chars() {
@@ -78,7 +78,7 @@ pub fn spelled(alloc: Global, digits: &str) -> Result<Vec<u8>, Fail> {
 }
 
 /// What a run over `input` is to give, both in hexadecimal digits, and to say. Without a line its status is 0.
-pub fn expect(
+pub(super) fn expect(
     rt: &impl Abort,
     alloc: Global,
     input: &str,

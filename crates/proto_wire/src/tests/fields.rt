@@ -131,58 +131,60 @@ fn reads_fields(rt: HostRuntime) -> Result<(), Fail> {
     Ok(())
 }
 
+// Texts that no field stands at the front of, and why.
+const FAULTY: [(&[u8], WireFault); 22] = [
+    // The number is in its eleventh byte, above 64 bits, or does not end.
+    (
+        b"\xff\xff\xff\xff\xff\xff\xff\xff\xff\xff\x01",
+        WireFault::BadVarint,
+    ),
+    (
+        b"\xff\xff\xff\xff\xff\xff\xff\xff\xff\x02",
+        WireFault::BadVarint,
+    ),
+    (
+        b"\xff\xff\xff\xff\xff\xff\xff\xff\xff\xff",
+        WireFault::BadVarint,
+    ),
+    (
+        b"\x08\xff\xff\xff\xff\xff\xff\xff\xff\xff\x02",
+        WireFault::BadVarint,
+    ),
+    (
+        b"\x0a\xff\xff\xff\xff\xff\xff\xff\xff\xff\x02",
+        WireFault::BadVarint,
+    ),
+    // Field numbers 0 and 536870912, and the greatest key.
+    (b"\x00\x00", WireFault::BadKey),
+    (b"\x03", WireFault::BadKey),
+    (b"\x80\x80\x80\x80\x10", WireFault::BadKey),
+    (
+        b"\xff\xff\xff\xff\xff\xff\xff\xff\xff\x01",
+        WireFault::BadKey,
+    ),
+    // Wire types 3, 4, 6 and 7.
+    (b"\x0b", WireFault::BadWireType),
+    (b"\x0c", WireFault::BadWireType),
+    (b"\x0e", WireFault::BadWireType),
+    (b"\x0f", WireFault::BadWireType),
+    // The text ends in a key, a number, a length, or before the bytes that belong to it.
+    (b"\x80", WireFault::CutShort),
+    (b"\xff\xff\xff\xff\xff\xff\xff\xff\xff", WireFault::CutShort),
+    (b"\x08", WireFault::CutShort),
+    (b"\x08\x80", WireFault::CutShort),
+    (b"\x09\x00", WireFault::CutShort),
+    (b"\x0d\x00", WireFault::CutShort),
+    (b"\x0a", WireFault::CutShort),
+    (b"\x0a\x05\x61", WireFault::CutShort),
+    (
+        b"\x0a\xff\xff\xff\xff\xff\xff\xff\xff\xff\x01",
+        WireFault::CutShort,
+    ),
+];
+
 #[test]
 fn tells_faults(rt: HostRuntime) {
-    let cases: [(&[u8], WireFault); 22] = [
-        // The number is in its eleventh byte, above 64 bits, or does not end.
-        (
-            b"\xff\xff\xff\xff\xff\xff\xff\xff\xff\xff\x01",
-            WireFault::BadVarint,
-        ),
-        (
-            b"\xff\xff\xff\xff\xff\xff\xff\xff\xff\x02",
-            WireFault::BadVarint,
-        ),
-        (
-            b"\xff\xff\xff\xff\xff\xff\xff\xff\xff\xff",
-            WireFault::BadVarint,
-        ),
-        (
-            b"\x08\xff\xff\xff\xff\xff\xff\xff\xff\xff\x02",
-            WireFault::BadVarint,
-        ),
-        (
-            b"\x0a\xff\xff\xff\xff\xff\xff\xff\xff\xff\x02",
-            WireFault::BadVarint,
-        ),
-        // Field numbers 0 and 536870912, and the greatest key.
-        (b"\x00\x00", WireFault::BadKey),
-        (b"\x03", WireFault::BadKey),
-        (b"\x80\x80\x80\x80\x10", WireFault::BadKey),
-        (
-            b"\xff\xff\xff\xff\xff\xff\xff\xff\xff\x01",
-            WireFault::BadKey,
-        ),
-        // Wire types 3, 4, 6 and 7.
-        (b"\x0b", WireFault::BadWireType),
-        (b"\x0c", WireFault::BadWireType),
-        (b"\x0e", WireFault::BadWireType),
-        (b"\x0f", WireFault::BadWireType),
-        // The text ends in a key, a number, a length, or before the bytes that belong to it.
-        (b"\x80", WireFault::CutShort),
-        (b"\xff\xff\xff\xff\xff\xff\xff\xff\xff", WireFault::CutShort),
-        (b"\x08", WireFault::CutShort),
-        (b"\x08\x80", WireFault::CutShort),
-        (b"\x09\x00", WireFault::CutShort),
-        (b"\x0d\x00", WireFault::CutShort),
-        (b"\x0a", WireFault::CutShort),
-        (b"\x0a\x05\x61", WireFault::CutShort),
-        (
-            b"\x0a\xff\xff\xff\xff\xff\xff\xff\xff\xff\x01",
-            WireFault::CutShort,
-        ),
-    ];
-    for (text, want) in cases {
+    for (text, want) in FAULTY {
         assert_eq!(rt; read_fields(rt.alloc(), text).err(), Some(want), "{text:?}");
         assert_eq!(rt; split_field(text).err(), Some(want), "{text:?}");
     }
