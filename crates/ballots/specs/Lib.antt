@@ -1,4 +1,5 @@
 pub mod Ballot
+pub mod Majority
 pub mod Value
 pub mod Message
 pub mod MessageReading

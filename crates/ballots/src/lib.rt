@@ -11,6 +11,7 @@ mod decoding;
 mod encoding;
 mod fault;
 mod laws;
+mod members;
 mod message;
 mod node;
 mod parts;
@@ -27,6 +28,7 @@ pub use laws::{
     ballots_are_ordered, canonical_means_its_message, comparison_is_the_order, messages_are_one,
     messages_are_rows,
 };
+pub use members::{MAX_MEMBERS, Members};
 pub use message::Message;
 pub use node::{MAX_NODE, NodeId};
 pub use slot::{MAX_SLOT, Slot};
