@@ -1,0 +1,160 @@
+-- Once a value is chosen at a ballot, no other is proposed above it, and none is chosen beside it: by induction on the place
+-- of the Accept, with a member of both majorities at each step.
+use Rattle.std.proofs.Common.{◌≡◌, ℕ, zero, suc, ◌+◌, ◌<◌, ◌≤◌, ◌⊎◌, inl, inr, Bool, true, false, IsTrue, List, length, get_or, Option, Some, None, refl, sym, ap, subst, ◌∙◌, arith}
+use Rattle.std.proofs.lemmas.Bool.{cases_lt}
+use Rattle.ballots.specs.Ballot.{Ballot, IsBelow}
+use Rattle.ballots.specs.declared.value.Value.{Value}
+use Rattle.ballots.specs.declared.message.Message.{Message}
+use Rattle.schedule_runner.specs.Saying.{Report, Saying, Silent, Prepare, Promise, Accept, Accepted, Decided, told}
+use Rattle.schedule_runner.specs.Lawful.{Said, SaidBefore, Most, IsLawfulSlot, IsUpTo, PromisedUpTo, IsOfHighestReport, IsChosenBefore, IsLawful, IsChosenAt, OneValue, ChosenValueStays}
+use Rattle.schedule_runner.proofs.Majorities.{Shared, majorities_meet}
+
+-- ---- the order of ballots
+
+same_ballot : (a b : Ballot) → a.round ≡ b.round → a.node ≡ b.node → a ≡ b
+same_ballot a b e f = ap (λ (r : ℕ). let x : Ballot = record { round = r; node = a.node } in x) e ∙ ap (λ (k : ℕ). let x : Ballot = record { round = b.round; node = k } in x) f
+
+pub either_below : (a b : Ballot) → (a ≡ b) ⊎ (IsBelow a b ⊎ IsBelow b a)
+either_below a b =
+    elim (cases_lt a.round b.round) as (λ _. (a ≡ b) ⊎ (IsBelow a b ⊎ IsBelow b a)) [
+      | inl lt ↦ inr (inl (inl lt))
+      | inr ge ↦ elim (cases_lt b.round a.round) as (λ _. (a ≡ b) ⊎ (IsBelow a b ⊎ IsBelow b a)) [
+          | inl gt ↦ inr (inr (inl gt))
+          | inr le ↦
+              let same : a.round ≡ b.round = omega (arith, ge, le) in
+              elim (cases_lt a.node b.node) as (λ _. (a ≡ b) ⊎ (IsBelow a b ⊎ IsBelow b a)) [
+                | inl less ↦ inr (inl (inr (same, less)))
+                | inr more ↦ elim (cases_lt b.node a.node) as (λ _. (a ≡ b) ⊎ (IsBelow a b ⊎ IsBelow b a)) [
+                    | inl greater ↦ inr (inr (inr (sym same, greater)))
+                    | inr less ↦ inl (same_ballot a b same (omega (arith, more, less)))
+                    ]
+                ]
+          ]
+      ]
+
+below_carried : (a b c : Ballot) → IsBelow a b → IsBelow b c → IsBelow a c
+below_carried a b c (inl lt) (inl less) = inl (omega (arith, lt, less))
+below_carried a b c (inl lt) (inr e) = inl (omega (arith, lt, e.0))
+below_carried a b c (inr e) (inl less) = inl (omega (arith, e.0, less))
+below_carried a b c (inr e) (inr f) = inr (omega (arith, e.0, f.0), omega (arith, e.1, f.1))
+
+-- not below what is not below
+below_neither : (a b c : Ballot) → (IsBelow c b → ⊥) → (IsBelow b a → ⊥) → IsBelow c a → ⊥
+below_neither a b c not_cb not_ba below =
+    elim (either_below c b) as (λ _. ⊥) [
+      | inl same ↦ not_ba (subst (λ (x : Ballot). IsBelow x a) same below)
+      | inr other ↦ elim other as (λ _. ⊥) [ inl lt ↦ not_cb lt | inr gt ↦ not_ba (below_carried b c a gt below) ]
+      ]
+
+-- ---- one slot
+
+module _ (n : ℕ) (xs : List Saying) (lawful : IsLawfulSlot n xs) where
+  -- Who accepted below a ballot that it promised reports that ballot or a higher one.
+  reports_its_vote : (i j a : ℕ) (b c : Ballot) (v : Value) (r : Report) → Said xs i (Accepted a b v) → Said xs j (Promise a c r) → IsBelow b c
+      → (d : Ballot) × (w : Value) × (r ≡ Some (d, w)) × (IsBelow d b → ⊥)
+  reports_its_vote i j a b c v r vote promise below =
+      elim (cases_lt i j) as (λ _. (d : Ballot) × (w : Value) × (r ≡ Some (d, w)) × (IsBelow d b → ⊥)) [
+        | inl before ↦ by_report r promise before
+        | inr after ↦ elim (cases_lt j i) as (λ _. (d : Ballot) × (w : Value) × (r ≡ Some (d, w)) × (IsBelow d b → ⊥)) [
+            | inl later ↦ absurd (lawful.keeps_its_promise.accepts j i a c b v later (inl (r, promise)) vote below)
+            | inr same ↦ absurd (let at : i ≡ j = omega (arith, after, same) in two_sayings (subst (λ (k : ℕ). Said xs k (Accepted a b v)) at vote))
+            ]
+        ]
+    where
+      two_sayings : Said xs j (Accepted a b v) → ⊥
+      two_sayings h = let no : Accepted a b v ≡ Promise a c r = sym h.1 ∙ promise.1 in cc
+      by_report : (s : Report) → Said xs j (Promise a c s) → i < j → (d : Ballot) × (w : Value) × (s ≡ Some (d, w)) × (IsBelow d b → ⊥)
+      by_report None h before = absurd (lawful.reports_its_highest.nothing j a c h i b v before vote)
+      by_report (Some (d, w)) h before = (d, w, refl, lawful.reports_its_highest.highest j a c d w h i b v before vote)
+
+  module _ (b : Ballot) (v : Value) (end : ℕ) (chosen : IsChosenBefore n xs end b v) where
+    -- What is accepted was proposed.
+    vote_was_proposed : (a : ℕ) → SaidBefore xs end (Accepted a b v) → (j : ℕ) × Said xs j (Accept b v)
+    vote_was_proposed a vote =
+        let accept = lawful.accepts_what_was_proposed vote.0 a b v vote.2 in
+        (accept.0, accept.2)
+
+    -- What is proposed at the same ballot has this value.
+    same_at_ballot : (k a : ℕ) (w : Value) → SaidBefore xs end (Accepted a b v) → Said xs k (Accept b w) → w ≡ v
+    same_at_ballot k a w vote said =
+        let accept = vote_was_proposed a vote in
+        lawful.one_value_a_ballot k accept.0 b w v said accept.1
+
+    -- A member of the majority that promised a higher ballot reports the ballot or a higher one.
+    reports_it : (a k : ℕ) (c : Ballot) (r : Report) → a < n → IsTrue (chosen.is_in a) → IsBelow b c → SaidBefore xs k (Promise a c r)
+        → (d : Ballot) × (w : Value) × (r ≡ Some (d, w)) × (IsBelow d b → ⊥)
+    reports_it a k c r lt in' below promise =
+        let vote = chosen.each a lt in' in
+        reports_its_vote vote.0 promise.0 a b c v r vote.2 promise.2 below
+
+    -- So where none reports, there is no majority of promises at a higher ballot.
+    some_reports : (k : ℕ) (c : Ballot) → IsBelow b c → Most n (λ a. SaidBefore xs k (Promise a c None)) → ⊥
+    some_reports k c below free =
+        let s = majorities_meet n (λ a. SaidBefore xs end (Accepted a b v)) (λ a. SaidBefore xs k (Promise a c None)) chosen free in
+        let told_it = reports_it s.member k c None s.within s.in_first below (free.each s.member s.within s.in_second) in
+        let no : None ≡ Some (told_it.0, told_it.1) = told_it.2 in
+        cc
+
+    -- And the highest report is of the ballot or of a higher one.
+    highest_is_at_least : (k : ℕ) (c : Ballot) (w : Value) → IsBelow b c → (h : IsOfHighestReport n xs k c w) → IsBelow h.highest b → ⊥
+    highest_is_at_least k c w below h =
+        let s = majorities_meet n (λ a. SaidBefore xs end (Accepted a b v)) (PromisedUpTo xs k c h.highest) chosen h.promised in
+        let promise = h.promised.each s.member s.within s.in_second in
+        let told_it = reports_it s.member k c promise.0 s.within s.in_first below promise.1 in
+        below_neither b told_it.0 h.highest (subst (λ (r : Report). IsUpTo r h.highest) told_it.2 promise.2) told_it.3
+
+    any_vote : (a : ℕ) × SaidBefore xs end (Accepted a b v)
+    any_vote =
+        let s = majorities_meet n (λ a. SaidBefore xs end (Accepted a b v)) (λ a. SaidBefore xs end (Accepted a b v)) chosen chosen in
+        (s.member, chosen.each s.member s.within s.in_first)
+
+    -- by induction on a number above the place
+    stays_below : (bound k : ℕ) (c : Ballot) (w : Value) → k < bound → Said xs k (Accept c w) → IsBelow b c → w ≡ v
+    stays_below zero k c w lt said below = absurd (omega (arith, lt))
+    stays_below (suc bound) k c w lt said below =
+        elim (lawful.proposes_what_is_safe k c w said) as (λ _. w ≡ v) [
+          | inl free ↦ absurd (some_reports k c below free)
+          | inr h ↦
+              let report = h.reported in
+              let accept = lawful.reports_its_highest.proposed report.0 h.reporter c h.highest w report.2 in
+              elim (either_below b h.highest) as (λ _. w ≡ v) [
+                | inl same ↦ same_at_ballot accept.0 any_vote.0 w any_vote.1 (subst (λ (x : Ballot). Said xs accept.0 (Accept x w)) (sym same) accept.2)
+                | inr other ↦ elim other as (λ _. w ≡ v) [
+                    | inl above ↦ stays_below bound accept.0 h.highest w (omega (arith, lt, report.1, accept.1)) accept.2 above
+                    | inr under ↦ absurd (highest_is_at_least k c w below h under)
+                    ]
+                ]
+          ]
+
+    pub chosen_value_stays : (k : ℕ) (c : Ballot) (w : Value) → Said xs k (Accept c w) → IsBelow b c → w ≡ v
+    chosen_value_stays k c w said below = stays_below (suc k) k c w (omega arith) said below
+
+    -- What is chosen at the same ballot or a higher one is this value.
+    pub chosen_alike : (c : Ballot) (w : Value) (last : ℕ) → IsChosenBefore n xs last c w → (b ≡ c) ⊎ IsBelow b c → w ≡ v
+    chosen_alike c w last other order =
+        let s = majorities_meet n (λ a. SaidBefore xs last (Accepted a c w)) (λ a. SaidBefore xs last (Accepted a c w)) other other in
+        let vote = other.each s.member s.within s.in_first in
+        let accept = lawful.accepts_what_was_proposed vote.0 s.member c w vote.2 in
+        elim order as (λ _. w ≡ v) [
+          | inl same ↦ same_at_ballot accept.0 any_vote.0 w any_vote.1 (subst (λ (x : Ballot). Said xs accept.0 (Accept x w)) (sym same) accept.2)
+          | inr below ↦ chosen_value_stays accept.0 c w accept.2 below
+          ]
+
+-- ---- the laws
+
+pub chosen_value_stays_law : ChosenValueStays
+chosen_value_stays_law n sent s k b c v w lawful chosen said below =
+    chosen_value_stays n (told sent s) (lawful s) b v (length sent) chosen k c w said below
+
+pub one_value_law : OneValue
+one_value_law n sent s v w lawful first second =
+    let xs = told sent s in
+    let at = lawful s in
+    let end = length sent in
+    elim (either_below first.0 second.0) as (λ _. v ≡ w) [
+      | inl same ↦ sym (chosen_alike n xs at first.0 v end first.1 second.0 w end second.1 (inl same))
+      | inr other ↦ elim other as (λ _. v ≡ w) [
+          | inl below ↦ sym (chosen_alike n xs at first.0 v end first.1 second.0 w end second.1 (inr below))
+          | inr above ↦ chosen_alike n xs at second.0 w end second.1 first.0 v end first.1 (inr above)
+          ]
+      ]

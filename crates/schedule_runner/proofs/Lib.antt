@@ -1,0 +1,2 @@
+pub mod Majorities
+pub mod Agreement

@@ -1,0 +1,123 @@
+-- What a judge looks at who goes through a history message by message: what stands before a message must let it follow.
+-- What is lawful is defined in `Lawful`.
+use Rattle.std.specs.Prelude.{◌≡◌, ℕ, ◌<◌, ◌≤◌, ◌⊎◌, Bool, IsTrue, List, length, take, slice_index_or, Option, Some, None, ◌↔◌}
+use Rattle.std.specs.List.{All, Any}
+use Rattle.ballots.specs.Ballot.{Ballot, IsBelow}
+use Rattle.ballots.specs.Majority.{tally}
+use Rattle.ballots.specs.declared.value.Value.{Value}
+use Rattle.ballots.specs.declared.message.Message.{Message}
+use Rattle.ballots.specs.declared.message.Message.TheVariants as message
+use Rattle.schedule_runner.specs.Saying.{Report, Saying, Silent, Prepare, Promise, Accept, Accepted, Decided, says}
+use Rattle.schedule_runner.specs.Lawful.{Most, IsUpTo}
+
+-- one of these messages says this of the slot
+abbrev pub AnySaid : ℕ → List Message → Saying → Type 0
+AnySaid s before x = Any (λ m. says m s ≡ x) before
+
+-- what each of these messages says of the slot is so
+abbrev pub AllSaid : ℕ → List Message → (Saying → Type 0) → Type 0
+AllSaid s before P = All (λ m. P (says m s)) before
+
+-- where it binds this acceptor to a ballot, that is at most this one
+abbrev pub BindsUpTo : ℕ → Ballot → Saying → Type 0
+BindsUpTo a b Silent = Unit {0}
+BindsUpTo a b (Prepare c) = Unit {0}
+BindsUpTo a b (Promise d c r) = d ≡ a → IsBelow b c → ⊥
+BindsUpTo a b (Accept c v) = Unit {0}
+BindsUpTo a b (Accepted d c v) = d ≡ a → IsBelow b c → ⊥
+BindsUpTo a b (Decided v) = Unit {0}
+
+-- and below this one
+abbrev pub BindsBelow : ℕ → Ballot → Saying → Type 0
+BindsBelow a b Silent = Unit {0}
+BindsBelow a b (Prepare c) = Unit {0}
+BindsBelow a b (Promise d c r) = d ≡ a → IsBelow c b
+BindsBelow a b (Accept c v) = Unit {0}
+BindsBelow a b (Accepted d c v) = d ≡ a → IsBelow c b
+BindsBelow a b (Decided v) = Unit {0}
+
+-- where it is this acceptor's Accepted, it is within the report
+abbrev pub IsReported : ℕ → Report → Saying → Type 0
+IsReported a None (Accepted d c v) = d ≡ a → ⊥
+IsReported a (Some report) (Accepted d c v) = d ≡ a → IsBelow report.0 c → ⊥
+IsReported a r other = Unit {0}
+
+-- where it is an Accept at this ballot, it has this value
+abbrev pub HasValueAt : Ballot → Value → Saying → Type 0
+HasValueAt b v Silent = Unit {0}
+HasValueAt b v (Prepare c) = Unit {0}
+HasValueAt b v (Promise d c r) = Unit {0}
+HasValueAt b v (Accept c w) = c ≡ b → w ≡ v
+HasValueAt b v (Accepted d c w) = Unit {0}
+HasValueAt b v (Decided w) = Unit {0}
+
+-- the report is there at all only where there is a bound, and goes up to it
+abbrev pub IsWithin : Option Ballot → Report → Type 0
+IsWithin None r = r ≡ None
+IsWithin (Some c) r = IsUpTo r c
+
+-- it is this acceptor's Promise of the ballot, with a report within the bound
+abbrev pub PromisesWithin : ℕ → Ballot → Option Ballot → Saying → Type 0
+PromisesWithin a b bound (Promise d c r) = (d ≡ a) × (c ≡ b) × IsWithin bound r
+PromisesWithin a b bound other = ⊥
+
+abbrev pub MostPromise : ℕ → ℕ → List Message → Ballot → Option Ballot → Type 0
+MostPromise n s before b bound = Most n (λ a. Any (λ m. PromisesWithin a b bound (says m s)) before)
+
+-- it is a member's Promise of the ballot that reports this value, and a majority promised with no higher report
+abbrev pub LetsPropose : ℕ → ℕ → List Message → Ballot → Value → Saying → Type 0
+LetsPropose n s before b v (Promise d c (Some report)) =
+    (d < n) × (c ≡ b) × (report.1 ≡ v) × MostPromise n s before b (Some report.0)
+LetsPropose n s before b v other = ⊥
+
+abbrev pub MayPropose : ℕ → ℕ → List Message → Ballot → Value → Type 0
+MayPropose n s before b v = MostPromise n s before b None ⊎ Any (λ m. LetsPropose n s before b v (says m s)) before
+
+abbrev pub MostAccepted : ℕ → ℕ → List Message → Ballot → Value → Type 0
+MostAccepted n s before b v = Most n (λ a. AnySaid s before (Accepted a b v))
+
+-- it is an Accepted of this value, at a ballot at which a majority accepted it
+abbrev pub ShowsChosen : ℕ → ℕ → List Message → Value → Saying → Type 0
+ShowsChosen n s before v (Accepted d c w) = (w ≡ v) × MostAccepted n s before c v
+ShowsChosen n s before v other = ⊥
+
+abbrev pub MayDecide : ℕ → ℕ → List Message → Value → Type 0
+MayDecide n s before v = AnySaid s before (Decided v) ⊎ Any (λ m. ShowsChosen n s before v (says m s)) before
+
+-- what a report has to be
+abbrev pub MayReport : ℕ → List Message → Ballot → Report → Type 0
+MayReport s before b None = Unit {0}
+MayReport s before b (Some report) = IsBelow report.0 b × AnySaid s before (Accept report.0 report.1)
+
+-- the messages before let this be said of the slot
+abbrev pub FollowsAt : ℕ → ℕ → List Message → Saying → Type 0
+FollowsAt n s before Silent = Unit {0}
+FollowsAt n s before (Prepare b) = Unit {0}
+FollowsAt n s before (Promise a b r) = AllSaid s before (BindsBelow a b) × MayReport s before b r × AllSaid s before (IsReported a r)
+FollowsAt n s before (Accept b v) = AllSaid s before (HasValueAt b v) × MayPropose n s before b v
+FollowsAt n s before (Accepted a b v) = AnySaid s before (Accept b v) × AllSaid s before (BindsUpTo a b)
+FollowsAt n s before (Decided v) = MayDecide n s before v
+
+-- the messages before let this one follow
+abbrev pub Follows : ℕ → List Message → Message → Type 0
+Follows n before (message.Prepare sender slot ballot) = Unit {0}
+Follows n before (message.Promise sender slot ballot report) = FollowsAt n slot before (Promise sender ballot report)
+Follows n before (message.Nack sender slot ballot promised) = Unit {0}
+Follows n before (message.Accept sender slot ballot value) = FollowsAt n slot before (Accept ballot value)
+Follows n before (message.Accepted sender slot ballot value) = FollowsAt n slot before (Accepted sender ballot value)
+Follows n before (message.Ask sender slot) = Unit {0}
+Follows n before (message.Decided sender slot value) = FollowsAt n slot before (Decided value)
+
+-- so it is of the messages up to a place, and of all
+abbrev pub AllFollowUpTo : ℕ → List Message → ℕ → Type 0
+AllFollowUpTo n sent end = (k : ℕ) (d : Message) → k < end → Follows n (take k sent) (slice_index_or sent k d)
+
+abbrev pub AllFollow : ℕ → List Message → Type 0
+AllFollow n sent = AllFollowUpTo n sent (length sent)
+
+-- So many members pass, and the test is exact.
+pub record Counted (n : ℕ) (count : ℕ) (P : ℕ → Type 0) : Type 0 where
+  pub test : ℕ → Bool
+  pub exact : (a : ℕ) → a < n → (IsTrue (test a) ↔ P a)
+  pub size : tally n test ≡ count
+  pub within : count ≤ n

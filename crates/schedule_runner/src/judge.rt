@@ -1,0 +1,275 @@
+//! Whether the messages before let a message follow, clause by clause.
+
+ghost use Rattle.std.specs.Prelude.{◌↔◌, ℕ, IsTrue};
+ghost use Rattle.std.specs.List.{Any};
+ghost use Rattle.schedule_runner.specs.Saying.{says, Accept, Accepted, Decided};
+ghost use Rattle.schedule_runner.specs.Judging.{AnySaid, AllSaid, BindsUpTo, BindsBelow, IsReported, HasValueAt, PromisesWithin, MostPromise, LetsPropose, MayPropose, MostAccepted, ShowsChosen, MayDecide, MayReport, Follows};
+
+use crate::sayings::{
+    accepts, binds_below, binds_up_to, decides, has_value_at, is_reported, promises_within,
+    proposes,
+};
+use ballots::{Ballot, Members, Message, NodeId, Slot, Value};
+
+/// Whether the messages before let this one follow.
+pub(crate) fn follows(members: Members, before: &[Message], message: &Message) -> bool
+    ensures { IsTrue result ↔ Follows members before.now message.now }
+{
+    match message {
+        Message::Promise {
+            sender,
+            slot,
+            ballot,
+            report,
+        } => may_promise(before, *slot, *sender, *ballot, report),
+        Message::Accept {
+            slot,
+            ballot,
+            value,
+            ..
+        } => {
+            all_have_value_at(before, *slot, *ballot, value)
+                && may_propose(members, before, *slot, *ballot, value)
+        }
+        Message::Accepted {
+            sender,
+            slot,
+            ballot,
+            value,
+        } => {
+            was_proposed(before, *slot, *ballot, value)
+                && all_bind_up_to(before, *slot, *sender, *ballot)
+        }
+        Message::Decided { slot, value, .. } => may_decide(members, before, *slot, value),
+        Message::Prepare { .. } | Message::Nack { .. } | Message::Ask { .. } => true,
+    }
+}
+
+// Whether the acceptor may promise the ballot with this report.
+fn may_promise(
+    before: &[Message],
+    slot: Slot,
+    acceptor: NodeId,
+    ballot: Ballot,
+    report: &Option<(Ballot, Value)>,
+) -> bool
+    ensures { IsTrue result ↔ (AllSaid slot before.now (BindsBelow acceptor ballot)
+        × MayReport slot before.now ballot report.now × AllSaid slot before.now (IsReported acceptor report.now)) }
+{
+    all_bind_below(before, slot, acceptor, ballot)
+        && may_report(before, slot, ballot, report)
+        && is_highest(before, slot, acceptor, report)
+}
+
+// Whether the report is of a ballot below, and was proposed.
+fn may_report(
+    before: &[Message],
+    slot: Slot,
+    ballot: Ballot,
+    report: &Option<(Ballot, Value)>,
+) -> bool
+    ensures { IsTrue result ↔ MayReport slot before.now ballot report.now }
+{
+    match report {
+        Some((reported, value)) => {
+            reported.is_below(ballot) && was_proposed(before, slot, *reported, value)
+        }
+        None => true,
+    }
+}
+
+// Whether the acceptor accepted nothing above what it reports.
+fn is_highest(
+    before: &[Message],
+    slot: Slot,
+    acceptor: NodeId,
+    report: &Option<(Ballot, Value)>,
+) -> bool
+    ensures { IsTrue result ↔ AllSaid slot before.now (IsReported acceptor report.now) }
+{
+    before
+        .iter()
+        .all(|message| is_reported(message, slot, acceptor, report))
+}
+
+fn all_bind_below(before: &[Message], slot: Slot, acceptor: NodeId, ballot: Ballot) -> bool
+    ensures { IsTrue result ↔ AllSaid slot before.now (BindsBelow acceptor ballot) }
+{
+    before
+        .iter()
+        .all(|message| binds_below(message, slot, acceptor, ballot))
+}
+
+fn all_bind_up_to(before: &[Message], slot: Slot, acceptor: NodeId, ballot: Ballot) -> bool
+    ensures { IsTrue result ↔ AllSaid slot before.now (BindsUpTo acceptor ballot) }
+{
+    before
+        .iter()
+        .all(|message| binds_up_to(message, slot, acceptor, ballot))
+}
+
+fn all_have_value_at(before: &[Message], slot: Slot, ballot: Ballot, value: &Value) -> bool
+    ensures { IsTrue result ↔ AllSaid slot before.now (HasValueAt ballot value.now) }
+{
+    before
+        .iter()
+        .all(|message| has_value_at(message, slot, ballot, value))
+}
+
+fn was_proposed(before: &[Message], slot: Slot, ballot: Ballot, value: &Value) -> bool
+    ensures { IsTrue result ↔ AnySaid slot before.now (Accept ballot value.now) }
+{
+    before
+        .iter()
+        .any(|message| proposes(message, slot, ballot, value))
+}
+
+// Whether the value may be proposed at the ballot.
+fn may_propose(
+    members: Members,
+    before: &[Message],
+    slot: Slot,
+    ballot: Ballot,
+    value: &Value,
+) -> bool
+    ensures { IsTrue result ↔ MayPropose members slot before.now ballot value.now }
+{
+    most_promise(members, before, slot, ballot, None)
+        || before
+            .iter()
+            .any(|message| lets_propose(members, before, message, slot, ballot, value))
+}
+
+// Whether the message is a member's promise of the ballot that reports this value, and a majority promised with no higher
+// report.
+fn lets_propose(
+    members: Members,
+    before: &[Message],
+    message: &Message,
+    at: Slot,
+    promised: Ballot,
+    wanted: &Value,
+) -> bool
+    ensures { IsTrue result ↔ LetsPropose members at before.now promised wanted.now (says message.now at) }
+{
+    match message {
+        Message::Promise {
+            sender,
+            slot,
+            ballot,
+            report: Some((reported, value)),
+        } => {
+            *slot == at
+                && sender.number() < members.count()
+                && *ballot == promised
+                && *value == *wanted
+                && most_promise(members, before, at, promised, Some(*reported))
+        }
+        _ => false,
+    }
+}
+
+// Whether a majority promised the ballot with reports within the bound.
+fn most_promise(
+    members: Members,
+    before: &[Message],
+    slot: Slot,
+    ballot: Ballot,
+    bound: Option<Ballot>,
+) -> bool
+    ensures { IsTrue result ↔ MostPromise members slot before.now ballot bound }
+{
+    let mut count = 0;
+    for number in 0..members.count() {
+        if has_promised(before, slot, number, ballot, bound) {
+            count += 1;
+        }
+    }
+    members.is_majority(count)
+}
+
+fn has_promised(
+    before: &[Message],
+    slot: Slot,
+    number: u8,
+    ballot: Ballot,
+    bound: Option<Ballot>,
+) -> bool
+    ensures { IsTrue result ↔ Any (λ m. PromisesWithin number ballot bound (says m slot)) before.now }
+{
+    before
+        .iter()
+        .any(|message| promises_within(message, slot, number, ballot, bound))
+}
+
+// Whether the value may be told as decided. A value that was told before needs no second look at the votes.
+fn may_decide(members: Members, before: &[Message], slot: Slot, value: &Value) -> bool
+    ensures { IsTrue result ↔ MayDecide members slot before.now value.now }
+{
+    was_decided(before, slot, value)
+        || before
+            .iter()
+            .any(|message| shows_chosen(members, before, message, slot, value))
+}
+
+fn was_decided(before: &[Message], slot: Slot, value: &Value) -> bool
+    ensures { IsTrue result ↔ AnySaid slot before.now (Decided value.now) }
+{
+    before.iter().any(|message| decides(message, slot, value))
+}
+
+// Whether the message is an Accepted of this value, at a ballot at which a majority accepted it.
+fn shows_chosen(
+    members: Members,
+    before: &[Message],
+    message: &Message,
+    at: Slot,
+    wanted: &Value,
+) -> bool
+    ensures { IsTrue result ↔ ShowsChosen members at before.now wanted.now (says message.now at) }
+{
+    match message {
+        Message::Accepted {
+            slot,
+            ballot,
+            value,
+            ..
+        } => {
+            *slot == at && *value == *wanted && most_accepted(members, before, at, *ballot, wanted)
+        }
+        _ => false,
+    }
+}
+
+// Whether a majority accepted the value at the ballot.
+fn most_accepted(
+    members: Members,
+    before: &[Message],
+    slot: Slot,
+    ballot: Ballot,
+    value: &Value,
+) -> bool
+    ensures { IsTrue result ↔ MostAccepted members slot before.now ballot value.now }
+{
+    let mut count = 0;
+    for number in 0..members.count() {
+        if has_accepted(before, slot, number, ballot, value) {
+            count += 1;
+        }
+    }
+    members.is_majority(count)
+}
+
+fn has_accepted(
+    before: &[Message],
+    slot: Slot,
+    number: u8,
+    ballot: Ballot,
+    value: &Value,
+) -> bool
+    ensures { IsTrue result ↔ AnySaid slot before.now (Accepted number ballot value.now) }
+{
+    before
+        .iter()
+        .any(|message| accepts(message, slot, number, ballot, value))
+}

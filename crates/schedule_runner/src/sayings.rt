@@ -1,0 +1,182 @@
+//! What one message says of a slot, asked one question at a time.
+
+ghost use Rattle.std.specs.Prelude.{◌≡◌, ◌↔◌, ℕ, IsTrue, Some};
+ghost use Rattle.std.specs.Option.{option_map};
+ghost use Rattle.schedule_runner.specs.Saying.{says, Accept, Accepted, Decided};
+ghost use Rattle.schedule_runner.specs.Judging.{BindsUpTo, BindsBelow, IsReported, HasValueAt, IsWithin, PromisesWithin};
+
+use ballots::{Ballot, Message, NodeId, Slot, Value};
+
+/// Whether it proposes this value at this ballot.
+pub(crate) fn proposes(message: &Message, at: Slot, proposed: Ballot, wanted: &Value) -> bool
+    ensures { IsTrue result ↔ (says message.now at ≡ Accept proposed wanted.now) }
+{
+    match message {
+        Message::Accept {
+            slot,
+            ballot,
+            value,
+            ..
+        } => *slot == at && *ballot == proposed && *value == *wanted,
+        _ => false,
+    }
+}
+
+/// Whether it proposes nothing but this value at this ballot.
+pub(crate) fn has_value_at(message: &Message, at: Slot, proposed: Ballot, wanted: &Value) -> bool
+    ensures { IsTrue result ↔ HasValueAt proposed wanted.now (says message.now at) }
+{
+    match message {
+        Message::Accept {
+            slot,
+            ballot,
+            value,
+            ..
+        } => *slot != at || *ballot != proposed || *value == *wanted,
+        _ => true,
+    }
+}
+
+/// Whether it is the Accepted of the member with this number, at this ballot, of this value.
+pub(crate) fn accepts(
+    message: &Message,
+    at: Slot,
+    number: u8,
+    accepted: Ballot,
+    wanted: &Value,
+) -> bool
+    ensures { IsTrue result ↔ (says message.now at ≡ Accepted number accepted wanted.now) }
+{
+    match message {
+        Message::Accepted {
+            sender,
+            slot,
+            ballot,
+            value,
+        } => {
+            *slot == at
+                && sender.number() == number
+                && *ballot == accepted
+                && *value == *wanted
+        }
+        _ => false,
+    }
+}
+
+/// Whether it says that this value is decided.
+pub(crate) fn decides(message: &Message, at: Slot, wanted: &Value) -> bool
+    ensures { IsTrue result ↔ (says message.now at ≡ Decided wanted.now) }
+{
+    match message {
+        Message::Decided { slot, value, .. } => *slot == at && *value == *wanted,
+        _ => false,
+    }
+}
+
+/// Whether it binds the acceptor to no ballot above this one.
+pub(crate) fn binds_up_to(message: &Message, at: Slot, acceptor: NodeId, bound: Ballot) -> bool
+    ensures { IsTrue result ↔ BindsUpTo acceptor bound (says message.now at) }
+{
+    match message {
+        Message::Promise {
+            sender,
+            slot,
+            ballot,
+            ..
+        }
+        | Message::Accepted {
+            sender,
+            slot,
+            ballot,
+            ..
+        } => *slot != at || *sender != acceptor || !bound.is_below(*ballot),
+        _ => true,
+    }
+}
+
+/// Whether it binds the acceptor to ballots below this one alone.
+pub(crate) fn binds_below(message: &Message, at: Slot, acceptor: NodeId, bound: Ballot) -> bool
+    ensures { IsTrue result ↔ BindsBelow acceptor bound (says message.now at) }
+{
+    match message {
+        Message::Promise {
+            sender,
+            slot,
+            ballot,
+            ..
+        }
+        | Message::Accepted {
+            sender,
+            slot,
+            ballot,
+            ..
+        } => *slot != at || *sender != acceptor || ballot.is_below(bound),
+        _ => true,
+    }
+}
+
+/// Whether what the acceptor accepted by it is within this report: at most at the reported ballot, and nothing where
+/// nothing is reported.
+pub(crate) fn is_reported(
+    message: &Message,
+    at: Slot,
+    acceptor: NodeId,
+    report: &Option<(Ballot, Value)>,
+) -> bool
+    ensures { IsTrue result ↔ IsReported acceptor report.now (says message.now at) }
+{
+    match message {
+        Message::Accepted {
+            sender,
+            slot,
+            ballot,
+            ..
+        } => {
+            *slot != at
+                || *sender != acceptor
+                || match report {
+                    Some((reported, _)) => !reported.is_below(*ballot),
+                    None => false,
+                }
+        }
+        _ => true,
+    }
+}
+
+/// Whether it is the promise of the member with this number, of this ballot, and reports nothing above the bound, or
+/// nothing at all where there is no bound.
+pub(crate) fn promises_within(
+    message: &Message,
+    at: Slot,
+    number: u8,
+    promised: Ballot,
+    bound: Option<Ballot>,
+) -> bool
+    ensures { IsTrue result ↔ PromisesWithin number promised bound (says message.now at) }
+{
+    match message {
+        Message::Promise {
+            sender,
+            slot,
+            ballot,
+            report,
+        } => {
+            *slot == at
+                && sender.number() == number
+                && *ballot == promised
+                && is_within(report, bound)
+        }
+        _ => false,
+    }
+}
+
+/// Whether the report is of no ballot above the bound, or is none where there is no bound.
+fn is_within(report: &Option<(Ballot, Value)>, bound: Option<Ballot>) -> bool
+    ensures { IsTrue result ↔ IsWithin bound report.now }
+{
+    match (bound, report) {
+        (_, None) => true,
+        (None, Some(_)) => false,
+        (Some(bound), Some((reported, _))) => !bound.is_below(*reported),
+    }
+}
