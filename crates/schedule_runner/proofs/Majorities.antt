@@ -1,5 +1,7 @@
 -- Any two majorities have a member in common, and what holds of more members holds of a majority too.
-use Rattle.std.proofs.Common.{◌≡◌, ℕ, zero, suc, ◌+◌, ◌*◌, ◌<◌, ◌≤◌, Bool, true, false, cond, IsTrue, ◌↔◌, refl, sym, ap, subst, ◌∙◌, arith}
+use Rattle.std.proofs.Common.{◌≡◌, ℕ, zero, suc, ◌+◌, ◌*◌, ◌<◌, ◌≤◌, ◌⊎◌, inl, inr, Bool, true, false, cond, nat_eq, IsTrue, ◌↔◌, refl, sym, ap, subst, ◌∙◌, arith}
+use Rattle.std.proofs.lemmas.Bool.{cases_lt}
+use Rattle.std.proofs.lemmas.Bool.Decides.{nat_tests}
 use Rattle.ballots.specs.Majority.{tally, IsMajority}
 use Rattle.schedule_runner.specs.Lawful.{Most}
 use Rattle.schedule_runner.specs.Judging.{Counted}
@@ -60,3 +62,70 @@ same_step n p q x y e f = ap (λ (b : Bool). with_one b (tally n p)) e ∙ ap (w
 same_members : (n : ℕ) (p q : ℕ → Bool) → ((a : ℕ) → a < n → p a ≡ q a) → tally n p ≡ tally n q
 same_members zero p q same = refl
 same_members (suc n) p q same = same_step n p q (p n) (q n) (same n (omega arith)) (same_members n p q (λ a lt. same a (omega (arith, lt))))
+
+-- the test, with this answer for the member n
+abbrev with_answer : ℕ → Bool → (ℕ → Bool) → ℕ → Bool
+with_answer n r test a = cond (nat_eq a n) r (test a)
+
+answer_below : (n : ℕ) (r : Bool) (test : ℕ → Bool) (a : ℕ) → a < n → with_answer n r test a ≡ test a
+answer_below n r test a lt = grind (arith, nat_tests)
+
+answer_there : (n : ℕ) (r : Bool) (test : ℕ → Bool) → with_answer n r test n ≡ r
+answer_there n r test = grind (arith, nat_tests)
+
+-- one member more
+pub counted_more : (n count : ℕ) (P : ℕ → Type 0) (r : Bool) → Counted n count P → (IsTrue r ↔ P n) → Counted (suc n) (with_one r count) P
+counted_more n count P r c is_exact = record {
+  test = with_answer n r c.test;
+  exact = exact;
+  size =
+      same_step n (with_answer n r c.test) c.test (with_answer n r c.test n) r (answer_there n r c.test) (same_members n (with_answer n r c.test) c.test (answer_below n r c.test))
+      ∙ ap (with_one r) c.size;
+  within = within r c.within;
+}
+  where
+    exact : (a : ℕ) → a < suc n → (IsTrue (with_answer n r c.test a) ↔ P a)
+    exact a lt = elim (cases_lt a n) as (λ _. IsTrue (with_answer n r c.test a) ↔ P a) [
+      | inl below ↦ subst (λ (b : Bool). IsTrue b ↔ P a) (sym (answer_below n r c.test a below)) (c.exact a below)
+      | inr above ↦
+          let same : n ≡ a = omega (arith, lt, above) in
+          subst (λ (m : ℕ). IsTrue (with_answer n r c.test m) ↔ P m) same (subst (λ (b : Bool). IsTrue b ↔ P n) (sym (answer_there n r c.test)) is_exact)
+      ]
+    within : (b : Bool) → count ≤ n → with_one b count ≤ suc n
+    within true le = omega (arith, le)
+    within false le = omega (arith, le)
+
+-- What was counted is a majority exactly where so it is of a majority.
+pub majority_counted : (n count : ℕ) (P : ℕ → Type 0) → Counted n count P → (IsMajority n count ↔ Most n P)
+majority_counted n count P c = (there, back)
+  where
+    there : IsMajority n count → Most n P
+    there majority = record { is_in = c.test; majority = omega (arith, majority, c.size); each = λ a lt in'. (c.exact a lt).0 in' }
+    back : Most n P → IsMajority n count
+    back m =
+        let no_less : tally n m.is_in ≤ tally n c.test = more_members n m.is_in c.test (λ a lt in'. (c.exact a lt).1 (m.each a lt in')) in
+        omega (arith, m.majority, no_less, c.size)
+
+-- the same, as the loops count
+pub counted_yes : (n count : ℕ) (P : ℕ → Type 0) → Counted n count P → P n → Counted (n + 1) (count + 1) P
+counted_yes n count P c h =
+    let more : Counted (suc n) (suc count) P = counted_more n count P true c ((λ _. h), (λ _. refl)) in
+    subst (λ (m : ℕ). Counted m (count + 1) P) (omega arith) (subst (λ (m : ℕ). Counted (suc n) m P) (omega arith) more)
+
+pub counted_no : (n count : ℕ) (P : ℕ → Type 0) → Counted n count P → (P n → ⊥) → Counted (n + 1) count P
+counted_no n count P c h =
+    let more : Counted (suc n) count P = counted_more n count P false c ((λ (e : false ≡ true). absurd cc), (λ p. absurd (h p))) in
+    subst (λ (m : ℕ). Counted m count P) (omega arith) more
+
+-- by what a test answered
+pub counted_on : (n count : ℕ) (P : ℕ → Type 0) (r : Bool) → Counted n count P → (IsTrue r ↔ P n) → r ≡ true → Counted (n + 1) (count + 1) P
+counted_on n count P r c is_exact e = counted_yes n count P c (is_exact.0 e)
+
+pub counted_off : (n count : ℕ) (P : ℕ → Type 0) (r : Bool) → Counted n count P → (IsTrue r ↔ P n) → r ≡ false → Counted (n + 1) count P
+counted_off n count P r c is_exact e = counted_no n count P c (λ p. absurd (let no : false ≡ true = sym e ∙ is_exact.1 p in cc))
+
+-- At the end of the members, the answer about the count is the one about the members.
+pub majority_at_end : (n end count : ℕ) (P : ℕ → Type 0) (r : Bool) → Counted end count P → end ≡ n → (IsTrue r ↔ IsMajority n count) → (IsTrue r ↔ Most n P)
+majority_at_end n end count P r c same is_exact =
+    let counted = majority_counted n count P (subst (λ (m : ℕ). Counted m count P) same c) in
+    ((λ e. counted.0 (is_exact.0 e)), (λ m. is_exact.1 (counted.1 m)))

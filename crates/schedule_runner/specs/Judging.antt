@@ -51,30 +51,42 @@ HasValueAt b v (Accept c w) = c ≡ b → w ≡ v
 HasValueAt b v (Accepted d c w) = Unit {0}
 HasValueAt b v (Decided w) = Unit {0}
 
--- the report is there at all only where there is a bound, and goes up to it
-abbrev pub IsWithin : Option Ballot → Report → Type 0
+-- the report goes up to the other, and is none where the other is none
+abbrev pub IsWithin : Report → Report → Type 0
 IsWithin None r = r ≡ None
-IsWithin (Some c) r = IsUpTo r c
+IsWithin (Some highest) r = IsUpTo r highest.0
+
+-- it reports this value
+abbrev pub IsReportOf : Value → Report → Type 0
+IsReportOf v None = ⊥
+IsReportOf v (Some report) = report.1 ≡ v
 
 -- it is this acceptor's Promise of the ballot, with a report within the bound
-abbrev pub PromisesWithin : ℕ → Ballot → Option Ballot → Saying → Type 0
+abbrev pub PromisesWithin : ℕ → Ballot → Report → Saying → Type 0
 PromisesWithin a b bound (Promise d c r) = (d ≡ a) × (c ≡ b) × IsWithin bound r
 PromisesWithin a b bound other = ⊥
 
-abbrev pub MostPromise : ℕ → ℕ → List Message → Ballot → Option Ballot → Type 0
-MostPromise n s before b bound = Most n (λ a. Any (λ m. PromisesWithin a b bound (says m s)) before)
+-- this acceptor promised the ballot, with a report within the bound
+abbrev pub HasPromised : ℕ → List Message → Ballot → Report → ℕ → Type 0
+HasPromised s before b bound a = Any (λ m. PromisesWithin a b bound (says m s)) before
+
+abbrev pub MostPromise : ℕ → ℕ → List Message → Ballot → Report → Type 0
+MostPromise n s before b bound = Most n (HasPromised s before b bound)
 
 -- it is a member's Promise of the ballot that reports this value, and a majority promised with no higher report
 abbrev pub LetsPropose : ℕ → ℕ → List Message → Ballot → Value → Saying → Type 0
-LetsPropose n s before b v (Promise d c (Some report)) =
-    (d < n) × (c ≡ b) × (report.1 ≡ v) × MostPromise n s before b (Some report.0)
+LetsPropose n s before b v (Promise d c r) = (d < n) × (c ≡ b) × IsReportOf v r × MostPromise n s before b r
 LetsPropose n s before b v other = ⊥
 
 abbrev pub MayPropose : ℕ → ℕ → List Message → Ballot → Value → Type 0
 MayPropose n s before b v = MostPromise n s before b None ⊎ Any (λ m. LetsPropose n s before b v (says m s)) before
 
+-- this acceptor accepted the value at the ballot
+abbrev pub HasAccepted : ℕ → List Message → Ballot → Value → ℕ → Type 0
+HasAccepted s before b v a = AnySaid s before (Accepted a b v)
+
 abbrev pub MostAccepted : ℕ → ℕ → List Message → Ballot → Value → Type 0
-MostAccepted n s before b v = Most n (λ a. AnySaid s before (Accepted a b v))
+MostAccepted n s before b v = Most n (HasAccepted s before b v)
 
 -- it is an Accepted of this value, at a ballot at which a majority accepted it
 abbrev pub ShowsChosen : ℕ → ℕ → List Message → Value → Saying → Type 0

@@ -7,7 +7,7 @@ ghost use Rattle.schedule_runner.specs.Judging.{AnySaid, AllSaid, BindsUpTo, Bin
 
 use crate::sayings::{
     accepts, binds_below, binds_up_to, decides, has_value_at, is_reported, promises_within,
-    proposes,
+    proposes, reports,
 };
 use ballots::{Ballot, Members, Message, NodeId, Slot, Value};
 
@@ -134,7 +134,7 @@ fn may_propose(
 ) -> bool
     ensures { IsTrue result ↔ MayPropose members slot before.now ballot value.now }
 {
-    most_promise(members, before, slot, ballot, None)
+    most_promise(members, before, slot, ballot, &None)
         || before
             .iter()
             .any(|message| lets_propose(members, before, message, slot, ballot, value))
@@ -157,27 +157,27 @@ fn lets_propose(
             sender,
             slot,
             ballot,
-            report: Some((reported, value)),
+            report,
         } => {
             *slot == at
                 && sender.number() < members.count()
                 && *ballot == promised
-                && *value == *wanted
-                && most_promise(members, before, at, promised, Some(*reported))
+                && reports(report, wanted)
+                && most_promise(members, before, at, promised, report)
         }
         _ => false,
     }
 }
 
-// Whether a majority promised the ballot with reports within the bound.
+// Whether a majority promised the ballot with reports within this one.
 fn most_promise(
     members: Members,
     before: &[Message],
     slot: Slot,
     ballot: Ballot,
-    bound: Option<Ballot>,
+    bound: &Option<(Ballot, Value)>,
 ) -> bool
-    ensures { IsTrue result ↔ MostPromise members slot before.now ballot bound }
+    ensures { IsTrue result ↔ MostPromise members slot before.now ballot bound.now }
 {
     let mut count = 0;
     for number in 0..members.count() {
@@ -193,9 +193,9 @@ fn has_promised(
     slot: Slot,
     number: u8,
     ballot: Ballot,
-    bound: Option<Ballot>,
+    bound: &Option<(Ballot, Value)>,
 ) -> bool
-    ensures { IsTrue result ↔ Any (λ m. PromisesWithin number ballot bound (says m slot)) before.now }
+    ensures { IsTrue result ↔ Any (λ m. PromisesWithin number ballot bound.now (says m slot)) before.now }
 {
     before
         .iter()

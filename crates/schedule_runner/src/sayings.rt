@@ -3,7 +3,7 @@
 ghost use Rattle.std.specs.Prelude.{◌≡◌, ◌↔◌, ℕ, IsTrue, Some};
 ghost use Rattle.std.specs.Option.{option_map};
 ghost use Rattle.schedule_runner.specs.Saying.{says, Accept, Accepted, Decided};
-ghost use Rattle.schedule_runner.specs.Judging.{BindsUpTo, BindsBelow, IsReported, HasValueAt, IsWithin, PromisesWithin};
+ghost use Rattle.schedule_runner.specs.Judging.{BindsUpTo, BindsBelow, IsReported, HasValueAt, IsWithin, IsReportOf, PromisesWithin};
 
 use ballots::{Ballot, Message, NodeId, Slot, Value};
 
@@ -143,16 +143,16 @@ pub(crate) fn is_reported(
     }
 }
 
-/// Whether it is the promise of the member with this number, of this ballot, and reports nothing above the bound, or
-/// nothing at all where there is no bound.
+/// Whether it is the promise of the member with this number, of this ballot, and reports nothing above this report, or
+/// nothing at all where that reports nothing.
 pub(crate) fn promises_within(
     message: &Message,
     at: Slot,
     number: u8,
     promised: Ballot,
-    bound: Option<Ballot>,
+    bound: &Option<(Ballot, Value)>,
 ) -> bool
-    ensures { IsTrue result ↔ PromisesWithin number promised bound (says message.now at) }
+    ensures { IsTrue result ↔ PromisesWithin number promised bound.now (says message.now at) }
 {
     match message {
         Message::Promise {
@@ -170,13 +170,23 @@ pub(crate) fn promises_within(
     }
 }
 
-/// Whether the report is of no ballot above the bound, or is none where there is no bound.
-fn is_within(report: &Option<(Ballot, Value)>, bound: Option<Ballot>) -> bool
-    ensures { IsTrue result ↔ IsWithin bound report.now }
+/// Whether the report is of no ballot above the bound's, or is none where the bound is none.
+fn is_within(report: &Option<(Ballot, Value)>, bound: &Option<(Ballot, Value)>) -> bool
+    ensures { IsTrue result ↔ IsWithin bound.now report.now }
 {
     match (bound, report) {
         (_, None) => true,
         (None, Some(_)) => false,
-        (Some(bound), Some((reported, _))) => !bound.is_below(*reported),
+        (Some((highest, _)), Some((reported, _))) => !highest.is_below(*reported),
+    }
+}
+
+/// Whether it is a report of this value.
+pub(crate) fn reports(report: &Option<(Ballot, Value)>, wanted: &Value) -> bool
+    ensures { IsTrue result ↔ IsReportOf wanted.now report.now }
+{
+    match report {
+        Some((_, value)) => *value == *wanted,
+        None => false,
     }
 }
