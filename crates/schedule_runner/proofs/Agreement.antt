@@ -92,7 +92,8 @@ module _ (n : ℕ) (xs : List Saying) (lawful : IsLawfulSlot n xs) where
     some_reports k c below free =
         let s = majorities_meet n (λ a. SaidBefore xs end (Accepted a b v)) (λ a. SaidBefore xs k (Promise a c None)) chosen free in
         let told_it = reports_it s.member k c None s.within s.in_first below (free.each s.member s.within s.in_second) in
-        let no : None ≡ Some (told_it.0, told_it.1) = told_it.2 in
+        let nothing : Report = None in
+        let no : nothing ≡ Some (told_it.0, told_it.1) = told_it.2 in
         cc
 
     -- And the highest report is of the ballot or of a higher one.

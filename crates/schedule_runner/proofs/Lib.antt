@@ -1,2 +1,5 @@
 pub mod Majorities
 pub mod Agreement
+pub mod Places
+pub mod Slots
+pub mod Following

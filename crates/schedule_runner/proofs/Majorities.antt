@@ -1,6 +1,6 @@
 -- Any two majorities have a member in common, and what holds of more members holds of a majority too.
-use Rattle.std.proofs.Common.{◌≡◌, ℕ, zero, suc, ◌+◌, ◌*◌, ◌<◌, ◌≤◌, ◌⊎◌, inl, inr, Bool, true, false, cond, nat_eq, IsTrue, ◌↔◌, refl, sym, ap, subst, ◌∙◌, arith}
-use Rattle.std.proofs.lemmas.Bool.{cases_lt}
+use Rattle.std.proofs.Common.{◌≡◌, ◌≢◌, ℕ, zero, suc, ◌+◌, ◌*◌, ◌<◌, ◌≤◌, ◌⊎◌, inl, inr, Bool, true, false, cond, nat_eq, IsTrue, ◌↔◌, refl, sym, ap, subst, ◌∙◌, arith}
+use Rattle.std.proofs.lemmas.Bool.{cases_lt, cases_eq}
 use Rattle.std.proofs.lemmas.Bool.Decides.{nat_tests}
 use Rattle.ballots.specs.Majority.{tally, IsMajority}
 use Rattle.schedule_runner.specs.Lawful.{Most}
@@ -129,3 +129,31 @@ pub majority_at_end : (n end count : ℕ) (P : ℕ → Type 0) (r : Bool) → Co
 majority_at_end n end count P r c same is_exact =
     let counted = majority_counted n count P (subst (λ (m : ℕ). Counted m count P) same c) in
     ((λ e. counted.0 (is_exact.0 e)), (λ m. is_exact.1 (counted.1 m)))
+
+-- A majority, and with it one more member of whom the same holds.
+pub record MostWith (n : ℕ) (P : ℕ → Type 0) (a : ℕ) : Type 0 where
+  pub most : Most n P
+  pub is_in : IsTrue (most.is_in a)
+
+pub most_with : (n : ℕ) (P : ℕ → Type 0) (a : ℕ) → P a → Most n P → MostWith n P a
+most_with n P a h m = record {
+  most = record {
+    is_in = larger;
+    majority = omega (arith, m.majority, no_less);
+    each = λ b lt in'. elim (cases_eq b a) as (λ _. P b) [
+      | inl same ↦ subst P (sym same) h
+      | inr other ↦ m.each b lt (sym (kept b other) ∙ in')
+      ];
+  };
+  is_in = answer_there a true m.is_in;
+}
+  where
+    larger : ℕ → Bool
+    larger = with_answer a true m.is_in
+    kept : (b : ℕ) → b ≢ a → larger b ≡ m.is_in b
+    kept b other = grind (arith, nat_tests)
+    no_less : tally n m.is_in ≤ tally n larger
+    no_less = more_members n m.is_in larger (λ b lt in'. elim (cases_eq b a) as (λ _. IsTrue (larger b)) [
+      | inl same ↦ subst (λ (c : ℕ). IsTrue (larger c)) (sym same) (answer_there a true m.is_in)
+      | inr other ↦ kept b other ∙ in'
+      ])

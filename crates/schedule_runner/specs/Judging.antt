@@ -36,11 +36,19 @@ BindsBelow a b (Accept c v) = Unit {0}
 BindsBelow a b (Accepted d c v) = d ≡ a → IsBelow c b
 BindsBelow a b (Decided v) = Unit {0}
 
--- where it is this acceptor's Accepted, it is within the report
+-- a report tells enough of an acceptance at this ballot: it is of that ballot or a higher one
+abbrev pub Covers : Report → Ballot → Type 0
+Covers None c = ⊥
+Covers (Some report) c = IsBelow report.0 c → ⊥
+
+-- where it is this acceptor's Accepted, the report covers it
 abbrev pub IsReported : ℕ → Report → Saying → Type 0
-IsReported a None (Accepted d c v) = d ≡ a → ⊥
-IsReported a (Some report) (Accepted d c v) = d ≡ a → IsBelow report.0 c → ⊥
-IsReported a r other = Unit {0}
+IsReported a r Silent = Unit {0}
+IsReported a r (Prepare c) = Unit {0}
+IsReported a r (Promise d c q) = Unit {0}
+IsReported a r (Accept c v) = Unit {0}
+IsReported a r (Accepted d c v) = d ≡ a → Covers r c
+IsReported a r (Decided v) = Unit {0}
 
 -- where it is an Accept at this ballot, it has this value
 abbrev pub HasValueAt : Ballot → Value → Saying → Type 0

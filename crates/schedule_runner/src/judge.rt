@@ -135,9 +135,22 @@ fn may_propose(
     ensures { IsTrue result ↔ MayPropose members slot before.now ballot value.now }
 {
     most_promise(members, before, slot, ballot, &None)
-        || before
-            .iter()
-            .any(|message| lets_propose(members, before, message, slot, ballot, value))
+        || is_highest_report(members, before, slot, ballot, value)
+}
+
+// Whether some promise of the ballot reports this value, higher than the reports of a majority.
+fn is_highest_report(
+    members: Members,
+    before: &[Message],
+    slot: Slot,
+    ballot: Ballot,
+    value: &Value,
+) -> bool
+    ensures { IsTrue result ↔ Any (λ m. LetsPropose members slot before.now ballot value.now (says m slot)) before.now }
+{
+    before
+        .iter()
+        .any(|message| lets_propose(members, before, message, slot, ballot, value))
 }
 
 // Whether the message is a member's promise of the ballot that reports this value, and a majority promised with no higher

@@ -3,7 +3,7 @@
 ghost use Rattle.std.specs.Prelude.{◌≡◌, ◌↔◌, ℕ, IsTrue, Some};
 ghost use Rattle.std.specs.Option.{option_map};
 ghost use Rattle.schedule_runner.specs.Saying.{says, Accept, Accepted, Decided};
-ghost use Rattle.schedule_runner.specs.Judging.{BindsUpTo, BindsBelow, IsReported, HasValueAt, IsWithin, IsReportOf, PromisesWithin};
+ghost use Rattle.schedule_runner.specs.Judging.{BindsUpTo, BindsBelow, Covers, IsReported, HasValueAt, IsWithin, IsReportOf, PromisesWithin};
 
 use ballots::{Ballot, Message, NodeId, Slot, Value};
 
@@ -115,8 +115,7 @@ pub(crate) fn binds_below(message: &Message, at: Slot, acceptor: NodeId, bound: 
     }
 }
 
-/// Whether what the acceptor accepted by it is within this report: at most at the reported ballot, and nothing where
-/// nothing is reported.
+/// Whether the report covers what the acceptor accepted by it, if anything.
 pub(crate) fn is_reported(
     message: &Message,
     at: Slot,
@@ -131,15 +130,18 @@ pub(crate) fn is_reported(
             slot,
             ballot,
             ..
-        } => {
-            *slot != at
-                || *sender != acceptor
-                || match report {
-                    Some((reported, _)) => !reported.is_below(*ballot),
-                    None => false,
-                }
-        }
+        } => *slot != at || *sender != acceptor || covers(report, *ballot),
         _ => true,
+    }
+}
+
+/// Whether the report is of this ballot or a higher one.
+fn covers(report: &Option<(Ballot, Value)>, ballot: Ballot) -> bool
+    ensures { IsTrue result ↔ Covers report.now ballot }
+{
+    match report {
+        Some((reported, _)) => !reported.is_below(ballot),
+        None => false,
     }
 }
 
