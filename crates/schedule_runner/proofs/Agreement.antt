@@ -1,13 +1,12 @@
 -- Once a value is chosen at a ballot, no other is proposed above it, and none is chosen beside it: by induction on the place
 -- of the Accept, with a member of both majorities at each step.
-use Rattle.std.proofs.Common.{◌≡◌, ℕ, zero, suc, ◌+◌, ◌<◌, ◌≤◌, ◌⊎◌, inl, inr, Bool, true, false, IsTrue, List, length, get_or, Option, Some, None, refl, sym, ap, subst, ◌∙◌, arith}
+use Rattle.std.proofs.Common.{◌≡◌, ℕ, zero, suc, ◌<◌, ◌⊎◌, inl, inr, IsTrue, List, length, Some, None, refl, sym, ap, subst, ◌∙◌, arith}
 use Rattle.std.proofs.lemmas.Bool.{cases_lt}
 use Rattle.ballots.specs.Ballot.{Ballot, IsBelow}
 use Rattle.ballots.specs.declared.value.Value.{Value}
-use Rattle.ballots.specs.declared.message.Message.{Message}
-use Rattle.schedule_runner.specs.Saying.{Report, Saying, Silent, Prepare, Promise, Accept, Accepted, Decided, told}
-use Rattle.schedule_runner.specs.Lawful.{Said, SaidBefore, Most, IsLawfulSlot, IsUpTo, PromisedUpTo, IsOfHighestReport, IsChosenBefore, IsLawful, IsChosenAt, OneValue, ChosenValueStays}
-use Rattle.schedule_runner.proofs.Majorities.{Shared, majorities_meet}
+use Rattle.schedule_runner.specs.Saying.{Report, Saying, Promise, Accept, Accepted, told}
+use Rattle.schedule_runner.specs.Lawful.{Said, SaidBefore, Most, IsLawfulSlot, IsUpTo, PromisedUpTo, IsOfHighestReport, IsChosenBefore, OneValue, ChosenValueStays}
+use Rattle.schedule_runner.proofs.Majorities.{majorities_meet}
 
 -- ---- the order of ballots
 
@@ -19,18 +18,18 @@ either_below a b =
     elim (cases_lt a.round b.round) as (λ _. (a ≡ b) ⊎ (IsBelow a b ⊎ IsBelow b a)) [
       | inl lt ↦ inr (inl (inl lt))
       | inr ge ↦ elim (cases_lt b.round a.round) as (λ _. (a ≡ b) ⊎ (IsBelow a b ⊎ IsBelow b a)) [
-          | inl gt ↦ inr (inr (inl gt))
-          | inr le ↦
-              let same : a.round ≡ b.round = omega (arith, ge, le) in
-              elim (cases_lt a.node b.node) as (λ _. (a ≡ b) ⊎ (IsBelow a b ⊎ IsBelow b a)) [
-                | inl less ↦ inr (inl (inr (same, less)))
-                | inr more ↦ elim (cases_lt b.node a.node) as (λ _. (a ≡ b) ⊎ (IsBelow a b ⊎ IsBelow b a)) [
-                    | inl greater ↦ inr (inr (inr (sym same, greater)))
-                    | inr less ↦ inl (same_ballot a b same (omega (arith, more, less)))
-                    ]
-                ]
-          ]
+        | inl gt ↦ inr (inr (inl gt))
+        | inr le ↦
+            let same : a.round ≡ b.round = omega (arith, ge, le) in
+            elim (cases_lt a.node b.node) as (λ _. (a ≡ b) ⊎ (IsBelow a b ⊎ IsBelow b a)) [
+              | inl less ↦ inr (inl (inr (same, less)))
+              | inr more ↦ elim (cases_lt b.node a.node) as (λ _. (a ≡ b) ⊎ (IsBelow a b ⊎ IsBelow b a)) [
+                | inl greater ↦ inr (inr (inr (sym same, greater)))
+                | inr less ↦ inl (same_ballot a b same (omega (arith, more, less)))
+              ]
+            ]
       ]
+    ]
 
 below_carried : (a b c : Ballot) → IsBelow a b → IsBelow b c → IsBelow a c
 below_carried a b c (inl lt) (inl less) = inl (omega (arith, lt, less))
@@ -44,7 +43,7 @@ below_neither a b c not_cb not_ba below =
     elim (either_below c b) as (λ _. ⊥) [
       | inl same ↦ not_ba (subst (λ (x : Ballot). IsBelow x a) same below)
       | inr other ↦ elim other as (λ _. ⊥) [ inl lt ↦ not_cb lt | inr gt ↦ not_ba (below_carried b c a gt below) ]
-      ]
+    ]
 
 -- ---- one slot
 
@@ -56,13 +55,14 @@ module _ (n : ℕ) (xs : List Saying) (lawful : IsLawfulSlot n xs) where
       elim (cases_lt i j) as (λ _. (d : Ballot) × (w : Value) × (r ≡ Some (d, w)) × (IsBelow d b → ⊥)) [
         | inl before ↦ by_report r promise before
         | inr after ↦ elim (cases_lt j i) as (λ _. (d : Ballot) × (w : Value) × (r ≡ Some (d, w)) × (IsBelow d b → ⊥)) [
-            | inl later ↦ absurd (lawful.keeps_its_promise.accepts j i a c b v later (inl (r, promise)) vote below)
-            | inr same ↦ absurd (let at : i ≡ j = omega (arith, after, same) in two_sayings (subst (λ (k : ℕ). Said xs k (Accepted a b v)) at vote))
-            ]
+          | inl later ↦ absurd (lawful.keeps_its_promise.accepts j i a c b v later (inl (r, promise)) vote below)
+          | inr same ↦ absurd (let at : i ≡ j = omega (arith, after, same) in two_sayings (subst (λ (k : ℕ). Said xs k (Accepted a b v)) at vote))
         ]
+      ]
     where
       two_sayings : Said xs j (Accepted a b v) → ⊥
       two_sayings h = let no : Accepted a b v ≡ Promise a c r = sym h.1 ∙ promise.1 in cc
+
       by_report : (s : Report) → Said xs j (Promise a c s) → i < j → (d : Ballot) × (w : Value) × (s ≡ Some (d, w)) × (IsBelow d b → ⊥)
       by_report None h before = absurd (lawful.reports_its_highest.nothing j a c h i b v before vote)
       by_report (Some (d, w)) h before = (d, w, refl, lawful.reports_its_highest.highest j a c d w h i b v before vote)
@@ -121,11 +121,11 @@ module _ (n : ℕ) (xs : List Saying) (lawful : IsLawfulSlot n xs) where
               elim (either_below b h.highest) as (λ _. w ≡ v) [
                 | inl same ↦ same_at_ballot accept.0 any_vote.0 w any_vote.1 (subst (λ (x : Ballot). Said xs accept.0 (Accept x w)) (sym same) accept.2)
                 | inr other ↦ elim other as (λ _. w ≡ v) [
-                    | inl above ↦ stays_below bound accept.0 h.highest w (omega (arith, lt, report.1, accept.1)) accept.2 above
-                    | inr under ↦ absurd (highest_is_at_least k c w below h under)
-                    ]
+                  | inl above ↦ stays_below bound accept.0 h.highest w (omega (arith, lt, report.1, accept.1)) accept.2 above
+                  | inr under ↦ absurd (highest_is_at_least k c w below h under)
                 ]
-          ]
+              ]
+        ]
 
     pub chosen_value_stays : (k : ℕ) (c : Ballot) (w : Value) → Said xs k (Accept c w) → IsBelow b c → w ≡ v
     chosen_value_stays k c w said below = stays_below (suc k) k c w (omega arith) said below
@@ -139,7 +139,7 @@ module _ (n : ℕ) (xs : List Saying) (lawful : IsLawfulSlot n xs) where
         elim order as (λ _. w ≡ v) [
           | inl same ↦ same_at_ballot accept.0 any_vote.0 w any_vote.1 (subst (λ (x : Ballot). Said xs accept.0 (Accept x w)) (sym same) accept.2)
           | inr below ↦ chosen_value_stays accept.0 c w accept.2 below
-          ]
+        ]
 
 -- ---- the laws
 
@@ -155,7 +155,7 @@ one_value_law n sent s v w lawful first second =
     elim (either_below first.0 second.0) as (λ _. v ≡ w) [
       | inl same ↦ sym (chosen_alike n xs at first.0 v end first.1 second.0 w end second.1 (inl same))
       | inr other ↦ elim other as (λ _. v ≡ w) [
-          | inl below ↦ sym (chosen_alike n xs at first.0 v end first.1 second.0 w end second.1 (inr below))
-          | inr above ↦ chosen_alike n xs at second.0 w end second.1 first.0 v end first.1 (inr above)
-          ]
+        | inl below ↦ sym (chosen_alike n xs at first.0 v end first.1 second.0 w end second.1 (inr below))
+        | inr above ↦ chosen_alike n xs at second.0 w end second.1 first.0 v end first.1 (inr above)
       ]
+    ]

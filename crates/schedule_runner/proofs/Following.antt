@@ -1,13 +1,13 @@
 -- Each message follows those before it exactly where the history is lawful.
-use Rattle.std.proofs.Common.{◌≡◌, ℕ, zero, suc, ◌<◌, ◌≤◌, ◌⊎◌, inl, inr, List, length, get_or, take, Option, Some, None, ◌↔◌, refl, sym, ap, subst, ◌∙◌, arith}
+use Rattle.std.proofs.Common.{◌≡◌, ℕ, zero, suc, ◌<◌, ◌≤◌, inl, inr, List, length, get_or, take, Some, None, refl, sym, subst, ◌∙◌, arith}
 use Rattle.std.proofs.lemmas.Bool.{cases_lt}
 use Rattle.ballots.specs.Ballot.{Ballot, IsBelow}
 use Rattle.ballots.specs.declared.value.Value.{Value}
 use Rattle.ballots.specs.declared.message.Message.{Message}
 use Rattle.schedule_runner.specs.Saying.{Report, Saying, Silent, Prepare, Promise, Accept, Accepted, Decided, says, told}
-use Rattle.schedule_runner.specs.Lawful.{Said, SaidBefore, Most, AcceptsWhatWasProposed, BindsAt, KeepsItsPromise, ReportsItsHighest, OneValueABallot, IsUpTo, PromisedUpTo, IsOfHighestReport, IsSafe, ProposesWhatIsSafe, IsChosenBefore, DecidesWhatWasChosen, IsLawfulSlot, IsLawful}
-use Rattle.schedule_runner.specs.Judging.{AnySaid, AllSaid, BindsUpTo, BindsBelow, IsReported, HasValueAt, IsWithin, IsReportOf, PromisesWithin, HasPromised, MostPromise, LetsPropose, MayPropose, HasAccepted, MostAccepted, ShowsChosen, MayDecide, MayReport, FollowsAt, Follows, AllFollow}
-use Rattle.schedule_runner.proofs.Majorities.{MostWith, most_weaker, most_with, majorities_meet}
+use Rattle.schedule_runner.specs.Lawful.{Said, SaidBefore, AcceptsWhatWasProposed, BindsAt, ReportsItsHighest, OneValueABallot, PromisedUpTo, IsOfHighestReport, IsSafe, ProposesWhatIsSafe, IsChosenBefore, DecidesWhatWasChosen, IsLawfulSlot, IsLawful}
+use Rattle.schedule_runner.specs.Judging.{BindsUpTo, BindsBelow, IsReported, HasValueAt, IsWithin, PromisesWithin, HasPromised, LetsPropose, MayPropose, HasAccepted, ShowsChosen, MayDecide, MayReport, FollowsAt, AllFollow}
+use Rattle.schedule_runner.proofs.Majorities.{most_weaker, most_with, majorities_meet}
 use Rattle.schedule_runner.proofs.Places.{blank, within_sent, said_by, said_there, any_before, before_any, all_before, before_all, any_said, said_any}
 use Rattle.schedule_runner.proofs.Slots.{follows_at, at_follows}
 
@@ -68,13 +68,13 @@ module _ (n : ℕ) (sent : List Message) (s : ℕ) where
         elim (cases_lt j k) as (λ _. v ≡ w) [
           | inl lt ↦ later_value j k b v w lt first second
           | inr ge ↦ elim (cases_lt k j) as (λ _. v ≡ w) [
-              | inl gt ↦ sym (later_value k j b w v gt second first)
-              | inr le ↦
-                  let same : j ≡ k = omega (arith, ge, le) in
-                  let alike : Accept b v ≡ Accept b w = sym (subst (λ (i : ℕ). Said xs i (Accept b v)) same first).1 ∙ second.1 in
-                  cc
-              ]
+            | inl gt ↦ sym (later_value k j b w v gt second first)
+            | inr le ↦
+                let same : j ≡ k = omega (arith, ge, le) in
+                let alike : Accept b v ≡ Accept b w = sym (subst (λ (i : ℕ). Said xs i (Accept b v)) same first).1 ∙ second.1 in
+                cc
           ]
+        ]
 
     -- a promise before, by what the judge finds
     promise_before : (k : ℕ) (le : k ≤ length sent) (b : Ballot) (bound : Report) (a : ℕ) → HasPromised s (before k) b bound a
@@ -104,7 +104,7 @@ module _ (n : ℕ) (sent : List Message) (s : ℕ) where
     highest_report k le b v (Promise d c None) said p = absurd p.2
     highest_report k le b v (Promise d c (Some (top, w))) said p =
         let reported : SaidBefore xs k (Promise d b (Some (top, v))) =
-            subst (λ (u : Value). SaidBefore xs k (Promise d b (Some (top, u)))) p.2 (subst (λ (e : Ballot). SaidBefore xs k (Promise d e (Some (top, w)))) p.1 said) in
+        subst (λ (u : Value). SaidBefore xs k (Promise d b (Some (top, u)))) p.2 (subst (λ (e : Ballot). SaidBefore xs k (Promise d e (Some (top, w)))) p.1 said) in
         let most = most_weaker n (HasPromised s (before k) b (Some (top, w))) (PromisedUpTo xs k b top) (λ a lt h. promise_before k le b (Some (top, w)) a h) p.3 in
         let with_it = most_with n (PromisedUpTo xs k b top) d (Some (top, v), reported, not_below top) most in
         record { highest = top; promised = with_it.most; reporter = d; is_member = p.0; is_in = with_it.is_in; reported = reported }
@@ -120,7 +120,7 @@ module _ (n : ℕ) (sent : List Message) (s : ℕ) where
           | inr found ↦
               let it = any_before sent s k le (LetsPropose n s (before k) b v) found in
               inr (highest_report k le b v it.0 it.1 it.2)
-          ]
+        ]
 
     -- a choice, by the vote that the judge finds
     choice_shown : (k : ℕ) (le : k ≤ length sent) (v : Value) (x : Saying) → ShowsChosen n s (before k) v x → (b : Ballot) × IsChosenBefore n xs k b v
@@ -147,7 +147,7 @@ module _ (n : ℕ) (sent : List Message) (s : ℕ) where
           | inr found ↦
               let it = any_before sent s k le (ShowsChosen n s (before k) v) found in
               choice_shown k le v it.0 it.2
-          ]
+        ]
 
     decides_what_was_chosen : DecidesWhatWasChosen n xs
     decides_what_was_chosen k v said = decided_below (suc k) k v (omega arith) said

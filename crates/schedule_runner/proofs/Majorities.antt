@@ -1,5 +1,5 @@
 -- Any two majorities have a member in common, and what holds of more members holds of a majority too.
-use Rattle.std.proofs.Common.{◌≡◌, ◌≢◌, ℕ, zero, suc, ◌+◌, ◌*◌, ◌<◌, ◌≤◌, ◌⊎◌, inl, inr, Bool, true, false, cond, nat_eq, IsTrue, ◌↔◌, refl, sym, ap, subst, ◌∙◌, arith}
+use Rattle.std.proofs.Common.{◌≡◌, ◌≢◌, ℕ, zero, suc, ◌+◌, ◌<◌, ◌≤◌, inl, inr, Bool, true, false, cond, nat_eq, IsTrue, ◌↔◌, refl, sym, ap, subst, ◌∙◌, arith}
 use Rattle.std.proofs.lemmas.Bool.{cases_lt, cases_eq}
 use Rattle.std.proofs.lemmas.Bool.Decides.{nat_tests}
 use Rattle.ballots.specs.Majority.{tally, IsMajority}
@@ -90,7 +90,8 @@ counted_more n count P r c is_exact = record {
       | inr above ↦
           let same : n ≡ a = omega (arith, lt, above) in
           subst (λ (m : ℕ). IsTrue (with_answer n r c.test m) ↔ P m) same (subst (λ (b : Bool). IsTrue b ↔ P n) (sym (answer_there n r c.test)) is_exact)
-      ]
+    ]
+
     within : (b : Bool) → count ≤ n → with_one b count ≤ suc n
     within true le = omega (arith, le)
     within false le = omega (arith, le)
@@ -101,6 +102,7 @@ majority_counted n count P c = (there, back)
   where
     there : IsMajority n count → Most n P
     there majority = record { is_in = c.test; majority = omega (arith, majority, c.size); each = λ a lt in'. (c.exact a lt).0 in' }
+
     back : Most n P → IsMajority n count
     back m =
         let no_less : tally n m.is_in ≤ tally n c.test = more_members n m.is_in c.test (λ a lt in'. (c.exact a lt).1 (m.each a lt in')) in
@@ -143,17 +145,19 @@ most_with n P a h m = record {
     each = λ b lt in'. elim (cases_eq b a) as (λ _. P b) [
       | inl same ↦ subst P (sym same) h
       | inr other ↦ m.each b lt (sym (kept b other) ∙ in')
-      ];
+    ];
   };
   is_in = answer_there a true m.is_in;
 }
   where
     larger : ℕ → Bool
     larger = with_answer a true m.is_in
+
     kept : (b : ℕ) → b ≢ a → larger b ≡ m.is_in b
     kept b other = grind (arith, nat_tests)
+
     no_less : tally n m.is_in ≤ tally n larger
     no_less = more_members n m.is_in larger (λ b lt in'. elim (cases_eq b a) as (λ _. IsTrue (larger b)) [
       | inl same ↦ subst (λ (c : ℕ). IsTrue (larger c)) (sym same) (answer_there a true m.is_in)
       | inr other ↦ kept b other ∙ in'
-      ])
+    ])

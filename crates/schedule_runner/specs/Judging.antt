@@ -1,6 +1,6 @@
 -- What a judge looks at who goes through a history message by message: what stands before a message must let it follow.
 -- What is lawful is defined in `Lawful`.
-use Rattle.std.specs.Prelude.{◌≡◌, ℕ, ◌<◌, ◌≤◌, ◌⊎◌, Bool, IsTrue, List, length, take, slice_index_or, Option, Some, None, ◌↔◌}
+use Rattle.std.specs.Prelude.{◌≡◌, ℕ, ◌<◌, ◌≤◌, ◌⊎◌, Bool, IsTrue, List, length, take, slice_index_or, Some, None, ◌↔◌}
 use Rattle.std.specs.List.{All, Any}
 use Rattle.ballots.specs.Ballot.{Ballot, IsBelow}
 use Rattle.ballots.specs.Majority.{tally}

@@ -1,7 +1,7 @@
 -- Which histories of messages correct nodes may have sent, and what they chose: Lamport, "Paxos Made Simple", section 2.
 -- A history is a number of members and the list of all messages that were sent, in their order. It speaks of nothing that
 -- a node keeps: a sent message stays for good, whoever received it.
-use Rattle.std.specs.Prelude.{◌≡◌, ℕ, ◌<◌, ◌⊎◌, Bool, IsTrue, List, length, get_or, Option, Some, None}
+use Rattle.std.specs.Prelude.{◌≡◌, ℕ, ◌<◌, ◌⊎◌, Bool, IsTrue, List, length, get_or, Some, None}
 use Rattle.ballots.specs.Ballot.{Ballot, IsBelow}
 use Rattle.ballots.specs.Majority.{tally, IsMajority}
 use Rattle.ballots.specs.declared.value.Value.{Value}

@@ -148,9 +148,7 @@ fn is_highest_report(
 ) -> bool
     ensures { IsTrue result ↔ Any (λ m. LetsPropose members slot before.now ballot value.now (says m slot)) before.now }
 {
-    before
-        .iter()
-        .any(|message| lets_propose(members, before, message, slot, ballot, value))
+    before.iter().any(|message| lets_propose(members, before, message, slot, ballot, value))
 }
 
 // Whether the message is a member's promise of the ballot that reports this value, and a majority promised with no higher
@@ -210,9 +208,7 @@ fn has_promised(
 ) -> bool
     ensures { IsTrue result ↔ Any (λ m. PromisesWithin number ballot bound.now (says m slot)) before.now }
 {
-    before
-        .iter()
-        .any(|message| promises_within(message, slot, number, ballot, bound))
+    before.iter().any(|message| promises_within(message, slot, number, ballot, bound))
 }
 
 // Whether the value may be told as decided. A value that was told before needs no second look at the votes.
@@ -220,9 +216,7 @@ fn may_decide(members: Members, before: &[Message], slot: Slot, value: &Value) -
     ensures { IsTrue result ↔ MayDecide members slot before.now value.now }
 {
     was_decided(before, slot, value)
-        || before
-            .iter()
-            .any(|message| shows_chosen(members, before, message, slot, value))
+        || before.iter().any(|message| shows_chosen(members, before, message, slot, value))
 }
 
 fn was_decided(before: &[Message], slot: Slot, value: &Value) -> bool
@@ -273,13 +267,7 @@ fn most_accepted(
     members.is_majority(count)
 }
 
-fn has_accepted(
-    before: &[Message],
-    slot: Slot,
-    number: u8,
-    ballot: Ballot,
-    value: &Value,
-) -> bool
+fn has_accepted(before: &[Message], slot: Slot, number: u8, ballot: Ballot, value: &Value) -> bool
     ensures { IsTrue result ↔ AnySaid slot before.now (Accepted number ballot value.now) }
 {
     before

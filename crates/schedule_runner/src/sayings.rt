@@ -54,10 +54,7 @@ pub(crate) fn accepts(
             ballot,
             value,
         } => {
-            *slot == at
-                && sender.number() == number
-                && *ballot == accepted
-                && *value == *wanted
+            *slot == at && sender.number() == number && *ballot == accepted && *value == *wanted
         }
         _ => false,
     }

@@ -1,4 +1,4 @@
-use Rattle.std.proofs.Common.{arith, ◌≤◌}
+use Rattle.std.proofs.Common.{arith}
 use Rattle.schedule_runner.specs.Judging.{HasAccepted}
 use Rattle.schedule_runner.proofs.Majorities.{counted_none, counted_on, counted_off, majority_at_end}
 use Rattle.schedule_runner.proofs.judge.most_accepted.Goals as goal
@@ -14,7 +14,7 @@ pub loop-number-preserved : goal.loop-number-preserved
 loop-number-preserved g = elim g.if-has_accepted.branch [
   | then-has_accepted w ↦ rw w.count-is (counted_on g.loop-number.number g.loop-number.count (HasAccepted g.args.slot g.args.before.now g.args.ballot g.args.value.now) g.has_accepted.result g.loop-number.invariant g.has_accepted.ensures w.if-has_accepted.true)
   | else-has_accepted w ↦ rw w.count-is (counted_off g.loop-number.number g.loop-number.count (HasAccepted g.args.slot g.args.before.now g.args.ballot g.args.value.now) g.has_accepted.result g.loop-number.invariant g.has_accepted.ensures w.if-has_accepted.false)
-  ]
+]
 
 pub returns : goal.returns
 returns g =

@@ -6,6 +6,7 @@ use Rattle.schedule_runner.proofs.trace.audit.Goals as goal
 pub returns : goal.returns
 returns g =
     let members = g.args.trace.now.members in
-    let sent = g.args.trace.now.sent.items in
-    ((λ e. lawful_from_following members sent (subst (AllFollow members) g.deref.ensures.value (g.all_follow.ensures.0 e))),
-     (λ h. g.all_follow.ensures.1 (subst (AllFollow members) (sym g.deref.ensures.value) (following_from_lawful members sent h))))
+    let sent = g.args.trace.now.sent.items in (
+      (λ e. lawful_from_following members sent (subst (AllFollow members) g.deref.ensures.value (g.all_follow.ensures.0 e))),
+      (λ h. g.all_follow.ensures.1 (subst (AllFollow members) (sym g.deref.ensures.value) (following_from_lawful members sent h))),
+    )
