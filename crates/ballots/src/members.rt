@@ -9,17 +9,17 @@ pub const MAX_MEMBERS: u8 = 7;
 /// How many nodes agree, 1 to [`MAX_MEMBERS`]: the nodes of the numbers from 0 on, one below this.
 #[derive(Clone, Copy, Debug, PartialEq, Eq, PartialOrd, Ord, Hash)]
 pub struct Members {
-    count: u8,
+    number: u8,
 }
 
 impl Model for Members {
     ghost Value = { ℕ };
 
-    ghost view = { λ m. m.count };
+    ghost view = { λ m. m.number };
 
-    ghost invariant = { λ m. IsMembers m.count };
+    ghost invariant = { λ m. IsMembers m.number };
 
-    ghost inverse = { λ m. record { count = m } };
+    ghost inverse = { λ m. record { number = m } };
 }
 
 impl Members {
@@ -29,7 +29,7 @@ impl Members {
         ensures value { IfSome result (λ members. members ≡ count) }
     {
         if 0 < count && count <= MAX_MEMBERS {
-            Some(Members { count })
+            Some(Members { number: count })
         } else {
             None
         }
@@ -40,7 +40,7 @@ impl Members {
         ensures value { result ≡ self }
         ensures within { IsMembers self }
     {
-        self.count
+        self.number
     }
 
     /// Whether so many of the members are a majority: twice as many are more than all (Lamport, *Paxos Made Simple*,
@@ -48,6 +48,6 @@ impl Members {
     pub fn is_majority(self, size: usize) -> bool
         ensures { IsTrue result ↔ IsMajority self size }
     {
-        size > usize::from(self.count) / 2
+        size > usize::from(self.count()) / 2
     }
 }
