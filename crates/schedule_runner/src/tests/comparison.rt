@@ -85,7 +85,7 @@ fn roll(state: &mut u64, limit: u64) -> u64 {
 /// Some message, mostly about slot 0. The senders are the members and one who is none.
 fn some_message(state: &mut u64, members: u8) -> (u32, Said) {
     let slot = if roll(state, 8) == 0 { 1 } else { 0 };
-    let sender = roll(state, u64::from(members).saturating_add(1)) as u8;
+    let sender = (roll(state, u64::from(members).saturating_add(1)) % 8) as u8;
     let ballot = BALLOTS[roll(state, 3) as usize % 3];
     let value = 1 + (roll(state, 2) % 2) as u8;
     let reported = BALLOTS[roll(state, 3) as usize % 3];
