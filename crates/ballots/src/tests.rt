@@ -1,5 +1,8 @@
 //! Messages against bytes from outside and against plain programs, and the edges of ballots, nodes, slots and values.
 
+mod meaning;
 mod messages;
 mod order;
+mod plain_meaning;
 mod support;
+mod wire;
