@@ -1,6 +1,6 @@
 //! Lists of fields beside the plain meaning of a message: each list up to three fields behind each of some beginnings.
 
-use super::plain_meaning::{Faults, Field, Meant, faults_meant, message_meant};
+use super::plain_meaning::{Faults, Field, faults_meant, message_meant, parts_meant};
 use crate::{Message, MessageFault};
 use proto_wire::Part;
 use std::alloc::{AllocError, Global};
@@ -146,9 +146,9 @@ pub(crate) fn expect_meaning(
     text: &[u8],
     fields: &[Field<'_>],
 ) -> Result<(), Fail> {
-    let meant = Meant::of(fields);
-    let faults = faults_meant(&meant);
-    let made = message_meant(alloc, &meant)?;
+    let parts = parts_meant(fields);
+    let faults = faults_meant(&parts);
+    let made = message_meant(alloc, &parts)?;
     assert_eq!(rt; made.is_some(), faults == Faults::NONE, "{fields:?}");
     match (Message::decode(alloc, text), made) {
         (Ok(read), Some(made)) => {

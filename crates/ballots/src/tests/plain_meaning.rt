@@ -3,6 +3,17 @@
 //! Protocol Buffers, "Encoding", "Last One Wins", has repeated fields, and Lamport, *Paxos Made Simple*, sections 2.2 and
 //! 2.3, the messages.
 
+ghost use Rattle.std.specs.Prelude.{◌≡◌, ℕ, ◌≤◌, map, Some, IfSome};
+ghost use Rattle.std.specs.Option.{option_map};
+ghost use Rattle.proto_wire.specs.Field.{field_at};
+ghost use Rattle.proto_wire.specs.Meaning.{number_meant, bytes_meant};
+ghost use Rattle.ballots.specs.declared.node.TheConstants.{MAX_NODE};
+ghost use Rattle.ballots.specs.declared.slot.TheConstants.{MAX_SLOT};
+ghost use Rattle.ballots.specs.Ballot.{Ballot as Pair};
+ghost use Rattle.ballots.specs.Message.{parts_of, MeansBallot};
+ghost use Rattle.ballots.specs.Parts.{parts_at};
+
+use crate::parts::Parts;
 use crate::spelled::{
     Made, accept, accepted, ask, decided, nack, prepare, promise, reporting_promise,
 };
@@ -13,74 +24,78 @@ use std::alloc::{AllocError, Global};
 /// A field: its number, and what it holds.
 pub(crate) type Field<'a> = (u32, Part<'a>);
 
-/// What each field of a message means, `None` for nothing.
-#[derive(Clone, Copy, Debug)]
-pub(crate) struct Meant<'a> {
-    kind: Option<u64>,
-    sender: Option<u64>,
-    slot: Option<u64>,
-    round: Option<u64>,
-    node: Option<u64>,
-    second_round: Option<u64>,
-    second_node: Option<u64>,
-    value: Option<&'a [u8]>,
-}
-
 /// The last of the numbers that fields of this number hold, 0 where there is none, and nothing where one holds
 /// something else.
-fn number_meant(number: u32, fields: &[Field<'_>]) -> Option<u64> {
+fn last_number(number: u32, fields: &[Field<'_>]) -> Option<u64>
+    ensures { result ≡ number_meant number (map (λ f. field_at f.0 f.1) fields.now) }
+{
     let mut last = 0;
     for (of, held) in fields {
-        match held {
-            Part::Varint(given) if *of == number => last = *given,
-            _ if *of == number => return None,
-            _ => {}
+        if *of == number {
+            let Part::Varint(given) = held else {
+                return None;
+            };
+            last = *given;
         }
     }
     Some(last)
 }
 
 /// The last of the byte strings that fields of this number hold, likewise.
-fn bytes_meant<'a>(number: u32, fields: &[Field<'a>]) -> Option<&'a [u8]> {
+fn last_bytes<'a>(number: u32, fields: &[Field<'a>]) -> Option<&'a [u8]>
+    ensures { option_map (λ b. b.now) result ≡ bytes_meant number (map (λ f. field_at f.0 f.1) fields.now) }
+{
     let mut last: &[u8] = &[];
     for (of, held) in fields {
-        match held {
-            Part::Bytes(given) if *of == number => last = *given,
-            _ if *of == number => return None,
-            _ => {}
+        if *of == number {
+            let Part::Bytes(given) = held else {
+                return None;
+            };
+            last = *given;
         }
     }
     Some(last)
 }
 
-impl<'a> Meant<'a> {
-    /// The definition `parts_of`.
-    pub(crate) fn of(fields: &[Field<'a>]) -> Meant<'a> {
-        Meant {
-            kind: number_meant(1, fields),
-            sender: number_meant(2, fields),
-            slot: number_meant(3, fields),
-            round: number_meant(5, fields),
-            node: number_meant(6, fields),
-            second_round: number_meant(7, fields),
-            second_node: number_meant(8, fields),
-            value: bytes_meant(9, fields),
-        }
+/// The definition `parts_of`: what each field of a message means.
+pub(crate) fn parts_meant<'a>(fields: &[Field<'a>]) -> Parts<'a>
+    ensures { parts_at result ≡ parts_of (map (λ f. field_at f.0 f.1) fields.now) }
+{
+    Parts {
+        kind: last_number(1, fields),
+        sender: last_number(2, fields),
+        slot: last_number(3, fields),
+        round: last_number(5, fields),
+        node: last_number(6, fields),
+        second_round: last_number(7, fields),
+        second_node: last_number(8, fields),
+        value: last_bytes(9, fields),
     }
 }
 
-fn node_meant(number: Option<u64>) -> Option<NodeId> {
+fn node_meant(number: Option<u64>) -> Option<NodeId>
+    ensures meant { IfSome result (λ n. number ≡ Some n) }
+    ensures only { (n : ℕ) → number ≡ Some n → n ≤ MAX_NODE → result ≡ Some n }
+{
     NodeId::new(u8::try_from(number?).ok()?)
 }
 
-fn slot_meant(number: Option<u64>) -> Option<Slot> {
+fn slot_meant(number: Option<u64>) -> Option<Slot>
+    ensures meant { IfSome result (λ n. number ≡ Some n) }
+    ensures only { (n : ℕ) → number ≡ Some n → n ≤ MAX_SLOT → result ≡ Some n }
+{
     Slot::new(u32::try_from(number?).ok()?)
 }
 
-fn ballot_meant(round: Option<u64>, node: Option<u64>) -> Option<Ballot> {
+/// The definition `MeansBallot`.
+fn ballot_meant(round: Option<u64>, node: Option<u64>) -> Option<Ballot>
+    ensures meant { IfSome result (λ b. MeansBallot round node b) }
+    ensures only { (b : Pair) → MeansBallot round node b → result ≡ Some b }
+{
     Ballot::new(u32::try_from(round?).ok()?, node_meant(node)?)
 }
 
+/// The definition `MeansValue`.
 fn value_meant(alloc: Global, bytes: Option<&[u8]>) -> Result<Option<Value>, AllocError> {
     let Some(bytes) = bytes else {
         return Ok(None);
@@ -93,16 +108,16 @@ fn value_meant(alloc: Global, bytes: Option<&[u8]>) -> Result<Option<Value>, All
 }
 
 /// The definition `Means`: the message that this means, if any, beside its text.
-pub(crate) fn message_meant(alloc: Global, meant: &Meant<'_>) -> Result<Option<Made>, AllocError> {
-    let (Some(sender), Some(slot)) = (node_meant(meant.sender), slot_meant(meant.slot)) else {
+pub(crate) fn message_meant(alloc: Global, parts: &Parts<'_>) -> Result<Option<Made>, AllocError> {
+    let (Some(sender), Some(slot)) = (node_meant(parts.sender), slot_meant(parts.slot)) else {
         return Ok(None);
     };
-    let ballot = ballot_meant(meant.round, meant.node);
-    let second = ballot_meant(meant.second_round, meant.second_node);
-    let value = value_meant(alloc, meant.value)?;
-    let made = match (meant.kind, ballot, second, value) {
+    let ballot = ballot_meant(parts.round, parts.node);
+    let second = ballot_meant(parts.second_round, parts.second_node);
+    let value = value_meant(alloc, parts.value)?;
+    let made = match (parts.kind, ballot, second, value) {
         (Some(1), Some(ballot), _, _) => prepare(alloc, sender, slot, ballot),
-        (Some(2), Some(ballot), _, _) if meant.second_round == Some(0) => {
+        (Some(2), Some(ballot), _, _) if parts.second_round == Some(0) => {
             promise(alloc, sender, slot, ballot)
         }
         (Some(2), Some(ballot), Some(second), Some(value)) => {
@@ -172,21 +187,21 @@ fn value_faults(bytes: Option<&[u8]>) -> Faults {
 }
 
 /// The definition `HeadFault`.
-fn head_faults(meant: &Meant<'_>) -> Faults {
-    number_faults(meant.kind, 0, u64::MAX)
-        .and(number_faults(meant.sender, 0, 6))
-        .and(number_faults(meant.slot, 0, 999_999))
+fn head_faults(parts: &Parts<'_>) -> Faults {
+    number_faults(parts.kind, 0, u64::MAX)
+        .and(number_faults(parts.sender, 0, 6))
+        .and(number_faults(parts.slot, 0, 999_999))
 }
 
 /// The definitions `BodyFault` and `IsUnknownKind`.
-fn body_faults(meant: &Meant<'_>) -> Faults {
-    let ballot = ballot_faults(meant.round, meant.node);
-    let second = ballot_faults(meant.second_round, meant.second_node);
-    let value = value_faults(meant.value);
-    match meant.kind {
+fn body_faults(parts: &Parts<'_>) -> Faults {
+    let ballot = ballot_faults(parts.round, parts.node);
+    let second = ballot_faults(parts.second_round, parts.second_node);
+    let value = value_faults(parts.value);
+    match parts.kind {
         None | Some(6) => Faults::NONE,
         Some(1) => ballot,
-        Some(2) if meant.second_round == Some(0) => ballot,
+        Some(2) if parts.second_round == Some(0) => ballot,
         Some(2) => ballot.and(second).and(value),
         Some(3) => ballot.and(second),
         Some(4) | Some(5) => ballot.and(value),
@@ -199,6 +214,6 @@ fn body_faults(meant: &Meant<'_>) -> Faults {
 }
 
 /// The definition `PartsFault`: all faults that stand.
-pub(crate) fn faults_meant(meant: &Meant<'_>) -> Faults {
-    head_faults(meant).and(body_faults(meant))
+pub(crate) fn faults_meant(parts: &Parts<'_>) -> Faults {
+    head_faults(parts).and(body_faults(parts))
 }
