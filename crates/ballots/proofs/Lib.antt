@@ -1,3 +1,4 @@
+pub mod PlainMeanings
 pub mod Gathering
 pub mod Numbers
 pub mod Bodies

@@ -1,0 +1,8 @@
+use Rattle.std.proofs.Common.{◌≡◌, Some}
+use Rattle.proto_wire.specs.Meaning.{number_meant}
+use Rattle.ballots.proofs.PlainMeanings.{seen}
+use Rattle.ballots.proofs.tests.plain_meaning.last_number.Given as goal
+
+-- what the fields met so far mean
+abbrev pub invariant-loop-of : goal.invariant-loop-of
+invariant-loop-of l = number_meant l.number (seen l.fields l.of-index) ≡ Some l.last

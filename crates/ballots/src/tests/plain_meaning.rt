@@ -1,0 +1,219 @@
+//! What a list of fields means as a message, computed plainly from the definitions `parts_of`, `Means` and `PartsFault`.
+//!
+//! Protocol Buffers, "Encoding", "Last One Wins", has repeated fields, and Lamport, *Paxos Made Simple*, sections 2.2 and
+//! 2.3, the messages.
+
+ghost use Rattle.std.specs.Prelude.{◌≡◌, ℕ, ◌≤◌, map, Some, IfSome};
+ghost use Rattle.std.specs.Option.{option_map};
+ghost use Rattle.proto_wire.specs.Field.{field_at};
+ghost use Rattle.proto_wire.specs.Meaning.{number_meant, bytes_meant};
+ghost use Rattle.ballots.specs.declared.node.TheConstants.{MAX_NODE};
+ghost use Rattle.ballots.specs.declared.slot.TheConstants.{MAX_SLOT};
+ghost use Rattle.ballots.specs.Ballot.{Ballot as Pair};
+ghost use Rattle.ballots.specs.Message.{parts_of, MeansBallot};
+ghost use Rattle.ballots.specs.Parts.{parts_at};
+
+use crate::parts::Parts;
+use crate::spelled::{
+    Made, accept, accepted, ask, decided, nack, prepare, promise, reporting_promise,
+};
+use crate::{Ballot, MessageFault, NodeId, Slot, UploadBytes, Value};
+use proto_wire::{Part, WireFault};
+use std::alloc::{AllocError, Global};
+
+/// A field: its number, and what it holds.
+pub(crate) type Field<'a> = (u32, Part<'a>);
+
+/// The last of the numbers that fields of this number hold, 0 where there is none, and nothing where one holds
+/// something else.
+fn last_number(number: u32, fields: &[Field<'_>]) -> Option<u64>
+    ensures { result ≡ number_meant number (map (λ f. field_at f.0 f.1) fields.now) }
+{
+    let mut last = 0;
+    for (of, held) in fields {
+        if *of == number {
+            let Part::Varint(given) = held else {
+                return None;
+            };
+            last = *given;
+        }
+    }
+    Some(last)
+}
+
+/// The last of the byte strings that fields of this number hold, likewise.
+fn last_bytes<'a>(number: u32, fields: &[Field<'a>]) -> Option<&'a [u8]>
+    ensures { option_map (λ b. b.now) result ≡ bytes_meant number (map (λ f. field_at f.0 f.1) fields.now) }
+{
+    let mut last: &[u8] = &[];
+    for (of, held) in fields {
+        if *of == number {
+            let Part::Bytes(given) = held else {
+                return None;
+            };
+            last = *given;
+        }
+    }
+    Some(last)
+}
+
+/// The definition `parts_of`: what each field of a message means.
+pub(crate) fn parts_meant<'a>(fields: &[Field<'a>]) -> Parts<'a>
+    ensures { parts_at result ≡ parts_of (map (λ f. field_at f.0 f.1) fields.now) }
+{
+    Parts {
+        kind: last_number(1, fields),
+        sender: last_number(2, fields),
+        slot: last_number(3, fields),
+        round: last_number(5, fields),
+        node: last_number(6, fields),
+        second_round: last_number(7, fields),
+        second_node: last_number(8, fields),
+        value: last_bytes(9, fields),
+    }
+}
+
+fn node_meant(number: Option<u64>) -> Option<NodeId>
+    ensures meant { IfSome result (λ n. number ≡ Some n) }
+    ensures only { (n : ℕ) → number ≡ Some n → n ≤ MAX_NODE → result ≡ Some n }
+{
+    NodeId::new(u8::try_from(number?).ok()?)
+}
+
+fn slot_meant(number: Option<u64>) -> Option<Slot>
+    ensures meant { IfSome result (λ n. number ≡ Some n) }
+    ensures only { (n : ℕ) → number ≡ Some n → n ≤ MAX_SLOT → result ≡ Some n }
+{
+    Slot::new(u32::try_from(number?).ok()?)
+}
+
+/// The definition `MeansBallot`.
+fn ballot_meant(round: Option<u64>, node: Option<u64>) -> Option<Ballot>
+    ensures meant { IfSome result (λ b. MeansBallot round node b) }
+    ensures only { (b : Pair) → MeansBallot round node b → result ≡ Some b }
+{
+    Ballot::new(u32::try_from(round?).ok()?, node_meant(node)?)
+}
+
+/// The definition `MeansValue`.
+fn value_meant(alloc: Global, bytes: Option<&[u8]>) -> Result<Option<Value>, AllocError> {
+    let Some(bytes) = bytes else {
+        return Ok(None);
+    };
+    if bytes.is_empty() {
+        return Ok(Some(Value::Noop));
+    }
+    let upload = UploadBytes::new(Vec::from_slice(alloc, bytes)?);
+    Ok(upload.map(|bytes| Value::Upload(bytes)))
+}
+
+/// The definition `Means`: the message that this means, if any, beside its text.
+pub(crate) fn message_meant(alloc: Global, parts: &Parts<'_>) -> Result<Option<Made>, AllocError> {
+    let (Some(sender), Some(slot)) = (node_meant(parts.sender), slot_meant(parts.slot)) else {
+        return Ok(None);
+    };
+    let ballot = ballot_meant(parts.round, parts.node);
+    let second = ballot_meant(parts.second_round, parts.second_node);
+    let value = value_meant(alloc, parts.value)?;
+    let made = match (parts.kind, ballot, second, value) {
+        (Some(1), Some(ballot), _, _) => prepare(alloc, sender, slot, ballot),
+        (Some(2), Some(ballot), _, _) if parts.second_round == Some(0) => {
+            promise(alloc, sender, slot, ballot)
+        }
+        (Some(2), Some(ballot), Some(second), Some(value)) => {
+            reporting_promise(alloc, sender, slot, ballot, second, value)
+        }
+        (Some(3), Some(ballot), Some(second), _) => nack(alloc, sender, slot, ballot, second),
+        (Some(4), Some(ballot), _, Some(value)) => accept(alloc, sender, slot, ballot, value),
+        (Some(5), Some(ballot), _, Some(value)) => accepted(alloc, sender, slot, ballot, value),
+        (Some(6), _, _, _) => ask(alloc, sender, slot),
+        (Some(7), _, _, Some(value)) => decided(alloc, sender, slot, value),
+        _ => return Ok(None),
+    };
+    Ok(Some(made?))
+}
+
+/// A set of faults.
+#[derive(Clone, Copy, Debug, PartialEq, Eq)]
+pub(crate) struct Faults {
+    wire_type: bool,
+    range: bool,
+    kind: bool,
+}
+
+impl Faults {
+    /// No fault.
+    pub(crate) const NONE: Faults = Faults {
+        wire_type: false,
+        range: false,
+        kind: false,
+    };
+
+    /// All faults of the one set and of the other.
+    fn and(self, other: Faults) -> Faults {
+        Faults {
+            wire_type: self.wire_type || other.wire_type,
+            range: self.range || other.range,
+            kind: self.kind || other.kind,
+        }
+    }
+
+    /// Whether the fault is one of these.
+    pub(crate) fn has(self, fault: MessageFault) -> bool {
+        match fault {
+            MessageFault::Wire(WireFault::BadWireType) => self.wire_type,
+            MessageFault::OutOfRange => self.range,
+            MessageFault::BadKind => self.kind,
+            _ => false,
+        }
+    }
+}
+
+/// What is wrong with a number that has these limits.
+fn number_faults(number: Option<u64>, least: u64, most: u64) -> Faults {
+    Faults {
+        wire_type: number.is_none(),
+        range: number.is_some_and(|number| number < least || most < number),
+        kind: false,
+    }
+}
+
+fn ballot_faults(round: Option<u64>, node: Option<u64>) -> Faults {
+    number_faults(round, 1, 4_000_000_000).and(number_faults(node, 0, 6))
+}
+
+fn value_faults(bytes: Option<&[u8]>) -> Faults {
+    number_faults(bytes.map(|bytes| bytes.len() as u64), 0, 16_777_216)
+}
+
+/// The definition `HeadFault`.
+fn head_faults(parts: &Parts<'_>) -> Faults {
+    number_faults(parts.kind, 0, u64::MAX)
+        .and(number_faults(parts.sender, 0, 6))
+        .and(number_faults(parts.slot, 0, 999_999))
+}
+
+/// The definitions `BodyFault` and `IsUnknownKind`.
+fn body_faults(parts: &Parts<'_>) -> Faults {
+    let ballot = ballot_faults(parts.round, parts.node);
+    let second = ballot_faults(parts.second_round, parts.second_node);
+    let value = value_faults(parts.value);
+    match parts.kind {
+        None | Some(6) => Faults::NONE,
+        Some(1) => ballot,
+        Some(2) if parts.second_round == Some(0) => ballot,
+        Some(2) => ballot.and(second).and(value),
+        Some(3) => ballot.and(second),
+        Some(4) | Some(5) => ballot.and(value),
+        Some(7) => value,
+        Some(_) => Faults {
+            kind: true,
+            ..Faults::NONE
+        },
+    }
+}
+
+/// The definition `PartsFault`: all faults that stand.
+pub(crate) fn faults_meant(parts: &Parts<'_>) -> Faults {
+    head_faults(parts).and(body_faults(parts))
+}
