@@ -1,6 +1,7 @@
 -- What the fields mean that a plain program of the tests has met so far, after one field more.
-use Rattle.std.proofs.Common.{◌≡◌, ℕ, ◌+◌, ◌<◌, Bool, true, false, cond, List, [], ◌∷◌, ◌++◌, length, map, take, drop, get_or, Option, Some, None, Bor, refl, sym, ap, ◌∙◌}
-use Rattle.std.specs.Prelude.{◌==◌, ◌≢◌}
+use Rattle.std.proofs.Common.{◌≡◌, ℕ, ◌+◌, ◌<◌, Bool, true, false, cond, List, [], ◌∷◌, ◌++◌, length, map, take, drop, get_or, Option, Some, None, Bor, refl, sym, ap, ◌∙◌, inl, inr}
+use Rattle.std.specs.Prelude.{◌==◌, ◌≢◌, ◌↔◌, ◌⊎◌}
+use Rattle.ballots.specs.declared.fault.MessageFault.TheVariants.{OutOfRange, BadKind}
 use Rattle.std.proofs.lemmas.Bool.{eq-eqb, ne_eqb}
 use Rattle.std.proofs.lemmas.List.{take_more, map_push, map-append, append_assoc, append-nil, take-append-drop}
 use Rattle.proto_wire.specs.declared.field.Part.{Part}
@@ -60,3 +61,20 @@ module _ {A : Type 0} (meaning : List Field → Option A) (thing : Held → Opti
   never_more xs i none =
       ap (λ l. meaning (map at l)) (sym (take-append-drop i xs)) ∙ ap meaning (map-append at (take i xs) (drop i xs))
       ∙ never (seen xs i) (map at (drop i xs)) none
+
+-- ---- faults of the head or of the body, and nothing else
+
+into : {H B X Y Z : Type 0} → (H → X) → (B → Y) → H ⊎ B → X ⊎ Y ⊎ Z
+into head body (inl h) = inl (head h)
+into head body (inr b) = inr (inl (body b))
+
+out : {H B X Y Z : Type 0} → (X → H) → (Y → B) → (Z → ⊥) → X ⊎ Y ⊎ Z → H ⊎ B
+out head body no_other (inl x) = inl (head x)
+out head body no_other (inr (inl y)) = inr (body y)
+out head body no_other (inr (inr z)) = absurd (no_other z)
+
+pub either_of_two : {R H B X Y Z : Type 0} → R ↔ (H ⊎ B) → H ↔ X → B ↔ Y → (Z → ⊥) → R ↔ (X ⊎ Y ⊎ Z)
+either_of_two whole head body no_other = (λ r. into head.0 body.0 (whole.0 r), λ s. whole.1 (out head.1 body.1 no_other s))
+
+pub range_is_no_kind : OutOfRange ≡ BadKind → ⊥
+range_is_no_kind same = cc same

@@ -189,24 +189,3 @@ fn lists_behind_a_round(rt: HostRuntime) -> Result<(), Fail> {
     }
     Ok(())
 }
-
-/// In each kind that has a value 16,777,216 bytes are one, and a byte more is out of range.
-#[test]
-fn values_at_the_limit(rt: HostRuntime) -> Result<(), Fail> {
-    let mut bytes = Vec::new(rt.alloc());
-    bytes.resize(16_777_217, 7)?;
-    for value in [bytes.get(..16_777_216), bytes.get(..)] {
-        let value = value.ok_or("no value")?;
-        for kind in [2, 4, 5, 7] {
-            let fields = [
-                (1, Part::Varint(kind)),
-                (5, Part::Varint(1)),
-                (7, Part::Varint(1)),
-                (9, Part::Bytes(value)),
-            ];
-            let text = text_of(rt.alloc(), &fields)?;
-            expect_meaning(&rt, rt.alloc(), &text, &fields)?;
-        }
-    }
-    Ok(())
-}

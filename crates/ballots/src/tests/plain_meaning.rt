@@ -3,14 +3,17 @@
 //! Protocol Buffers, "Encoding", "Last One Wins", has repeated fields, and Lamport, *Paxos Made Simple*, sections 2.2 and
 //! 2.3, the messages.
 
-ghost use Rattle.std.specs.Prelude.{◌≡◌, ℕ, ◌≤◌, map, Some, IfSome};
+ghost use Rattle.std.specs.Prelude.{◌≡◌, ℕ, ◌≤◌, ◌<◌, ◌⊎◌, ◌↔◌, map, Some, None, IfSome, IfOk, IsTrue, IsFalse};
 ghost use Rattle.std.specs.Option.{option_map};
 ghost use Rattle.proto_wire.specs.Field.{field_at};
 ghost use Rattle.proto_wire.specs.Meaning.{number_meant, bytes_meant};
 ghost use Rattle.ballots.specs.declared.node.TheConstants.{MAX_NODE};
 ghost use Rattle.ballots.specs.declared.slot.TheConstants.{MAX_SLOT};
 ghost use Rattle.ballots.specs.Ballot.{Ballot as Pair};
-ghost use Rattle.ballots.specs.Message.{parts_of, MeansBallot};
+ghost use Rattle.proto_wire.specs.declared.fault.WireFault.TheVariants.{BadWireType};
+ghost use Rattle.ballots.specs.declared.fault.MessageFault.TheVariants.{Wire, BadKind, OutOfRange};
+ghost use Rattle.ballots.specs.declared.value.Value.{Value as Chosen};
+ghost use Rattle.ballots.specs.Message.{parts_of, MeansBallot, MeansValue, HeadFault, BallotFault, ValueFault, BodyFault, IsUnknownKind, PartsFault};
 ghost use Rattle.ballots.specs.Parts.{parts_at};
 
 use crate::parts::Parts;
@@ -96,7 +99,10 @@ fn ballot_meant(round: Option<u64>, node: Option<u64>) -> Option<Ballot>
 }
 
 /// The definition `MeansValue`.
-fn value_meant(alloc: Global, bytes: Option<&[u8]>) -> Result<Option<Value>, AllocError> {
+fn value_meant(alloc: Global, bytes: Option<&[u8]>) -> Result<Option<Value>, AllocError>
+    ensures meant { IfOk result (λ value. IfSome value (λ v. MeansValue (option_map (λ b. b.now) bytes.entry) v)) }
+    ensures only { IfOk result (λ value. (v : Chosen) → MeansValue (option_map (λ b. b.now) bytes.entry) v → value ≡ Some v) }
+{
     let Some(bytes) = bytes else {
         return Ok(None);
     };
@@ -150,7 +156,11 @@ impl Faults {
     };
 
     /// All faults of the one set and of the other.
-    fn and(self, other: Faults) -> Faults {
+    fn and(self, other: Faults) -> Faults
+        ensures wire_type { IsTrue result.wire_type ↔ (IsTrue self.wire_type ⊎ IsTrue other.wire_type) }
+        ensures range { IsTrue result.range ↔ (IsTrue self.range ⊎ IsTrue other.range) }
+        ensures kind { IsTrue result.kind ↔ (IsTrue self.kind ⊎ IsTrue other.kind) }
+    {
         Faults {
             wire_type: self.wire_type || other.wire_type,
             range: self.range || other.range,
@@ -170,7 +180,11 @@ impl Faults {
 }
 
 /// What is wrong with a number that has these limits.
-fn number_faults(number: Option<u64>, least: u64, most: u64) -> Faults {
+fn number_faults(number: Option<u64>, least: u64, most: u64) -> Faults
+    ensures wire_type { IsTrue result.wire_type ↔ (number ≡ None) }
+    ensures range { IsTrue result.range ↔ ((n : ℕ) × (number ≡ Some n) × ((n < least) ⊎ (most < n))) }
+    ensures kind { IsFalse result.kind }
+{
     Faults {
         wire_type: number.is_none(),
         range: number.is_some_and(|number| number < least || most < number),
@@ -178,23 +192,44 @@ fn number_faults(number: Option<u64>, least: u64, most: u64) -> Faults {
     }
 }
 
-fn ballot_faults(round: Option<u64>, node: Option<u64>) -> Faults {
+/// The definition `BallotFault`.
+fn ballot_faults(round: Option<u64>, node: Option<u64>) -> Faults
+    ensures wire_type { IsTrue result.wire_type ↔ BallotFault round node (Wire BadWireType) }
+    ensures range { IsTrue result.range ↔ BallotFault round node OutOfRange }
+    ensures kind { IsFalse result.kind }
+{
     number_faults(round, 1, 4_000_000_000).and(number_faults(node, 0, 6))
 }
 
-fn value_faults(bytes: Option<&[u8]>) -> Faults {
+/// The definition `ValueFault`.
+fn value_faults(bytes: Option<&[u8]>) -> Faults
+    ensures wire_type { IsTrue result.wire_type ↔ ValueFault (option_map (λ b. b.now) bytes.entry) (Wire BadWireType) }
+    ensures range { IsTrue result.range ↔ ValueFault (option_map (λ b. b.now) bytes.entry) OutOfRange }
+    ensures kind { IsFalse result.kind }
+{
     number_faults(bytes.map(|bytes| bytes.len() as u64), 0, 16_777_216)
 }
 
 /// The definition `HeadFault`.
-fn head_faults(parts: &Parts<'_>) -> Faults {
-    number_faults(parts.kind, 0, u64::MAX)
-        .and(number_faults(parts.sender, 0, 6))
+fn head_faults(parts: &Parts<'_>) -> Faults
+    ensures wire_type { IsTrue result.wire_type ↔ HeadFault (parts_at parts.now) (Wire BadWireType) }
+    ensures range { IsTrue result.range ↔ HeadFault (parts_at parts.now) OutOfRange }
+    ensures kind { IsFalse result.kind }
+{
+    let kind = Faults {
+        wire_type: parts.kind.is_none(),
+        ..Faults::NONE
+    };
+    kind.and(number_faults(parts.sender, 0, 6))
         .and(number_faults(parts.slot, 0, 999_999))
 }
 
 /// The definitions `BodyFault` and `IsUnknownKind`.
-fn body_faults(parts: &Parts<'_>) -> Faults {
+fn body_faults(parts: &Parts<'_>) -> Faults
+    ensures wire_type { IsTrue result.wire_type ↔ BodyFault (parts_at parts.now) (Wire BadWireType) }
+    ensures range { IsTrue result.range ↔ BodyFault (parts_at parts.now) OutOfRange }
+    ensures kind { IsTrue result.kind ↔ IsUnknownKind (parts_at parts.now) }
+{
     let ballot = ballot_faults(parts.round, parts.node);
     let second = ballot_faults(parts.second_round, parts.second_node);
     let value = value_faults(parts.value);
@@ -214,6 +249,10 @@ fn body_faults(parts: &Parts<'_>) -> Faults {
 }
 
 /// The definition `PartsFault`: all faults that stand.
-pub(crate) fn faults_meant(parts: &Parts<'_>) -> Faults {
+pub(crate) fn faults_meant(parts: &Parts<'_>) -> Faults
+    ensures wire_type { IsTrue result.wire_type ↔ PartsFault (parts_at parts.now) (Wire BadWireType) }
+    ensures range { IsTrue result.range ↔ PartsFault (parts_at parts.now) OutOfRange }
+    ensures kind { IsTrue result.kind ↔ PartsFault (parts_at parts.now) BadKind }
+{
     head_faults(parts).and(body_faults(parts))
 }
