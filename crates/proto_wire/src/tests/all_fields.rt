@@ -126,11 +126,13 @@ fn is_field(span: &Span<'_>, number: u32, held: Held<'_>) -> bool {
 }
 
 /// The field at the front, which has to be the only one that stands there, or the fault.
-fn compare_front(rt: &impl Abort, text: &[u8], spans: &[Span<'_>]) -> Result<(), Fail> {
+fn compare_front(rt: &impl Abort, text: &[u8], spans: &[Span<'_>]) {
     let mut fronts = spans.iter().filter(|span| span.start == 0);
     match split_field(text) {
         Ok((number, part, rest)) => {
-            let span = fronts.next().ok_or("no field stands at the front")?;
+            let Some(span) = fronts.next() else {
+                panic!(rt; "no field in {text:?}");
+            };
             assert!(rt; fronts.next().is_none(), "two fields in {text:?}");
             assert!(rt;
                 is_field(span, number, held_at(&part)),
@@ -147,7 +149,6 @@ fn compare_front(rt: &impl Abort, text: &[u8], spans: &[Span<'_>]) -> Result<(),
             assert!(rt; is_field_fault(fault, text), "{fault} in {text:?}");
         }
     }
-    Ok(())
 }
 
 /// All fields of the text, which have to be those that stand there, or the fault.
@@ -173,7 +174,7 @@ fn compare_fields(rt: &impl Abort, alloc: Global, text: &[u8], spans: &[Span<'_>
 
 fn compare(rt: &impl Abort, alloc: Global, text: &[u8]) -> Result<(), Fail> {
     let spans = spans_of(alloc, text)?;
-    compare_front(rt, text, spans.as_slice())?;
+    compare_front(rt, text, spans.as_slice());
     compare_fields(rt, alloc, text, spans.as_slice());
     Ok(())
 }

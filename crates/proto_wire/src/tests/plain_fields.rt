@@ -1,6 +1,10 @@
 //! A plain program for the fields of a text. It follows the definitions of specs/Varint.antt and specs/Field.antt as
 //! relations, by trying each way to split the text (Protocol Buffers, "Encoding").
 
+ghost use Rattle.std.specs.Prelude.{◌↔◌, IsTrue};
+ghost use Rattle.proto_wire.specs.Varint.{AllGoOn, IsCutVarint};
+ghost use Rattle.proto_wire.specs.Field.{IsFieldNumber};
+
 use crate::WireFault;
 use std::alloc::{AllocError, Global};
 
@@ -54,12 +58,16 @@ fn varint_of(bytes: &[u8]) -> Option<u64> {
 }
 
 /// Whether no byte is the last of a number, `AllGoOn`.
-fn all_go_on(bytes: &[u8]) -> bool {
+fn all_go_on(bytes: &[u8]) -> bool
+    ensures { IsTrue result ↔ AllGoOn bytes.now }
+{
     bytes.iter().all(|byte| *byte >= 128)
 }
 
 /// `IsCutVarint`: the text ends before the number does.
-fn is_cut_varint(text: &[u8]) -> bool {
+fn is_cut_varint(text: &[u8]) -> bool
+    ensures { IsTrue result ↔ IsCutVarint text.now }
+{
     all_go_on(text) && text.len() < 10
 }
 
@@ -112,7 +120,9 @@ fn held_of(kind: u64, content: &[u8]) -> Option<Held<'_>> {
 }
 
 /// `IsFieldNumber`: from 1 to 2^29 - 1.
-fn is_field_number(number: u64) -> bool {
+fn is_field_number(number: u64) -> bool
+    ensures { IsTrue result ↔ IsFieldNumber number }
+{
     number > 0 && number < 1 << 29
 }
 

@@ -1,6 +1,9 @@
 //! A plain program for the frame at the front of a text. It follows the definitions of specs/Frame.antt and
 //! specs/FrameFaults.antt, by trying each way to split the text (gRPC over HTTP/2, "Length-Prefixed-Message").
 
+ghost use Rattle.std.specs.Prelude.{◌≤◌, ◌↔◌, IsTrue};
+ghost use Rattle.proto_wire.specs.Frame.{IsFlag, payload_limit};
+
 use crate::FrameFault;
 use std::alloc::{AllocError, Global};
 
@@ -51,12 +54,16 @@ fn header_of(text: &[u8]) -> Option<Header<'_>> {
 }
 
 /// `IsFlag`: 0 for a message, 0x80 for an end.
-fn is_flag(flag: u8) -> bool {
+fn is_flag(flag: u8) -> bool
+    ensures { IsTrue result ↔ IsFlag flag }
+{
     flag == 0 || flag == 0x80
 }
 
 /// `payload_limit`: at most 4 MiB.
-fn is_within_limit(len: u64) -> bool {
+fn is_within_limit(len: u64) -> bool
+    ensures { IsTrue result ↔ (len ≤ payload_limit) }
+{
     len <= 4 * 1_024 * 1_024
 }
 
