@@ -92,7 +92,8 @@ fn stands(fault: FrameFault, text: &[u8]) -> bool
     }
 }
 
-/// The flag, the payload and the rest of the frame at the front whose payload has `len` bytes, `IsFrame` and `frame_text`.
+/// The flag, the payload and the rest where a frame with a payload of `len` bytes stands at the front, `IsFrame` and
+/// `frame_text`.
 fn frame_of(text: &[u8], len: usize) -> Option<(u8, &[u8], &[u8])>
     ensures frame { IfSome result (λ f. IsFrame (record { flag = f.0; payload = f.1.now })) }
     ensures parts { IfSome result (λ f. text.now ≡ frame_text (record { flag = f.0; payload = f.1.now }) ++ f.2.now) }
