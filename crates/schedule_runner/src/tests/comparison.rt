@@ -101,8 +101,8 @@ fn some_message(state: &mut u64, members: u8) -> (u32, Said) {
 }
 
 /// A history that grows by whatever message is lawful. Gives whether something was decided in it.
-fn walk(rt: &impl Abort, alloc: Global, members: u8, seed: u64) -> Result<bool, Fail> {
-    let mut state = seed;
+fn walk(rt: &impl Abort, alloc: Global, members: u8, start: u64) -> Result<bool, Fail> {
+    let mut state = start;
     let mut sent = Vec::new(alloc);
     let mut is_decided = false;
     for _ in 0..150 {
@@ -120,9 +120,9 @@ fn walk(rt: &impl Abort, alloc: Global, members: u8, seed: u64) -> Result<bool, 
 #[test]
 fn long_walks(rt: HostRuntime) -> Result<(), Fail> {
     let mut decided = 0u32;
-    for seed in 0..60u64 {
-        let members = [1, 2, 3, 4][(seed % 4) as usize];
-        if walk(&rt, rt.alloc(), members, seed)? {
+    for start in 0..60u64 {
+        let members = [1, 2, 3, 4][(start % 4) as usize];
+        if walk(&rt, rt.alloc(), members, start)? {
             decided = decided.saturating_add(1);
         }
     }
