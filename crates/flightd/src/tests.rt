@@ -4,5 +4,6 @@ mod command_line;
 mod conversations;
 mod faults;
 mod plain;
+mod plain_words;
 mod streams;
 mod support;

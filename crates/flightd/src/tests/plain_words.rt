@@ -1,0 +1,68 @@
+//! The words that are taken beside a plain program, over every list of up to four words from a small set.
+
+use crate::words::parse;
+use std::alloc::Global;
+use std::test::Fail;
+
+/// The program's name, its command and another, the command in capitals and cut, the flags of every program, the mark of
+/// POSIX for the end of the flags, and the empty word.
+const WORDS: [&str; 12] = [
+    "flightd",
+    "acceptor",
+    "audit",
+    "Acceptor",
+    "accept",
+    "help",
+    "--help",
+    "--version",
+    "--acceptor",
+    "-",
+    "--",
+    "",
+];
+
+/// The lists of at most four of [`WORDS`].
+const LISTS: usize = 1 + 12 + 144 + 1_728 + 20_736;
+
+/// The list of this number, where 0 is the empty list, and then those of one word, of two, and so on, each once.
+fn words_of(alloc: Global, number: usize) -> Result<Vec<String>, Fail> {
+    let mut words = Vec::new(alloc);
+    let mut left = number;
+    for _ in 0..4 {
+        if left > 0 {
+            let word = WORDS[(left - 1) % 12];
+            words.push(String::from_str(alloc, word)?)?;
+            left = (left - 1) / 12;
+        }
+    }
+    Ok(words)
+}
+
+/// `IsCall`: a name, and then no word or the command's.
+fn is_call(words: &[String]) -> bool {
+    match words {
+        [_] => true,
+        [_, command] => command.as_str() == "acceptor",
+        _ => false,
+    }
+}
+
+/// Whether the words are a call, or become one without a last `--`, which marks the end of the flags (POSIX, Utility
+/// Syntax Guideline 10), or are none at all, where not even a name is there.
+fn is_taken(words: &[String]) -> bool {
+    match words {
+        [] => true,
+        [others @ .., last] => is_call(words) || (last.as_str() == "--" && is_call(others)),
+    }
+}
+
+#[test]
+fn takes_the_words_of_a_call(rt: HostRuntime) -> Result<(), Fail> {
+    for number in 0..LISTS {
+        let words = words_of(rt.alloc(), number)?;
+        let is_parsed = parse(rt.alloc(), words.as_slice()).is_ok();
+        assert!(rt; is_parsed || !is_call(words.as_slice()), "at {words:?}");
+        assert_eq!(rt; is_parsed, is_taken(words.as_slice()), "at {words:?}");
+    }
+    Ok(())
+}
