@@ -5,11 +5,13 @@
 #![tactic(auto)]
 
 mod answering;
+mod auditing;
 mod fault;
 mod runs;
 mod serving;
 #[cfg(test)]
 mod tests;
+mod trace_file;
 mod words;
 
 use runs::acceptor_run;
