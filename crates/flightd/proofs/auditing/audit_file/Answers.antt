@@ -1,4 +1,3 @@
-use Rattle.std.proofs.Common.{rules}
 use Rattle.flightd.proofs.TraceReading.{means_nothing, judged}
 use Rattle.flightd.proofs.auditing.audit_file.Goals as goal
 

@@ -1,4 +1,4 @@
-use Rattle.std.proofs.Common.{sym, ap, ◌∙◌, Some, Option}
+use Rattle.std.proofs.Common.{sym}
 use Rattle.flightd.proofs.TraceReading.{text_means}
 use Rattle.flightd.proofs.trace_file.message_of.Goals as goal
 

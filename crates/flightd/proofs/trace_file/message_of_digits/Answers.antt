@@ -1,4 +1,4 @@
-use Rattle.std.proofs.Common.{sym, subst, Ok, Err, inl, inr, ◌≡◌, ◌⊎◌, ℕ, List, Result}
+use Rattle.std.proofs.Common.{sym, subst, ℕ, List}
 use Rattle.ballots.specs.Message.{IsMessageText}
 use Rattle.flightd.proofs.TraceReading.{hex_means, read_as, refused_as}
 use Rattle.flightd.proofs.trace_file.message_of_digits.Goals as goal

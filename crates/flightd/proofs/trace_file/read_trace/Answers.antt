@@ -1,6 +1,5 @@
-use Rattle.std.proofs.Common.{sym, subst, ap, ◌∙◌, map, ◌≡◌, List, MatchResult}
+use Rattle.std.proofs.Common.{sym, subst, ◌∙◌, map, ◌≡◌, List, MatchResult}
 use Rattle.std.specs.List.{AllZip}
-use Rattle.serde_json.specs.Data.{Data}
 use Rattle.serde_json.specs.View.{view}
 use Rattle.serde_json.specs.declared.value.Value.{Value}
 use Rattle.flightd.specs.TraceFile.{SpellsMessage}
