@@ -4,8 +4,8 @@ use crate::words::parse;
 use std::alloc::Global;
 use std::test::Fail;
 
-/// The program's name, its two commands, the one in capitals and cut, the flags of every program, a hyphen alone, the mark
-/// of POSIX for the end of the flags, and the empty word.
+/// The program's name, its two commands, the first with a capital and cut, the flags that each program has, the command as
+/// a flag, POSIX's words for a stream and for the end of the flags, and the empty word.
 const WORDS: [&str; 12] = [
     "flightd",
     "acceptor",

@@ -1,8 +1,10 @@
 //! A plain program for the frame at the front of a text. It follows the definitions of specs/Frame.antt and
 //! specs/FrameFaults.antt, by trying each way to split the text (gRPC over HTTP/2, "Length-Prefixed-Message").
 
-ghost use Rattle.std.specs.Prelude.{◌≤◌, ◌↔◌, IsTrue};
-ghost use Rattle.proto_wire.specs.Frame.{IsFlag, payload_limit};
+ghost use Rattle.std.specs.Prelude.{◌≡◌, ◌≢◌, ◌≤◌, ◌<◌, ◌↔◌, ◌++◌, ℕ, List, IsTrue, IsSome, IfSome, IfNone, length};
+ghost use Rattle.proto_wire.specs.Frame.{Frame as FrameModel, IsFlag, IsFrame, frame_text, payload_limit};
+ghost use Rattle.proto_wire.specs.FrameFaults.{BeginsFrame, FrameFaultStands};
+ghost use Rattle.proto_wire.specs.declared.fault.FrameFault.TheVariants.{Io, OutOfMemory};
 
 use crate::FrameFault;
 use std::alloc::{AllocError, Global};
@@ -40,7 +42,10 @@ const FAULTS: [FrameFault; 6] = [
 ];
 
 /// The flag of a frame, and the length of its message as four bytes with the highest first.
-fn header_of(text: &[u8]) -> Option<Header<'_>> {
+fn header_of(text: &[u8]) -> Option<Header<'_>>
+    ensures begins { IfSome result (λ h. BeginsFrame text.now h.flag h.len h.rest.now) }
+    ensures few { IfNone result (length text.now < 5) }
+{
     let [flag, a, b, c, d, rest @ ..] = text else {
         return None;
     };
@@ -68,7 +73,10 @@ fn is_within_limit(len: u64) -> bool
 }
 
 /// `FrameFaultStands`, of a text in memory: there no read fails, and memory is there.
-fn stands(fault: FrameFault, text: &[u8]) -> bool {
+fn stands(fault: FrameFault, text: &[u8]) -> bool
+    ensures only { IsTrue result → FrameFaultStands fault text.now }
+    ensures each { fault ≢ Io → fault ≢ OutOfMemory → FrameFaultStands fault text.now → IsTrue result }
+{
     let Some(header) = header_of(text) else {
         return fault == FrameFault::Truncated && !text.is_empty();
     };
@@ -84,19 +92,20 @@ fn stands(fault: FrameFault, text: &[u8]) -> bool {
     }
 }
 
-/// The frame at the front whose payload has `len` bytes, `IsFrame` and `frame_text`.
-fn frame_of(text: &[u8], len: usize) -> Option<Outcome<'_>> {
+/// The flag, the payload and the rest where a frame with a payload of `len` bytes stands at the front, `IsFrame` and
+/// `frame_text`.
+fn frame_of(text: &[u8], len: usize) -> Option<(u8, &[u8], &[u8])>
+    ensures frame { IfSome result (λ f. IsFrame (record { flag = f.0; payload = f.1.now })) }
+    ensures parts { IfSome result (λ f. text.now ≡ frame_text (record { flag = f.0; payload = f.1.now }) ++ f.2.now) }
+    ensures each { (f : FrameModel) (rest : List ℕ) → IsFrame f → length f.payload ≡ len → text.now ≡ frame_text f ++ rest → IsSome result }
+{
     let header = header_of(text)?;
     let (payload, rest) = header.rest.split_at_checked(len)?;
     let is_frame = is_flag(header.flag) && is_within_limit(header.len);
     if !is_frame || header.len != len as u64 {
         return None;
     }
-    Some(Outcome::Frame {
-        flag: header.flag,
-        payload,
-        rest,
-    })
+    Some((header.flag, payload, rest))
 }
 
 /// Everything that reading a frame may give at this text.
@@ -106,8 +115,12 @@ pub fn outcomes_of(alloc: Global, text: &[u8]) -> Result<Vec<Outcome<'_>>, Alloc
         outcomes.push(Outcome::End)?;
     }
     for len in 0..text.len() {
-        if let Some(frame) = frame_of(text, len) {
-            outcomes.push(frame)?;
+        if let Some((flag, payload, rest)) = frame_of(text, len) {
+            outcomes.push(Outcome::Frame {
+                flag,
+                payload,
+                rest,
+            })?;
         }
     }
     for fault in FAULTS {
