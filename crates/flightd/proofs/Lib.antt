@@ -1,2 +1,4 @@
+pub mod FileNamed
 pub mod Replying
 pub mod Running
+pub mod TraceReading

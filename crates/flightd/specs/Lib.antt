@@ -1,3 +1,4 @@
 pub mod CommandLine
 pub mod Conversation
 pub mod Serving
+pub mod TraceFile

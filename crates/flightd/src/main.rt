@@ -1,28 +1,36 @@
 //! The program: what the proved crates do, over standard input and output.
 //!
-//! `flightd acceptor`, or no word at all, answers Paxos messages as node 0 of three, with nothing kept. Each command is
-//! one function of `runs` over any reader and writers, with its contract; `main` gives it the real ones.
+//! `flightd acceptor`, or no word at all, answers Paxos messages as node 0 of three, with nothing kept. `flightd audit
+//! FILE` says whether a recorded run of such messages is one that correct nodes may have sent. Each command is one
+//! function of `runs` over any reader and writers, with its contract; `main` gives it the real ones.
 #![tactic(auto)]
 
 mod answering;
+mod auditing;
 mod fault;
 mod runs;
 mod serving;
 #[cfg(test)]
 mod tests;
+mod trace_file;
 mod words;
 
-use runs::acceptor_run;
-use std::io;
+use auditing::AuditFault;
+use runs::{acceptor_run, audit_run};
 use std::io::{BufReader, BufWriter};
 use std::process::ExitCode;
+use std::{fs, io};
 
 fn main(rt: HostRuntime) -> ExitCode {
     let status = match start(&rt) {
         Ok(status) => status,
-        Err(_) => {
+        Err(error) => {
+            let fault = match error.kind() {
+                io::ErrorKind::OutOfMemory => AuditFault::OutOfMemory,
+                _ => AuditFault::Io,
+            };
             // Where this fails too, the status alone tells.
-            let _ = eprintln!(rt; "flightd: Io");
+            let _ = eprintln!(rt; "flightd: {fault}");
             runs::FAILURE
         }
     };
@@ -33,11 +41,26 @@ fn main(rt: HostRuntime) -> ExitCode {
 fn start(rt: &HostRuntime) -> io::Result<u8> {
     let alloc = rt.alloc();
     let words: Vec<String> = std::env::args(rt)?.collect(alloc)?;
-    if let Err(error) = words::parse(alloc, &words) {
-        error.print(rt)?;
-        return Ok(error.exit_code() as u8);
+    match words::parse(alloc, &words) {
+        Ok(matches) => match words::audited_file(&matches) {
+            Some(file) => judge(rt, file),
+            None => answer(rt),
+        },
+        Err(error) => {
+            error.print(rt)?;
+            Ok(error.exit_code() as u8)
+        }
     }
+}
+
+fn answer(rt: &HostRuntime) -> io::Result<u8> {
+    let alloc = rt.alloc();
     let mut input = BufReader::new(alloc, rt.stdin())?;
     let mut output = BufWriter::new(alloc, rt.stdout())?;
     Ok(acceptor_run(alloc, &mut input, &mut output, &mut rt.stderr()))
+}
+
+fn judge(rt: &HostRuntime, path: &str) -> io::Result<u8> {
+    let file = fs::read(rt, path)?;
+    Ok(audit_run(rt.alloc(), &file, &mut rt.stdout(), &mut rt.stderr()))
 }

@@ -1,5 +1,6 @@
 //! What no clause says: bytes worked out by hand, the lines on standard error, streams that fail, and the words.
 
+mod audit;
 mod command_line;
 mod conversations;
 mod faults;

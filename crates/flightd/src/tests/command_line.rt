@@ -1,6 +1,6 @@
 //! The words of the command line.
 
-use crate::words::parse;
+use crate::words::{audited_file, parse};
 use std::alloc::Global;
 use std::process::Abort;
 use std::test::Fail;
@@ -36,7 +36,31 @@ fn expect_refused(
 fn takes_no_word_or_a_command(rt: HostRuntime) -> Result<(), Fail> {
     for call in ["flightd", "flightd acceptor"] {
         let words = words_of(rt.alloc(), call)?;
-        assert!(rt; parse(rt.alloc(), &words).is_ok(), "at {call}");
+        let Ok(matches) = parse(rt.alloc(), &words) else {
+            return Err(Fail::from("it did not parse"));
+        };
+        assert_eq!(rt; audited_file(&matches), None, "at {call}");
+    }
+    Ok(())
+}
+
+#[test]
+fn takes_the_file_of_an_audit(rt: HostRuntime) -> Result<(), Fail> {
+    for file in [
+        "run.json",
+        "/tmp/runs/3",
+        "acceptor",
+        "audit",
+        "help",
+        "-",
+        "",
+    ] {
+        let call = format!(in rt.alloc(); "flightd audit {file}")?;
+        let words = words_of(rt.alloc(), call.as_str())?;
+        let Ok(matches) = parse(rt.alloc(), &words) else {
+            return Err(Fail::from("it did not parse"));
+        };
+        assert_eq!(rt; audited_file(&matches), Some(file));
     }
     Ok(())
 }
@@ -45,6 +69,11 @@ fn takes_no_word_or_a_command(rt: HostRuntime) -> Result<(), Fail> {
 fn refuses_other_words(rt: HostRuntime) -> Result<(), Fail> {
     let wrong = [
         "flightd audit",
+        "flightd audit run.json run.json",
+        "flightd audit --file run.json",
+        "flightd audit -f",
+        "flightd Audit run.json",
+        "flightd run.json",
         "flightd serve",
         "flightd acceptor acceptor",
         "flightd acceptor audit",
@@ -58,6 +87,7 @@ fn refuses_other_words(rt: HostRuntime) -> Result<(), Fail> {
         "flightd --help",
         "flightd --version",
         "flightd acceptor --help",
+        "flightd audit --help",
     ] {
         expect_refused(&rt, rt.alloc(), call, 0, false)?;
     }

@@ -4,8 +4,8 @@ use crate::words::parse;
 use std::alloc::Global;
 use std::test::Fail;
 
-/// The program's name, its command and another, the command with a capital and cut, the flags that each program has, the
-/// command as a flag, POSIX's words for a stream and for the end of the flags, and the empty word.
+/// The program's name, its two commands, the first with a capital and cut, the flags that each program has, the command as
+/// a flag, POSIX's words for a stream and for the end of the flags, and the empty word.
 const WORDS: [&str; 12] = [
     "flightd",
     "acceptor",
@@ -38,20 +38,28 @@ fn words_of(alloc: Global, number: usize) -> Result<Vec<String>, Fail> {
     Ok(words)
 }
 
-/// `IsCall`: a name, and then no word or the command's.
+/// `IsOperand`: the word is no flag, nor the mark of their end.
+fn is_operand(word: &str) -> bool {
+    word == "-" || !word.starts_with('-')
+}
+
+/// `IsCall`: a name, and then no word, the acceptor's, or the audit's and an operand.
 fn is_call(words: &[String]) -> bool {
     match words {
         [_] => true,
         [_, command] => command.as_str() == "acceptor",
+        [_, command, file] => command.as_str() == "audit" && is_operand(file.as_str()),
         _ => false,
     }
 }
 
-/// Whether the words are a call, or become one without a last `--`, which marks the end of the flags (POSIX, Utility
-/// Syntax Guideline 10), or are none at all, where not even a name is there.
+/// Whether the words are a call, or become one without a `--` before the audit's operand, which may then be any word, or
+/// behind all others; `--` marks the end of the flags (POSIX, Utility Syntax Guideline 10). No words at all, where not
+/// even a name is there, are taken too.
 fn is_taken(words: &[String]) -> bool {
     match words {
         [] => true,
+        [_, command, mark, _] if command.as_str() == "audit" && mark.as_str() == "--" => true,
         [others @ .., last] => is_call(words) || (last.as_str() == "--" && is_call(others)),
     }
 }

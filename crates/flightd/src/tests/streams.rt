@@ -25,14 +25,14 @@ impl<'a> Read for FailsBehind<'a> {
 
 /// Takes `room` bytes in all and then fails. It takes so many flushes, and then they fail.
 #[derive(Drop)]
-struct Narrow {
-    written: Vec<u8>,
+pub(super) struct Narrow {
+    pub(super) written: Vec<u8>,
     room: usize,
     flushes: usize,
 }
 
 impl Narrow {
-    fn new(alloc: Global, room: usize, flushes: usize) -> Narrow {
+    pub(super) fn new(alloc: Global, room: usize, flushes: usize) -> Narrow {
         Narrow {
             written: Vec::new(alloc),
             room,
