@@ -5,7 +5,6 @@ ghost use Rattle.std.specs.declared.cmp.Ordering.TheVariants.{Less, Equal, Great
 ghost use Rattle.ballots.specs.declared.value.Value.{Value};
 ghost use Rattle.ballots.specs.declared.message.Message.{Message as Meant};
 ghost use Rattle.ballots.specs.declared.message.Message.TheVariants.{Prepare, Promise, Nack, Accept, Accepted, Ask, Decided};
-ghost use Rattle.ballots.specs.declared.message.numbers.TheConstants.{PREPARE, PROMISE, NACK, ACCEPT, ACCEPTED, ASK, DECIDED};
 ghost use Rattle.ballots.specs.Ballot.{Ballot as Pair, IsBelow, ballot_cmp};
 ghost use Rattle.ballots.specs.Message.{IsMessageText, IsInRange, canonical, value_bytes};
 ghost use Rattle.ballots.specs.Row.{row_text};
@@ -34,18 +33,19 @@ pub fn canonical_means_its_message()
     ensures { (m : Meant) → IsInRange m → IsMessageText (canonical m) m }
 {}
 
-/// Whatever its kind, a message is written as all eight fields in their order, those left out that are 0 or no bytes.
+/// Whatever its kind, a message is written as all eight fields in their order, those left out that are 0 or no bytes: a
+/// Prepare as kind 1, and so on up to a Decided as kind 7.
 #[tactic(auto, using(crate::proofs::Rows::rows))]
 pub fn messages_are_rows()
-    ensures prepare { (s t : ℕ) (b : Pair) → canonical (Prepare s t b) ≡ row_text PREPARE s t b.round b.node 0 0 [] }
-    ensures promise { (s t : ℕ) (b : Pair) → canonical (Promise s t b None) ≡ row_text PROMISE s t b.round b.node 0 0 [] }
+    ensures prepare { (s t : ℕ) (b : Pair) → canonical (Prepare s t b) ≡ row_text 1 s t b.round b.node 0 0 [] }
+    ensures promise { (s t : ℕ) (b : Pair) → canonical (Promise s t b None) ≡ row_text 2 s t b.round b.node 0 0 [] }
     ensures report { (s t : ℕ) (b r : Pair) (v : Value) → canonical (Promise s t b (Some (r, v)))
-        ≡ row_text PROMISE s t b.round b.node r.round r.node (value_bytes v) }
-    ensures nack { (s t : ℕ) (b c : Pair) → canonical (Nack s t b c) ≡ row_text NACK s t b.round b.node c.round c.node [] }
+        ≡ row_text 2 s t b.round b.node r.round r.node (value_bytes v) }
+    ensures nack { (s t : ℕ) (b c : Pair) → canonical (Nack s t b c) ≡ row_text 3 s t b.round b.node c.round c.node [] }
     ensures accept { (s t : ℕ) (b : Pair) (v : Value) → canonical (Accept s t b v)
-        ≡ row_text ACCEPT s t b.round b.node 0 0 (value_bytes v) }
+        ≡ row_text 4 s t b.round b.node 0 0 (value_bytes v) }
     ensures accepted { (s t : ℕ) (b : Pair) (v : Value) → canonical (Accepted s t b v)
-        ≡ row_text ACCEPTED s t b.round b.node 0 0 (value_bytes v) }
-    ensures ask { (s t : ℕ) → canonical (Ask s t) ≡ row_text ASK s t 0 0 0 0 [] }
-    ensures decided { (s t : ℕ) (v : Value) → canonical (Decided s t v) ≡ row_text DECIDED s t 0 0 0 0 (value_bytes v) }
+        ≡ row_text 5 s t b.round b.node 0 0 (value_bytes v) }
+    ensures ask { (s t : ℕ) → canonical (Ask s t) ≡ row_text 6 s t 0 0 0 0 [] }
+    ensures decided { (s t : ℕ) (v : Value) → canonical (Decided s t v) ≡ row_text 7 s t 0 0 0 0 (value_bytes v) }
 {}
