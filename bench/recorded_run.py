@@ -1,0 +1,64 @@
+"""Writes a lawful recorded run of MESSAGES messages to standard output, as `flightd audit` reads it.
+
+Three nodes and several slots. Each round of a slot is nine messages: a Prepare by one of the nodes at the next ballot, the
+promises of all three, its Accept, the three Accepteds, and a Decided. What was accepted in one round is reported and
+proposed again in the next, so every promise from the second round on has a report. Slots take turns, round by round.
+"""
+
+import json
+import sys
+
+MEMBERS = 3
+SLOTS = 10
+PREPARE, PROMISE, ACCEPT, ACCEPTED, DECIDED = 1, 2, 4, 5, 7
+KIND, SENDER, SLOT, ROUND, NODE, SECOND_ROUND, SECOND_NODE, VALUE = 1, 2, 3, 5, 6, 7, 8, 9
+
+
+def varint(number):
+    out = bytearray()
+    while number >= 128:
+        out.append(number & 127 | 128)
+        number >>= 7
+    out.append(number)
+    return bytes(out)
+
+
+def message(kind, sender, slot, ballot=None, reported=None, value=b""):
+    numbers = [(KIND, kind), (SENDER, sender), (SLOT, slot)]
+    if ballot:
+        numbers += [(ROUND, ballot[0]), (NODE, ballot[1])]
+    if reported:
+        numbers += [(SECOND_ROUND, reported[0]), (SECOND_NODE, reported[1])]
+    out = b"".join(varint(field << 3) + varint(number) for field, number in numbers if number)
+    if value:
+        out += varint(VALUE << 3 | 2) + varint(len(value)) + value
+    return out.hex()
+
+
+def one_round(slot, number):
+    leader = number % MEMBERS
+    ballot = (number, leader)
+    reported = (number - 1, (number - 1) % MEMBERS) if number > 1 else None
+    value = b"upload %d" % slot
+    yield message(PREPARE, leader, slot, ballot)
+    for node in range(MEMBERS):
+        yield message(PROMISE, node, slot, ballot, reported, value if reported else b"")
+    yield message(ACCEPT, leader, slot, ballot, value=value)
+    for node in range(MEMBERS):
+        yield message(ACCEPTED, node, slot, ballot, value=value)
+    yield message(DECIDED, leader, slot, value=value)
+
+
+def sent(count):
+    number = 1
+    while True:
+        for slot in range(SLOTS):
+            for text in one_round(slot, number):
+                if count == 0:
+                    return
+                count -= 1
+                yield text
+        number += 1
+
+
+json.dump({"members": MEMBERS, "sent": list(sent(int(sys.argv[1])))}, sys.stdout, separators=(",", ":"))
