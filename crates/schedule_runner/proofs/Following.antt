@@ -1,5 +1,6 @@
 -- Each message follows those before it exactly where the history is lawful.
-use Rattle.std.proofs.Common.{◌≡◌, ℕ, zero, suc, ◌<◌, ◌≤◌, inl, inr, List, length, get_or, take, Some, None, refl, sym, subst, ◌∙◌, arith}
+use Rattle.std.proofs.Common.{◌≡◌, ℕ, zero, suc, ◌<◌, ◌≤◌, inl, inr, List, length, get_or, take, Some, None, refl, sym, subst, ◌∙◌, arith, Bool, true, false, cond, IfSome, ◌==◌, if◌then◌else◌, eq-eqb}
+use Rattle.std.proofs.lemmas.Bool.Decides.{nat_tests}
 use Rattle.std.proofs.lemmas.Bool.{cases_lt}
 use Rattle.ballots.specs.Ballot.{Ballot, IsBelow}
 use Rattle.ballots.specs.declared.value.Value.{Value}
@@ -14,6 +15,17 @@ use Rattle.schedule_runner.proofs.Slots.{follows_at, at_follows}
 not_below : (b : Ballot) → IsBelow b b → ⊥
 not_below b (inl lt) = omega (arith, lt)
 not_below b (inr e) = omega (arith, e.1)
+
+-- what is so of the ballot to which a saying binds its acceptor
+bound_here : (a : ℕ) (b : Ballot) (P : Ballot → Type 0) → IfSome (if a == a then Some b else None) P → P b
+bound_here a b P h = subst (λ (t : Bool). IfSome (cond t (Some b) None) P) (eq-eqb a a refl) h
+
+bound_on : (d a : ℕ) (b : Ballot) (P : Ballot → Type 0) (t : Bool) → (t ≡ true → d ≡ a) → (d ≡ a → P b) → IfSome (cond t (Some b) None) P
+bound_on d a b P true same h = h (same refl)
+bound_on d a b P false same h = tt
+
+bound_where : (d a : ℕ) (b : Ballot) (P : Ballot → Type 0) → (d ≡ a → P b) → IfSome (if d == a then Some b else None) P
+bound_where d a b P h = bound_on d a b P (d == a) (λ e. grind (arith, nat_tests)) h
 
 module _ (n : ℕ) (sent : List Message) (s : ℕ) where
   abbrev xs : List Saying
@@ -37,16 +49,16 @@ module _ (n : ℕ) (sent : List Message) (s : ℕ) where
     accepts_what_was_proposed k a b v said = any_said sent s k (place k (Accepted a b v) said) (Accept b v) (each k (Accepted a b v) said).0
 
     keeps_accepting : (j k a : ℕ) (b c : Ballot) (v : Value) → j < k → BindsAt xs j a b → Said xs k (Accepted a c v) → IsBelow c b → ⊥
-    keeps_accepting j k a b c v lt (inl binds) said below =
-        all_before sent s k (place k (Accepted a c v) said) (BindsUpTo a c) (each k (Accepted a c v) said).1 (Promise a b binds.0) (j, lt, binds.1) refl below
-    keeps_accepting j k a b c v lt (inr binds) said below =
-        all_before sent s k (place k (Accepted a c v) said) (BindsUpTo a c) (each k (Accepted a c v) said).1 (Accepted a b binds.0) (j, lt, binds.1) refl below
+    keeps_accepting j k a b c v lt (inl binds) said =
+        bound_here a b (λ e. IsBelow c e → ⊥) (all_before sent s k (place k (Accepted a c v) said) (BindsUpTo a c) (each k (Accepted a c v) said).1 (Promise a b binds.0) (j, lt, binds.1))
+    keeps_accepting j k a b c v lt (inr binds) said =
+        bound_here a b (λ e. IsBelow c e → ⊥) (all_before sent s k (place k (Accepted a c v) said) (BindsUpTo a c) (each k (Accepted a c v) said).1 (Accepted a b binds.0) (j, lt, binds.1))
 
     keeps_promising : (j k a : ℕ) (b c : Ballot) (r : Report) → j < k → BindsAt xs j a b → Said xs k (Promise a c r) → IsBelow b c
     keeps_promising j k a b c r lt (inl binds) said =
-        all_before sent s k (place k (Promise a c r) said) (BindsBelow a c) (each k (Promise a c r) said).0 (Promise a b binds.0) (j, lt, binds.1) refl
+        bound_here a b (λ e. IsBelow e c) (all_before sent s k (place k (Promise a c r) said) (BindsBelow a c) (each k (Promise a c r) said).0 (Promise a b binds.0) (j, lt, binds.1))
     keeps_promising j k a b c r lt (inr binds) said =
-        all_before sent s k (place k (Promise a c r) said) (BindsBelow a c) (each k (Promise a c r) said).0 (Accepted a b binds.0) (j, lt, binds.1) refl
+        bound_here a b (λ e. IsBelow e c) (all_before sent s k (place k (Promise a c r) said) (BindsBelow a c) (each k (Promise a c r) said).0 (Accepted a b binds.0) (j, lt, binds.1))
 
     reports_its_highest : ReportsItsHighest xs
     reports_its_highest = record {
@@ -168,21 +180,21 @@ module _ (n : ℕ) (sent : List Message) (s : ℕ) where
     binds_below : (k a : ℕ) (c : Ballot) (r : Report) → Said xs k (Promise a c r) → (x : Saying) → SaidBefore xs k x → BindsBelow a c x
     binds_below k a c r said Silent b = tt
     binds_below k a c r said (Prepare e) b = tt
-    binds_below k a c r said (Promise d e q) b = λ same.
-        lawful.keeps_its_promise.promises b.0 k a e c r b.1 (inl (q, subst (λ (o : ℕ). Said xs b.0 (Promise o e q)) same b.2)) said
+    binds_below k a c r said (Promise d e q) b = bound_where d a e (λ o. IsBelow o c) (λ same.
+        lawful.keeps_its_promise.promises b.0 k a e c r b.1 (inl (q, subst (λ (o : ℕ). Said xs b.0 (Promise o e q)) same b.2)) said)
     binds_below k a c r said (Accept e v) b = tt
-    binds_below k a c r said (Accepted d e v) b = λ same.
-        lawful.keeps_its_promise.promises b.0 k a e c r b.1 (inr (v, subst (λ (o : ℕ). Said xs b.0 (Accepted o e v)) same b.2)) said
+    binds_below k a c r said (Accepted d e v) b = bound_where d a e (λ o. IsBelow o c) (λ same.
+        lawful.keeps_its_promise.promises b.0 k a e c r b.1 (inr (v, subst (λ (o : ℕ). Said xs b.0 (Accepted o e v)) same b.2)) said)
     binds_below k a c r said (Decided v) b = tt
 
     binds_up_to : (k a : ℕ) (c : Ballot) (w : Value) → Said xs k (Accepted a c w) → (x : Saying) → SaidBefore xs k x → BindsUpTo a c x
     binds_up_to k a c w said Silent b = tt
     binds_up_to k a c w said (Prepare e) b = tt
-    binds_up_to k a c w said (Promise d e q) b = λ same below.
-        lawful.keeps_its_promise.accepts b.0 k a e c w b.1 (inl (q, subst (λ (o : ℕ). Said xs b.0 (Promise o e q)) same b.2)) said below
+    binds_up_to k a c w said (Promise d e q) b = bound_where d a e (λ o. IsBelow c o → ⊥) (λ same.
+        lawful.keeps_its_promise.accepts b.0 k a e c w b.1 (inl (q, subst (λ (o : ℕ). Said xs b.0 (Promise o e q)) same b.2)) said)
     binds_up_to k a c w said (Accept e v) b = tt
-    binds_up_to k a c w said (Accepted d e v) b = λ same below.
-        lawful.keeps_its_promise.accepts b.0 k a e c w b.1 (inr (v, subst (λ (o : ℕ). Said xs b.0 (Accepted o e v)) same b.2)) said below
+    binds_up_to k a c w said (Accepted d e v) b = bound_where d a e (λ o. IsBelow c o → ⊥) (λ same.
+        lawful.keeps_its_promise.accepts b.0 k a e c w b.1 (inr (v, subst (λ (o : ℕ). Said xs b.0 (Accepted o e v)) same b.2)) said)
     binds_up_to k a c w said (Decided v) b = tt
 
     is_reported : (k a : ℕ) (c : Ballot) (r : Report) → Said xs k (Promise a c r) → (x : Saying) → SaidBefore xs k x → IsReported a r x

@@ -1,6 +1,6 @@
 -- What a judge looks at who goes through a history message by message: what stands before a message must let it follow.
 -- What is lawful is defined in `Lawful`.
-use Rattle.std.specs.Prelude.{◌≡◌, ℕ, ◌<◌, ◌≤◌, ◌⊎◌, Bool, IsTrue, List, length, take, slice_index_or, Some, None, ◌↔◌}
+use Rattle.std.specs.Prelude.{◌≡◌, ℕ, ◌<◌, ◌≤◌, ◌⊎◌, Bool, IsTrue, List, length, take, slice_index_or, Some, None, ◌↔◌, Option, IfSome, ◌==◌, if◌then◌else◌}
 use Rattle.std.specs.List.{All, Any}
 use Rattle.ballots.specs.Ballot.{Ballot, IsBelow}
 use Rattle.ballots.specs.Majority.{tally}
@@ -18,23 +18,22 @@ AnySaid s before x = Any (λ m. says m s ≡ x) before
 abbrev pub AllSaid : ℕ → List Message → (Saying → Type 0) → Type 0
 AllSaid s before P = All (λ m. P (says m s)) before
 
+-- the ballot to which it binds this acceptor: that of its Promise, or of its Accepted
+abbrev pub bound_in : ℕ → Saying → Option Ballot
+bound_in a Silent = None
+bound_in a (Prepare c) = None
+bound_in a (Promise d c r) = if d == a then Some c else None
+bound_in a (Accept c v) = None
+bound_in a (Accepted d c v) = if d == a then Some c else None
+bound_in a (Decided v) = None
+
 -- where it binds this acceptor to a ballot, that is at most this one
 abbrev pub BindsUpTo : ℕ → Ballot → Saying → Type 0
-BindsUpTo a b Silent = Unit {0}
-BindsUpTo a b (Prepare c) = Unit {0}
-BindsUpTo a b (Promise d c r) = d ≡ a → IsBelow b c → ⊥
-BindsUpTo a b (Accept c v) = Unit {0}
-BindsUpTo a b (Accepted d c v) = d ≡ a → IsBelow b c → ⊥
-BindsUpTo a b (Decided v) = Unit {0}
+BindsUpTo a b x = IfSome (bound_in a x) (λ c. IsBelow b c → ⊥)
 
 -- and below this one
 abbrev pub BindsBelow : ℕ → Ballot → Saying → Type 0
-BindsBelow a b Silent = Unit {0}
-BindsBelow a b (Prepare c) = Unit {0}
-BindsBelow a b (Promise d c r) = d ≡ a → IsBelow c b
-BindsBelow a b (Accept c v) = Unit {0}
-BindsBelow a b (Accepted d c v) = d ≡ a → IsBelow c b
-BindsBelow a b (Decided v) = Unit {0}
+BindsBelow a b x = IfSome (bound_in a x) (λ c. IsBelow c b)
 
 -- a report tells enough of an acceptance at this ballot: it is of that ballot or a higher one
 abbrev pub Covers : Report → Ballot → Type 0

@@ -3,7 +3,7 @@
 ghost use Rattle.std.specs.Prelude.{◌≡◌, ◌↔◌, ℕ, IsTrue, Some};
 ghost use Rattle.std.specs.Option.{option_map};
 ghost use Rattle.schedule_runner.specs.Saying.{says, Accept, Accepted, Decided};
-ghost use Rattle.schedule_runner.specs.Judging.{BindsUpTo, BindsBelow, Covers, IsReported, HasValueAt, IsWithin, IsReportOf, PromisesWithin};
+ghost use Rattle.schedule_runner.specs.Judging.{bound_in, BindsUpTo, BindsBelow, Covers, IsReported, HasValueAt, IsWithin, IsReportOf, PromisesWithin};
 
 use ballots::{Ballot, Message, NodeId, Slot, Value};
 
@@ -70,9 +70,9 @@ pub(crate) fn decides(message: &Message, at: Slot, wanted: &Value) -> bool
     }
 }
 
-/// Whether it binds the acceptor to no ballot above this one.
-pub(crate) fn binds_up_to(message: &Message, at: Slot, acceptor: NodeId, bound: Ballot) -> bool
-    ensures { IsTrue result ↔ BindsUpTo acceptor bound (says message.now at) }
+/// The ballot to which it binds the acceptor: that of its promise, or at which it accepted.
+fn bound_of(message: &Message, at: Slot, acceptor: NodeId) -> Option<Ballot>
+    ensures { result ≡ bound_in acceptor (says message.now at) }
 {
     match message {
         Message::Promise {
@@ -86,29 +86,28 @@ pub(crate) fn binds_up_to(message: &Message, at: Slot, acceptor: NodeId, bound: 
             slot,
             ballot,
             ..
-        } => *slot != at || *sender != acceptor || !bound.is_below(*ballot),
-        _ => true,
+        } if *slot == at && *sender == acceptor => Some(*ballot),
+        _ => None,
+    }
+}
+
+/// Whether it binds the acceptor to no ballot above this one.
+pub(crate) fn binds_up_to(message: &Message, at: Slot, acceptor: NodeId, limit: Ballot) -> bool
+    ensures { IsTrue result ↔ BindsUpTo acceptor limit (says message.now at) }
+{
+    match bound_of(message, at, acceptor) {
+        Some(bound) => !limit.is_below(bound),
+        None => true,
     }
 }
 
 /// Whether it binds the acceptor to ballots below this one alone.
-pub(crate) fn binds_below(message: &Message, at: Slot, acceptor: NodeId, bound: Ballot) -> bool
-    ensures { IsTrue result ↔ BindsBelow acceptor bound (says message.now at) }
+pub(crate) fn binds_below(message: &Message, at: Slot, acceptor: NodeId, limit: Ballot) -> bool
+    ensures { IsTrue result ↔ BindsBelow acceptor limit (says message.now at) }
 {
-    match message {
-        Message::Promise {
-            sender,
-            slot,
-            ballot,
-            ..
-        }
-        | Message::Accepted {
-            sender,
-            slot,
-            ballot,
-            ..
-        } => *slot != at || *sender != acceptor || ballot.is_below(bound),
-        _ => true,
+    match bound_of(message, at, acceptor) {
+        Some(bound) => bound.is_below(limit),
+        None => true,
     }
 }
 
