@@ -3,7 +3,7 @@ use Rattle.std.proofs.Common.{◌≡◌, ◌⊎◌, ◌↔◌, Bool, true, false
 use Rattle.std.specs.List.{AllZip}
 use Rattle.std.proofs.lemmas.List.{map_more}
 use Rattle.std.proofs.lemmas.Result.{err_from_is_err_and}
-use Rattle.serde_json.specs.Data.{Data}
+use Rattle.serde_json.specs.Data.{Data, Items}
 use Rattle.serde_json.specs.declared.value.Value.{Value}
 use Rattle.serde_json.specs.Find.{as_str}
 use Rattle.serde_json.specs.Read.{read as read_text}
@@ -161,6 +161,31 @@ at_means file d ds members sent is_text read is_sent count within messages = rec
   listed_at = sym is_sent;
   messages = subst (λ (l : List Data). AllZip SpellsMessage l sent) (sym (listed_view ds)) messages;
 }
+
+-- ---- a file means one trace at most
+
+abbrev pub MessagesAreOne : Type 0
+MessagesAreOne = (text : List ℕ) (m n : Message) → IsMessageText text m → IsMessageText text n → m ≡ n
+
+spelled_is_one : MessagesAreOne → (d : Data) (m n : Message) → SpellsMessage d m → SpellsMessage d n → m ≡ n
+spelled_is_one one d m n a b = one a.spelled.bytes m n a.spelled.means (hex_means a.digits a.spelled.bytes n a.spelled.decoded (text_means d a.digits n a.is_text b))
+
+spelled_are_one : MessagesAreOne → (ds : List Data) (s t : List Message) → AllZip SpellsMessage ds s → AllZip SpellsMessage ds t → s ≡ t
+spelled_are_one one [] [] [] a b = refl
+spelled_are_one one [] (m ∷ s) t a b = absurd a
+spelled_are_one one [] [] (n ∷ t) a b = absurd b
+spelled_are_one one (d ∷ ds) [] t a b = absurd a
+spelled_are_one one (d ∷ ds) (m ∷ s) [] a b = absurd b
+spelled_are_one one (d ∷ ds) (m ∷ s) (n ∷ t) a b =
+    ap (λ (x : Message). x ∷ s) (spelled_is_one one d m n a.0 b.0) ∙ ap (λ (l : List Message). n ∷ l) (spelled_are_one one ds s t a.1 b.1)
+
+pub one_trace : MessagesAreOne → (file : List ℕ) (m n : ℕ) (s t : List Message) → MeansTrace file m s → MeansTrace file n t → (m ≡ n) × (s ≡ t)
+one_trace one file m n s t a b =
+    let same : a.value ≡ b.value = some_is a.value b.value (sym a.read ∙ b.read) in
+    let items : a.items ≡ b.items = some_is a.items b.items (sym a.listed_at ∙ ap sent_at same ∙ b.listed_at) in (
+      some_is m n (sym a.count ∙ ap members_at same ∙ b.count),
+      spelled_are_one one (listed b.items) s t (subst (λ (i : Items). AllZip SpellsMessage (listed i) s) items a.messages) b.messages,
+    )
 
 -- ---- what an audit says of it
 

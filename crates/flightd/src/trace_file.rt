@@ -10,7 +10,7 @@ ghost use Rattle.ballots.specs.declared.fault.MessageFault.TheVariants as Messag
 ghost use Rattle.flightd.specs.declared.trace_file.TraceFault.TheVariants.{OutOfMemory};
 ghost use Rattle.flightd.specs.TraceFile.{MeansTrace, SpellsMessage, IsMessageHex, members_at, sent_at};
 
-use ballots::{MAX_MEMBERS, Members, Message, MessageFault};
+use ballots::{MAX_MEMBERS, Members, Message, MessageFault, messages_are_one};
 use hex::FromHexError;
 use schedule_runner::Trace;
 use serde_json::Value;
@@ -46,6 +46,13 @@ pub fn read_trace(alloc: Global, file: &[u8]) -> Result<Trace, TraceFault>
     };
     let sent = messages_of(alloc, items)?;
     Ok(Trace { members, sent })
+}
+
+/// A file tells one recorded run at most, so none is lawful and unlawful.
+pub fn traces_are_one()
+    ensures { (file : List ℕ) (m n : ℕ) (s t : List Meant) → MeansTrace file m s → MeansTrace file n t → (m ≡ n) × (s ≡ t) }
+{
+    messages_are_one();
 }
 
 fn value_of(alloc: Global, file: &[u8]) -> Result<Value, TraceFault>
