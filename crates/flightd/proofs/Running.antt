@@ -1,5 +1,5 @@
 -- A whole run, frame after frame.
-use Rattle.std.proofs.Common.{◌≡◌, ℕ, ◌+◌, ◌<◌, Bool, true, false, List, [], ◌∷◌, ◌++◌, Option, Some, None, Result, Ok, Err, refl, sym, ap, subst, ◌∙◌, append-nil, append_assoc, arith}
+use Rattle.std.proofs.Common.{◌≡◌, ℕ, ◌+◌, ◌<◌, Bool, true, false, List, [], ◌∷◌, ◌++◌, Option, Some, None, Result, Ok, Err, refl, sym, ap, subst, ◌∙◌, append-nil, append_assoc, arith, inl, inr}
 use Rattle.std.specs.List.{flat_map}
 use Rattle.std.proofs.lemmas.List.{length_push, flat_map_more}
 use Rattle.proto_wire.specs.Frame.{Frame, frame_text}
@@ -93,19 +93,19 @@ ends_at faults.OutOfMemory n now rest old new h = h
 ends_at (faults.Frame fault) n now rest old new h = h
 ends_at faults.FrameLimit n now rest old new h = absurd (omega (arith, h.0))
 
-pub run_fails : (fault : RunFault) (n : ℕ) (now next : Standing) (text rest after old mid new : Option (List ℕ)) → HasRun n now text rest old mid → HasStepped (Err fault) now next rest after mid new → HasEnded (Err (n, fault)) text after old new
-run_fails fault n now next None rest after old mid new h t = tt
-run_fails fault n now next (Some text) None after old mid new h t = absurd h
-run_fails fault n now next (Some text) (Some rest) None old mid new h t = absurd t
-run_fails fault n now next (Some text) (Some rest) (Some after) None mid new h t = tt
-run_fails fault n now next (Some text) (Some rest) (Some after) (Some old) None new h t = absurd h
-run_fails fault n now next (Some text) (Some rest) (Some after) (Some old) (Some mid) None h t = absurd t
-run_fails fault n now next (Some text) (Some rest) (Some after) (Some old) (Some mid) (Some new) h t =
-    record { now = now; rest = rest; mid = mid; before = h; ends = ends_at fault n now rest mid new t }
+pub run_fails : (fault : RunFault) (n : ℕ) (now next : Standing) (text rest after old mid new : Option (List ℕ)) → n < frame_limit → HasRun n now text rest old mid → HasStepped (Err fault) now next rest after mid new → HasEnded (Err (n, fault)) text after old new
+run_fails fault n now next None rest after old mid new lt h t = tt
+run_fails fault n now next (Some text) None after old mid new lt h t = absurd h
+run_fails fault n now next (Some text) (Some rest) None old mid new lt h t = absurd t
+run_fails fault n now next (Some text) (Some rest) (Some after) None mid new lt h t = tt
+run_fails fault n now next (Some text) (Some rest) (Some after) (Some old) None new lt h t = absurd h
+run_fails fault n now next (Some text) (Some rest) (Some after) (Some old) (Some mid) None lt h t = absurd t
+run_fails fault n now next (Some text) (Some rest) (Some after) (Some old) (Some mid) (Some new) lt h t =
+    record { now = now; rest = rest; mid = mid; before = h; ends = ends_at fault n now rest mid new t; within = inr lt }
 
 pub run_is_full : (n : ℕ) (now : Standing) (text rest old new : Option (List ℕ)) → n ≡ frame_limit → HasRun n now text rest old new → HasEnded (Err (n, faults.FrameLimit)) text rest old new
 run_is_full n now None rest old new e h = tt
 run_is_full n now (Some text) None old new e h = absurd h
 run_is_full n now (Some text) (Some rest) None new e h = tt
 run_is_full n now (Some text) (Some rest) (Some old) None e h = absurd h
-run_is_full n now (Some text) (Some rest) (Some old) (Some new) e h = record { now = now; rest = rest; mid = new; before = h; ends = (e, refl) }
+run_is_full n now (Some text) (Some rest) (Some old) (Some new) e h = record { now = now; rest = rest; mid = new; before = h; ends = (e, refl); within = inl refl }

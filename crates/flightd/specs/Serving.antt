@@ -1,5 +1,5 @@
 -- What a run of the acceptor over a whole input gives.
-use Rattle.std.specs.Prelude.{◌≡◌, ℕ, ◌<◌, Bool, true, false, List, [], ◌++◌, length, Some, Result, Ok, Err}
+use Rattle.std.specs.Prelude.{◌≡◌, ℕ, ◌<◌, ◌⊎◌, Bool, true, false, List, [], ◌++◌, length, Some, Result, Ok, Err}
 use Rattle.std.specs.List.{flat_map}
 use Rattle.proto_wire.specs.Frame.{Frame, frame_text, payload_limit}
 use Rattle.proto_wire.specs.FrameFaults.{FrameFaultStands, IsBeginning}
@@ -78,13 +78,14 @@ pub record RunsToTheEnd (text old new : List ℕ) : Type 0 where
   pub all : SoFar n now text [] old new
   pub within : n < frame_limit
 
--- The first n frames were answered, and then this is wrong.
+-- The first n frames were answered, and then this is wrong. Every fault but that of too many frames comes before the limit.
 pub record RunsInto (n : ℕ) (fault : RunFault) (text old new : List ℕ) : Type 0 where
   pub now : Standing
   pub rest : List ℕ
   pub mid : List ℕ
   pub before : SoFar n now text rest old mid
   pub ends : Ends fault n now rest mid new
+  pub within : (fault ≡ faults.FrameLimit) ⊎ (n < frame_limit)
 
 -- what a run over this text gives, with what the writer held before and holds afterwards
 abbrev pub Runs : Result (Unit {0}) (ℕ × RunFault) → List ℕ → List ℕ → List ℕ → Type 0

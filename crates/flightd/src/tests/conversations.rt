@@ -106,7 +106,7 @@ fn keeps_each_slot_and_the_order_of_ballots(rt: HostRuntime) -> Result<(), Fail>
 }
 
 // A frame that begins with these bytes and ends with so many of a value.
-fn with_value(alloc: Global, beginning: &str, count: usize) -> Result<Vec<u8>, Fail> {
+pub(super) fn with_value(alloc: Global, beginning: &str, count: usize) -> Result<Vec<u8>, Fail> {
     let mut bytes = spelled(alloc, beginning)?;
     let value = Vec::from_elem(alloc, 7, count)?;
     bytes.extend_from_slice(&value)?;

@@ -1,7 +1,7 @@
 //! Runs in memory, and the first conversation.
 
 use crate::runs::acceptor_run;
-use std::alloc::Global;
+use std::alloc::{AllocError, Global};
 use std::process::Abort;
 use std::test::Fail;
 
@@ -96,4 +96,23 @@ pub(super) fn expect(
     let status = if said.is_empty() { 0 } else { 1 };
     assert_eq!(rt; outcome.status, status, "over {input}");
     Ok(())
+}
+
+/// The list of this number, where 0 is the empty list, and then those of one number below `base`, of two, and so on, each
+/// once: every digit counts from 1 on, so that no list comes again with a 0 more.
+pub(super) fn digits_of(
+    alloc: Global,
+    base: usize,
+    number: usize,
+) -> Result<Vec<usize>, AllocError> {
+    let mut digits = Vec::new(alloc);
+    let mut left = number;
+    for _ in 0..8 {
+        let Some(below) = left.checked_sub(1) else {
+            break;
+        };
+        digits.push(below.checked_rem(base).unwrap_or(0))?;
+        left = below.checked_div(base).unwrap_or(0);
+    }
+    Ok(digits)
 }

@@ -1,0 +1,351 @@
+//! What the file of a recorded run means, by a plain program, over files put together from pieces: the definition
+//! `MeansTrace` (JSON, RFC 8259, sections 2 to 7, and hexadecimal digits, RFC 4648, section 8). What each piece means is worked
+//! out by hand, so no reader of JSON or of digits stands behind it.
+//!
+//! A meaning is told in bytes: how many members there are, and each message in its one written spelling behind the length of
+//! that. No bytes tell that the file means nothing.
+
+use super::support::digits_of;
+use crate::auditing::{AuditFault, audit_file};
+use crate::trace_file::{TraceFault, read_trace};
+use schedule_runner::audit;
+use std::alloc::{AllocError, Global};
+use std::process::Abort;
+use std::test::Fail;
+
+/// What a member of an object says.
+#[derive(Clone, Copy)]
+enum Says {
+    /// The count of members, where it is one.
+    Members(Option<u8>),
+    /// So many times [`PREPARE`] was sent, where it is a list of messages.
+    Sent(Option<u8>),
+    /// Nothing that counts.
+    Nothing,
+}
+
+/// A Prepare of ballot (1, 0).
+const PREPARE: &[u8] = &[0x08, 0x01, 0x28, 0x01];
+
+/// Members of an object.
+const ENTRIES: [(&str, Says); 20] = [
+    (r#""members":1"#, Says::Members(Some(1))),
+    (r#""members":3"#, Says::Members(Some(3))),
+    (r#" "members" : 7 "#, Says::Members(Some(7))),
+    (r#""m\u0065mbers":3"#, Says::Members(Some(3))),
+    (r#""members":-1"#, Says::Members(None)),
+    (r#""members":0"#, Says::Members(None)),
+    (r#""members":8"#, Says::Members(None)),
+    (r#""members":259"#, Says::Members(None)),
+    (r#""members":3.0"#, Says::Members(None)),
+    (r#""members":"3""#, Says::Members(None)),
+    (r#""members":null"#, Says::Members(None)),
+    (r#""sent":[]"#, Says::Sent(Some(0))),
+    (r#""sent":["08012801"]"#, Says::Sent(Some(1))),
+    (r#""sent":["08012801","08012801"]"#, Says::Sent(Some(2))),
+    (r#""sent":["0809"]"#, Says::Sent(None)),
+    (r#""sent":"08012801""#, Says::Sent(None)),
+    (r#""sent":{}"#, Says::Sent(None)),
+    (r#""Members":3"#, Says::Nothing),
+    (r#""Sent":["08012801"]"#, Says::Nothing),
+    (r#""note":{"members":8,"sent":[0]}"#, Says::Nothing),
+];
+
+/// The objects of at most four of [`ENTRIES`].
+const OBJECTS: usize = 1 + 20 + 400 + 8_000 + 160_000;
+
+/// Those of them with a count of members and a list of messages, each the last one of its name.
+const LAWFUL_OBJECTS: usize = 24 + 828 + 20_928;
+
+/// What stands around the members of an object, and whether it makes them one.
+const AROUND: [(&[u8], &[u8], bool); 12] = [
+    (b"{", b"}", true),
+    (b"\t\r\n {", b"\n} ", true),
+    (b"", b"", false),
+    (b"{", b"", false),
+    (b"", b"}", false),
+    (b"[{", b"}]", false),
+    (b"{\"run\":{", b"}}", false),
+    (b"{", b",}", false),
+    (b"{", b"} 1", false),
+    (b"{", b"}}", false),
+    (b"\xef\xbb\xbf{", b"}", false),
+    (b"{", b"}\xff", false),
+];
+
+/// The objects of at most two of [`ENTRIES`].
+const SHORT_OBJECTS: usize = 1 + 20 + 400;
+
+/// Items of a list of messages, and the message's one written spelling where it is one.
+const ITEMS: [(&str, Option<&[u8]>); 16] = [
+    (r#""08012801""#, Some(PREPARE)),
+    (r#""08022801""#, Some(&[0x08, 0x02, 0x28, 0x01])),
+    (
+        r#""080428014A020A0B""#,
+        Some(&[0x08, 0x04, 0x28, 0x01, 0x4a, 0x02, 0x0a, 0x0b]),
+    ),
+    (
+        r#""080428014a020A0b""#,
+        Some(&[0x08, 0x04, 0x28, 0x01, 0x4a, 0x02, 0x0a, 0x0b]),
+    ),
+    // The first digit by its number, RFC 8259, section 7.
+    (r#""\u00308012801""#, Some(PREPARE)),
+    // Its fields the other way round, and a field that the kind does not have.
+    (r#""28010801""#, Some(PREPARE)),
+    (r#""08062801""#, Some(&[0x08, 0x06])),
+    // Half a byte, no digit, a space, a sign in front.
+    (r#""0801280""#, None),
+    (r#""0801280g""#, None),
+    (r#""0801 2801""#, None),
+    (r#""0x08012801""#, None),
+    // No kind 9, and none at all.
+    (r#""0809""#, None),
+    (r#""""#, None),
+    // No texts.
+    ("8012801", None),
+    ("null", None),
+    (r#"["08012801"]"#, None),
+];
+
+/// The lists of at most three of [`ITEMS`].
+const LISTS: usize = 1 + 16 + 256 + 4_096;
+
+fn entry_of(number: usize) -> (&'static str, Says) {
+    ENTRIES[number % 20]
+}
+
+fn around_of(number: usize) -> (&'static [u8], &'static [u8], bool) {
+    AROUND[number % 12]
+}
+
+fn item_of(number: usize) -> (&'static str, Option<&'static [u8]>) {
+    ITEMS[number % 16]
+}
+
+/// How many files meant nothing, a lawful history and another one.
+#[derive(Clone, Copy, Debug, PartialEq, Eq)]
+struct Tally {
+    nothing: usize,
+    lawful: usize,
+    unlawful: usize,
+}
+
+const NONE_YET: Tally = Tally {
+    nothing: 0,
+    lawful: 0,
+    unlawful: 0,
+};
+
+/// Appends a message in its one spelling, which is shorter than 256 bytes here.
+fn push_message(meaning: &mut Vec<u8>, text: &[u8]) -> Result<(), AllocError> {
+    meaning.push((text.len() % 256) as u8)?;
+    meaning.extend_from_slice(text)?;
+    Ok(())
+}
+
+/// The object of these members: of those of one name the last one counts, and both names are there.
+fn meaning_of(alloc: Global, entries: &[usize]) -> Result<Vec<u8>, AllocError> {
+    let mut members = None;
+    let mut sent = None;
+    for entry in entries {
+        let (_, says) = entry_of(*entry);
+        match says {
+            Says::Members(count) => members = count,
+            Says::Sent(count) => sent = count,
+            Says::Nothing => {}
+        }
+    }
+    let mut meaning = Vec::new(alloc);
+    if let Some(count) = members
+        && let Some(times) = sent
+    {
+        meaning.push(count)?;
+        for _ in 0..times {
+            push_message(&mut meaning, PREPARE)?;
+        }
+    }
+    Ok(meaning)
+}
+
+/// What the file is read as.
+fn read_as(alloc: Global, file: &[u8]) -> Result<Vec<u8>, Fail> {
+    let mut meaning = Vec::new(alloc);
+    match read_trace(alloc, file) {
+        Ok(trace) => {
+            meaning.push(trace.members.count())?;
+            for message in trace.sent.iter() {
+                let mut text = Vec::new(alloc);
+                message.encode(&mut text)?;
+                push_message(&mut meaning, &text)?;
+            }
+        }
+        Err(TraceFault::BadTrace) => {}
+        Err(TraceFault::OutOfMemory) => return Err(Fail::from("out of memory")),
+    }
+    Ok(meaning)
+}
+
+/// Whether the run that the file is read as is lawful, where it is read.
+fn judgement_of(alloc: Global, file: &[u8]) -> Result<bool, AuditFault> {
+    match read_trace(alloc, file) {
+        Ok(trace) => Ok(audit(&trace)),
+        Err(_) => Err(AuditFault::BadTrace),
+    }
+}
+
+/// The line that docs/FORMATS.md has for a judgement.
+fn line_of(judgement: Result<bool, AuditFault>) -> &'static str {
+    match judgement {
+        Ok(true) => "lawful\n",
+        Ok(false) => "unlawful\n",
+        Err(_) => "",
+    }
+}
+
+fn note(tally: &mut Tally, judgement: Result<bool, AuditFault>) {
+    match judgement {
+        Ok(true) => tally.lawful = tally.lawful.saturating_add(1),
+        Ok(false) => tally.unlawful = tally.unlawful.saturating_add(1),
+        Err(_) => tally.nothing = tally.nothing.saturating_add(1),
+    }
+}
+
+/// The file is read as this meaning, and its audit judges that.
+fn compare(
+    rt: &impl Abort,
+    alloc: Global,
+    file: &[u8],
+    meaning: &[u8],
+    tally: &mut Tally,
+) -> Result<(), Fail> {
+    let read = read_as(alloc, file)?;
+    assert_eq!(rt; read.as_slice(), meaning, "over {file:?}");
+    let mut output = Vec::new(alloc);
+    let judgement = audit_file(alloc, file, &mut output);
+    assert_eq!(rt; judgement, judgement_of(alloc, file), "over {file:?}");
+    assert_eq!(rt; judgement.is_err(), meaning.is_empty(), "over {file:?}");
+    let line = line_of(judgement);
+    assert_eq!(rt; output.as_slice(), line.as_bytes(), "over {file:?}");
+    note(tally, judgement);
+    Ok(())
+}
+
+/// A file with these members of an object, parted by commas, between this and that.
+fn file_of(
+    alloc: Global,
+    entries: &[usize],
+    before: &[u8],
+    after: &[u8],
+) -> Result<Vec<u8>, AllocError> {
+    let mut file = Vec::from_slice(alloc, before)?;
+    for (place, entry) in entries.iter().enumerate() {
+        if place > 0 {
+            file.push(b',')?;
+        }
+        let (text, _) = entry_of(*entry);
+        file.extend_from_slice(text.as_bytes())?;
+    }
+    file.extend_from_slice(after)?;
+    Ok(file)
+}
+
+#[test]
+fn an_object_means_what_its_members_say(rt: HostRuntime) -> Result<(), Fail> {
+    let alloc = rt.alloc();
+    let mut tally = NONE_YET;
+    for number in 0..OBJECTS {
+        let entries = digits_of(alloc, 20, number)?;
+        let file = file_of(alloc, &entries, b"{", b"}")?;
+        let meaning = meaning_of(alloc, &entries)?;
+        compare(&rt, alloc, &file, &meaning, &mut tally)?;
+    }
+    // Only Prepares were sent, so no history is unlawful.
+    let wanted = Tally {
+        nothing: OBJECTS - LAWFUL_OBJECTS,
+        lawful: LAWFUL_OBJECTS,
+        unlawful: 0,
+    };
+    assert_eq!(rt; tally, wanted);
+    Ok(())
+}
+
+#[test]
+fn a_file_is_one_object(rt: HostRuntime) -> Result<(), Fail> {
+    let alloc = rt.alloc();
+    let mut tally = NONE_YET;
+    for number in 0..SHORT_OBJECTS * 12 {
+        let entries = digits_of(alloc, 20, number / 12)?;
+        let (before, after, is_object) = around_of(number);
+        let file = file_of(alloc, &entries, before, after)?;
+        let meaning = if is_object {
+            meaning_of(alloc, &entries)?
+        } else {
+            Vec::new(alloc)
+        };
+        compare(&rt, alloc, &file, &meaning, &mut tally)?;
+    }
+    // Of the objects of two, 24 mean something, each in two files.
+    let wanted = Tally {
+        nothing: SHORT_OBJECTS * 12 - 48,
+        lawful: 48,
+        unlawful: 0,
+    };
+    assert_eq!(rt; tally, wanted);
+    Ok(())
+}
+
+/// A file of this list of items, and what it means: the messages that they spell, or nothing where one spells none.
+fn list_of(alloc: Global, items: &[usize]) -> Result<(Vec<u8>, Vec<u8>), AllocError> {
+    let mut file = Vec::from_slice(alloc, b"{\"members\":3,\"sent\":[")?;
+    let mut meaning = Vec::from_slice(alloc, &[3])?;
+    let mut is_spelled = true;
+    for (place, item) in items.iter().enumerate() {
+        if place > 0 {
+            file.push(b',')?;
+        }
+        let (text, spells) = item_of(*item);
+        file.extend_from_slice(text.as_bytes())?;
+        match spells {
+            Some(bytes) => push_message(&mut meaning, bytes)?,
+            None => is_spelled = false,
+        }
+    }
+    file.extend_from_slice(b"]}")?;
+    if !is_spelled {
+        meaning.clear();
+    }
+    Ok((file, meaning))
+}
+
+#[test]
+fn a_list_means_what_its_items_spell(rt: HostRuntime) -> Result<(), Fail> {
+    let alloc = rt.alloc();
+    let mut tally = NONE_YET;
+    for number in 0..LISTS {
+        let items = digits_of(alloc, 16, number)?;
+        let (file, meaning) = list_of(alloc, &items)?;
+        compare(&rt, alloc, &file, &meaning, &mut tally)?;
+    }
+    // The lists of the seven items that are messages.
+    let meant = 1 + 7 + 49 + 343;
+    assert_eq!(rt; tally.nothing, LISTS - meant);
+    assert!(rt; tally.lawful > 0);
+    assert_eq!(rt; tally.lawful.saturating_add(tally.unlawful), meant);
+    assert!(rt; tally.unlawful > 0);
+    Ok(())
+}
+
+#[test]
+fn a_beginning_of_a_file_means_nothing(rt: HostRuntime) -> Result<(), Fail> {
+    let alloc = rt.alloc();
+    let file = file_of(alloc, &[1, 13, 19], b"{", b"}")?;
+    let mut tally = NONE_YET;
+    for len in 0..file.len() {
+        compare(&rt, alloc, &file[..len], &[], &mut tally)?;
+    }
+    assert_eq!(rt; tally.nothing, file.len());
+    let meaning = meaning_of(alloc, &[1, 13, 19])?;
+    compare(&rt, alloc, &file, &meaning, &mut tally)?;
+    assert_eq!(rt; tally.lawful, 1);
+    Ok(())
+}
