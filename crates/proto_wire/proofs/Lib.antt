@@ -2,8 +2,15 @@ pub mod Steps
 pub mod Numbers
 pub mod Fields
 pub mod Fronts
+pub mod FaultsApart
 pub mod Texts
 pub mod Meanings
+pub mod TableFaults
 pub mod Transfers
 pub mod FrameTexts
 pub mod FrameParts
+pub mod Merging
+pub mod TableTaking
+pub mod TableWriting
+pub mod Chains
+pub mod Sound

@@ -7,3 +7,8 @@ pub mod Frame
 pub mod FrameFaults
 pub mod FrameSteps
 pub mod FrameLaws
+pub mod Table
+pub mod Canonical
+pub mod Taking
+pub mod Flight
+pub mod FlightValues

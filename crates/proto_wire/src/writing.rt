@@ -40,7 +40,7 @@ fn append_varint(out: &mut Vec<u8>, number: u32, value: u64) -> Result<(), Alloc
 }
 
 /// Appends a field with bytes behind their length. Where memory is refused, a beginning of it may stay.
-fn append_bytes(out: &mut Vec<u8>, number: u32, bytes: &[u8]) -> Result<(), AllocError>
+pub(crate) fn append_bytes(out: &mut Vec<u8>, number: u32, bytes: &[u8]) -> Result<(), AllocError>
     ensures ok { OnOk result (out.new.items ≡ out.old.items ++ field_text (record { number = number; held = Bytes bytes.now })) }
     ensures err { Grows out.old.items out.new.items }
 {

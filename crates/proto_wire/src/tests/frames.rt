@@ -57,7 +57,7 @@ impl Write for Narrow {
 }
 
 /// The text of a frame, byte by byte.
-fn spelled(alloc: Global, flag: u8, payload: &[u8]) -> Result<Vec<u8>, AllocError>
+pub fn spelled(alloc: Global, flag: u8, payload: &[u8]) -> Result<Vec<u8>, AllocError>
     ensures { IfOk result (λ text. text.items ≡ frame_text (record { flag = flag; payload = payload.now })) }
 {
     let len = payload.len();

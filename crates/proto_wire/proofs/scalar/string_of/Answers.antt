@@ -1,0 +1,11 @@
+use Rattle.std.proofs.Common.{refl, sym, ap, ◌∙◌, inr, Some}
+use Rattle.std.proofs.lemmas.Str.{is_utf8-from_IsUtf8}
+use Rattle.proto_wire.proofs.scalar.string_of.Goals as goal
+
+pub returns-in_default-from_utf8-clause-fault : goal.returns-in_default-from_utf8-clause-fault
+returns-in_default-from_utf8-clause-fault c =
+    rw c.in-Bytes.is (inr (inr (refl, refl, (c.in-Bytes.bytes.now, refl, c.in_default-from_utf8.ensures.cases.0))))
+
+pub returns-in-Ok-from_str-clause-read : goal.returns-in-Ok-from_str-clause-read
+returns-in-Ok-from_str-clause-read c =
+    rw (c.in-Bytes.is, is_utf8-from_IsUtf8 c.in-Bytes.bytes.now c.in-Ok.ensures.cases.1) (ap Some (sym (c.in-Ok-from_str.ensures.ok ∙ c.in-Ok.ensures.cases.0)))
