@@ -1,0 +1,5 @@
+pub mod Bytes
+pub mod Numbers
+pub mod Fields
+pub mod Vectors
+pub mod Longer

@@ -1,0 +1,5 @@
+pub mod Held
+pub mod Number
+pub mod Table
+pub mod Vector
+pub mod Fault

@@ -1,0 +1,140 @@
+//! Two messages of Arrow's format, worked out by hand from the standards: that of a schema, and that of a batch.
+
+use crate::{PlaceFault, follow, slot, text, uint, vector};
+use std::process::Abort;
+
+/// The message of a schema with one nullable field `a`, signed whole numbers of 8 bits.
+const SCHEMA: [u8; 152] = [
+    0x10, 0x00, 0x00, 0x00, 0x0c, 0x00, 0x18, 0x00, 0x04, 0x00, 0x06, 0x00, 0x08, 0x00, 0x10, 0x00,
+    0x0c, 0x00, 0x00, 0x00, 0x04, 0x00, 0x01, 0x00, 0x20, 0x00, 0x00, 0x00, 0x00, 0x00, 0x00, 0x00,
+    0x00, 0x00, 0x00, 0x00, 0x00, 0x00, 0x00, 0x00, 0x00, 0x00, 0x00, 0x00, 0x00, 0x00, 0x0a, 0x00,
+    0x0c, 0x00, 0x00, 0x00, 0x04, 0x00, 0x00, 0x00, 0x0a, 0x00, 0x00, 0x00, 0x08, 0x00, 0x00, 0x00,
+    0x00, 0x00, 0x00, 0x00, 0x01, 0x00, 0x00, 0x00, 0x18, 0x00, 0x00, 0x00, 0x00, 0x00, 0x12, 0x00,
+    0x18, 0x00, 0x04, 0x00, 0x08, 0x00, 0x09, 0x00, 0x0c, 0x00, 0x00, 0x00, 0x10, 0x00, 0x00, 0x00,
+    0x12, 0x00, 0x00, 0x00, 0x14, 0x00, 0x00, 0x00, 0x01, 0x02, 0x00, 0x00, 0x1c, 0x00, 0x00, 0x00,
+    0x24, 0x00, 0x00, 0x00, 0x00, 0x00, 0x00, 0x00, 0x01, 0x00, 0x00, 0x00, 0x61, 0x00, 0x00, 0x00,
+    0x08, 0x00, 0x0c, 0x00, 0x04, 0x00, 0x08, 0x00, 0x08, 0x00, 0x00, 0x00, 0x08, 0x00, 0x00, 0x00,
+    0x01, 0x00, 0x00, 0x00, 0x00, 0x00, 0x00, 0x00,
+];
+
+/// The message of a batch of three rows of that schema, one of them null.
+const BATCH: [u8; 144] = [
+    0x10, 0x00, 0x00, 0x00, 0x0c, 0x00, 0x18, 0x00, 0x04, 0x00, 0x06, 0x00, 0x08, 0x00, 0x10, 0x00,
+    0x0c, 0x00, 0x00, 0x00, 0x04, 0x00, 0x03, 0x00, 0x20, 0x00, 0x00, 0x00, 0x00, 0x00, 0x00, 0x00,
+    0x10, 0x00, 0x00, 0x00, 0x00, 0x00, 0x00, 0x00, 0x00, 0x00, 0x00, 0x00, 0x00, 0x00, 0x0a, 0x00,
+    0x18, 0x00, 0x08, 0x00, 0x04, 0x00, 0x10, 0x00, 0x0a, 0x00, 0x00, 0x00, 0x18, 0x00, 0x00, 0x00,
+    0x03, 0x00, 0x00, 0x00, 0x00, 0x00, 0x00, 0x00, 0x24, 0x00, 0x00, 0x00, 0x00, 0x00, 0x00, 0x00,
+    0x00, 0x00, 0x00, 0x00, 0x01, 0x00, 0x00, 0x00, 0x03, 0x00, 0x00, 0x00, 0x00, 0x00, 0x00, 0x00,
+    0x01, 0x00, 0x00, 0x00, 0x00, 0x00, 0x00, 0x00, 0x00, 0x00, 0x00, 0x00, 0x02, 0x00, 0x00, 0x00,
+    0x00, 0x00, 0x00, 0x00, 0x00, 0x00, 0x00, 0x00, 0x01, 0x00, 0x00, 0x00, 0x00, 0x00, 0x00, 0x00,
+    0x08, 0x00, 0x00, 0x00, 0x00, 0x00, 0x00, 0x00, 0x03, 0x00, 0x00, 0x00, 0x00, 0x00, 0x00, 0x00,
+];
+
+/// Where the first eight fields of a table stand.
+fn expect_fields(rt: &impl Abort, buf: &[u8], table: usize, fields: &[Option<usize>; 8]) {
+    for n in 0..8 {
+        assert_eq!(rt;
+            slot(buf, table, n),
+            Ok(fields[n]),
+            "field {n} of the table at {table}"
+        );
+    }
+}
+
+#[test]
+fn finds_the_fields_of_tables(rt: HostRuntime) {
+    let message = [
+        Some(20),
+        Some(22),
+        Some(24),
+        Some(32),
+        None,
+        None,
+        None,
+        None,
+    ];
+    expect_fields(&rt, &SCHEMA, 16, &message);
+    expect_fields(&rt, &BATCH, 16, &message);
+    let schema = [None, Some(60), None, None, None, None, None, None];
+    expect_fields(&rt, &SCHEMA, 56, &schema);
+    let field = [
+        Some(100),
+        Some(104),
+        Some(105),
+        Some(108),
+        None,
+        Some(112),
+        None,
+        None,
+    ];
+    expect_fields(&rt, &SCHEMA, 96, &field);
+    let whole_number = [Some(140), Some(144), None, None, None, None, None, None];
+    expect_fields(&rt, &SCHEMA, 136, &whole_number);
+    let batch = [Some(64), Some(60), Some(72), None, None, None, None, None];
+    expect_fields(&rt, &BATCH, 56, &batch);
+}
+
+#[test]
+fn follows_references(rt: HostRuntime) {
+    // To the message, the schema, its fields, the field, its name, its type and its children.
+    for (place, target) in [
+        (0, 16),
+        (24, 56),
+        (60, 68),
+        (72, 96),
+        (100, 120),
+        (108, 136),
+        (112, 148),
+    ] {
+        assert_eq!(rt; follow(&SCHEMA, place), Ok(target), "place {place}");
+    }
+    // To the message, the batch, its nodes and its buffers.
+    for (place, target) in [(0, 16), (24, 56), (60, 84), (72, 108)] {
+        assert_eq!(rt; follow(&BATCH, place), Ok(target), "place {place}");
+    }
+    // Where the reference to the schema is changed, it names a place behind the text, and no table is there.
+    let mut changed = SCHEMA;
+    changed[24] = 0xff;
+    assert_eq!(rt; follow(&changed, 24), Ok(279));
+    assert_eq!(rt; slot(&changed, 279, 1), Err(PlaceFault::OutOfBounds));
+}
+
+#[test]
+fn reads_numbers(rt: HostRuntime) {
+    // The kind of message, whether the field may be null, its type's kind, and whether that has a sign.
+    for (place, number) in [(22, 1), (104, 1), (105, 2), (144, 1)] {
+        assert_eq!(rt; uint(&SCHEMA, place, 1), Ok(number), "place {place}");
+    }
+    // The version, and the bits of a number.
+    assert_eq!(rt; uint(&SCHEMA, 20, 2), Ok(4));
+    assert_eq!(rt; uint(&SCHEMA, 140, 4), Ok(8));
+    // The length of the body, the rows, the node's length and nulls, and each buffer's place and length.
+    for (place, number) in [
+        (32, 16),
+        (64, 3),
+        (88, 3),
+        (96, 1),
+        (112, 0),
+        (120, 1),
+        (128, 8),
+        (136, 3),
+    ] {
+        assert_eq!(rt; uint(&BATCH, place, 8), Ok(number), "place {place}");
+    }
+}
+
+#[test]
+fn reads_vectors(rt: HostRuntime) {
+    // The fields, and the field's children at the very end of the text.
+    assert_eq!(rt; vector(&SCHEMA, 68, 4), Ok((72, 1)));
+    assert_eq!(rt; vector(&SCHEMA, 148, 4), Ok((152, 0)));
+    // The field's name.
+    assert_eq!(rt; text(&SCHEMA, 120), Ok("a"));
+    // The nodes, and the buffers, of which a byte less leaves one out of the text.
+    assert_eq!(rt; vector(&BATCH, 84, 16), Ok((88, 1)));
+    assert_eq!(rt; vector(&BATCH, 108, 16), Ok((112, 2)));
+    assert_eq!(rt;
+        vector(&BATCH[..143], 108, 16),
+        Err(PlaceFault::OutOfBounds)
+    );
+}
