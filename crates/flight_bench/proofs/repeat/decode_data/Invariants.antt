@@ -1,0 +1,6 @@
+use Rattle.flight_bench.specs.Repeating.{SumsTo, data_weight}
+use Rattle.proto_wire.specs.Flight.{data_table}
+use Rattle.flight_bench.proofs.repeat.decode_data.Given as goal
+
+abbrev pub invariant-loop-done : goal.invariant-loop-done
+invariant-loop-done l = SumsTo data_table data_weight l.done l.text l.sum

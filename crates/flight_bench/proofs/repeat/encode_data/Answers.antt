@@ -1,0 +1,23 @@
+use Rattle.std.proofs.Common.{ap, arith, ◌≡◌, ◌∙◌, ℕ, ◌+◌, ◌*◌, ◌%◌, ◌^◌, List, ◌++◌}
+use Rattle.proto_wire.specs.Canonical.{canonical}
+use Rattle.proto_wire.specs.Flight.{data_table}
+use Rattle.proto_wire.specs.FlightValues.{data_values}
+use Rattle.flight_bench.specs.Repeating.{text_weight}
+use Rattle.flight_bench.proofs.Sums.{sum_step}
+use Rattle.flight_bench.proofs.repeat.encode_data.Goals as goal
+
+pub loop-done-preserved : goal.loop-done-preserved
+loop-done-preserved c v means =
+    let spelling = canonical data_table v in
+    let is : data_values c.in_ok-message.message ≡ v = c.in_ok-message.ensures.only v means in
+    let written : c.deref.result.now ≡ spelling
+    = c.deref.ensures.value ∙ c.in_ok-encode.ensures.ok ∙ ap (λ (l : List ℕ). l ++ canonical data_table (data_values c.in_ok-message.message)) c.clear.ensures.items
+    ∙ ap (canonical data_table) is in
+    let weight : c.weight_of_text-sum.result ≡ text_weight spelling = c.weight_of_text-sum.ensures ∙ ap text_weight written in
+    ap (λ (n : ℕ). (c.loop-done.sum + n) % 2 ^ 64) weight
+    ∙ sum_step c.loop-done.sum c.loop-done.done (text_weight spelling) (c.loop-done.invariant v means)
+
+pub returns-clause-sum : goal.returns-clause-sum
+returns-clause-sum c v means =
+    let whole : c.loop-done.done ≡ c.args.count = omega arith in
+    c.loop-done.invariant v means ∙ ap (λ (n : ℕ). (n * text_weight (canonical data_table v)) % 2 ^ 64) whole

@@ -1,0 +1,24 @@
+use Rattle.std.proofs.Common.{sym, subst}
+use Rattle.flight_bench.specs.Repeating.{SumsTo, table_of, weight_of}
+use Rattle.flight_bench.specs.declared.repeat.Work.{Work}
+use Rattle.flight_bench.proofs.repeat.repeat.Goals as goal
+
+pub returns-in_ok-sum-in-DecodeData-clause-sum : goal.returns-in_ok-sum-in-DecodeData-clause-sum
+returns-in_ok-sum-in-DecodeData-clause-sum c =
+    subst (λ (work : Work). SumsTo (table_of work) (weight_of work) c.args.count c.args.text.now c.in_ok-sum-in-DecodeData.sum) (sym c.in-DecodeData.is)
+    c.in_ok-sum-in-DecodeData.ensures.sum
+
+pub returns-in_ok-sum-in-EncodeData-clause-sum : goal.returns-in_ok-sum-in-EncodeData-clause-sum
+returns-in_ok-sum-in-EncodeData-clause-sum c =
+    subst (λ (work : Work). SumsTo (table_of work) (weight_of work) c.args.count c.args.text.now c.in_ok-sum-in-EncodeData.sum) (sym c.in-EncodeData.is)
+    c.in_ok-sum-in-EncodeData.ensures.sum
+
+pub returns-in_ok-sum-in-DecodeInfo-clause-sum : goal.returns-in_ok-sum-in-DecodeInfo-clause-sum
+returns-in_ok-sum-in-DecodeInfo-clause-sum c =
+    subst (λ (work : Work). SumsTo (table_of work) (weight_of work) c.args.count c.args.text.now c.in_ok-sum-in-DecodeInfo.sum) (sym c.in-DecodeInfo.is)
+    c.in_ok-sum-in-DecodeInfo.ensures.sum
+
+pub returns-in_ok-sum-in-EncodeInfo-clause-sum : goal.returns-in_ok-sum-in-EncodeInfo-clause-sum
+returns-in_ok-sum-in-EncodeInfo-clause-sum c =
+    subst (λ (work : Work). SumsTo (table_of work) (weight_of work) c.args.count c.args.text.now c.in_ok-sum-in-EncodeInfo.sum) (sym c.in-EncodeInfo.is)
+    c.in_ok-sum-in-EncodeInfo.ensures.sum

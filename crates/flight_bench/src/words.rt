@@ -1,0 +1,76 @@
+//! The words of the command line.
+
+ghost use Rattle.std.specs.Prelude.{◌≡◌};
+ghost use Rattle.flight_bench.specs.Tasks.{task_of};
+
+use crate::repeat::Work;
+use crate::respell::MessageKind;
+use clap::builder::ValueParser;
+use clap::{Arg, ArgMatches, Command, Error};
+use std::alloc::Global;
+
+/// What the program was called for.
+#[derive(Clone, Copy, Debug, PartialEq, Eq)]
+pub enum Task {
+    /// To do this over and over, and print the tally.
+    Repeat(Work),
+    /// To write the canonical spelling of the file's message of this kind.
+    Write(MessageKind),
+}
+
+const TASKS: &[&str] = &[
+    "decode-data",
+    "encode-data",
+    "write-data",
+    "decode-info",
+    "encode-info",
+    "write-info",
+];
+
+/// Reads the words that the program was called with, its own name first.
+///
+/// The error prints itself: a fault of the words to standard error, with exit status 2; the help and the version, which
+/// are asked for, to standard output, with exit status 0.
+pub fn parse(alloc: Global, words: &[String]) -> Result<ArgMatches<'_>, Error> {
+    let task = Arg::new(alloc, "TASK")
+        .required(true)
+        .value_parser(ValueParser::Names(TASKS))
+        .help("What to do with the message, and which one it is");
+    let count = Arg::new(alloc, "COUNT")
+        .required(true)
+        .value_parser(ValueParser::Unsigned(0, u64::MAX))
+        .help("How many times");
+    let file = Arg::new(alloc, "FILE")
+        .required(true)
+        .help("A file that holds the bytes of one message");
+    let command = Command::new(alloc, "flight_bench")
+        .version("0.1.0")
+        .about("Reads or writes a message of Arrow Flight over and over, to be timed from outside")
+        .arg(task)?
+        .arg(count)?
+        .arg(file)?;
+    command.try_get_matches_from(words)
+}
+
+/// The task that its word names.
+pub fn task_named(word: &str) -> Option<Task>
+    ensures { result ≡ task_of word.now }
+{
+    match word {
+        "decode-data" => Some(Task::Repeat(Work::DecodeData)),
+        "encode-data" => Some(Task::Repeat(Work::EncodeData)),
+        "write-data" => Some(Task::Write(MessageKind::Data)),
+        "decode-info" => Some(Task::Repeat(Work::DecodeInfo)),
+        "encode-info" => Some(Task::Repeat(Work::EncodeInfo)),
+        "write-info" => Some(Task::Write(MessageKind::Info)),
+        _ => None,
+    }
+}
+
+/// What the words ask for: the task, how many times, and the file. A call that [`parse`] takes has all three.
+pub fn asked<'a>(matches: &ArgMatches<'a>) -> Option<(Task, u64, &'a str)> {
+    let task = task_named(matches.get_str("TASK")?)?;
+    let count = matches.get_one::<u64>("COUNT")?;
+    let file = matches.get_str("FILE")?;
+    Some((task, count, file))
+}
