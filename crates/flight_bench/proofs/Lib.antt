@@ -1,1 +1,4 @@
+pub mod Asking
+pub mod FirstValues
+pub mod Operands
 pub mod Sums

@@ -1,5 +1,5 @@
 -- What repeating the reading or the writing of a message gives.
-use Rattle.std.specs.Prelude.{◌≡◌, ℕ, ◌+◌, ◌-◌, ◌*◌, ◌%◌, ◌^◌, List, length, slice_index}
+use Rattle.std.specs.Prelude.{◌≡◌, ◌<◌, ℕ, ◌+◌, ◌-◌, ◌*◌, ◌%◌, ◌^◌, List, length, slice_index}
 use Rattle.proto_wire.specs.Table.{Table, Values, IsMessage}
 use Rattle.proto_wire.specs.Canonical.{canonical}
 use Rattle.proto_wire.specs.Flight.{data_table, info_table}
@@ -41,6 +41,17 @@ weight_of DecodeData v = data_weight v
 weight_of EncodeData v = text_weight (canonical data_table v)
 weight_of DecodeInfo v = info_weight v
 weight_of EncodeInfo v = text_weight (canonical info_table v)
+
+-- The text means a message.
+abbrev pub Means : Table → List ℕ → Type 0
+Means table text = (v : Values table) × IsMessage table text v
+
+-- The work, done so many times, reads its text: one to be decoded each time, and one to be encoded once, before all times.
+abbrev pub IsReadBy : Work → ℕ → Type 0
+IsReadBy DecodeData count = 0 < count
+IsReadBy EncodeData count = Unit {0}
+IsReadBy DecodeInfo count = 0 < count
+IsReadBy EncodeInfo count = Unit {0}
 
 -- Where the text means a message, its weight was added so many times, modulo 2^64.
 abbrev pub SumsTo : (table : Table) → (Values table → ℕ) → ℕ → List ℕ → ℕ → Type 0

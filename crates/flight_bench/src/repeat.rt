@@ -4,7 +4,7 @@ ghost use Rattle.std.specs.Prelude.{◌≡◌, ◌<◌, IfOk, IfErr};
 ghost use Rattle.proto_wire.specs.Table.{IsMessageFault};
 ghost use Rattle.proto_wire.specs.Canonical.{canonical};
 ghost use Rattle.proto_wire.specs.Flight.{data_table, info_table};
-ghost use Rattle.flight_bench.specs.Repeating.{table_of, weight_of, last_byte, text_weight, data_weight, info_weight, SumsTo};
+ghost use Rattle.flight_bench.specs.Repeating.{table_of, weight_of, last_byte, text_weight, data_weight, info_weight, IsReadBy, Means, SumsTo};
 
 use proto_wire::{FlightData, FlightInfo, WireFault};
 use std::alloc::Global;
@@ -34,11 +34,15 @@ pub struct Tally {
 
 /// Does the work so many times on a text.
 ///
-/// A text that means no message of the work's kind is refused with a fault that stands in it, or, where nothing is to be
-/// read, not looked at. The only other refusal is [`WireFault::OutOfMemory`].
+/// A text that means no message of the work's kind is refused with a fault that stands in it, or, where a message is to be
+/// read not once, not looked at. The only other refusal is [`WireFault::OutOfMemory`].
 pub fn repeat(alloc: Global, work: Work, count: u64, text: &[u8]) -> Result<Tally, WireFault>
     ensures count { IfOk result (λ tally. tally.count ≡ count) }
+    // Where the work looks at the text, it is done only on one that means a message.
+    ensures read { IfOk result (λ _. IsReadBy work count → Means (table_of work) text.now) }
     ensures sum { IfOk result (λ tally. SumsTo (table_of work) (weight_of work) count text.now tally.sum) }
+    // Where nothing is done the sum is 0, whatever the text is.
+    ensures nothing { IfOk result (λ tally. count ≡ 0 → tally.sum ≡ 0) }
     ensures fault { IfErr result (IsMessageFault (table_of work) text.now) }
 {
     let sum = match work {
@@ -51,7 +55,9 @@ pub fn repeat(alloc: Global, work: Work, count: u64, text: &[u8]) -> Result<Tall
 }
 
 fn decode_data(alloc: Global, count: u64, text: &[u8]) -> Result<u64, WireFault>
+    ensures read { IfOk result (λ _. 0 < count → Means data_table text.now) }
     ensures sum { IfOk result (SumsTo data_table data_weight count text.now) }
+    ensures nothing { IfOk result (λ sum. count ≡ 0 → sum ≡ 0) }
     ensures fault { IfErr result (IsMessageFault data_table text.now) }
 {
     let mut sum: u64 = 0;
@@ -63,7 +69,9 @@ fn decode_data(alloc: Global, count: u64, text: &[u8]) -> Result<u64, WireFault>
 }
 
 fn encode_data(alloc: Global, count: u64, text: &[u8]) -> Result<u64, WireFault>
+    ensures read { IfOk result (λ _. Means data_table text.now) }
     ensures sum { IfOk result (SumsTo data_table (λ v. text_weight (canonical data_table v)) count text.now) }
+    ensures nothing { IfOk result (λ sum. count ≡ 0 → sum ≡ 0) }
     ensures fault { IfErr result (IsMessageFault data_table text.now) }
 {
     let message = FlightData::decode(alloc, text)?;
@@ -78,7 +86,9 @@ fn encode_data(alloc: Global, count: u64, text: &[u8]) -> Result<u64, WireFault>
 }
 
 fn decode_info(alloc: Global, count: u64, text: &[u8]) -> Result<u64, WireFault>
+    ensures read { IfOk result (λ _. 0 < count → Means info_table text.now) }
     ensures sum { IfOk result (SumsTo info_table info_weight count text.now) }
+    ensures nothing { IfOk result (λ sum. count ≡ 0 → sum ≡ 0) }
     ensures fault { IfErr result (IsMessageFault info_table text.now) }
 {
     let mut sum: u64 = 0;
@@ -90,7 +100,9 @@ fn decode_info(alloc: Global, count: u64, text: &[u8]) -> Result<u64, WireFault>
 }
 
 fn encode_info(alloc: Global, count: u64, text: &[u8]) -> Result<u64, WireFault>
+    ensures read { IfOk result (λ _. Means info_table text.now) }
     ensures sum { IfOk result (SumsTo info_table (λ v. text_weight (canonical info_table v)) count text.now) }
+    ensures nothing { IfOk result (λ sum. count ≡ 0 → sum ≡ 0) }
     ensures fault { IfErr result (IsMessageFault info_table text.now) }
 {
     let message = FlightInfo::decode(alloc, text)?;

@@ -1,9 +1,12 @@
-//! Each piece of work on a small message, against sums worked out by hand.
+//! Each piece of work on a small message, against sums worked out by hand, and the words.
 
 use crate::repeat::{Tally, Work, repeat};
 use crate::respell::{MessageKind, respell};
+use crate::words::{Task, asked, parse};
 use proto_wire::WireFault;
+use std::alloc::Global;
 use std::process::Abort;
+use std::test::Fail;
 
 /// A `FlightData` with the header 68 and the body 01 02 03.
 const DATA: &[u8] = &[0x12, 0x01, 0x68, 0xc2, 0x3e, 0x03, 0x01, 0x02, 0x03];
@@ -43,4 +46,105 @@ fn respells_each_message(rt: HostRuntime) {
             Err(fault) => assert!(rt; false, "{fault}"),
         }
     }
+}
+
+// The words of a call, parted by spaces, the program's name first.
+fn words_of(alloc: Global, call: &str) -> Result<Vec<String>, Fail> {
+    let mut words = Vec::new(alloc);
+    for word in call.split(' ') {
+        words.push(String::from_str(alloc, word)?)?;
+    }
+    Ok(words)
+}
+
+fn expect_asked(
+    rt: &impl Abort,
+    alloc: Global,
+    call: &str,
+    wanted: (Task, u64, &str),
+) -> Result<(), Fail> {
+    let words = words_of(alloc, call)?;
+    let Ok(matches) = parse(alloc, &words) else {
+        return Err(Fail::from("it did not parse"));
+    };
+    assert_eq!(rt; asked(&matches), Some(wanted), "at {call}");
+    Ok(())
+}
+
+fn expect_refused(
+    rt: &impl Abort,
+    alloc: Global,
+    call: &str,
+    exit_code: i32,
+    use_stderr: bool,
+) -> Result<(), Fail> {
+    let words = words_of(alloc, call)?;
+    match parse(alloc, &words) {
+        Ok(_) => Err(Fail::from("it parsed")),
+        Err(error) => {
+            assert_eq!(rt; error.exit_code(), exit_code, "at {call}");
+            assert_eq!(rt; error.use_stderr(), use_stderr, "at {call}");
+            Ok(())
+        }
+    }
+}
+
+#[test]
+fn takes_each_task(rt: HostRuntime) -> Result<(), Fail> {
+    let tasks = [
+        ("decode-data", Task::Repeat(Work::DecodeData)),
+        ("encode-data", Task::Repeat(Work::EncodeData)),
+        ("write-data", Task::Write(MessageKind::Data)),
+        ("decode-info", Task::Repeat(Work::DecodeInfo)),
+        ("encode-info", Task::Repeat(Work::EncodeInfo)),
+        ("write-info", Task::Write(MessageKind::Info)),
+    ];
+    for (word, task) in tasks {
+        let call = format!(in rt.alloc(); "flight_bench {word} 100 message.bin")?;
+        expect_asked(&rt, rt.alloc(), call.as_str(), (task, 100, "message.bin"))?;
+    }
+    Ok(())
+}
+
+#[test]
+fn takes_each_count_and_file(rt: HostRuntime) -> Result<(), Fail> {
+    let calls = [
+        ("0", 0, "/tmp/message.bin"),
+        ("007", 7, "-"),
+        ("+5", 5, ""),
+        ("18446744073709551615", 18446744073709551615, "decode-data"),
+    ];
+    for (digits, count, file) in calls {
+        let call = format!(in rt.alloc(); "flight_bench write-info {digits} {file}")?;
+        let task = Task::Write(MessageKind::Info);
+        expect_asked(&rt, rt.alloc(), call.as_str(), (task, count, file))?;
+    }
+    Ok(())
+}
+
+#[test]
+fn refuses_other_words(rt: HostRuntime) -> Result<(), Fail> {
+    let wrong = [
+        "flight_bench",
+        "flight_bench decode-data",
+        "flight_bench decode-data 1",
+        "flight_bench decode-data 1 message.bin message.bin",
+        "flight_bench decode-data 18446744073709551616 message.bin",
+        "flight_bench decode-data -1 message.bin",
+        "flight_bench decode-data x message.bin",
+        "flight_bench decode-data 1.5 message.bin",
+        "flight_bench decode-data  message.bin",
+        "flight_bench decode-data 1 --message",
+        "flight_bench decode-data 1 -m",
+        "flight_bench decode 1 message.bin",
+        "flight_bench Decode-data 1 message.bin",
+        "flight_bench 1 decode-data message.bin",
+    ];
+    for call in wrong {
+        expect_refused(&rt, rt.alloc(), call, 2, true)?;
+    }
+    for call in ["flight_bench --help", "flight_bench --version"] {
+        expect_refused(&rt, rt.alloc(), call, 0, false)?;
+    }
+    Ok(())
 }

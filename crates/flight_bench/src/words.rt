@@ -1,6 +1,9 @@
 //! The words of the command line.
 
-ghost use Rattle.std.specs.Prelude.{◌≡◌};
+ghost use Rattle.std.specs.Prelude.{◌≡◌, map, option_map, string_bytes, IfOk, IfErr};
+ghost use Rattle.clap.specs.Words.{FailsBy, fault_of, kind_of};
+ghost use Rattle.clap.specs.declared.error.kind.ErrorKind.TheVariants.{OutOfMemory};
+ghost use Rattle.flight_bench.specs.CommandLine.{IsCall, AsksFor, HoldsMatchesOf, IsTaskNames, asked_by, command_line};
 ghost use Rattle.flight_bench.specs.Tasks.{task_of};
 
 use crate::repeat::Work;
@@ -27,11 +30,20 @@ const TASKS: &[&str] = &[
     "write-info",
 ];
 
-/// Reads the words that the program was called with, its own name first.
+/// Reads the words that the program was called with, its own name first: a task, how many times, and a file.
 ///
 /// The error prints itself: a fault of the words to standard error, with exit status 2; the help and the version, which
 /// are asked for, to standard output, with exit status 0.
-pub fn parse(alloc: Global, words: &[String]) -> Result<ArgMatches<'_>, Error> {
+pub fn parse(alloc: Global, words: &[String]) -> Result<ArgMatches<'_>, Error>
+    // Memory apart, such a call is taken.
+    ensures taken { IfErr result (λ e. IsCall (map string_bytes words.now) → kind_of e ≡ OutOfMemory) }
+    // What is taken asks for what its words say.
+    ensures asked { IfOk result (λ matches. AsksFor (map string_bytes words.now) (asked_by matches)) }
+    // Whatever the words, what is taken holds the values that they have at this command line.
+    ensures found { IfOk result (λ matches. HoldsMatchesOf (map string_bytes words.now) matches) }
+    // Whatever the words, the outcome is the one that they have at this command line, or memory refused.
+    ensures refused { (names : _) × IsTaskNames names × FailsBy (fault_of (command_line names) (map string_bytes words.now)) result }
+{
     let task = Arg::new(alloc, "TASK")
         .required(true)
         .value_parser(ValueParser::Names(TASKS))
@@ -68,7 +80,9 @@ pub fn task_named(word: &str) -> Option<Task>
 }
 
 /// What the words ask for: the task, how many times, and the file. A call that [`parse`] takes has all three.
-pub fn asked<'a>(matches: &ArgMatches<'a>) -> Option<(Task, u64, &'a str)> {
+pub fn asked<'a>(matches: &ArgMatches<'a>) -> Option<(Task, u64, &'a str)>
+    ensures { option_map (λ found. (found.0, found.1, found.2.now)) result ≡ asked_by matches.now }
+{
     let task = task_named(matches.get_str("TASK")?)?;
     let count = matches.get_one::<u64>("COUNT")?;
     let file = matches.get_str("FILE")?;

@@ -21,3 +21,11 @@ pub returns-clause-sum : goal.returns-clause-sum
 returns-clause-sum c v means =
     let whole : c.loop-done.done ≡ c.args.count = omega arith in
     c.loop-done.invariant v means ∙ ap (λ (n : ℕ). (n * text_weight (canonical data_table v)) % 2 ^ 64) whole
+
+pub returns-clause-nothing : goal.returns-clause-nothing
+returns-clause-nothing c none =
+    let v = data_values c.in_ok-message.message in
+    let weight = text_weight (canonical data_table v) in
+    let done : c.loop-done.done ≡ 0 = omega (arith, none) in
+    let zero : 0 * weight ≡ 0 = omega arith in
+    c.loop-done.invariant v c.in_ok-message.ensures.read ∙ ap (λ (n : ℕ). (n * weight) % 2 ^ 64) done ∙ ap (λ (n : ℕ). n % 2 ^ 64) zero
