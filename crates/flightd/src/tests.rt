@@ -4,7 +4,6 @@ mod all_runs;
 mod audit;
 mod command_line;
 mod conversations;
-mod faults;
 mod long_runs;
 mod plain;
 mod plain_requests;

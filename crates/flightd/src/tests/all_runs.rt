@@ -91,9 +91,12 @@ pub(super) fn new_tally(alloc: Global) -> Tally {
     }
 }
 
-/// The name by which docs/FORMATS.md has the fault.
-fn name_of(fault: RunFault) -> &'static str {
-    match fault {
+/// The line of a run that ends so, with the name by which docs/FORMATS.md has the fault, and nothing where it ends well.
+fn line_of(alloc: Global, ending: Result<(), (u32, RunFault)>) -> Result<String, AllocError> {
+    let Err((number, fault)) = ending else {
+        return Ok(String::new(alloc));
+    };
+    let name = match fault {
         RunFault::Frame(FrameFault::Truncated) => "Truncated",
         RunFault::Frame(FrameFault::Compressed) => "Compressed",
         RunFault::Frame(FrameFault::BadFlag) | RunFault::EndFlag => "BadFlag",
@@ -106,52 +109,24 @@ fn name_of(fault: RunFault) -> &'static str {
         RunFault::Message(MessageFault::BadKind) => "BadKind",
         RunFault::Message(MessageFault::OutOfRange) => "OutOfRange",
         _ => "another fault",
-    }
-}
-
-/// The line of a run that ends so, and nothing where it ends well.
-fn line_of(alloc: Global, ending: Result<(), (u32, RunFault)>) -> Result<String, AllocError> {
-    match ending {
-        Ok(()) => Ok(String::new(alloc)),
-        Err((number, fault)) => {
-            let name = name_of(fault);
-            format!(in alloc; "flightd: frame {number}: {name}\n")
-        }
-    }
-}
-
-/// Whether a run may end so, with this written.
-fn may_end(run: &PlainRun<'_>, ending: Result<(), (u32, RunFault)>, written: &[u8]) -> bool {
-    run.outcomes.iter().any(|outcome| {
-        outcome.ending == ending && run.written.get(..outcome.written) == Some(written)
-    })
-}
-
-/// Whether a run may say this, with this status and this written.
-fn may_say(
-    alloc: Global,
-    run: &PlainRun<'_>,
-    status: u8,
-    said: &[u8],
-    written: &[u8],
-) -> Result<bool, AllocError> {
-    for outcome in run.outcomes.iter() {
-        let line = line_of(alloc, outcome.ending)?;
-        let is_status = status == if outcome.ending.is_ok() { 0 } else { 1 };
-        let is_written = run.written.get(..outcome.written) == Some(written);
-        if is_status && is_written && line.as_bytes() == said {
-            return Ok(true);
-        }
-    }
-    Ok(false)
+    };
+    format!(in alloc; "flightd: frame {number}: {name}\n")
 }
 
 /// Notes how the run ended, and what was answered in it.
-fn note(tally: &mut Tally, run: &PlainRun<'_>, ending: Ending) -> Result<(), AllocError> {
+fn note(
+    tally: &mut Tally,
+    run: &PlainRun<'_>,
+    ended: Result<(), (u32, RunFault)>,
+) -> Result<(), Fail> {
     tally.runs = tally.runs.saturating_add(1);
     if run.outcomes.len() > 1 {
         tally.open = tally.open.saturating_add(1);
     }
+    let ending = match ended {
+        Ok(()) => Ok(()),
+        Err((_, fault)) => Err(fault),
+    };
     if !tally.endings.contains(&ending) {
         tally.endings.push(ending)?;
     }
@@ -176,20 +151,27 @@ pub(super) fn compare(
     assert!(rt; !run.outcomes.is_empty(), "{room:?} over {input:?}");
 
     let mut reader = input;
-    let mut writer = Narrow::new(alloc, room.bytes, room.flushes);
-    let ending = serve(alloc, &mut reader, &mut writer);
-    let is_outcome = may_end(&run, ending, &writer.written);
-    assert!(rt; is_outcome, "{ending:?} in {room:?} over {input:?}");
+    let mut served = Narrow::new(alloc, room.bytes, room.flushes);
+    let ending = serve(alloc, &mut reader, &mut served);
 
     let mut reader = input;
     let mut writer = Narrow::new(alloc, room.bytes, room.flushes);
     let mut said = Vec::new(alloc);
     let status = acceptor_run(alloc, &mut reader, &mut writer, &mut said);
-    let is_said = may_say(alloc, &run, status, &said, &writer.written)?;
-    assert!(rt; is_said, "{status} in {room:?} over {input:?}");
 
-    note(tally, &run, ending.map_err(|(_, fault)| fault))?;
-    Ok(())
+    let mut is_outcome = false;
+    let mut is_said = false;
+    for outcome in run.outcomes.iter() {
+        let written = run.written.get(..outcome.written);
+        is_outcome |= outcome.ending == ending && written == Some(served.written.as_slice());
+        let line = line_of(alloc, outcome.ending)?;
+        let wanted = (if outcome.ending.is_ok() { 0 } else { 1 }, line.as_bytes());
+        let is_written = written == Some(writer.written.as_slice());
+        is_said |= is_written && (status, said.as_slice()) == wanted;
+    }
+    assert!(rt; is_outcome, "{ending:?} in {room:?} over {input:?}");
+    assert!(rt; is_said, "{status} in {room:?} over {input:?}");
+    note(tally, &run, ending)
 }
 
 /// These endings and replies were met, each of them, and none else.
@@ -206,25 +188,20 @@ pub(super) fn expect_met(
         );
     }
     assert_eq!(rt; tally.endings.len(), endings.len());
-    let is_met = replies.iter().all(|reply| tally.replies.contains(reply));
-    assert!(rt; is_met, "{:?}", tally.replies);
-    assert_eq!(rt; tally.replies.len(), replies.len());
-}
-
-/// The text of this number.
-fn text_of(alloc: Global, number: usize) -> Result<Vec<u8>, Fail> {
-    let mut text = Vec::new(alloc);
-    for digit in digits_of(alloc, 7, number)?.iter() {
-        text.push(BYTES[*digit % 7])?;
+    for reply in replies {
+        assert!(rt; tally.replies.contains(reply), "no reply was {reply:?}");
     }
-    Ok(text)
+    assert_eq!(rt; tally.replies.len(), replies.len());
 }
 
 #[test]
 fn ends_as_it_may_over_short_texts(rt: HostRuntime) -> Result<(), Fail> {
     let mut tally = new_tally(rt.alloc());
     for number in 0..TEXTS {
-        let text = text_of(rt.alloc(), number)?;
+        let mut text = Vec::new(rt.alloc());
+        for digit in digits_of(rt.alloc(), 7, number)?.iter() {
+            text.push(BYTES[*digit % 7])?;
+        }
         compare(&rt, rt.alloc(), &text, ENOUGH, &mut tally)?;
     }
     assert_eq!(rt; tally.runs, TEXTS);
@@ -245,26 +222,21 @@ fn ends_as_it_may_over_short_texts(rt: HostRuntime) -> Result<(), Fail> {
     Ok(())
 }
 
-/// A frame with the payload of this number, again, and a Prepare of a high ballot, which shows what they left.
-fn asked_twice(alloc: Global, number: usize) -> Result<Vec<u8>, Fail> {
-    let mut payload = Vec::new(alloc);
-    for digit in digits_of(alloc, 8, number)?.iter() {
-        payload.push(PAYLOAD_BYTES[*digit % 8])?;
-    }
-    let mut text = Vec::new(alloc);
-    for _ in 0..2 {
-        text.extend_from_slice(&[0, 0, 0, 0, (payload.len() % 8) as u8])?;
-        text.extend_from_slice(&payload)?;
-    }
-    text.extend_from_slice(&[0, 0, 0, 0, 5, 0x08, 0x01, 0x28, 0xc8, 0x01])?;
-    Ok(text)
-}
-
+/// A frame with each payload, again, and a Prepare of a high ballot, which shows what they left.
 #[test]
 fn ends_as_it_may_over_payloads(rt: HostRuntime) -> Result<(), Fail> {
     let mut tally = new_tally(rt.alloc());
     for number in 0..PAYLOADS {
-        let text = asked_twice(rt.alloc(), number)?;
+        let mut payload = Vec::new(rt.alloc());
+        for digit in digits_of(rt.alloc(), 8, number)?.iter() {
+            payload.push(PAYLOAD_BYTES[*digit % 8])?;
+        }
+        let mut text = Vec::new(rt.alloc());
+        for _ in 0..2 {
+            text.extend_from_slice(&[0, 0, 0, 0, (payload.len() % 8) as u8])?;
+            text.extend_from_slice(&payload)?;
+        }
+        text.extend_from_slice(&[0, 0, 0, 0, 5, 0x08, 0x01, 0x28, 0xc8, 0x01])?;
         compare(&rt, rt.alloc(), &text, ENOUGH, &mut tally)?;
     }
     assert_eq!(rt; tally.runs, PAYLOADS);
@@ -282,46 +254,27 @@ fn ends_as_it_may_over_payloads(rt: HostRuntime) -> Result<(), Fail> {
     Ok(())
 }
 
-fn piece_of(number: usize) -> &'static str {
-    let (_, piece) = PIECES[number % 24];
-    piece
-}
-
-/// The pieces of this list, one after the other.
-fn list_of(alloc: Global, number: usize) -> Result<Vec<u8>, Fail> {
-    let mut text = Vec::new(alloc);
-    for digit in digits_of(alloc, 24, number)?.iter() {
-        text.extend_from_slice(&spelled(alloc, piece_of(*digit))?)?;
-    }
-    Ok(text)
-}
-
-/// Runs over the list into writers of every room up to what the run writes, and with every number of flushes.
+/// Runs over the pieces of this list, one after the other, into writers of every room up to what the run writes, and with
+/// every number of flushes.
 fn compare_rooms(
     rt: &impl Abort,
     alloc: Global,
     number: usize,
     tally: &mut Tally,
 ) -> Result<(), Fail> {
-    let text = list_of(alloc, number)?;
+    let mut text = Vec::new(alloc);
+    for digit in digits_of(alloc, 24, number)?.iter() {
+        let (_, piece) = PIECES[*digit % 24];
+        text.extend_from_slice(&spelled(alloc, piece)?)?;
+    }
     let run = run_of(alloc, &text, ENOUGH)?;
     for bytes in 0..=run.written.len() {
         let room = Room { bytes, ..ENOUGH };
         compare(rt, alloc, &text, room, tally)?;
     }
-    compare_flushes(rt, alloc, &text, run.replies.len(), tally)
-}
-
-fn compare_flushes(
-    rt: &impl Abort,
-    alloc: Global,
-    text: &[u8],
-    replies: usize,
-    tally: &mut Tally,
-) -> Result<(), Fail> {
-    for flushes in 0..replies {
+    for flushes in 0..run.replies.len() {
         let room = Room { flushes, ..ENOUGH };
-        compare(rt, alloc, text, room, tally)?;
+        compare(rt, alloc, &text, room, tally)?;
     }
     Ok(())
 }

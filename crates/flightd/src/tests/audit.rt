@@ -1,7 +1,6 @@
 //! Recorded runs, judged from the bytes of their files.
 
 use super::streams::Narrow;
-use super::support::Outcome;
 use crate::runs::audit_run;
 use std::alloc::Global;
 use std::process::Abort;
@@ -16,119 +15,132 @@ const OVERTAKEN: &str =
 const ACCEPTED_BELOW: &str =
     r#"{"members":3,"sent":["08012801","08022801","080210012801","0801100128023001","0802100128023001","0802100228023001","0804100128023001","080528023001","08042801","08052801"]}"#;
 
-/// No recorded runs, each with why.
-const BAD_TRACES: [(&str, &str); 25] = [
-    ("no JSON", ""),
-    ("no JSON", "lawful"),
-    ("cut short", r#"{"members":3,"sent":["#),
-    ("more behind it", r#"{"members":3,"sent":[]} 1"#),
-    ("no object", "[3,[]]"),
-    ("no object", "3"),
-    ("no members", r#"{"sent":[]}"#),
-    ("no messages", r#"{"members":3}"#),
-    ("other names", r#"{"Members":3,"Sent":[]}"#),
-    ("0 members", r#"{"members":0,"sent":[]}"#),
-    ("8 members", r#"{"members":8,"sent":[]}"#),
-    ("256 more than 3", r#"{"members":259,"sent":[]}"#),
+/// Files, each with why it is here, and whether it tells a lawful run, where it tells one.
+const FILES: [(&str, &str, Option<bool>); 44] = [
+    ("a run of three", OVERTAKEN, Some(true)),
+    ("and below it", ACCEPTED_BELOW, Some(false)),
+    // A proposal behind the Promise of one member.
+    (
+        "1 of 1",
+        r#"{"members":1,"sent":["08012801","08022801","08042801"]}"#,
+        Some(true),
+    ),
+    (
+        "1 of 2",
+        r#"{"members":2,"sent":["08012801","08022801","08042801"]}"#,
+        Some(false),
+    ),
+    (
+        "1 of 3",
+        r#"{"members":3,"sent":["08012801","08022801","08042801"]}"#,
+        Some(false),
+    ),
+    (
+        "1 of 7",
+        r#"{"members":7,"sent":["08012801","08022801","08042801"]}"#,
+        Some(false),
+    ),
+    // Nothing sent.
+    ("1 member", r#"{"members":1,"sent":[]}"#, Some(true)),
+    ("2 members", r#"{"members":2,"sent":[]}"#, Some(true)),
+    ("3 members", r#"{"members":3,"sent":[]}"#, Some(true)),
+    ("4 members", r#"{"members":4,"sent":[]}"#, Some(true)),
+    ("5 members", r#"{"members":5,"sent":[]}"#, Some(true)),
+    ("6 members", r#"{"members":6,"sent":[]}"#, Some(true)),
+    ("7 members", r#"{"members":7,"sent":[]}"#, Some(true)),
+    // Other spellings.
+    (
+        "other members",
+        r#"{"note":{"by":["hand"]},"sent":[],"members":3,"at":1.5}"#,
+        Some(true),
+    ),
+    (
+        "spaces",
+        "\n{ \"members\" : 3 ,\t\"sent\" : [ ] }\r\n",
+        Some(true),
+    ),
+    (
+        "the last count",
+        r#"{"members":9,"sent":[],"members":3}"#,
+        Some(true),
+    ),
+    (
+        "a digit in capitals",
+        r#"{"members":1,"sent":["08012801","08022801","080428014A020A0B"]}"#,
+        Some(true),
+    ),
+    (
+        "a digit in both cases",
+        r#"{"members":1,"sent":["08012801","08022801","080428014a020A0b"]}"#,
+        Some(true),
+    ),
+    (
+        "a digit by its number",
+        r#"{"members":1,"sent":["\u00308012801","08022801","080428014a020a0b"]}"#,
+        Some(true),
+    ),
+    // No recorded runs.
+    ("no JSON", "", None),
+    ("no JSON", "lawful", None),
+    ("cut short", r#"{"members":3,"sent":["#, None),
+    ("more behind it", r#"{"members":3,"sent":[]} 1"#, None),
+    ("no object", "[3,[]]", None),
+    ("no object", "3", None),
+    ("no members", r#"{"sent":[]}"#, None),
+    ("no messages", r#"{"members":3}"#, None),
+    ("other names", r#"{"Members":3,"Sent":[]}"#, None),
+    ("0 members", r#"{"members":0,"sent":[]}"#, None),
+    ("8 members", r#"{"members":8,"sent":[]}"#, None),
+    ("256 more than 3", r#"{"members":259,"sent":[]}"#, None),
     (
         "2 to the 64th and 3",
         r#"{"members":18446744073709551619,"sent":[]}"#,
+        None,
     ),
-    ("below 0", r#"{"members":-3,"sent":[]}"#),
-    ("no whole number", r#"{"members":3.0,"sent":[]}"#),
-    ("no whole number", r#"{"members":3e0,"sent":[]}"#),
-    ("no number", r#"{"members":"3","sent":[]}"#),
-    ("no list", r#"{"members":3,"sent":{}}"#),
-    ("no list", r#"{"members":3,"sent":"08012801"}"#),
-    ("no text", r#"{"members":3,"sent":["08012801",8022801]}"#),
-    ("no text", r#"{"members":3,"sent":[["08012801"]]}"#),
-    ("half a byte", r#"{"members":3,"sent":["0801280"]}"#),
-    ("no digit", r#"{"members":3,"sent":["0801280g"]}"#),
-    ("a space", r#"{"members":3,"sent":["0801 2801"]}"#),
-    ("no kind 9", r#"{"members":3,"sent":["08012801","0809"]}"#),
+    ("below 0", r#"{"members":-3,"sent":[]}"#, None),
+    ("no whole number", r#"{"members":3.0,"sent":[]}"#, None),
+    ("no whole number", r#"{"members":3e0,"sent":[]}"#, None),
+    ("no number", r#"{"members":"3","sent":[]}"#, None),
+    ("no list", r#"{"members":3,"sent":{}}"#, None),
+    ("no list", r#"{"members":3,"sent":"08012801"}"#, None),
+    (
+        "no text",
+        r#"{"members":3,"sent":["08012801",8022801]}"#,
+        None,
+    ),
+    ("no text", r#"{"members":3,"sent":[["08012801"]]}"#, None),
+    ("half a byte", r#"{"members":3,"sent":["0801280"]}"#, None),
+    ("no digit", r#"{"members":3,"sent":["0801280g"]}"#, None),
+    ("a space", r#"{"members":3,"sent":["0801 2801"]}"#, None),
+    (
+        "no kind 9",
+        r#"{"members":3,"sent":["08012801","0809"]}"#,
+        None,
+    ),
 ];
 
-fn judged(alloc: Global, file: &[u8]) -> Outcome {
+/// What a file's audit is to write, to say and to end with.
+fn expect(rt: &impl Abort, alloc: Global, file: &[u8], judgement: Option<bool>) {
+    let (wanted, line, wanted_status) = match judgement {
+        Some(true) => ("lawful\n", "", 0),
+        Some(false) => ("unlawful\n", "", 1),
+        None => ("", "flightd: BadTrace\n", 1),
+    };
     let mut output = Vec::new(alloc);
     let mut said = Vec::new(alloc);
     let status = audit_run(alloc, file, &mut output, &mut said);
-    Outcome {
-        status,
-        output,
-        said,
-    }
-}
-
-/// What a file's audit is to write and to say. Its status is 0 for `lawful` alone.
-fn expect(
-    rt: &impl Abort,
-    alloc: Global,
-    file: &[u8],
-    output: &str,
-    said: &str,
-) -> Result<(), Fail> {
-    let outcome = judged(alloc, file);
-    assert_eq!(rt;
-        outcome.output.as_slice(),
-        output.as_bytes(),
-        "over {file:?}"
-    );
-    assert_eq!(rt; outcome.said.as_slice(), said.as_bytes(), "over {file:?}");
-    let status = if output == "lawful\n" { 0 } else { 1 };
-    assert_eq!(rt; outcome.status, status, "over {file:?}");
-    Ok(())
+    assert_eq!(rt; output.as_slice(), wanted.as_bytes(), "over {file:?}");
+    assert_eq!(rt; said.as_slice(), line.as_bytes(), "over {file:?}");
+    assert_eq!(rt; status, wanted_status, "over {file:?}");
 }
 
 #[test]
-fn judges_a_run_of_three(rt: HostRuntime) -> Result<(), Fail> {
-    expect(&rt, rt.alloc(), OVERTAKEN.as_bytes(), "lawful\n", "")?;
-    expect(&rt, rt.alloc(), ACCEPTED_BELOW.as_bytes(), "unlawful\n", "")
-}
-
-#[test]
-fn counts_the_members(rt: HostRuntime) -> Result<(), Fail> {
-    let alone = [
-        (1, "lawful\n"),
-        (2, "unlawful\n"),
-        (3, "unlawful\n"),
-        (7, "unlawful\n"),
-    ];
-    for (members, output) in alone {
-        let file = format!(in rt.alloc();
-            r#"{{"members":{members},"sent":["08012801","08022801","08042801"]}}"#
-        )?;
-        expect(&rt, rt.alloc(), file.as_bytes(), output, "")?;
-    }
-    for members in 1..=7 {
-        let file = format!(in rt.alloc(); r#"{{"members":{members},"sent":[]}}"#)?;
-        expect(&rt, rt.alloc(), file.as_bytes(), "lawful\n", "")?;
-    }
-    Ok(())
-}
-
-#[test]
-fn takes_other_spellings(rt: HostRuntime) -> Result<(), Fail> {
-    let spellings = [
-        r#"{"note":{"by":["hand"]},"sent":[],"members":3,"at":1.5}"#,
-        "\n{ \"members\" : 3 ,\t\"sent\" : [ ] }\r\n",
-        r#"{"members":9,"sent":[],"members":3}"#,
-        r#"{"members":1,"sent":["08012801","08022801","080428014A020A0B"]}"#,
-        r#"{"members":1,"sent":["08012801","08022801","080428014a020A0b"]}"#,
-        r#"{"members":1,"sent":["\u00308012801","08022801","080428014a020a0b"]}"#,
-    ];
-    for file in spellings {
-        expect(&rt, rt.alloc(), file.as_bytes(), "lawful\n", "")?;
-    }
-    Ok(())
-}
-
-#[test]
-fn refuses_what_is_no_recorded_run(rt: HostRuntime) -> Result<(), Fail> {
-    for (_, file) in BAD_TRACES {
-        expect(&rt, rt.alloc(), file.as_bytes(), "", "flightd: BadTrace\n")?;
+fn judges_each_file(rt: HostRuntime) {
+    for (_, file, judgement) in FILES {
+        expect(&rt, rt.alloc(), file.as_bytes(), judgement);
     }
     let no_text = b"{\"members\":3,\"sent\":[],\"note\":\"\xff\"}";
-    expect(&rt, rt.alloc(), no_text, "", "flightd: BadTrace\n")
+    expect(&rt, rt.alloc(), no_text, None);
 }
 
 #[test]

@@ -5,91 +5,63 @@ use std::alloc::Global;
 use std::process::Abort;
 use std::test::Fail;
 
-// The words of a call: the program's name and then these, parted by spaces.
-fn words_of(alloc: Global, call: &str) -> Result<Vec<String>, Fail> {
+/// What a call asks for: the file that is to be audited, if any, or else its exit status and whether a line for standard
+/// error tells of it.
+type Asked = Result<Option<&'static str>, (i32, bool)>;
+
+/// Calls, each the program's name and then its words, parted by spaces.
+const CALLS: [(&str, Asked); 24] = [
+    // No word, or a command.
+    ("flightd", Ok(None)),
+    ("flightd acceptor", Ok(None)),
+    // The file of an audit.
+    ("flightd audit run.json", Ok(Some("run.json"))),
+    ("flightd audit /tmp/runs/3", Ok(Some("/tmp/runs/3"))),
+    ("flightd audit acceptor", Ok(Some("acceptor"))),
+    ("flightd audit audit", Ok(Some("audit"))),
+    ("flightd audit help", Ok(Some("help"))),
+    ("flightd audit -", Ok(Some("-"))),
+    ("flightd audit ", Ok(Some(""))),
+    // Other words.
+    ("flightd audit", Err((2, true))),
+    ("flightd audit run.json run.json", Err((2, true))),
+    ("flightd audit --file run.json", Err((2, true))),
+    ("flightd audit -f", Err((2, true))),
+    ("flightd Audit run.json", Err((2, true))),
+    ("flightd run.json", Err((2, true))),
+    ("flightd serve", Err((2, true))),
+    ("flightd acceptor acceptor", Err((2, true))),
+    ("flightd acceptor audit", Err((2, true))),
+    ("flightd Acceptor", Err((2, true))),
+    ("flightd --slots", Err((2, true))),
+    // The help and the version.
+    ("flightd --help", Err((0, false))),
+    ("flightd --version", Err((0, false))),
+    ("flightd acceptor --help", Err((0, false))),
+    ("flightd audit --help", Err((0, false))),
+];
+
+fn expect(rt: &impl Abort, alloc: Global, call: &str, asked: Asked) -> Result<(), Fail> {
     let mut words = Vec::new(alloc);
     for word in call.split(' ') {
         words.push(String::from_str(alloc, word)?)?;
     }
-    Ok(words)
-}
-
-fn expect_refused(
-    rt: &impl Abort,
-    alloc: Global,
-    call: &str,
-    exit_code: i32,
-    use_stderr: bool,
-) -> Result<(), Fail> {
-    let words = words_of(alloc, call)?;
     match parse(alloc, &words) {
-        Ok(_) => Err(Fail::from("it parsed")),
+        Ok(matches) => {
+            assert_eq!(rt; Ok(audited_file(&matches)), asked, "at {call}");
+        }
         Err(error) => {
-            assert_eq!(rt; error.exit_code(), exit_code, "at {call}");
-            assert_eq!(rt; error.use_stderr(), use_stderr, "at {call}");
-            Ok(())
+            let told = (error.exit_code(), error.use_stderr());
+            assert_eq!(rt; Err(told), asked, "at {call}");
         }
     }
-}
-
-#[test]
-fn takes_no_word_or_a_command(rt: HostRuntime) -> Result<(), Fail> {
-    for call in ["flightd", "flightd acceptor"] {
-        let words = words_of(rt.alloc(), call)?;
-        let Ok(matches) = parse(rt.alloc(), &words) else {
-            return Err(Fail::from("it did not parse"));
-        };
-        assert_eq!(rt; audited_file(&matches), None, "at {call}");
-    }
     Ok(())
 }
 
 #[test]
-fn takes_the_file_of_an_audit(rt: HostRuntime) -> Result<(), Fail> {
-    for file in [
-        "run.json",
-        "/tmp/runs/3",
-        "acceptor",
-        "audit",
-        "help",
-        "-",
-        "",
-    ] {
-        let call = format!(in rt.alloc(); "flightd audit {file}")?;
-        let words = words_of(rt.alloc(), call.as_str())?;
-        let Ok(matches) = parse(rt.alloc(), &words) else {
-            return Err(Fail::from("it did not parse"));
-        };
-        assert_eq!(rt; audited_file(&matches), Some(file));
-    }
-    Ok(())
-}
-
-#[test]
-fn refuses_other_words(rt: HostRuntime) -> Result<(), Fail> {
-    let wrong = [
-        "flightd audit",
-        "flightd audit run.json run.json",
-        "flightd audit --file run.json",
-        "flightd audit -f",
-        "flightd Audit run.json",
-        "flightd run.json",
-        "flightd serve",
-        "flightd acceptor acceptor",
-        "flightd acceptor audit",
-        "flightd Acceptor",
-        "flightd --slots",
-    ];
-    for call in wrong {
-        expect_refused(&rt, rt.alloc(), call, 2, true)?;
-    }
-    for call in [
-        "flightd --help",
-        "flightd --version",
-        "flightd acceptor --help",
-        "flightd audit --help",
-    ] {
-        expect_refused(&rt, rt.alloc(), call, 0, false)?;
+fn takes_a_call_or_refuses_it(rt: HostRuntime) -> Result<(), Fail> {
+    for (call, asked) in CALLS {
+        expect(&rt, rt.alloc(), call, asked)?;
     }
     Ok(())
 }

@@ -1,26 +1,76 @@
-//! Whole conversations, with the answers worked out by hand.
+//! Whole conversations, with the answers and the lines worked out by hand: each fault's name, the number of its frame, and
+//! that the answers before it stand.
 
-use super::support::{ANSWERS, CONVERSATION, expect, run_over, spelled};
-use std::alloc::Global;
+use super::support::{ANSWERS, CONVERSATION, run_over, spelled};
 use std::test::Fail;
 
-#[test]
-fn answers_a_conversation(rt: HostRuntime) -> Result<(), Fail> {
-    expect(&rt, rt.alloc(), CONVERSATION, ANSWERS, "")
-}
+/// The answers before a fault: to a Prepare and to an Accept.
+const TWO_ANSWERS: &str = "00 00000004 08022801 00 00000006 080528023001";
+
+/// Inputs, with what is answered and what is said. Without a line the status is 0.
+const RUNS: [(&str, &str, &str); 27] = [
+    (CONVERSATION, ANSWERS, ""),
+    // No other message is answered.
+    ("", "", ""),
+    ("00 00000004 08022801", "", ""),
+    ("00 00000008 0803280138024001", "", ""),
+    ("00 00000004 08052801", "", ""),
+    ("00 00000002 0806", "", ""),
+    ("00 00000002 0807", "", ""),
+    // A fault of a frame.
+    ("00", "", "flightd: frame 0: Truncated\n"),
+    ("00 000000", "", "flightd: frame 0: Truncated\n"),
+    ("00 00000004 0801", "", "flightd: frame 0: Truncated\n"),
+    ("00 00000004", "", "flightd: frame 0: Truncated\n"),
+    ("01 00000000", "", "flightd: frame 0: Compressed\n"),
+    ("02 00000000", "", "flightd: frame 0: BadFlag\n"),
+    ("80 00000000", "", "flightd: frame 0: BadFlag\n"),
+    ("00 ffffffff", "", "flightd: frame 0: TooLong\n"),
+    ("00 00400001", "", "flightd: frame 0: TooLong\n"),
+    // A fault of a message.
+    ("00 00000002 0809", "", "flightd: frame 0: BadKind\n"),
+    ("00 00000000", "", "flightd: frame 0: BadKind\n"),
+    ("00 00000002 0801", "", "flightd: frame 0: OutOfRange\n"),
+    ("00 00000001 0b", "", "flightd: frame 0: BadWireType\n"),
+    ("00 00000003 0a0108", "", "flightd: frame 0: BadWireType\n"),
+    ("00 00000002 0000", "", "flightd: frame 0: BadKey\n"),
+    ("00 00000001 08", "", "flightd: frame 0: CutShort\n"),
+    (
+        "00 0000000b ffffffffffffffffffff01",
+        "",
+        "flightd: frame 0: BadVarint\n",
+    ),
+    // After two good frames, and before a third that is not read.
+    (
+        "00 00000004 08012801 00 00000008 0804100128023001 00 00000002 0809 00 00000004 08042801",
+        TWO_ANSWERS,
+        "flightd: frame 2: BadKind\n",
+    ),
+    (
+        "00 00000004 08012801 00 00000008 0804100128023001 80 00000000 00 00000004 08042801",
+        TWO_ANSWERS,
+        "flightd: frame 2: BadFlag\n",
+    ),
+    (
+        "00 00000004 08012801 00 00000008 0804100128023001 00 0000",
+        TWO_ANSWERS,
+        "flightd: frame 2: Truncated\n",
+    ),
+];
 
 #[test]
-fn answers_no_other_message(rt: HostRuntime) -> Result<(), Fail> {
-    let unanswered = [
-        "",
-        "00 00000004 08022801",
-        "00 00000008 0803280138024001",
-        "00 00000004 08052801",
-        "00 00000002 0806",
-        "00 00000002 0807",
-    ];
-    for input in unanswered {
-        expect(&rt, rt.alloc(), input, "", "")?;
+fn answers_and_says_as_worked_out(rt: HostRuntime) -> Result<(), Fail> {
+    for (input, answers, line) in RUNS {
+        let outcome = run_over(rt.alloc(), &spelled(rt.alloc(), input)?);
+        let wanted = spelled(rt.alloc(), answers)?;
+        assert_eq!(rt;
+            outcome.output.as_slice(),
+            wanted.as_slice(),
+            "over {input}"
+        );
+        assert_eq!(rt; outcome.said.as_slice(), line.as_bytes(), "over {input}");
+        let status = if line.is_empty() { 0 } else { 1 };
+        assert_eq!(rt; outcome.status, status, "over {input}");
     }
     Ok(())
 }
@@ -102,67 +152,5 @@ fn keeps_each_slot_and_the_order_of_ballots(rt: HostRuntime) -> Result<(), Fail>
     assert_eq!(rt; outcome.output.as_slice(), wanted.as_slice());
     assert!(rt; outcome.said.is_empty());
     assert_eq!(rt; outcome.status, 0);
-    Ok(())
-}
-
-// A frame that begins with these bytes and ends with so many of a value.
-pub(super) fn with_value(alloc: Global, beginning: &str, count: usize) -> Result<Vec<u8>, Fail> {
-    let mut bytes = spelled(alloc, beginning)?;
-    let value = Vec::from_elem(alloc, 7, count)?;
-    bytes.extend_from_slice(&value)?;
-    Ok(bytes)
-}
-
-// A Promise that reports a value is two bytes longer than the Accept that brought it, since it has a second round.
-#[test]
-fn tells_an_answer_that_is_too_long(rt: HostRuntime) -> Result<(), Fail> {
-    let alloc = rt.alloc();
-    let prepare = spelled(alloc, "00 00000004 08012802")?;
-
-    // The longest Promise that a frame carries.
-    let mut input = with_value(alloc, "00 003ffffe 0804 2801 4af5ffff01", 4_194_293)?;
-    input.extend_from_slice(&prepare)?;
-    let mut wanted = with_value(alloc, "00 003ffffe 0805 2801 4af5ffff01", 4_194_293)?;
-    let promise = with_value(alloc, "00 00400000 0802 2802 3801 4af5ffff01", 4_194_293)?;
-    wanted.extend_from_slice(&promise)?;
-    let outcome = run_over(alloc, &input);
-    assert!(rt; outcome.output == wanted);
-    assert!(rt; outcome.said.is_empty());
-    assert_eq!(rt; outcome.status, 0);
-
-    // One byte more.
-    let mut input = with_value(alloc, "00 003fffff 0804 2801 4af6ffff01", 4_194_294)?;
-    input.extend_from_slice(&prepare)?;
-    let wanted = with_value(alloc, "00 003fffff 0805 2801 4af6ffff01", 4_194_294)?;
-    let outcome = run_over(alloc, &input);
-    assert!(rt; outcome.output == wanted);
-    assert_eq!(rt;
-        outcome.said.as_slice(),
-        b"flightd: frame 1: TooLong\n".as_slice()
-    );
-    assert_eq!(rt; outcome.status, 1);
-    Ok(())
-}
-
-#[test]
-fn answers_as_many_frames_as_the_limit(rt: HostRuntime) -> Result<(), Fail> {
-    let ask = spelled(rt.alloc(), "00 00000002 0806")?;
-    let mut input = Vec::new(rt.alloc());
-    for _ in 0..999_999 {
-        input.extend_from_slice(&ask)?;
-    }
-    let outcome = run_over(rt.alloc(), &input);
-    assert!(rt; outcome.output.is_empty());
-    assert!(rt; outcome.said.is_empty());
-    assert_eq!(rt; outcome.status, 0);
-
-    input.extend_from_slice(&ask)?;
-    let outcome = run_over(rt.alloc(), &input);
-    assert!(rt; outcome.output.is_empty());
-    assert_eq!(rt;
-        outcome.said.as_slice(),
-        b"flightd: frame 1000000: Io\n".as_slice()
-    );
-    assert_eq!(rt; outcome.status, 1);
     Ok(())
 }

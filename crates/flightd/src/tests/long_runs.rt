@@ -1,9 +1,9 @@
-//! Runs of the acceptor beside the plain program for them where a limit is met: a million frames, and payloads of 4 MiB.
+//! Runs of the acceptor where a limit is met, a million frames or payloads of 4 MiB: beside the plain program for them, and
+//! with the answers and the lines worked out by hand.
 
 use super::all_runs::{compare, expect_met, new_tally};
-use super::conversations::with_value;
 use super::plain_runs::Room;
-use super::support::spelled;
+use super::support::{run_over, spelled};
 use crate::fault::RunFault;
 use std::alloc::Global;
 use std::test::Fail;
@@ -11,15 +11,12 @@ use std::test::Fail;
 /// Room for a short answer, for one byte less than the longest Accepted below, for that, for one byte more, and for all.
 const ROOMS: [usize; 5] = [1_000, 4_194_307, 4_194_308, 4_194_309, 20_000_000];
 
-/// So many Asks, each a frame that needs no reply.
-fn asks(alloc: Global, count: usize) -> Result<Vec<u8>, Fail> {
-    let ask = spelled(alloc, "00 00000002 0806")?;
-    let mut text = Vec::new(alloc);
-    for _ in 0..count {
-        text.extend_from_slice(&ask)?;
-    }
-    Ok(text)
-}
+/// Counts of frames, each with the status and the line of a run over so many.
+const COUNTS: [(usize, u8, &str); 3] = [
+    (999_999, 0, ""),
+    (1_000_000, 1, "flightd: frame 1000000: Io\n"),
+    (1_000_001, 1, "flightd: frame 1000000: Io\n"),
+];
 
 #[test]
 fn ends_as_it_may_about_the_limit_of_frames(rt: HostRuntime) -> Result<(), Fail> {
@@ -28,9 +25,19 @@ fn ends_as_it_may_about_the_limit_of_frames(rt: HostRuntime) -> Result<(), Fail>
         bytes: 100,
         flushes: 1,
     };
+    let ask = spelled(alloc, "00 00000002 0806")?;
     let mut tally = new_tally(alloc);
-    for count in [999_999, 1_000_000, 1_000_001] {
-        let mut text = asks(alloc, count)?;
+    for (count, status, line) in COUNTS {
+        // So many Asks, each a frame that needs no reply.
+        let mut text = Vec::new(alloc);
+        for _ in 0..count {
+            text.extend_from_slice(&ask)?;
+        }
+        let outcome = run_over(alloc, &text);
+        assert!(rt; outcome.output.is_empty(), "over {count}");
+        assert_eq!(rt; outcome.said.as_slice(), line.as_bytes(), "over {count}");
+        assert_eq!(rt; outcome.status, status, "over {count}");
+
         compare(&rt, alloc, &text, enough, &mut tally)?;
         text.extend_from_slice(&[0x80, 0, 0, 0, 0])?;
         compare(&rt, alloc, &text, enough, &mut tally)?;
@@ -41,16 +48,58 @@ fn ends_as_it_may_about_the_limit_of_frames(rt: HostRuntime) -> Result<(), Fail>
     Ok(())
 }
 
+/// Appends a frame that begins with these bytes and ends with so many of a value.
+fn push_with_value(
+    alloc: Global,
+    text: &mut Vec<u8>,
+    beginning: &str,
+    count: usize,
+) -> Result<(), Fail> {
+    text.extend_from_slice(&spelled(alloc, beginning)?)?;
+    text.extend_from_slice(&Vec::from_elem(alloc, 7, count)?)?;
+    Ok(())
+}
+
+/// How long a value is, the Accept that brings it, its Accepted, and the Promise that reports it. That is two bytes longer
+/// than the Accept, since it has a second round, so of the two values only the first is reported: its Promise is the
+/// longest that a frame carries, and the other one would be one byte longer.
+const VALUES: [(usize, &str, &str, Option<&str>); 2] = [
+    (
+        4_194_293,
+        "00 003ffffe 0804 2801 4af5ffff01",
+        "00 003ffffe 0805 2801 4af5ffff01",
+        Some("00 00400000 0802 2802 3801 4af5ffff01"),
+    ),
+    (
+        4_194_294,
+        "00 003fffff 0804 2801 4af6ffff01",
+        "00 003fffff 0805 2801 4af6ffff01",
+        None,
+    ),
+];
+
 #[test]
 fn ends_as_it_may_about_the_limit_of_payloads(rt: HostRuntime) -> Result<(), Fail> {
     let alloc = rt.alloc();
     let mut tally = new_tally(alloc);
-    for (beginning, count) in [
-        ("00 003ffffe 0804 2801 4af5ffff01", 4_194_293),
-        ("00 003fffff 0804 2801 4af6ffff01", 4_194_294),
-    ] {
-        let mut text = with_value(alloc, beginning, count)?;
+    for (count, accept, accepted, promise) in VALUES {
+        let mut text = Vec::new(alloc);
+        push_with_value(alloc, &mut text, accept, count)?;
         text.extend_from_slice(&spelled(alloc, "00 00000004 08012802")?)?;
+        let mut wanted = Vec::new(alloc);
+        push_with_value(alloc, &mut wanted, accepted, count)?;
+        let mut line = "flightd: frame 1: TooLong\n";
+        let mut status = 1;
+        if let Some(beginning) = promise {
+            push_with_value(alloc, &mut wanted, beginning, count)?;
+            line = "";
+            status = 0;
+        }
+        let outcome = run_over(alloc, &text);
+        assert!(rt; outcome.output == wanted, "at {count}");
+        assert_eq!(rt; outcome.said.as_slice(), line.as_bytes(), "at {count}");
+        assert_eq!(rt; outcome.status, status, "at {count}");
+
         for bytes in ROOMS {
             let room = Room { bytes, flushes: 9 };
             compare(&rt, alloc, &text, room, &mut tally)?;

@@ -1,7 +1,6 @@
 //! The acceptor beside a plain one, over every sequence of three requests from a small set.
 
 use super::support::run_over;
-use std::alloc::Global;
 use std::test::Fail;
 
 const BALLOTS: [(u8, u8); 3] = [(1, 0), (1, 1), (2, 0)];
@@ -14,24 +13,22 @@ type Numbers = [u8; 7];
 const TAGS: Numbers = [0x08, 0x10, 0x18, 0x28, 0x30, 0x38, 0x40];
 
 // What a slot has promised, and at which ballot it has last accepted, (0, 0) for none.
-#[derive(Clone, Copy)]
+#[derive(Drop)]
 struct Plain {
     slot: u8,
     promised: (u8, u8),
     accepted: (u8, u8),
 }
 
-// The request of a number below `REQUESTS`: a Prepare or an Accept of a Noop, for one of two slots.
-fn request_of(number: usize) -> Numbers {
-    let kind = if number % 2 == 0 { 1 } else { 4 };
-    let slot = if number / 2 % 2 == 0 { 0 } else { 9 };
-    let (round, node) = BALLOTS[number / 4 % 3];
-    [kind, 3, slot, round, node, 0, 0]
-}
-
+// Appends a frame with those of the numbers that are not 0, each behind its tag.
 fn append_frame(text: &mut Vec<u8>, numbers: Numbers) -> Result<(), Fail> {
-    let present = numbers.iter().filter(|number| **number != 0).count();
-    text.extend_from_slice(&[0, 0, 0, 0, (present % 8) as u8 * 2])?;
+    let mut len: u8 = 0;
+    for number in numbers {
+        if number != 0 {
+            len = len.saturating_add(2);
+        }
+    }
+    text.extend_from_slice(&[0, 0, 0, 0, len])?;
     for (tag, number) in TAGS.iter().zip(numbers) {
         if number != 0 {
             text.extend_from_slice(&[*tag, number])?;
@@ -69,25 +66,24 @@ fn plain_answer(kept: &mut Vec<Plain>, request: Numbers) -> Result<Numbers, Fail
     Ok([if kind == 4 { 5 } else { 2 }, 0, slot, round, node, 0, 0])
 }
 
-// A run over the requests that these three digits of the number name, and what a plain acceptor answers.
-fn expected_of(alloc: Global, sequence: usize) -> Result<(Vec<u8>, Vec<u8>), Fail> {
-    let mut kept = Vec::new(alloc);
-    let mut input = Vec::new(alloc);
-    let mut answers = Vec::new(alloc);
-    let mut rest = sequence;
-    for _ in 0..3 {
-        let request = request_of(rest % REQUESTS);
-        rest /= REQUESTS;
-        append_frame(&mut input, request)?;
-        append_frame(&mut answers, plain_answer(&mut kept, request)?)?;
-    }
-    Ok((input, answers))
-}
-
 #[test]
 fn answers_as_a_plain_acceptor(rt: HostRuntime) -> Result<(), Fail> {
     for sequence in 0..REQUESTS * REQUESTS * REQUESTS {
-        let (input, answers) = expected_of(rt.alloc(), sequence)?;
+        let mut kept = Vec::new(rt.alloc());
+        let mut input = Vec::new(rt.alloc());
+        let mut answers = Vec::new(rt.alloc());
+        let mut rest = sequence;
+        for _ in 0..3 {
+            // Each digit names a request: a Prepare or an Accept of a Noop, for one of two slots.
+            let number = rest % REQUESTS;
+            rest /= REQUESTS;
+            let kind = if number % 2 == 0 { 1 } else { 4 };
+            let slot = if number / 2 % 2 == 0 { 0 } else { 9 };
+            let (round, node) = BALLOTS[number / 4 % 3];
+            let request = [kind, 3, slot, round, node, 0, 0];
+            append_frame(&mut input, request)?;
+            append_frame(&mut answers, plain_answer(&mut kept, request)?)?;
+        }
         let outcome = run_over(rt.alloc(), &input);
         assert_eq!(rt;
             outcome.output.as_slice(),

@@ -9,25 +9,15 @@ use std::alloc::{AllocError, Global};
 /// A ballot: its round, and the node that breaks ties.
 pub(super) type Ballot = (u64, u64);
 
-/// A message that is answered.
-#[derive(Clone, Copy)]
-pub(super) enum Request<'a> {
-    Prepare {
-        slot: u64,
-        ballot: Ballot,
-    },
-    Accept {
-        slot: u64,
-        ballot: Ballot,
-        value: &'a [u8],
-    },
-}
-
 /// What a payload is.
 #[derive(Drop)]
 pub(super) enum Payload<'a> {
-    /// A message that is answered.
-    Request(Request<'a>),
+    /// A message that is answered: an Accept where there is a value, and else a Prepare.
+    Request {
+        slot: u64,
+        ballot: Ballot,
+        value: Option<&'a [u8]>,
+    },
     /// Another message.
     Unanswered,
     /// No message, with every fault that stands.
@@ -35,28 +25,22 @@ pub(super) enum Payload<'a> {
 }
 
 /// What a field holds, by its wire type.
-#[derive(Clone, Copy)]
+#[derive(Drop)]
 enum Held<'a> {
     Number(u64),
     Bytes(&'a [u8]),
     Other,
 }
 
-#[derive(Clone, Copy)]
-struct Field<'a> {
-    number: u64,
-    held: Held<'a>,
-}
-
-/// The fields of a text, and all that is wrong where they end before the text does.
+/// The fields of a text, each with its number, and all that is wrong where they end before the text does.
 #[derive(Drop)]
 struct Reading<'a> {
-    fields: Vec<Field<'a>>,
+    fields: Vec<(u64, Held<'a>)>,
     faults: Vec<MessageFault>,
 }
 
 /// What each field of a message means, and nothing where one is of another wire type.
-#[derive(Clone, Copy)]
+#[derive(Drop)]
 struct Parts<'a> {
     kind: Option<u64>,
     sender: Option<u64>,
@@ -68,116 +52,63 @@ struct Parts<'a> {
     value: Option<&'a [u8]>,
 }
 
-/// A set of faults.
-#[derive(Clone, Copy)]
-struct Faults {
-    wire_type: bool,
-    range: bool,
-    kind: bool,
-}
+/// The least and the greatest round of a ballot, its nodes, and the slots.
+const ROUNDS: (u64, u64) = (1, 4_000_000_000);
 
-const NO_FAULTS: Faults = Faults {
-    wire_type: false,
-    range: false,
-    kind: false,
-};
+const NODES: (u64, u64) = (0, 6);
 
-/// All faults of the one set and of the other.
-fn both(one: Faults, other: Faults) -> Faults {
-    Faults {
-        wire_type: one.wire_type || other.wire_type,
-        range: one.range || other.range,
-        kind: one.kind || other.kind,
-    }
-}
+const SLOTS: (u64, u64) = (0, 999_999);
 
-/// The number of 64 bits that the bytes spell ("Base 128 Varints"): their lowest seven bits, the highest last.
-fn number_of(bytes: &[u8]) -> Option<u64> {
-    let mut number: u128 = 0;
-    for byte in bytes.iter().rev() {
-        let digit = u128::from(*byte % 128);
-        number = number.checked_mul(128)?.checked_add(digit)?;
-    }
-    if number < 1 << 64 {
-        Some(number as u64)
-    } else {
-        None
-    }
-}
-
-/// The number at the front of the text and what follows it, `IsVarint`, or why there is none: no byte of the text is the
-/// last one, `IsCutVarint`, or it goes on past ten bytes or takes more than 64 bits, `IsBadVarint`.
+/// The number of 64 bits at the front of the text ("Base 128 Varints": seven bits a byte, the lowest first) and what follows
+/// it, `IsVarint`, or why there is none: no byte of the text is the last one, `IsCutVarint`, or it goes on past ten bytes or
+/// takes more than 64 bits, `IsBadVarint`.
 fn varint_at(text: &[u8]) -> Result<(u64, &[u8]), WireFault> {
-    let last = text.iter().position(|byte| *byte < 128);
-    let len = last.unwrap_or(text.len()).saturating_add(1);
-    if len > 10 {
-        return Err(WireFault::BadVarint);
+    let mut number: u128 = 0;
+    let mut weight: u128 = 1;
+    let mut rest = text;
+    for _ in 0..10 {
+        let [byte, after @ ..] = rest else {
+            return Err(WireFault::CutShort);
+        };
+        let digit = u128::from(*byte % 128);
+        number = number.saturating_add(digit.saturating_mul(weight));
+        weight = weight.saturating_mul(128);
+        rest = after;
+        if *byte < 128 {
+            return if number < 1 << 64 {
+                Ok((number as u64, rest))
+            } else {
+                Err(WireFault::BadVarint)
+            };
+        }
     }
-    let Some((bytes, rest)) = text.split_at_checked(len) else {
-        return Err(WireFault::CutShort);
-    };
-    match number_of(bytes) {
-        Some(number) => Ok((number, rest)),
-        None => Err(WireFault::BadVarint),
-    }
-}
-
-/// So many bytes at the front of the text and what follows them, or that they are cut short.
-fn bytes_at(text: &[u8], len: u64) -> Result<(&[u8], &[u8]), WireFault> {
-    match usize::try_from(len) {
-        Ok(len) => text.split_at_checked(len).ok_or(WireFault::CutShort),
-        Err(_) => Err(WireFault::CutShort),
-    }
+    Err(WireFault::BadVarint)
 }
 
 /// What a field of this wire type holds, where its content stands at the front of the text, and what follows it.
 fn held_at(kind: u64, text: &[u8]) -> Result<(Held<'_>, &[u8]), WireFault> {
-    match kind {
+    let (len, content) = match kind {
         0 => {
             let (number, rest) = varint_at(text)?;
-            Ok((Held::Number(number), rest))
+            return Ok((Held::Number(number), rest));
         }
-        2 => {
-            let (len, content) = varint_at(text)?;
-            let (bytes, rest) = bytes_at(content, len)?;
-            Ok((Held::Bytes(bytes), rest))
-        }
-        1 | 5 => {
-            let (_, rest) = bytes_at(text, if kind == 1 { 8 } else { 4 })?;
-            Ok((Held::Other, rest))
-        }
-        _ => Err(WireFault::BadWireType),
-    }
-}
-
-/// Takes the field at the front of the text, or all that is wrong there, and gives what follows it. A key is eight times
-/// the field's number, which is 1 to 2^29 - 1, plus its wire type.
-fn take_field<'a>(reading: &mut Reading<'a>, text: &'a [u8]) -> Result<&'a [u8], AllocError> {
-    let (key, content) = match varint_at(text) {
-        Ok(found) => found,
-        Err(fault) => {
-            reading.faults.push(MessageFault::Wire(fault))?;
-            return Ok(text);
-        }
+        1 => (8, text),
+        2 => varint_at(text)?,
+        5 => (4, text),
+        _ => return Err(WireFault::BadWireType),
     };
-    let number = key / 8;
-    if number == 0 || number >= 1 << 29 {
-        reading.faults.push(MessageFault::Wire(WireFault::BadKey))?;
-    }
-    match held_at(key % 8, content) {
-        Ok((held, rest)) => {
-            reading.fields.push(Field { number, held })?;
-            Ok(rest)
-        }
-        Err(fault) => {
-            reading.faults.push(MessageFault::Wire(fault))?;
-            Ok(text)
-        }
+    let Some((bytes, rest)) = content.split_at_checked(len as usize) else {
+        return Err(WireFault::CutShort);
+    };
+    if kind == 2 {
+        Ok((Held::Bytes(bytes), rest))
+    } else {
+        Ok((Held::Other, rest))
     }
 }
 
 /// `IsFields` and `FieldsFault`: the fields of the text from left to right, up to its end or the first place where none
-/// stands.
+/// stands, with all that is wrong there. A key is eight times the field's number, which is 1 to 2^29 - 1, plus its wire type.
 fn reading_of(alloc: Global, text: &[u8]) -> Result<Reading<'_>, AllocError> {
     let mut reading = Reading {
         fields: Vec::new(alloc),
@@ -188,41 +119,53 @@ fn reading_of(alloc: Global, text: &[u8]) -> Result<Reading<'_>, AllocError> {
         if rest.is_empty() || !reading.faults.is_empty() {
             break;
         }
-        rest = take_field(&mut reading, rest)?;
+        let (key, content) = match varint_at(rest) {
+            Ok(found) => found,
+            Err(fault) => {
+                reading.faults.push(MessageFault::Wire(fault))?;
+                break;
+            }
+        };
+        let number = key / 8;
+        if number == 0 || number >= 1 << 29 {
+            reading.faults.push(MessageFault::Wire(WireFault::BadKey))?;
+        }
+        match held_at(key % 8, content) {
+            Ok((held, after)) => {
+                reading.fields.push((number, held))?;
+                rest = after;
+            }
+            Err(fault) => reading.faults.push(MessageFault::Wire(fault))?,
+        }
     }
     Ok(reading)
 }
 
 /// The last of the numbers that fields of this number hold ("Last One Wins"), and 0 where there is none.
-fn last_number(number: u64, fields: &[Field<'_>]) -> Option<u64> {
+fn last_number(number: u64, fields: &[(u64, Held<'_>)]) -> Option<u64> {
     let mut last = 0;
-    for field in fields {
-        if field.number == number {
-            let Held::Number(given) = field.held else {
+    for (at, held) in fields {
+        if *at == number {
+            let Held::Number(given) = held else {
                 return None;
             };
-            last = given;
+            last = *given;
         }
     }
     Some(last)
 }
 
-/// The last of the byte strings, likewise.
-fn last_bytes<'a>(number: u64, fields: &[Field<'a>]) -> Option<&'a [u8]> {
-    let mut last: &[u8] = &[];
-    for field in fields {
-        if field.number == number {
-            let Held::Bytes(given) = field.held else {
-                return None;
+/// `parts_of`. The last of the byte strings counts likewise.
+fn parts_of<'a>(fields: &[(u64, Held<'a>)]) -> Parts<'a> {
+    let mut value: Option<&'a [u8]> = Some(&[]);
+    for (at, held) in fields {
+        if *at == 9 && value.is_some() {
+            value = match held {
+                Held::Bytes(given) => Some(*given),
+                _ => None,
             };
-            last = given;
         }
     }
-    Some(last)
-}
-
-/// `parts_of`.
-fn parts_of<'a>(fields: &[Field<'a>]) -> Parts<'a> {
     Parts {
         kind: last_number(1, fields),
         sender: last_number(2, fields),
@@ -231,88 +174,49 @@ fn parts_of<'a>(fields: &[Field<'a>]) -> Parts<'a> {
         node: last_number(6, fields),
         second_round: last_number(7, fields),
         second_node: last_number(8, fields),
-        value: last_bytes(9, fields),
+        value,
     }
 }
 
-/// What is wrong with a number that has these limits.
-fn number_faults(number: Option<u64>, least: u64, most: u64) -> Faults {
-    Faults {
-        wire_type: number.is_none(),
-        range: number.is_some_and(|number| number < least || most < number),
-        kind: false,
-    }
-}
-
-/// `BallotFault`.
-fn ballot_faults(round: Option<u64>, node: Option<u64>) -> Faults {
-    both(
-        number_faults(round, 1, 4_000_000_000),
-        number_faults(node, 0, 6),
-    )
-}
-
-/// `HeadFault`.
-fn head_faults(parts: &Parts<'_>) -> Faults {
-    let kind = Faults {
-        wire_type: parts.kind.is_none(),
-        ..NO_FAULTS
+/// `PartsFault`: everything that is wrong with the parts, `HeadFault`, `BodyFault` and `IsUnknownKind`.
+fn faults_of(alloc: Global, parts: &Parts<'_>) -> Result<Vec<MessageFault>, AllocError> {
+    // Whether a message of this kind has a ballot, a second one and a value.
+    let (has_ballot, has_second, has_value) = match parts.kind {
+        Some(1) => (true, false, false),
+        Some(2) if parts.second_round == Some(0) => (true, false, false),
+        Some(2) => (true, true, true),
+        Some(3) => (true, true, false),
+        Some(4) | Some(5) => (true, false, true),
+        Some(7) => (false, false, true),
+        _ => (false, false, false),
     };
-    let sender = number_faults(parts.sender, 0, 6);
-    both(kind, both(sender, number_faults(parts.slot, 0, 999_999)))
-}
-
-/// `BodyFault` and `IsUnknownKind`.
-fn body_faults(parts: &Parts<'_>) -> Faults {
-    let ballot = ballot_faults(parts.round, parts.node);
-    let second = ballot_faults(parts.second_round, parts.second_node);
-    let value = Faults {
-        wire_type: parts.value.is_none(),
-        ..NO_FAULTS
-    };
-    match parts.kind {
-        None | Some(6) => NO_FAULTS,
-        Some(1) => ballot,
-        Some(2) if parts.second_round == Some(0) => ballot,
-        Some(2) => both(ballot, both(second, value)),
-        Some(3) => both(ballot, second),
-        Some(4) | Some(5) => both(ballot, value),
-        Some(7) => value,
-        Some(_) => Faults {
-            kind: true,
-            ..NO_FAULTS
-        },
+    let numbers = [
+        (true, parts.sender, NODES),
+        (true, parts.slot, SLOTS),
+        (has_ballot, parts.round, ROUNDS),
+        (has_ballot, parts.node, NODES),
+        (has_second, parts.second_round, ROUNDS),
+        (has_second, parts.second_node, NODES),
+    ];
+    let mut is_other_type = parts.kind.is_none() || (has_value && parts.value.is_none());
+    let mut is_out_of_range = false;
+    for (has_it, number, (least, most)) in numbers {
+        match number {
+            Some(number) => is_out_of_range |= has_it && (number < least || most < number),
+            None => is_other_type |= has_it,
+        }
     }
-}
-
-/// The faults of the set, as they are told.
-fn told(alloc: Global, faults: Faults) -> Result<Vec<MessageFault>, AllocError> {
-    let mut list = Vec::new(alloc);
-    if faults.wire_type {
-        list.push(MessageFault::Wire(WireFault::BadWireType))?;
+    let mut faults = Vec::new(alloc);
+    if is_other_type {
+        faults.push(MessageFault::Wire(WireFault::BadWireType))?;
     }
-    if faults.range {
-        list.push(MessageFault::OutOfRange)?;
+    if is_out_of_range {
+        faults.push(MessageFault::OutOfRange)?;
     }
-    if faults.kind {
-        list.push(MessageFault::BadKind)?;
+    if let Some(0 | 8..) = parts.kind {
+        faults.push(MessageFault::BadKind)?;
     }
-    Ok(list)
-}
-
-/// The Prepare or the Accept, where these are the parts of one.
-fn request_of<'a>(parts: &Parts<'a>) -> Option<Request<'a>> {
-    let slot = parts.slot?;
-    let ballot = (parts.round?, parts.node?);
-    match parts.kind? {
-        1 => Some(Request::Prepare { slot, ballot }),
-        4 => Some(Request::Accept {
-            slot,
-            ballot,
-            value: parts.value?,
-        }),
-        _ => None,
-    }
+    Ok(faults)
 }
 
 /// What the payload is.
@@ -322,12 +226,21 @@ pub(super) fn payload_of(alloc: Global, text: &[u8]) -> Result<Payload<'_>, Allo
         return Ok(Payload::Faulty(reading.faults));
     }
     let parts = parts_of(&reading.fields);
-    let faults = told(alloc, both(head_faults(&parts), body_faults(&parts)))?;
+    let faults = faults_of(alloc, &parts)?;
     if !faults.is_empty() {
         return Ok(Payload::Faulty(faults));
     }
-    Ok(match request_of(&parts) {
-        Some(request) => Payload::Request(request),
-        None => Payload::Unanswered,
+    let value = match parts.kind {
+        Some(1) => None,
+        Some(4) => parts.value,
+        _ => return Ok(Payload::Unanswered),
+    };
+    Ok(match (parts.slot, parts.round, parts.node) {
+        (Some(slot), Some(round), Some(node)) => Payload::Request {
+            slot,
+            ballot: (round, node),
+            value,
+        },
+        _ => Payload::Unanswered,
     })
 }

@@ -2,7 +2,7 @@
 //! `RunsToTheEnd` and `RunsInto`: gRPC over HTTP/2, "Length-Prefixed-Message", and Lamport, *Paxos Made Simple*, section
 //! 2.2, phases 1b and 2b. It is for inputs in memory, where no read fails and memory is there.
 
-use super::plain_requests::{Ballot, Payload, Request, payload_of};
+use super::plain_requests::{Ballot, Payload, payload_of};
 use crate::fault::RunFault;
 use proto_wire::FrameFault;
 use std::alloc::{AllocError, Global};
@@ -21,14 +21,14 @@ pub(super) struct Room {
 }
 
 /// How a run may end, and how much of what it wrote had gone out by then.
-#[derive(Clone, Copy)]
+#[derive(Drop)]
 pub(super) struct Outcome {
     pub(super) ending: Result<(), (u32, RunFault)>,
     pub(super) written: usize,
 }
 
 /// An answer. Its second ballot is the report's or the refusing one.
-#[derive(Clone, Copy)]
+#[derive(Drop)]
 pub(super) struct Reply<'a> {
     pub(super) kind: u64,
     slot: u64,
@@ -90,79 +90,53 @@ fn front_of(text: &[u8]) -> Front<'_> {
     }
 }
 
-/// The standing's row of the slot.
-fn row_of<'a>(rows: &[Row<'a>], slot: u64) -> Option<Row<'a>> {
-    let mut last = None;
-    for row in rows {
-        if row.slot == slot {
-            last = Some(*row);
-        }
-    }
-    last
-}
-
-fn nack<'a>(slot: u64, ballot: Ballot, promised: Ballot) -> Reply<'a> {
-    Reply {
-        kind: 3,
-        slot,
-        ballot,
-        second: Some(promised),
-        value: &[],
-    }
-}
-
-/// `RepliesToPrepare`: a Promise above what the slot has promised, which reports what it has accepted, and a Nack else.
-fn reply_to_prepare<'a>(
+/// `RepliesToAccept`, where there is a value: an Accepted from what the slot has promised on, and a Nack below it.
+/// `RepliesToPrepare`, where there is none: a Promise above what the slot has promised, which reports what it has accepted,
+/// and a Nack else.
+fn reply_to<'a>(
     rows: &mut Vec<Row<'a>>,
     slot: u64,
     ballot: Ballot,
+    value: Option<&'a [u8]>,
 ) -> Result<Reply<'a>, AllocError> {
-    let accepted = match row_of(rows, slot) {
-        Some(row) if ballot <= row.promised => return Ok(nack(slot, ballot, row.promised)),
-        Some(row) => row.accepted,
-        None => None,
+    let mut standing = None;
+    for row in rows.iter() {
+        if row.slot == slot {
+            standing = Some(*row);
+        }
+    }
+    let mut reply = Reply {
+        kind: if value.is_some() { 5 } else { 2 },
+        slot,
+        ballot,
+        second: None,
+        value: value.unwrap_or(&[]),
     };
+    let mut accepted = None;
+    if let Some(row) = standing {
+        if ballot < row.promised || (ballot == row.promised && value.is_none()) {
+            reply.kind = 3;
+            reply.second = Some(row.promised);
+            reply.value = &[];
+            return Ok(reply);
+        }
+        accepted = row.accepted;
+    }
+    match value {
+        Some(value) => accepted = Some((ballot, value)),
+        None => {
+            if let Some((at, value)) = accepted {
+                reply.second = Some(at);
+                reply.value = value;
+            }
+        }
+    }
     rows.push(Row {
         slot,
         promised: ballot,
         accepted,
     })?;
-    let (second, value) = match accepted {
-        Some((at, value)) => (Some(at), value),
-        None => (None, [].as_slice()),
-    };
-    Ok(Reply {
-        kind: 2,
-        slot,
-        ballot,
-        second,
-        value,
-    })
-}
-
-/// `RepliesToAccept`: an Accepted from what the slot has promised on, and a Nack below it.
-fn reply_to_accept<'a>(
-    rows: &mut Vec<Row<'a>>,
-    slot: u64,
-    ballot: Ballot,
-    value: &'a [u8],
-) -> Result<Reply<'a>, AllocError> {
-    match row_of(rows, slot) {
-        Some(row) if ballot < row.promised => return Ok(nack(slot, ballot, row.promised)),
-        _ => {}
-    }
-    rows.push(Row {
-        slot,
-        promised: ballot,
-        accepted: Some((ballot, value)),
-    })?;
-    Ok(Reply {
-        kind: 5,
-        slot,
-        ballot,
-        second: None,
-        value,
-    })
+    Ok(reply)
 }
 
 /// Seven bits a byte, the lowest first, in as few bytes as there may be.
@@ -178,8 +152,9 @@ fn push_varint(text: &mut Vec<u8>, number: u64) -> Result<(), AllocError> {
     Ok(())
 }
 
-/// `canonical`: the fields by rising numbers, without those that are 0 or empty. The sender is node 0.
-fn payload_text(alloc: Global, reply: &Reply<'_>) -> Result<Vec<u8>, AllocError> {
+/// The frame of the reply, unless its payload is longer than the limit. The payload is `canonical`: the fields by rising
+/// numbers, without those that are 0 or empty. The sender is node 0.
+fn frame_of(alloc: Global, reply: &Reply<'_>) -> Result<Option<Vec<u8>>, AllocError> {
     let (round, node) = reply.ballot;
     let (second_round, second_node) = reply.second.unwrap_or((0, 0));
     let numbers = [
@@ -190,39 +165,40 @@ fn payload_text(alloc: Global, reply: &Reply<'_>) -> Result<Vec<u8>, AllocError>
         (0x38, second_round),
         (0x40, second_node),
     ];
-    let mut text = Vec::new(alloc);
+    let mut payload = Vec::new(alloc);
     for (key, number) in numbers {
         if number != 0 {
-            text.push(key)?;
-            push_varint(&mut text, number)?;
+            payload.push(key)?;
+            push_varint(&mut payload, number)?;
         }
     }
     if !reply.value.is_empty() {
-        text.push(0x4a)?;
-        push_varint(&mut text, reply.value.len() as u64)?;
-        text.extend_from_slice(reply.value)?;
+        payload.push(0x4a)?;
+        push_varint(&mut payload, reply.value.len() as u64)?;
+        payload.extend_from_slice(reply.value)?;
     }
-    Ok(text)
-}
-
-/// The frame of a payload within the limit.
-fn frame_text(alloc: Global, payload: &[u8]) -> Result<Vec<u8>, AllocError> {
     let len = payload.len();
+    if len > MOST_PAYLOAD {
+        return Ok(None);
+    }
     let mut text = Vec::new(alloc);
     text.push(0)?;
     text.push((len / 16_777_216 % 256) as u8)?;
     text.push((len / 65_536 % 256) as u8)?;
     text.push((len / 256 % 256) as u8)?;
     text.push((len % 256) as u8)?;
-    text.extend_from_slice(payload)?;
-    Ok(text)
+    text.extend_from_slice(&payload)?;
+    Ok(Some(text))
 }
 
 impl<'a> PlainRun<'a> {
-    /// The run may end here, for this fault of the next frame.
-    fn may_end(&mut self, fault: RunFault) -> Result<(), AllocError> {
+    /// The run may end so here, where this is wrong with the next frame, if anything.
+    fn may_end(&mut self, fault: Option<RunFault>) -> Result<(), AllocError> {
         self.outcomes.push(Outcome {
-            ending: Err((self.frames, fault)),
+            ending: match fault {
+                Some(fault) => Err((self.frames, fault)),
+                None => Ok(()),
+            },
             written: self.written.len(),
         })?;
         Ok(())
@@ -231,87 +207,40 @@ impl<'a> PlainRun<'a> {
     /// Sends the reply to a writer of this room, and says whether the run goes on. Where the frame does not fit, or its flush
     /// fails, a beginning of it has gone out.
     fn send(&mut self, alloc: Global, room: Room, reply: Reply<'a>) -> Result<bool, AllocError> {
-        let payload = payload_text(alloc, &reply)?;
-        if payload.len() > MOST_PAYLOAD {
-            self.may_end(RunFault::AnswerTooLong)?;
+        let Some(text) = frame_of(alloc, &reply)? else {
+            self.may_end(Some(RunFault::AnswerTooLong))?;
             return Ok(false);
-        }
-        let text = frame_text(alloc, &payload)?;
+        };
         let left = room.bytes.saturating_sub(self.written.len());
-        if let Some(beginning) = text.get(..left)
-            && left < text.len()
-        {
-            self.written.extend_from_slice(beginning)?;
-            self.may_end(RunFault::Write)?;
-            return Ok(false);
-        }
-        self.written.extend_from_slice(&text)?;
-        if self.replies.len() >= room.flushes {
-            self.may_end(RunFault::Write)?;
+        let fitting = text.get(..left).unwrap_or(text.as_slice());
+        self.written.extend_from_slice(fitting)?;
+        if fitting.len() < text.len() || self.replies.len() >= room.flushes {
+            self.may_end(Some(RunFault::Write))?;
             return Ok(false);
         }
         self.replies.push(reply)?;
         Ok(true)
     }
 
-    /// Tells each of the faults.
-    fn may_end_by_each(&mut self, faults: &[ballots::MessageFault]) -> Result<(), AllocError> {
-        for fault in faults {
-            self.may_end(RunFault::Message(*fault))?;
-        }
-        Ok(())
-    }
-
     /// `Turn` and `FrameEnds`, of a frame with flag 0: whether the run goes on behind it.
     fn answer(&mut self, alloc: Global, room: Room, payload: &'a [u8]) -> Result<bool, AllocError> {
-        let request = match payload_of(alloc, payload)? {
+        match payload_of(alloc, payload)? {
             Payload::Faulty(faults) => {
-                self.may_end_by_each(&faults)?;
-                return Ok(false);
+                for fault in faults.iter() {
+                    self.may_end(Some(RunFault::Message(*fault)))?;
+                }
+                Ok(false)
             }
-            Payload::Unanswered => return Ok(true),
-            Payload::Request(request) => request,
-        };
-        let reply = match request {
-            Request::Prepare { slot, ballot } => reply_to_prepare(&mut self.rows, slot, ballot)?,
-            Request::Accept {
+            Payload::Unanswered => Ok(true),
+            Payload::Request {
                 slot,
                 ballot,
                 value,
-            } => reply_to_accept(&mut self.rows, slot, ballot, value)?,
-        };
-        self.send(alloc, room, reply)
-    }
-
-    /// The next frame, and the text behind it where the run goes on. From the limit on a run may have ended before.
-    fn turn(
-        &mut self,
-        alloc: Global,
-        room: Room,
-        text: &'a [u8],
-    ) -> Result<Option<&'a [u8]>, AllocError> {
-        if self.frames == MOST_FRAMES {
-            self.may_end(RunFault::FrameLimit)?;
-        }
-        match front_of(text) {
-            Front::End => {
-                if self.frames < MOST_FRAMES {
-                    self.outcomes.push(Outcome {
-                        ending: Ok(()),
-                        written: self.written.len(),
-                    })?;
-                }
+            } => {
+                let reply = reply_to(&mut self.rows, slot, ballot, value)?;
+                self.send(alloc, room, reply)
             }
-            Front::Faulty(fault) => self.may_end(RunFault::Frame(fault))?,
-            Front::Frame(0, payload, after) => {
-                if self.answer(alloc, room, payload)? {
-                    self.frames = self.frames.saturating_add(1);
-                    return Ok(Some(after));
-                }
-            }
-            Front::Frame(_, _, _) => self.may_end(RunFault::EndFlag)?,
         }
-        Ok(None)
     }
 }
 
@@ -326,10 +255,25 @@ pub(super) fn run_of(alloc: Global, text: &[u8], room: Room) -> Result<PlainRun<
     };
     let mut rest = text;
     for _ in 0..=text.len() {
-        match run.turn(alloc, room, rest)? {
-            Some(after) => rest = after,
-            None => break,
+        // From the limit on a run may have ended before.
+        if run.frames == MOST_FRAMES {
+            run.may_end(Some(RunFault::FrameLimit))?;
         }
+        match front_of(rest) {
+            Front::Frame(0, payload, after) => {
+                if !run.answer(alloc, room, payload)? {
+                    break;
+                }
+                run.frames = run.frames.saturating_add(1);
+                rest = after;
+                continue;
+            }
+            Front::Frame(_, _, _) => run.may_end(Some(RunFault::EndFlag))?,
+            Front::Faulty(fault) => run.may_end(Some(RunFault::Frame(fault)))?,
+            Front::End if run.frames < MOST_FRAMES => run.may_end(None)?,
+            Front::End => {}
+        }
+        break;
     }
     Ok(run)
 }

@@ -110,20 +110,8 @@ const ITEMS: [(&str, Option<&[u8]>); 16] = [
 /// The lists of at most three of [`ITEMS`].
 const LISTS: usize = 1 + 16 + 256 + 4_096;
 
-fn entry_of(number: usize) -> (&'static str, Says) {
-    ENTRIES[number % 20]
-}
-
-fn around_of(number: usize) -> (&'static [u8], &'static [u8], bool) {
-    AROUND[number % 12]
-}
-
-fn item_of(number: usize) -> (&'static str, Option<&'static [u8]>) {
-    ITEMS[number % 16]
-}
-
 /// How many files meant nothing, a lawful history and another one.
-#[derive(Clone, Copy, Debug, PartialEq, Eq)]
+#[derive(Drop)]
 struct Tally {
     nothing: usize,
     lawful: usize,
@@ -143,18 +131,30 @@ fn push_message(meaning: &mut Vec<u8>, text: &[u8]) -> Result<(), AllocError> {
     Ok(())
 }
 
-/// The object of these members: of those of one name the last one counts, and both names are there.
-fn meaning_of(alloc: Global, entries: &[usize]) -> Result<Vec<u8>, AllocError> {
+/// A file with these members of an object, parted by commas, between this and that, and what the object means: of the
+/// members of one name the last one counts, and both names are there.
+fn object_of(
+    alloc: Global,
+    entries: &[usize],
+    before: &[u8],
+    after: &[u8],
+) -> Result<(Vec<u8>, Vec<u8>), AllocError> {
+    let mut file = Vec::from_slice(alloc, before)?;
     let mut members = None;
     let mut sent = None;
-    for entry in entries {
-        let (_, says) = entry_of(*entry);
+    for (place, entry) in entries.iter().enumerate() {
+        if place > 0 {
+            file.push(b',')?;
+        }
+        let (text, says) = ENTRIES[*entry % 20];
+        file.extend_from_slice(text.as_bytes())?;
         match says {
             Says::Members(count) => members = count,
             Says::Sent(count) => sent = count,
             Says::Nothing => {}
         }
     }
+    file.extend_from_slice(after)?;
     let mut meaning = Vec::new(alloc);
     if let Some(count) = members
         && let Some(times) = sent
@@ -164,11 +164,11 @@ fn meaning_of(alloc: Global, entries: &[usize]) -> Result<Vec<u8>, AllocError> {
             push_message(&mut meaning, PREPARE)?;
         }
     }
-    Ok(meaning)
+    Ok((file, meaning))
 }
 
-/// What the file is read as.
-fn read_as(alloc: Global, file: &[u8]) -> Result<Vec<u8>, Fail> {
+/// What the file is read as, and whether that run is lawful, where it is read.
+fn read_as(alloc: Global, file: &[u8]) -> Result<(Vec<u8>, Result<bool, AuditFault>), Fail> {
     let mut meaning = Vec::new(alloc);
     match read_trace(alloc, file) {
         Ok(trace) => {
@@ -178,39 +178,14 @@ fn read_as(alloc: Global, file: &[u8]) -> Result<Vec<u8>, Fail> {
                 message.encode(&mut text)?;
                 push_message(&mut meaning, &text)?;
             }
+            Ok((meaning, Ok(audit(&trace))))
         }
-        Err(TraceFault::BadTrace) => {}
-        Err(TraceFault::OutOfMemory) => return Err(Fail::from("out of memory")),
-    }
-    Ok(meaning)
-}
-
-/// Whether the run that the file is read as is lawful, where it is read.
-fn judgement_of(alloc: Global, file: &[u8]) -> Result<bool, AuditFault> {
-    match read_trace(alloc, file) {
-        Ok(trace) => Ok(audit(&trace)),
-        Err(_) => Err(AuditFault::BadTrace),
+        Err(TraceFault::BadTrace) => Ok((meaning, Err(AuditFault::BadTrace))),
+        Err(TraceFault::OutOfMemory) => Err(Fail::from("out of memory")),
     }
 }
 
-/// The line that docs/FORMATS.md has for a judgement.
-fn line_of(judgement: Result<bool, AuditFault>) -> &'static str {
-    match judgement {
-        Ok(true) => "lawful\n",
-        Ok(false) => "unlawful\n",
-        Err(_) => "",
-    }
-}
-
-fn note(tally: &mut Tally, judgement: Result<bool, AuditFault>) {
-    match judgement {
-        Ok(true) => tally.lawful = tally.lawful.saturating_add(1),
-        Ok(false) => tally.unlawful = tally.unlawful.saturating_add(1),
-        Err(_) => tally.nothing = tally.nothing.saturating_add(1),
-    }
-}
-
-/// The file is read as this meaning, and its audit judges that.
+/// The file is read as this meaning, and its audit judges that and writes the line that docs/FORMATS.md has for it.
 fn compare(
     rt: &impl Abort,
     alloc: Global,
@@ -218,35 +193,28 @@ fn compare(
     meaning: &[u8],
     tally: &mut Tally,
 ) -> Result<(), Fail> {
-    let read = read_as(alloc, file)?;
+    let (read, wanted) = read_as(alloc, file)?;
     assert_eq!(rt; read.as_slice(), meaning, "over {file:?}");
     let mut output = Vec::new(alloc);
     let judgement = audit_file(alloc, file, &mut output);
-    assert_eq!(rt; judgement, judgement_of(alloc, file), "over {file:?}");
+    assert_eq!(rt; judgement, wanted, "over {file:?}");
     assert_eq!(rt; judgement.is_err(), meaning.is_empty(), "over {file:?}");
-    let line = line_of(judgement);
-    assert_eq!(rt; output.as_slice(), line.as_bytes(), "over {file:?}");
-    note(tally, judgement);
-    Ok(())
-}
-
-/// A file with these members of an object, parted by commas, between this and that.
-fn file_of(
-    alloc: Global,
-    entries: &[usize],
-    before: &[u8],
-    after: &[u8],
-) -> Result<Vec<u8>, AllocError> {
-    let mut file = Vec::from_slice(alloc, before)?;
-    for (place, entry) in entries.iter().enumerate() {
-        if place > 0 {
-            file.push(b',')?;
+    let line = match judgement {
+        Ok(true) => {
+            tally.lawful = tally.lawful.saturating_add(1);
+            "lawful\n"
         }
-        let (text, _) = entry_of(*entry);
-        file.extend_from_slice(text.as_bytes())?;
-    }
-    file.extend_from_slice(after)?;
-    Ok(file)
+        Ok(false) => {
+            tally.unlawful = tally.unlawful.saturating_add(1);
+            "unlawful\n"
+        }
+        Err(_) => {
+            tally.nothing = tally.nothing.saturating_add(1);
+            ""
+        }
+    };
+    assert_eq!(rt; output.as_slice(), line.as_bytes(), "over {file:?}");
+    Ok(())
 }
 
 #[test]
@@ -255,75 +223,70 @@ fn an_object_means_what_its_members_say(rt: HostRuntime) -> Result<(), Fail> {
     let mut tally = NONE_YET;
     for number in 0..OBJECTS {
         let entries = digits_of(alloc, 20, number)?;
-        let file = file_of(alloc, &entries, b"{", b"}")?;
-        let meaning = meaning_of(alloc, &entries)?;
+        let (file, meaning) = object_of(alloc, &entries, b"{", b"}")?;
         compare(&rt, alloc, &file, &meaning, &mut tally)?;
     }
+    assert_eq!(rt; tally.nothing, OBJECTS - LAWFUL_OBJECTS);
+    assert_eq!(rt; tally.lawful, LAWFUL_OBJECTS);
     // Only Prepares were sent, so no history is unlawful.
-    let wanted = Tally {
-        nothing: OBJECTS - LAWFUL_OBJECTS,
-        lawful: LAWFUL_OBJECTS,
-        unlawful: 0,
-    };
-    assert_eq!(rt; tally, wanted);
+    assert_eq!(rt; tally.unlawful, 0);
     Ok(())
 }
 
 #[test]
-fn a_file_is_one_object(rt: HostRuntime) -> Result<(), Fail> {
+fn a_file_is_one_whole_object(rt: HostRuntime) -> Result<(), Fail> {
     let alloc = rt.alloc();
     let mut tally = NONE_YET;
     for number in 0..SHORT_OBJECTS * 12 {
         let entries = digits_of(alloc, 20, number / 12)?;
-        let (before, after, is_object) = around_of(number);
-        let file = file_of(alloc, &entries, before, after)?;
-        let meaning = if is_object {
-            meaning_of(alloc, &entries)?
-        } else {
-            Vec::new(alloc)
-        };
+        let (before, after, is_object) = AROUND[number % 12];
+        let (file, mut meaning) = object_of(alloc, &entries, before, after)?;
+        if !is_object {
+            meaning.clear();
+        }
         compare(&rt, alloc, &file, &meaning, &mut tally)?;
     }
     // Of the objects of two, 24 mean something, each in two files.
-    let wanted = Tally {
-        nothing: SHORT_OBJECTS * 12 - 48,
-        lawful: 48,
-        unlawful: 0,
-    };
-    assert_eq!(rt; tally, wanted);
+    assert_eq!(rt; tally.nothing, SHORT_OBJECTS * 12 - 48);
+    assert_eq!(rt; tally.lawful, 48);
+    assert_eq!(rt; tally.unlawful, 0);
+
+    // A beginning of a file means nothing.
+    let (file, meaning) = object_of(alloc, &[1, 13, 19], b"{", b"}")?;
+    let mut tally = NONE_YET;
+    for len in 0..file.len() {
+        compare(&rt, alloc, &file[..len], &[], &mut tally)?;
+    }
+    assert_eq!(rt; tally.nothing, file.len());
+    compare(&rt, alloc, &file, &meaning, &mut tally)?;
+    assert_eq!(rt; tally.lawful, 1);
     Ok(())
 }
 
-/// A file of this list of items, and what it means: the messages that they spell, or nothing where one spells none.
-fn list_of(alloc: Global, items: &[usize]) -> Result<(Vec<u8>, Vec<u8>), AllocError> {
-    let mut file = Vec::from_slice(alloc, b"{\"members\":3,\"sent\":[")?;
-    let mut meaning = Vec::from_slice(alloc, &[3])?;
-    let mut is_spelled = true;
-    for (place, item) in items.iter().enumerate() {
-        if place > 0 {
-            file.push(b',')?;
-        }
-        let (text, spells) = item_of(*item);
-        file.extend_from_slice(text.as_bytes())?;
-        match spells {
-            Some(bytes) => push_message(&mut meaning, bytes)?,
-            None => is_spelled = false,
-        }
-    }
-    file.extend_from_slice(b"]}")?;
-    if !is_spelled {
-        meaning.clear();
-    }
-    Ok((file, meaning))
-}
-
+/// A file of each list of items means the messages that they spell, or nothing where one spells none.
 #[test]
 fn a_list_means_what_its_items_spell(rt: HostRuntime) -> Result<(), Fail> {
     let alloc = rt.alloc();
     let mut tally = NONE_YET;
     for number in 0..LISTS {
-        let items = digits_of(alloc, 16, number)?;
-        let (file, meaning) = list_of(alloc, &items)?;
+        let mut file = Vec::from_slice(alloc, b"{\"members\":3,\"sent\":[")?;
+        let mut meaning = Vec::from_slice(alloc, &[3])?;
+        let mut is_spelled = true;
+        for (place, item) in digits_of(alloc, 16, number)?.iter().enumerate() {
+            if place > 0 {
+                file.push(b',')?;
+            }
+            let (text, spells) = ITEMS[*item % 16];
+            file.extend_from_slice(text.as_bytes())?;
+            match spells {
+                Some(bytes) => push_message(&mut meaning, bytes)?,
+                None => is_spelled = false,
+            }
+        }
+        file.extend_from_slice(b"]}")?;
+        if !is_spelled {
+            meaning.clear();
+        }
         compare(&rt, alloc, &file, &meaning, &mut tally)?;
     }
     // The lists of the seven items that are messages.
@@ -332,20 +295,5 @@ fn a_list_means_what_its_items_spell(rt: HostRuntime) -> Result<(), Fail> {
     assert!(rt; tally.lawful > 0);
     assert_eq!(rt; tally.lawful.saturating_add(tally.unlawful), meant);
     assert!(rt; tally.unlawful > 0);
-    Ok(())
-}
-
-#[test]
-fn a_beginning_of_a_file_means_nothing(rt: HostRuntime) -> Result<(), Fail> {
-    let alloc = rt.alloc();
-    let file = file_of(alloc, &[1, 13, 19], b"{", b"}")?;
-    let mut tally = NONE_YET;
-    for len in 0..file.len() {
-        compare(&rt, alloc, &file[..len], &[], &mut tally)?;
-    }
-    assert_eq!(rt; tally.nothing, file.len());
-    let meaning = meaning_of(alloc, &[1, 13, 19])?;
-    compare(&rt, alloc, &file, &meaning, &mut tally)?;
-    assert_eq!(rt; tally.lawful, 1);
     Ok(())
 }

@@ -1,7 +1,7 @@
 //! The words that are taken beside a plain program, over every list of up to four words from a small set.
 
+use super::support::digits_of;
 use crate::words::parse;
-use std::alloc::Global;
 use std::test::Fail;
 
 /// The program's name, its two commands, the first with a capital and cut, the flags that each program has, the command as
@@ -24,31 +24,16 @@ const WORDS: [&str; 12] = [
 /// The lists of at most four of [`WORDS`].
 const LISTS: usize = 1 + 12 + 144 + 1_728 + 20_736;
 
-/// The list of this number, where 0 is the empty list, and then those of one word, of two, and so on, each once.
-fn words_of(alloc: Global, number: usize) -> Result<Vec<String>, Fail> {
-    let mut words = Vec::new(alloc);
-    let mut left = number;
-    for _ in 0..4 {
-        if left > 0 {
-            let word = WORDS[(left - 1) % 12];
-            words.push(String::from_str(alloc, word)?)?;
-            left = (left - 1) / 12;
-        }
-    }
-    Ok(words)
-}
-
-/// `IsOperand`: the word is no flag, nor the mark of their end.
-fn is_operand(word: &str) -> bool {
-    word == "-" || !word.starts_with('-')
-}
-
-/// `IsCall`: a name, and then no word, the acceptor's, or the audit's and an operand.
+/// `IsCall`: a name, and then no word, the acceptor's, or the audit's and an operand: `IsOperand`, no flag, nor the mark of
+/// their end.
 fn is_call(words: &[String]) -> bool {
     match words {
         [_] => true,
         [_, command] => command.as_str() == "acceptor",
-        [_, command, file] => command.as_str() == "audit" && is_operand(file.as_str()),
+        [_, command, file] => {
+            let is_operand = file.as_str() == "-" || !file.as_str().starts_with('-');
+            command.as_str() == "audit" && is_operand
+        }
         _ => false,
     }
 }
@@ -67,7 +52,10 @@ fn is_taken(words: &[String]) -> bool {
 #[test]
 fn takes_the_words_of_a_call(rt: HostRuntime) -> Result<(), Fail> {
     for number in 0..LISTS {
-        let words = words_of(rt.alloc(), number)?;
+        let mut words = Vec::new(rt.alloc());
+        for digit in digits_of(rt.alloc(), 12, number)?.iter() {
+            words.push(String::from_str(rt.alloc(), WORDS[*digit % 12])?)?;
+        }
         let is_parsed = parse(rt.alloc(), words.as_slice()).is_ok();
         assert!(rt; is_parsed || !is_call(words.as_slice()), "at {words:?}");
         assert_eq!(rt; is_parsed, is_taken(words.as_slice()), "at {words:?}");

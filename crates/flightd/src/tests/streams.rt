@@ -1,6 +1,6 @@
 //! Readers and writers that fail, and the order of reads and flushes.
 
-use super::support::{ANSWERS, CONVERSATION, answered_within, answers_within, spelled};
+use super::support::{ANSWERS, CONVERSATION, ENDS, answered_within, spelled};
 use crate::runs::acceptor_run;
 use std::alloc::Global;
 use std::cell::Cell;
@@ -8,40 +8,52 @@ use std::io;
 use std::io::{Read, Write};
 use std::test::Fail;
 
-/// Gives its bytes, and then fails.
+/// Gives its bytes, and then ends or fails. It looks at each read whether the answers to the frames that it has given have
+/// been flushed.
 #[derive(Drop)]
-struct FailsBehind<'a> {
+struct Watching<'a> {
     bytes: &'a [u8],
+    given: usize,
+    fails: bool,
+    flushed: &'a Cell<usize>,
+    is_in_order: bool,
 }
 
-impl<'a> Read for FailsBehind<'a> {
+impl<'a> Read for Watching<'a> {
     fn read(&mut self, buf: &mut [u8]) -> io::Result<usize> {
-        if self.bytes.is_empty() {
+        let (_, due) = answered_within(self.given);
+        self.is_in_order &= self.flushed.get() == due;
+        if self.fails && self.bytes.is_empty() {
             return Err(io::ErrorKind::BrokenPipe.into());
         }
-        self.bytes.read(buf)
+        let count = self.bytes.read(buf)?;
+        self.given = self.given.saturating_add(count);
+        Ok(count)
     }
 }
 
-/// Takes `room` bytes in all and then fails. It takes so many flushes, and then they fail.
+/// Takes `room` bytes in all and then fails. It takes so many flushes, and then they fail. Where it has a cell, it tells
+/// there how many bytes have been flushed.
 #[derive(Drop)]
-pub(super) struct Narrow {
+pub(super) struct Narrow<'a> {
     pub(super) written: Vec<u8>,
     room: usize,
     flushes: usize,
+    flushed: Option<&'a Cell<usize>>,
 }
 
-impl Narrow {
-    pub(super) fn new(alloc: Global, room: usize, flushes: usize) -> Narrow {
+impl<'a> Narrow<'a> {
+    pub(super) fn new(alloc: Global, room: usize, flushes: usize) -> Narrow<'a> {
         Narrow {
             written: Vec::new(alloc),
             room,
             flushes,
+            flushed: None,
         }
     }
 }
 
-impl Write for Narrow {
+impl<'a> Write for Narrow<'a> {
     fn write(&mut self, buf: &[u8]) -> io::Result<usize> {
         if self.room == 0 {
             return Err(io::ErrorKind::BrokenPipe.into());
@@ -57,118 +69,100 @@ impl Write for Narrow {
             return Err(io::ErrorKind::BrokenPipe.into());
         }
         self.flushes -= 1;
+        if let Some(flushed) = self.flushed {
+            flushed.set(self.written.len());
+        }
         Ok(())
     }
 }
 
-/// Gives its bytes, and looks at each read whether the answers to the frames that it has given have been flushed.
-#[derive(Drop)]
-struct Watching<'a> {
-    bytes: &'a [u8],
-    given: usize,
-    flushed: &'a Cell<usize>,
-    is_in_order: bool,
-}
-
-impl<'a> Read for Watching<'a> {
-    fn read(&mut self, buf: &mut [u8]) -> io::Result<usize> {
-        let (_, due) = answered_within(self.given);
-        self.is_in_order &= self.flushed.get() == due;
-        let count = self.bytes.read(buf)?;
-        self.given = self.given.saturating_add(count);
-        Ok(count)
-    }
-}
-
-/// Tells how many of its bytes have been flushed.
-#[derive(Drop)]
-struct Flushing<'a> {
-    count: usize,
-    flushed: &'a Cell<usize>,
-}
-
-impl<'a> Write for Flushing<'a> {
-    fn write(&mut self, buf: &[u8]) -> io::Result<usize> {
-        self.count = self.count.saturating_add(buf.len());
-        Ok(buf.len())
-    }
-
-    fn flush(&mut self) -> io::Result<()> {
-        self.flushed.set(self.count);
-        Ok(())
-    }
-}
-
+/// The reader fails behind every number of bytes, and at last it ends behind all of them: the answers to the whole frames
+/// have gone out, each before the next read.
 #[test]
-fn tells_a_read_that_fails(rt: HostRuntime) -> Result<(), Fail> {
+fn answers_before_the_next_read(rt: HostRuntime) -> Result<(), Fail> {
     let alloc = rt.alloc();
     let input = spelled(alloc, CONVERSATION)?;
     let answers = spelled(alloc, ANSWERS)?;
-    for given in 0..=input.len() {
-        let mut reader = FailsBehind {
+    for number in 0..=input.len() + 1 {
+        let given = number.min(input.len());
+        let fails = number <= input.len();
+        let flushed = Cell::new(0);
+        let mut reader = Watching {
             bytes: &input[..given],
+            given: 0,
+            fails,
+            flushed: &flushed,
+            is_in_order: true,
         };
-        let mut output = Vec::new(alloc);
+        let mut writer = Narrow::new(alloc, 48, 4);
+        writer.flushed = Some(&flushed);
         let mut said = Vec::new(alloc);
-        let status = acceptor_run(alloc, &mut reader, &mut output, &mut said);
+        let status = acceptor_run(alloc, &mut reader, &mut writer, &mut said);
         let (frames, written) = answered_within(given);
         let line = format!(in alloc; "flightd: frame {frames}: Io\n")?;
-        assert_eq!(rt; status, 1, "behind {given} bytes");
-        assert_eq!(rt; said.as_slice(), line.as_bytes());
+        let wanted = if fails {
+            (1, line.as_bytes())
+        } else {
+            (0, [].as_slice())
+        };
+        assert_eq!(rt; (status, said.as_slice()), wanted, "behind {given} bytes");
         assert!(rt; written <= answers.len());
         assert_eq!(rt;
-            output.as_slice(),
+            writer.written.as_slice(),
             &answers[..written],
             "behind {given} bytes"
         );
+        assert!(rt; reader.is_in_order, "behind {given} bytes");
+        assert_eq!(rt; reader.given, given);
+        assert_eq!(rt; flushed.get(), written, "behind {given} bytes");
     }
     Ok(())
 }
 
+/// Into writers of every room, with every number of flushes up to one for each answer, and none else.
 #[test]
-fn tells_a_write_that_fails(rt: HostRuntime) -> Result<(), Fail> {
+fn tells_a_write_or_a_flush_that_fails(rt: HostRuntime) -> Result<(), Fail> {
     let alloc = rt.alloc();
     let input = spelled(alloc, CONVERSATION)?;
     let answers = spelled(alloc, ANSWERS)?;
-    for room in 0..answers.len() {
+    for number in 0..49 * 5 {
+        let room = number / 5;
+        let flushes = number % 5;
+        // The answers that fit and are flushed, and what has gone out of them and of the next one.
+        let mut sent = 0;
+        let mut written = 0;
+        for (at, (_, answer_end)) in ENDS.iter().enumerate() {
+            if sent == at {
+                written = room.min(*answer_end);
+                if *answer_end <= room && at < flushes {
+                    sent = at + 1;
+                }
+            }
+        }
         let mut reader = input.as_slice();
-        let mut writer = Narrow::new(alloc, room, 4);
+        let mut writer = Narrow::new(alloc, room, flushes);
         let mut said = Vec::new(alloc);
         let status = acceptor_run(alloc, &mut reader, &mut writer, &mut said);
-        let frames = answers_within(room);
-        let line = format!(in alloc; "flightd: frame {frames}: Io\n")?;
-        assert_eq!(rt; status, 1, "in {room} bytes");
-        assert_eq!(rt; said.as_slice(), line.as_bytes());
-        assert_eq!(rt; writer.written.as_slice(), &answers[..room]);
-    }
-    Ok(())
-}
-
-#[test]
-fn tells_a_flush_that_fails(rt: HostRuntime) -> Result<(), Fail> {
-    let alloc = rt.alloc();
-    let input = spelled(alloc, CONVERSATION)?;
-    let answers = spelled(alloc, ANSWERS)?;
-    for (flushes, written) in [(0, 9), (1, 20), (2, 33), (3, 48)] {
-        let mut reader = input.as_slice();
-        let mut writer = Narrow::new(alloc, 48, flushes);
-        let mut said = Vec::new(alloc);
-        let status = acceptor_run(alloc, &mut reader, &mut writer, &mut said);
-        let line = format!(in alloc; "flightd: frame {flushes}: Io\n")?;
-        assert_eq!(rt; status, 1, "after {flushes} flushes");
-        assert_eq!(rt; said.as_slice(), line.as_bytes());
+        let line = format!(in alloc; "flightd: frame {sent}: Io\n")?;
+        let wanted = if sent < 4 {
+            (1, line.as_bytes())
+        } else {
+            (0, [].as_slice())
+        };
+        let place = (room, flushes);
+        assert_eq!(rt; (status, said.as_slice()), wanted, "at {place:?}");
+        assert_eq!(rt;
+            writer.flushes.saturating_add(sent),
+            flushes,
+            "at {place:?}"
+        );
         assert!(rt; written <= answers.len());
-        assert_eq!(rt; writer.written.as_slice(), &answers[..written]);
+        assert_eq!(rt;
+            writer.written.as_slice(),
+            &answers[..written],
+            "at {place:?}"
+        );
     }
-
-    // One flush for each answer, and none else.
-    let mut reader = input.as_slice();
-    let mut writer = Narrow::new(alloc, 48, 4);
-    let mut said = Vec::new(alloc);
-    let status = acceptor_run(alloc, &mut reader, &mut writer, &mut said);
-    assert_eq!(rt; status, 0);
-    assert_eq!(rt; writer.flushes, 0);
-    assert_eq!(rt; writer.written.as_slice(), answers.as_slice());
     Ok(())
 }
 
@@ -185,29 +179,5 @@ fn fails_where_its_line_cannot_be_written(rt: HostRuntime) -> Result<(), Fail> {
         assert!(rt; output.is_empty());
         assert_eq!(rt; said.written.as_slice(), &line[..room]);
     }
-    Ok(())
-}
-
-#[test]
-fn flushes_an_answer_before_the_next_read(rt: HostRuntime) -> Result<(), Fail> {
-    let alloc = rt.alloc();
-    let input = spelled(alloc, CONVERSATION)?;
-    let flushed = Cell::new(0);
-    let mut reader = Watching {
-        bytes: &input,
-        given: 0,
-        flushed: &flushed,
-        is_in_order: true,
-    };
-    let mut writer = Flushing {
-        count: 0,
-        flushed: &flushed,
-    };
-    let mut said = Vec::new(alloc);
-    let status = acceptor_run(alloc, &mut reader, &mut writer, &mut said);
-    assert_eq!(rt; status, 0);
-    assert!(rt; reader.is_in_order);
-    assert_eq!(rt; reader.given, 44);
-    assert_eq!(rt; flushed.get(), 48);
     Ok(())
 }

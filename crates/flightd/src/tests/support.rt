@@ -2,7 +2,6 @@
 
 use crate::runs::acceptor_run;
 use std::alloc::{AllocError, Global};
-use std::process::Abort;
 use std::test::Fail;
 
 /// A fresh acceptor promises, accepts, refuses what it has promised already, and reports what it has accepted.
@@ -14,7 +13,7 @@ pub const ANSWERS: &str =
     "00 00000004 08022801 00 00000006 080528023001 00 00000008 0803280138024001 00 0000000a 08022803300238024001";
 
 /// Where each of its frames ends, and where that frame's answer does.
-const ENDS: [(usize, usize); 4] = [(9, 9), (22, 20), (31, 33), (44, 48)];
+pub(super) const ENDS: [(usize, usize); 4] = [(9, 9), (22, 20), (31, 33), (44, 48)];
 
 /// How many frames of the conversation end within its first `given` bytes, and where the last one's answer ends.
 pub(super) fn answered_within(given: usize) -> (usize, usize) {
@@ -29,15 +28,8 @@ pub(super) fn answered_within(given: usize) -> (usize, usize) {
     (frames, written)
 }
 
-/// How many answers of the conversation end within the first `room` bytes.
-pub(super) fn answers_within(room: usize) -> usize {
-    ENDS.iter()
-        .filter(|(_, answer_end)| *answer_end <= room)
-        .count()
-}
-
 /// What a run gave.
-#[derive(Debug, Drop)]
+#[derive(Drop)]
 pub struct Outcome {
     pub status: u8,
     pub output: Vec<u8>,
@@ -75,27 +67,6 @@ pub(super) fn spelled(alloc: Global, digits: &str) -> Result<Vec<u8>, Fail> {
         };
     }
     Ok(bytes)
-}
-
-/// What a run over `input` is to give, both in hexadecimal digits, and to say. Without a line its status is 0.
-pub(super) fn expect(
-    rt: &impl Abort,
-    alloc: Global,
-    input: &str,
-    output: &str,
-    said: &str,
-) -> Result<(), Fail> {
-    let outcome = run_over(alloc, &spelled(alloc, input)?);
-    let wanted = spelled(alloc, output)?;
-    assert_eq!(rt;
-        outcome.output.as_slice(),
-        wanted.as_slice(),
-        "over {input}"
-    );
-    assert_eq!(rt; outcome.said.as_slice(), said.as_bytes(), "over {input}");
-    let status = if said.is_empty() { 0 } else { 1 };
-    assert_eq!(rt; outcome.status, status, "over {input}");
-    Ok(())
 }
 
 /// The list of this number, where 0 is the empty list, and then those of one number below `base`, of two, and so on, each
