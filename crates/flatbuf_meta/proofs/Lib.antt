@@ -1,0 +1,10 @@
+pub mod Walking
+pub mod SlotFacts
+pub mod ColumnFacts
+pub mod Unique
+pub mod Parts
+pub mod Apart
+pub mod Building
+pub mod BatchFacts
+pub mod MessageFacts
+pub mod NoMemory

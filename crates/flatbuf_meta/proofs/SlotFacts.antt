@@ -1,0 +1,26 @@
+-- Fields of a table.
+use Rattle.std.proofs.Common.{◌≡◌, ℕ, inr, List, Option, Some, Result, Ok, Err, IfErr, sym, subst}
+use Rattle.std.specs.Result.{IsErrAnd}
+use Rattle.flat_places.specs.declared.fault.PlaceFault.{PlaceFault}
+use Rattle.flat_places.specs.declared.fault.PlaceFault.TheVariants.{OutOfBounds, NotUtf8, SmallVtable}
+use Rattle.flat_places.specs.Fault.{TextFault}
+use Rattle.flatbuf_meta.specs.declared.fault.MetaFault.{MetaFault}
+use Rattle.flatbuf_meta.specs.FaultOf.{fault_of}
+use Rattle.flatbuf_meta.specs.Slots.{ShowsLink, Told, StringFault}
+
+-- the fault of a place stands as one of a header
+pub told : (Stands : PlaceFault → Type 0) (e : PlaceFault) → Stands e → Told Stands (fault_of e)
+told Stands OutOfBounds stands = stands
+told Stands NotUtf8 stands = stands
+told Stands SmallVtable stands = stands
+
+-- what the exit of a `?` hands on
+pub handed_on : {A : Type 0} (Fault : MetaFault → Type 0) (r : Result A MetaFault) (e : MetaFault) → IsErrAnd r (λ y. y ≡ e) → Fault e → IfErr r Fault
+handed_on Fault (Ok x) e h fault = tt
+handed_on Fault (Err y) e h fault = subst Fault (sym h) fault
+
+-- a fault of the text that a field refers to
+pub string_wrong : (text : List ℕ) (table n target : ℕ) (field : Option ℕ) (e : PlaceFault) → ShowsLink text table n field → field ≡ Some target
+    → TextFault text target e → StringFault text table n (fault_of e)
+string_wrong text table n target field e linked is fault =
+    inr (target, subst (ShowsLink text table n) is linked, told (TextFault text target) e fault)

@@ -1,0 +1,18 @@
+use Rattle.std.proofs.Common.{arith, sym, subst}
+use Rattle.std.proofs.lemmas.List.{length-append}
+use Rattle.flatbuf_meta.specs.Header.{ShowsPairs}
+use Rattle.flatbuf_meta.specs.HeaderViews.{IsPairAt}
+use Rattle.flatbuf_meta.proofs.BatchFacts.{pairs_append}
+use Rattle.flatbuf_meta.proofs.batch.pairs_at.Goals as goal
+
+pub loop-index-preserved : goal.loop-index-preserved
+loop-index-preserved c =
+    let items = rw c.unwrap.ensures at c.push.ensures.items in
+    let len = rw c.unwrap.ensures at c.push.ensures.len in
+    let there = subst (λ i. IsPairAt c.args.buf.now c.args.row.first i c.pair_at.result) (sym c.loop-index.invariant.all) c.pair_at.ensures in
+    record {
+      shown = subst (ShowsPairs c.args.buf.now c.args.row.first) (sym items) (pairs_append c.args.buf.now c.args.row.first c.loop-index.pairs.items c.pair_at.result c.loop-index.invariant.shown there);
+      all = rw (items, length-append) (omega arith);
+      counted = omega arith;
+      room = omega arith;
+    }

@@ -1,0 +1,14 @@
+use Rattle.std.specs.Option.{option_map}
+use Rattle.flatbuf_meta.proofs.ColumnFacts.{shape_shown, parameters_wrong, type_fault}
+use Rattle.flatbuf_meta.proofs.column.read_shape.Goals as goal
+
+pub returns-in-Some-clause-read : goal.returns-in-Some-clause-read
+returns-in-Some-clause-read c =
+    shape_shown c.args.buf.now c.args.table c.in_ok-kind.field-0 c.in_ok-first.first c.in_ok-first.second c.in_ok-first.third c.in-Some.ty (option_map (λ bytes. bytes.now) c.in_ok-timezone.timezone)
+    c.in_ok-first.ensures.read c.in_ok-timezone.ensures.read c.in-Some.ensures
+
+pub returns-in-None-clause-fault : goal.returns-in-None-clause-fault
+returns-in-None-clause-fault c =
+    type_fault c.args.buf.now c.args.table c.in_ok-kind.field-0 c.wrong_type.result c.in_ok-kind.ensures.read
+    (c.wrong_type.ensures c.args.buf.now c.args.table
+    (parameters_wrong c.args.buf.now c.args.table c.in_ok-kind.field-0 c.in_ok-first.first c.in_ok-first.second c.in_ok-first.third c.in_ok-first.ensures.read c.in-None.ensures))

@@ -1,0 +1,11 @@
+use Rattle.flat_places.specs.declared.fault.PlaceFault.{PlaceFault}
+use Rattle.flatbuf_meta.specs.FaultOf.{fault_of}
+use Rattle.flatbuf_meta.specs.Slots.{StringFault}
+use Rattle.flatbuf_meta.proofs.SlotFacts.{handed_on, string_wrong}
+use Rattle.flatbuf_meta.proofs.slots.string.Goals as goal
+
+pub returns-in_err-text-in-Some-clause-fault : goal.returns-in_err-text-in-Some-clause-fault
+returns-in_err-text-in-Some-clause-fault c =
+    let e : PlaceFault = c.in_err-text-in-Some.field-0.0 in
+    handed_on (StringFault c.args.buf.now c.args.table c.args.n) c.from_residual-in_err-text-in-Some.result (fault_of e) c.from_residual-in_err-text-in-Some.ensures.1
+    (string_wrong c.args.buf.now c.args.table c.args.n c.in-Some.target c.in_ok-target.field-0 e c.in_ok-target.ensures.read c.in-Some.is c.in_err-text-in-Some.ensures.fault)

@@ -1,0 +1,16 @@
+pub mod Columns
+pub mod Views
+pub mod Slots
+pub mod Kinds
+pub mod Shown
+pub mod Limits
+pub mod Header
+pub mod Faults
+pub mod Extents
+pub mod Walking
+pub mod FaultOf
+pub mod Rows
+pub mod KindView
+pub mod ColumnView
+pub mod Building
+pub mod HeaderViews

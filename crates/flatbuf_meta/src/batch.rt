@@ -1,0 +1,122 @@
+//! Batches of rows (Apache Arrow, "Message.fbs", the table `RecordBatch`).
+
+ghost use Rattle.std.specs.Prelude.{◌≡◌, ◌≤◌, ◌<◌, ◌+◌, ◌⊎◌, length, IfOk, IfErr};
+ghost use Rattle.flatbuf_meta.specs.declared.fault.MetaFault.TheVariants.{OutOfMemory};
+ghost use Rattle.flatbuf_meta.specs.Slots.{SlotNumberFault};
+ghost use Rattle.flatbuf_meta.specs.Rows.{row_of};
+ghost use Rattle.flatbuf_meta.specs.Walking.{IsInside};
+ghost use Rattle.flatbuf_meta.specs.Header.{ShowsInt64, ShowsPairs, Head};
+ghost use Rattle.flatbuf_meta.specs.Faults.{BatchFault};
+ghost use Rattle.flatbuf_meta.specs.HeaderViews.{head_of, ShowsLong, ShowsBatchIn, ShowsRowsIn, BatchFaultIn, IsPairAt};
+
+use crate::fault::MetaFault;
+use crate::header::BatchHead;
+use crate::slots::{Row, number, row_at, slot_at};
+use flat_places::uint;
+use std::alloc::Global;
+
+/// The bytes of a number.
+const LONG_LEN: usize = 8;
+
+/// The bytes of a struct of two numbers.
+const PAIR_LEN: usize = 16;
+
+/// What a batch's table and its message say of the batch, but for the structs of its two vectors.
+#[derive(Clone, Copy)]
+struct BatchRef {
+    /// How many rows there are.
+    length: i64,
+    /// The structs `FieldNode`.
+    nodes: Row,
+    /// The structs `Buffer`.
+    buffers: Row,
+    /// Whether the message says that the buffers are compressed.
+    compressed: bool,
+    /// How many bytes the body has.
+    body_length: i64,
+}
+
+/// The signed number of eight bytes at field `n` of the table, and 0 where it is absent.
+fn long(buf: &[u8], table: usize, n: usize) -> Result<i64, MetaFault>
+    ensures read { IfOk result (ShowsLong buf.now table n) }
+    ensures fault { IfErr result (SlotNumberFault buf.now table n 8) }
+{
+    Ok(number(buf, table, n, LONG_LEN, 0)?.cast_signed())
+}
+
+/// The batch whose table and message these are, but for the structs of its two vectors.
+fn batch_at(buf: &[u8], message: usize, table: usize) -> Result<BatchRef, MetaFault>
+    ensures read { IfOk result (λ b. ShowsRowsIn buf.now message table b.length (row_of b.nodes) (row_of b.buffers) b.compressed b.body_length) }
+    ensures fault { IfErr result (BatchFaultIn buf.now message table) }
+{
+    let length = long(buf, table, 0)?;
+    let nodes = row_at(buf, table, 1, PAIR_LEN)?;
+    let buffers = row_at(buf, table, 2, PAIR_LEN)?;
+    let compressed = slot_at(buf, table, 3)?.is_some();
+    let body_length = long(buf, message, 3)?;
+    Ok(BatchRef {
+        length,
+        nodes,
+        buffers,
+        compressed,
+        body_length,
+    })
+}
+
+/// The signed number of eight bytes at the place.
+fn long_at(buf: &[u8], place: usize) -> i64
+    requires { place + 8 ≤ length buf.now }
+    ensures { ShowsInt64 buf.now place result }
+{
+    match uint(buf, place, LONG_LEN) {
+        Ok(bits) => bits.cast_signed(),
+        Err(_) => unreachable!(),
+    }
+}
+
+/// The struct at this place of a vector.
+fn pair_at(buf: &[u8], row: Row, index: usize) -> (i64, i64)
+    requires inside { IsInside buf.now (row_of row) 16 }
+    requires there { index < row.count }
+    ensures { IsPairAt buf.now row.first index result }
+{
+    let place = row.first + PAIR_LEN * index;
+    (long_at(buf, place), long_at(buf, place + LONG_LEN))
+}
+
+/// The structs of a vector.
+fn pairs_at(alloc: Global, buf: &[u8], row: Row) -> Result<Vec<(i64, i64)>, MetaFault>
+    requires { IsInside buf.now (row_of row) 16 }
+    ensures read { IfOk result (λ pairs. ShowsPairs buf.now row.first pairs.items) }
+    ensures all { IfOk result (λ pairs. length pairs.items ≡ row.count) }
+    ensures refused { IfErr result (λ e. e ≡ OutOfMemory) }
+{
+    let mut pairs = Vec::with_capacity(alloc, row.count)?;
+    for index in 0..row.count {
+        pairs.push(pair_at(buf, row, index)).unwrap();
+    }
+    Ok(pairs)
+}
+
+/// The batch whose table and message these are (Message.fbs, the tables `RecordBatch` and `Message`).
+pub(crate) fn read_batch(
+    alloc: Global,
+    buf: &[u8],
+    message: usize,
+    table: usize,
+) -> Result<BatchHead, MetaFault>
+    ensures read { IfOk result (λ head. ShowsBatchIn buf.now message table (head_of head)) }
+    ensures fault { IfErr result (λ e. (e ≡ OutOfMemory) ⊎ BatchFault buf.now table e ⊎ SlotNumberFault buf.now message 3 8 e) }
+    ensures memory { result ≡ Err OutOfMemory → (head : Head) × ShowsBatchIn buf.now message table head }
+{
+    let batch = batch_at(buf, message, table)?;
+    let nodes = pairs_at(alloc, buf, batch.nodes)?;
+    let buffers = pairs_at(alloc, buf, batch.buffers)?;
+    Ok(BatchHead {
+        length: batch.length,
+        nodes,
+        buffers,
+        compressed: batch.compressed,
+        body_length: batch.body_length,
+    })
+}

@@ -1,0 +1,27 @@
+//! Schemas (Apache Arrow, "Schema.fbs", the tables `Schema` and `Field`).
+
+use crate::field_type::Ty;
+
+/// A column, or one inside another column.
+#[derive(Debug, PartialEq, Eq, Drop)]
+pub struct Field {
+    /// Its name, which may be empty.
+    pub name: String,
+    /// Whether it may hold nulls.
+    pub nullable: bool,
+    /// Its type (`type` in Schema.fbs, a word of the language here).
+    pub ty: Ty,
+    /// The columns inside it: one for lists, any number for a struct, none for other types.
+    pub children: Vec<Field>,
+    /// What its producer says of it, as keys and values (`custom_metadata` in Schema.fbs).
+    pub metadata: Vec<(String, String)>,
+}
+
+/// The columns of a table.
+#[derive(Debug, PartialEq, Eq, Drop)]
+pub struct Schema {
+    /// The top columns, in order.
+    pub fields: Vec<Field>,
+    /// What its producer says of it, as keys and values (`custom_metadata` in Schema.fbs).
+    pub metadata: Vec<(String, String)>,
+}
