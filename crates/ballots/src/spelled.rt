@@ -9,7 +9,7 @@ use proto_wire::{write_present_bytes, write_present_varint};
 use std::alloc::{AllocError, Global};
 
 /// A message, and its text.
-#[derive(Debug, Drop)]
+#[derive(Drop)]
 pub(crate) struct Made {
     pub message: Message,
     pub text: Vec<u8>,

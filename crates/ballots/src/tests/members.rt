@@ -4,66 +4,92 @@ use crate::{MAX_MEMBERS, Members};
 use std::process::Abort;
 use std::test::Fail;
 
-const POWERS: [u32; 7] = [1, 2, 4, 8, 16, 32, 64];
-
 /// How many of the first members are in the set: member a is where its digit of 2 to the a is 1.
 fn size(members: u8, set: u32) -> usize {
-    (0..members)
-        .zip(POWERS)
-        .filter(|(_, power)| set / (*power).max(1) % 2 == 1)
-        .count()
+    let mut size: usize = 0;
+    let mut rest = set;
+    for _ in 0..members {
+        size = size.saturating_add((rest % 2) as usize);
+        rest /= 2;
+    }
+    size
 }
 
 /// Whether each of the first members is in one of the two sets alone, or in none.
 fn are_apart(members: u8, first: u32, second: u32) -> bool {
-    (0..members).zip(POWERS).all(|(_, power)| first / power.max(1) % 2 == 0
-        || second / power.max(1) % 2 == 0)
+    let (mut one, mut other) = (first, second);
+    for _ in 0..members {
+        if one % 2 == 1 && other % 2 == 1 {
+            return false;
+        }
+        one /= 2;
+        other /= 2;
+    }
+    true
+}
+
+/// Whether there are so many members exactly where that is one to seven.
+fn is_one_to_seven(count: u8) -> bool {
+    match Members::new(count) {
+        Some(members) => [1, 2, 3, 4, 5, 6, 7].contains(&count) && members.count() == count,
+        None => ![1, 2, 3, 4, 5, 6, 7].contains(&count),
+    }
 }
 
 #[test]
 fn members_are_one_to_seven(rt: HostRuntime) {
     assert_eq!(rt; MAX_MEMBERS, 7);
     for count in 0..=255u8 {
-        let found = Members::new(count).map(Members::count);
-        let want = if [1, 2, 3, 4, 5, 6, 7].contains(&count) {
-            Some(count)
-        } else {
-            None
-        };
-        assert_eq!(rt; found, want, "{count} members");
+        assert!(rt; is_one_to_seven(count), "{count} members");
+    }
+}
+
+/// Whether the set is a majority exactly where more of the members are inside than outside.
+fn is_more_than_the_others(members: Members, count: u8, set: u32) -> bool {
+    let inside = size(count, set);
+    let outside = usize::from(count).saturating_sub(inside);
+    members.is_majority(inside) == (inside > outside)
+}
+
+/// Every set of so many members.
+fn expect_sets(rt: &impl Abort, members: Members, count: u8) {
+    for set in 0..128 {
+        assert!(rt;
+            is_more_than_the_others(members, count, set),
+            "set {set} of {count}"
+        );
     }
 }
 
 #[test]
 fn a_majority_is_more_than_the_others(rt: HostRuntime) -> Result<(), Fail> {
-    for count in 1..=7u8 {
+    for count in 1..8 {
         let members = Members::new(count).ok_or("no members")?;
-        for set in 0..128u32 {
-            let inside = size(count, set);
-            let outside = usize::from(count).saturating_sub(inside);
-            assert_eq!(rt;
-                members.is_majority(inside),
-                inside > outside,
-                "{inside} of {count}"
-            );
-        }
+        expect_sets(&rt, members, count);
     }
     Ok(())
 }
 
+/// Whether the two sets share a member, if both are majorities.
+fn share_a_member(members: Members, count: u8, first: u32, second: u32) -> bool {
+    let both = members.is_majority(size(count, first)) && members.is_majority(size(count, second));
+    !both || !are_apart(count, first, second)
+}
+
+/// Every pair of sets of so many members.
+fn expect_pairs(rt: &impl Abort, members: Members, count: u8) {
+    for pair in 0..16_384 {
+        let (first, second) = (pair / 128, pair % 128);
+        let is_right = share_a_member(members, count, first, second);
+        assert!(rt; is_right, "sets {first} and {second} of {count}");
+    }
+}
+
 #[test]
 fn two_majorities_share_a_member(rt: HostRuntime) -> Result<(), Fail> {
-    for count in 1..=7u8 {
+    for count in 1..8 {
         let members = Members::new(count).ok_or("no members")?;
-        for pair in 0..16_384u32 {
-            let (first, second) = (pair / 128, pair % 128);
-            let both = members.is_majority(size(count, first))
-                && members.is_majority(size(count, second));
-            assert!(rt;
-                !both || !are_apart(count, first, second),
-                "sets {first} and {second} of {count}"
-            );
-        }
+        expect_pairs(&rt, members, count);
     }
     Ok(())
 }

@@ -1,145 +1,217 @@
 //! Messages against bytes from outside and against a plain writer.
 
-use super::support::{ballot, is_read_as, is_refused_as, node, slot, upload};
-use crate::spelled::{
-    Made, accept, accepted, ask, decided, nack, prepare, promise, reporting_promise,
+use super::support::{
+    bytes_of, cell, cells, is_read_as, made, name_of, number, read, refusal, write,
 };
-use crate::{Ballot, Message, MessageFault, NodeId, Slot, UploadBytes, Value};
-use proto_wire::WireFault;
+use crate::spelled::Made;
+use crate::{Message, UploadBytes, Value};
 use std::alloc::{AllocError, Global};
 use std::process::Abort;
 use std::test::Fail;
 
-/// The message is read from its text, and written as it behind what stands there.
-fn expect_both_ways(rt: &impl Abort, alloc: Global, made: &Made) -> Result<(), Fail> {
-    let text = made.text.as_slice();
-    assert!(rt; is_read_as(alloc, text, &made.message), "{made:?}");
-    let mut out = [0xee].to_vec(alloc)?;
-    made.message.encode(&mut out)?;
-    assert_eq!(rt; out.first().copied(), Some(0xee));
-    assert_eq!(rt; out.get(1..), Some(text));
+/// A message's name; its kind, sender, slot, ballot and second ballot, each a round and a node, where those that it does not have
+/// are 0; the letters of its value; and its text.
+const TEXTS: &str = "\
+Prepare|1|0|0|1|0|0|0||0801 2801
+Prepare|1|2|0|3|2|0|0||0801 1002 2803 3002
+Promise|2|0|0|1|0|0|0||0802 2801
+Promise|2|0|0|3|2|2|1||0802 2803 3002 3802 4001
+Nack|3|0|0|1|0|2|1||0803 2801 3802 4001
+Accept|4|1|0|2|1|0|0||0804 1001 2802 3001
+Accept|4|0|0|1|0|0|0|abc|0804 2801 4a03616263
+Accepted|5|0|0|2|1|0|0||0805 2802 3001
+Ask|6|2|0|0|0|0|0||0806 1002
+Ask|6|0|999999|0|0|0|0||0806 18bf843d
+Decided|7|0|0|0|0|0|0||0807
+Decided|7|0|5|0|0|0|0||0807 1805
+Decided|7|0|0|0|0|0|0|abc|0807 4a03616263";
+
+/// The same of texts that are read as the message, and are not its one spelling.
+const OTHER_SPELLINGS: &str = "\
+# A kind that is not minimal.
+Prepare|1|0|0|1|0|0|0||088100 2801
+# Fields of every wire type that no message has.
+Prepare|1|0|0|1|0|0|0||2007 0801 5202ffff 590102030405060708 2801 6501020304
+# A scalar given again, and fields in another order.
+Prepare|1|0|0|1|0|0|0||0803 0801 2801
+Prepare|1|0|0|1|0|0|0||2801 0801
+# Fields of another wire type that the kind does not have.
+Prepare|1|0|0|1|0|0|0||0801 2801 3a0100
+Prepare|1|0|0|1|0|0|0||0801 2801 4801
+Ask|6|0|0|0|0|0|0||0806 4801
+Ask|6|0|0|0|0|0|0||0806 2a00
+# A value of no bytes.
+Accept|4|0|0|1|0|0|0||0804 2801 4a00
+# At a second round of 0 what would stand in a report is passed over: out of range, or of another wire type.
+Promise|2|0|0|1|0|0|0||0802 2801 3800 4007
+Promise|2|0|0|1|0|0|0||0802 2801 3800 4501020304 4801
+Promise|2|0|0|1|0|0|0||0802 2801 4501020304 4801
+Promise|2|0|0|1|0|0|0||0802 2801 3805 3800";
+
+/// What is wrong with a text, and the text.
+const FAULTS: &str = "\
+# No kind, 8, 9, and 2 to the 32nd and 1.
+BadKind|
+BadKind|0808
+BadKind|0809
+BadKind|088180808010
+# No round, round 4,000,000,001 and 2 to the 32nd and 1.
+OutOfRange|0801
+OutOfRange|0801 2881d0acf30e
+OutOfRange|0801 288180808010
+# Node 7 as sender and in a ballot, and node 256.
+OutOfRange|0801 1007 2801
+OutOfRange|0801 2801 3007
+OutOfRange|0801 2801 308002
+# Slot 1,000,000, a Nack with no second round, and a report of node 7.
+OutOfRange|0806 18c0843d
+OutOfRange|0803 2801
+OutOfRange|0802 2801 3801 4007
+# The kind as bytes, also with a number behind.
+BadWireType|0a0108
+BadWireType|0a00 0806
+# A round of four bytes, a value as a number, and a second round as bytes.
+BadWireType|0801 2d01000000
+BadWireType|0807 4801
+BadWireType|0802 2801 3a00
+# Wire type 3.
+BadWireType|0b
+BadWireType|0806 0b
+CutShort|08
+CutShort|0807 4a0261
+BadKey|0000
+BadVarint|ffffffffffffffffffff01";
+
+/// What each message of the sweep is: its name, its kind, its second round, and the letters of its value.
+const KINDS: &str = "\
+Prepare|1|0|
+Promise|2|0|
+Nack|3|300|
+Ask|6|0|
+Promise|2|300|
+Accept|4|0|
+Accepted|5|0|
+Decided|7|0|
+Promise|2|300|abc
+Accept|4|0|abc
+Accepted|5|0|abc
+Decided|7|0|abc";
+
+/// The seven numbers of a row, behind its name.
+fn numbers(cells: &[&str]) -> Result<[u64; 7], Fail> {
+    let mut numbers = [0; 7];
+    for index in 0..7 {
+        numbers[index] = number(cell(cells, index + 1)?)?;
+    }
+    Ok(numbers)
+}
+
+/// The message of a row.
+fn message_of(alloc: Global, cells: &[&str]) -> Result<Made, Fail> {
+    made(alloc, numbers(cells)?, cell(cells, 8)?)
+}
+
+/// Whether the message has the name that its row begins with.
+fn is_named(message: &Message, cells: &[&str]) -> bool {
+    match cells.first() {
+        Some(name) => name_of(message) == *name,
+        None => false,
+    }
+}
+
+/// Whether the message is read from its text, and written as it behind what stands there.
+fn is_both_ways(alloc: Global, made: &Made) -> Result<bool, AllocError> {
+    let mut out = Vec::new(alloc);
+    out.push(0xee)?;
+    let mut wanted = out.clone()?;
+    wanted.extend_from_slice(made.text.as_slice())?;
+    write(&made.message, &mut out)?;
+    Ok(is_read_as(alloc, made.text.as_slice(), &made.message) && out == wanted)
+}
+
+/// Whether the message has its text, both ways.
+fn has_text(alloc: Global, cells: &[&str]) -> Result<bool, Fail> {
+    let text = bytes_of(alloc, cell(cells, 9)?)?;
+    let made = message_of(alloc, cells)?;
+    let is_right = is_both_ways(alloc, &made)?;
+    Ok(is_right && is_named(&made.message, cells) && made.text == text)
+}
+
+#[test]
+fn texts_of_messages(rt: HostRuntime) -> Result<(), Fail> {
+    for row in TEXTS.lines() {
+        let cells = cells(rt.alloc(), row)?;
+        let is_right = has_text(rt.alloc(), cells.as_slice())?;
+        assert!(rt; is_right, "{row}");
+    }
     Ok(())
 }
 
-/// The message has this text, both ways.
-fn expect_text(
-    rt: &impl Abort,
+/// Whether the text is read as the message, and is not its own.
+fn has_other_text(alloc: Global, cells: &[&str]) -> Result<bool, Fail> {
+    let text = bytes_of(alloc, cell(cells, 9)?)?;
+    let made = message_of(alloc, cells)?;
+    let is_right = is_read_as(alloc, text.as_slice(), &made.message);
+    Ok(is_right && is_named(&made.message, cells) && made.text != text)
+}
+
+#[test]
+fn other_spellings(rt: HostRuntime) -> Result<(), Fail> {
+    for row in OTHER_SPELLINGS.lines() {
+        if !row.starts_with('#') {
+            let cells = cells(rt.alloc(), row)?;
+            let is_right = has_other_text(rt.alloc(), cells.as_slice())?;
+            assert!(rt; is_right, "{row}");
+        }
+    }
+    Ok(())
+}
+
+/// The seven numbers of a message of this row of kinds, whose second ballot is its sender's.
+fn kind_numbers(
+    cells: &[&str],
+    (sender, slot): (u64, u64),
+    (round, node): (u64, u64),
+) -> Result<[u64; 7], Fail> {
+    let kind = number(cell(cells, 1)?)?;
+    let second = number(cell(cells, 2)?)?;
+    Ok([kind, sender, slot, round, node, second, sender])
+}
+
+/// Whether the message of this row of kinds has a text of its own, both ways. Its sender and slot and its ballot are these.
+fn is_kind_both_ways(
     alloc: Global,
-    text: &[u8],
-    made: Result<Made, AllocError>,
-) -> Result<(), Fail> {
-    let made = made?;
-    assert_eq!(rt; made.text.as_slice(), text);
-    expect_both_ways(rt, alloc, &made)
-}
-
-#[test]
-fn phase_one_texts(rt: HostRuntime) -> Result<(), Fail> {
-    let alloc = rt.alloc();
-    let (zero, first) = (node(0)?, slot(0)?);
-    let (low, high, mine) = (ballot(1, 0)?, ballot(2, 1)?, ballot(3, 2)?);
-    let text = [0x08, 0x01, 0x28, 0x01];
-    expect_text(&rt, alloc, &text, prepare(alloc, zero, first, low))?;
-    let text = [0x08, 0x01, 0x10, 0x02, 0x28, 0x03, 0x30, 0x02];
-    expect_text(&rt, alloc, &text, prepare(alloc, node(2)?, first, mine))?;
-    let text = [0x08, 0x02, 0x28, 0x01];
-    expect_text(&rt, alloc, &text, promise(alloc, zero, first, low))?;
-    let text = [0x08, 0x02, 0x28, 0x03, 0x30, 0x02, 0x38, 0x02, 0x40, 0x01];
-    let reporting = reporting_promise(alloc, zero, first, mine, high, Value::Noop);
-    expect_text(&rt, alloc, &text, reporting)?;
-    let text = [0x08, 0x03, 0x28, 0x01, 0x38, 0x02, 0x40, 0x01];
-    expect_text(&rt, alloc, &text, nack(alloc, zero, first, low, high))
-}
-
-#[test]
-fn phase_two_texts(rt: HostRuntime) -> Result<(), Fail> {
-    let alloc = rt.alloc();
-    let (zero, one, first) = (node(0)?, node(1)?, slot(0)?);
-    let (low, high) = (ballot(1, 0)?, ballot(2, 1)?);
-    let text = [0x08, 0x04, 0x10, 0x01, 0x28, 0x02, 0x30, 0x01];
-    expect_text(
-        &rt,
-        alloc,
-        &text,
-        accept(alloc, one, first, high, Value::Noop),
-    )?;
-    let text = [0x08, 0x04, 0x28, 0x01, 0x4a, 0x03, 0x61, 0x62, 0x63];
-    expect_text(
-        &rt,
-        alloc,
-        &text,
-        accept(alloc, zero, first, low, upload(alloc, b"abc")?),
-    )?;
-    let text = [0x08, 0x05, 0x28, 0x02, 0x30, 0x01];
-    expect_text(
-        &rt,
-        alloc,
-        &text,
-        accepted(alloc, zero, first, high, Value::Noop),
-    )
-}
-
-#[test]
-fn texts_of_what_is_known(rt: HostRuntime) -> Result<(), Fail> {
-    let alloc = rt.alloc();
-    let (zero, first) = (node(0)?, slot(0)?);
-    expect_text(
-        &rt,
-        alloc,
-        &[0x08, 0x06, 0x10, 0x02],
-        ask(alloc, node(2)?, first),
-    )?;
-    let text = [0x08, 0x06, 0x18, 0xbf, 0x84, 0x3d];
-    expect_text(&rt, alloc, &text, ask(alloc, zero, slot(999_999)?))?;
-    expect_text(
-        &rt,
-        alloc,
-        &[0x08, 0x07],
-        decided(alloc, zero, first, Value::Noop),
-    )?;
-    let text = [0x08, 0x07, 0x18, 0x05];
-    expect_text(
-        &rt,
-        alloc,
-        &text,
-        decided(alloc, zero, slot(5)?, Value::Noop),
-    )?;
-    let text = [0x08, 0x07, 0x4a, 0x03, 0x61, 0x62, 0x63];
-    expect_text(
-        &rt,
-        alloc,
-        &text,
-        decided(alloc, zero, first, upload(alloc, b"abc")?),
-    )
+    cells: &[&str],
+    head: (u64, u64),
+    ballot: (u64, u64),
+) -> Result<bool, Fail> {
+    let numbers = kind_numbers(cells, head, ballot)?;
+    let made = made(alloc, numbers, cell(cells, 3)?)?;
+    let is_right = is_both_ways(alloc, &made)?;
+    Ok(is_right && is_named(&made.message, cells))
 }
 
 /// Each kind of message of these numbers.
 fn expect_kinds(
     rt: &impl Abort,
     alloc: Global,
-    head: (NodeId, Slot),
-    ballot: Ballot,
-    other: Ballot,
+    head: (u64, u64),
+    ballot: (u64, u64),
 ) -> Result<(), Fail> {
     let (sender, slot) = head;
-    expect_both_ways(rt, alloc, &prepare(alloc, sender, slot, ballot)?)?;
-    expect_both_ways(rt, alloc, &promise(alloc, sender, slot, ballot)?)?;
-    expect_both_ways(rt, alloc, &nack(alloc, sender, slot, ballot, other)?)?;
-    expect_both_ways(rt, alloc, &ask(alloc, sender, slot)?)?;
-    for value in [Value::Noop, upload(alloc, b"abc")?] {
-        let reporting = reporting_promise(alloc, sender, slot, ballot, other, value.clone()?)?;
-        expect_both_ways(rt, alloc, &reporting)?;
-        expect_both_ways(
-            rt,
-            alloc,
-            &accept(alloc, sender, slot, ballot, value.clone()?)?,
-        )?;
-        expect_both_ways(
-            rt,
-            alloc,
-            &accepted(alloc, sender, slot, ballot, value.clone()?)?,
-        )?;
-        expect_both_ways(rt, alloc, &decided(alloc, sender, slot, value)?)?;
+    for row in KINDS.lines() {
+        let cells = cells(alloc, row)?;
+        let is_right = is_kind_both_ways(alloc, cells.as_slice(), head, ballot)?;
+        assert!(rt; is_right, "{row} of sender {sender} at slot {slot}");
+    }
+    Ok(())
+}
+
+/// Messages of each sender at this slot, at ballots of the first and the last node.
+fn expect_senders(rt: &impl Abort, alloc: Global, slot: u64, round: u64) -> Result<(), Fail> {
+    for sender in 0..7 {
+        expect_kinds(rt, alloc, (sender, slot), (round, 0))?;
+        expect_kinds(rt, alloc, (sender, slot), (round, 6))?;
     }
     Ok(())
 }
@@ -147,157 +219,116 @@ fn expect_kinds(
 #[test]
 fn many_messages_both_ways(rt: HostRuntime) -> Result<(), Fail> {
     let rounds = [1, 127, 128, 4_000_000_000];
-    for (place, round) in [0, 127, 16_384, 999_999].into_iter().zip(rounds) {
-        for sender in 0..7 {
-            for number in [0, 6] {
-                let head = (node(sender)?, slot(place)?);
-                let (mine, other) = (ballot(round, number)?, ballot(300, sender)?);
-                expect_kinds(&rt, rt.alloc(), head, mine, other)?;
-            }
+    for (slot, round) in [0, 127, 16_384, 999_999].into_iter().zip(rounds) {
+        expect_senders(&rt, rt.alloc(), slot, round)?;
+    }
+    Ok(())
+}
+
+/// What is told of a text that is refused.
+fn told_fault(alloc: Global, text: &[u8]) -> Result<String, Fail> {
+    let fault = refusal(alloc, text).ok_or("read")?;
+    Ok(format!(in alloc; "{fault}")?)
+}
+
+/// Whether the text is refused for the reason that the row names.
+fn is_refused(alloc: Global, cells: &[&str]) -> Result<bool, Fail> {
+    let text = bytes_of(alloc, cell(cells, 1)?)?;
+    let told = told_fault(alloc, text.as_slice())?;
+    Ok(told.as_str() == cell(cells, 0)?)
+}
+
+#[test]
+fn faults(rt: HostRuntime) -> Result<(), Fail> {
+    for row in FAULTS.lines() {
+        if !row.starts_with('#') {
+            let cells = cells(rt.alloc(), row)?;
+            let is_right = is_refused(rt.alloc(), cells.as_slice())?;
+            assert!(rt; is_right, "{row}");
         }
     }
     Ok(())
 }
 
-#[test]
-fn other_spellings(rt: HostRuntime) -> Result<(), Fail> {
-    let (sender, slot, ballot) = (node(0)?, slot(0)?, ballot(1, 0)?);
-    let Made { message, .. } = prepare(rt.alloc(), sender, slot, ballot)?;
-    // A kind that is not minimal, fields of every wire type that no message has, a scalar given again, fields in another
-    // order, and fields of another wire type that a Prepare does not have.
-    let texts: [&[u8]; 6] = [
-        &[0x08, 0x81, 0x00, 0x28, 0x01],
-        &[
-            0x20, 0x07, 0x08, 0x01, 0x52, 0x02, 0xff, 0xff, 0x59, 1, 2, 3, 4, 5, 6, 7, 8, 0x28,
-            0x01, 0x65, 1, 2, 3, 4,
-        ],
-        &[0x08, 0x03, 0x08, 0x01, 0x28, 0x01],
-        &[0x28, 0x01, 0x08, 0x01],
-        &[0x08, 0x01, 0x28, 0x01, 0x3a, 0x01, 0x00],
-        &[0x08, 0x01, 0x28, 0x01, 0x48, 0x01],
-    ];
-    for text in texts {
-        assert!(rt; is_read_as(rt.alloc(), text, &message), "{text:?}");
-    }
-    let Made { message, .. } = ask(rt.alloc(), sender, slot)?;
-    assert!(rt; is_read_as(rt.alloc(), &[0x08, 0x06, 0x48, 0x01], &message));
-    assert!(rt; is_read_as(rt.alloc(), &[0x08, 0x06, 0x2a, 0x00], &message));
-    let Made { message, .. } = accept(rt.alloc(), sender, slot, ballot, Value::Noop)?;
-    assert!(rt; is_read_as(rt.alloc(), &[0x08, 0x04, 0x28, 0x01, 0x4a, 0x00], &message));
-    Ok(())
+/// How long a value is, the text of a Decided up to it, and what that text with it is read as: a value of that length, or
+/// the fault.
+const LENGTHS: &str = "\
+16777216|0807 4a80808008|16777216
+16777217|0807 4a81808008|OutOfRange";
+
+/// The text with so many bytes of a value.
+fn long_text(alloc: Global, text: &str, len: u64) -> Result<Vec<u8>, Fail> {
+    let mut text = bytes_of(alloc, text)?;
+    text.resize(len.saturating_add(7) as usize, 7)?;
+    Ok(text)
 }
 
-/// At a second round of 0 what would stand in a report is passed over: out of range, or of another wire type.
-#[test]
-fn promises_without_a_report(rt: HostRuntime) -> Result<(), Fail> {
-    let Made { message, .. } = promise(rt.alloc(), node(0)?, slot(0)?, ballot(1, 0)?)?;
-    let texts: [&[u8]; 4] = [
-        &[0x08, 0x02, 0x28, 0x01, 0x38, 0x00, 0x40, 0x07],
-        &[
-            0x08, 0x02, 0x28, 0x01, 0x38, 0x00, 0x45, 1, 2, 3, 4, 0x48, 0x01,
-        ],
-        &[0x08, 0x02, 0x28, 0x01, 0x45, 1, 2, 3, 4, 0x48, 0x01],
-        &[0x08, 0x02, 0x28, 0x01, 0x38, 0x05, 0x38, 0x00],
-    ];
-    for text in texts {
-        assert!(rt; is_read_as(rt.alloc(), text, &message), "{text:?}");
-    }
-    Ok(())
-}
-
-/// Each text is refused for this reason.
-fn expect_faults(rt: &impl Abort, alloc: Global, texts: &[&[u8]], fault: MessageFault) {
-    for text in texts {
-        assert!(rt; is_refused_as(alloc, text, fault), "{text:?}");
+/// How long the value is in what the text is read as, or why it is refused.
+fn told_len(alloc: Global, text: &[u8]) -> Result<String, AllocError> {
+    match read(alloc, text) {
+        Ok(
+            Message::Decided {
+                value: Value::Upload(bytes),
+                ..
+            },
+        ) => format!(in alloc; "{}", bytes.as_slice().len()),
+        Ok(_) => String::from_str(alloc, "no value"),
+        Err(fault) => format!(in alloc; "{fault}"),
     }
 }
 
-#[test]
-fn faults(rt: HostRuntime) {
-    // no kind, 8, 9, and 2 to the 32nd and 1
-    let kinds: [&[u8]; 4] = [
-        &[],
-        &[0x08, 0x08],
-        &[0x08, 0x09],
-        &[0x08, 0x81, 0x80, 0x80, 0x80, 0x10],
-    ];
-    expect_faults(&rt, rt.alloc(), &kinds, MessageFault::BadKind);
-    // No round, round 4,000,000,001 and 2 to the 32nd and 1; node 7 as sender and in a ballot, and node 256; slot
-    // 1,000,000; a Nack with no second round, a report of node 7.
-    let numbers: [&[u8]; 9] = [
-        &[0x08, 0x01],
-        &[0x08, 0x01, 0x28, 0x81, 0xd0, 0xac, 0xf3, 0x0e],
-        &[0x08, 0x01, 0x28, 0x81, 0x80, 0x80, 0x80, 0x10],
-        &[0x08, 0x01, 0x10, 0x07, 0x28, 0x01],
-        &[0x08, 0x01, 0x28, 0x01, 0x30, 0x07],
-        &[0x08, 0x01, 0x28, 0x01, 0x30, 0x80, 0x02],
-        &[0x08, 0x06, 0x18, 0xc0, 0x84, 0x3d],
-        &[0x08, 0x03, 0x28, 0x01],
-        &[0x08, 0x02, 0x28, 0x01, 0x38, 0x01, 0x40, 0x07],
-    ];
-    expect_faults(&rt, rt.alloc(), &numbers, MessageFault::OutOfRange);
-}
-
-#[test]
-fn wire_faults(rt: HostRuntime) {
-    // The kind as bytes, also with a number behind; a round of four bytes; a value as a number; a second round as bytes;
-    // and wire type 3.
-    let types: [&[u8]; 7] = [
-        &[0x0a, 0x01, 0x08],
-        &[0x0a, 0x00, 0x08, 0x06],
-        &[0x08, 0x01, 0x2d, 1, 0, 0, 0],
-        &[0x08, 0x07, 0x48, 0x01],
-        &[0x08, 0x02, 0x28, 0x01, 0x3a, 0x00],
-        &[0x0b],
-        &[0x08, 0x06, 0x0b],
-    ];
-    let fault = MessageFault::Wire(WireFault::BadWireType);
-    expect_faults(&rt, rt.alloc(), &types, fault);
-    let cut: [&[u8]; 2] = [&[0x08], &[0x08, 0x07, 0x4a, 0x02, 0x61]];
-    let fault = MessageFault::Wire(WireFault::CutShort);
-    expect_faults(&rt, rt.alloc(), &cut, fault);
-    let fault = MessageFault::Wire(WireFault::BadKey);
-    expect_faults(&rt, rt.alloc(), &[&[0x00, 0x00]], fault);
-    let long = [
-        0xff, 0xff, 0xff, 0xff, 0xff, 0xff, 0xff, 0xff, 0xff, 0xff, 0x01,
-    ];
-    let fault = MessageFault::Wire(WireFault::BadVarint);
-    expect_faults(&rt, rt.alloc(), &[&long], fault);
+/// Whether the value is as long as the row says, or too long.
+fn is_of_length(alloc: Global, cells: &[&str]) -> Result<bool, Fail> {
+    let len = number(cell(cells, 0)?)?;
+    let text = long_text(alloc, cell(cells, 1)?, len)?;
+    let told = told_len(alloc, text.as_slice())?;
+    Ok(told.as_str() == cell(cells, 2)?)
 }
 
 #[test]
 fn the_longest_value(rt: HostRuntime) -> Result<(), Fail> {
-    let mut text = [0x08, 0x07, 0x4a, 0x80, 0x80, 0x80, 0x08].to_vec(rt.alloc())?;
-    text.resize(16_777_223, 7)?;
-    let Message::Decided {
-        value: Value::Upload(bytes),
-        ..
-    } = Message::decode(rt.alloc(), text.as_slice())?
-    else {
-        return Err("no upload")?;
-    };
-    assert_eq!(rt; bytes.as_slice().len(), 16_777_216);
-    let mut longer = [0x08, 0x07, 0x4a, 0x81, 0x80, 0x80, 0x08].to_vec(rt.alloc())?;
-    longer.resize(16_777_224, 7)?;
-    assert!(rt; is_refused_as(rt.alloc(), longer.as_slice(), MessageFault::OutOfRange));
+    for row in LENGTHS.lines() {
+        let cells = cells(rt.alloc(), row)?;
+        let is_right = is_of_length(rt.alloc(), cells.as_slice())?;
+        assert!(rt; is_right, "{row}");
+    }
     Ok(())
 }
 
+/// An upload of these letters.
+fn upload(alloc: Global, letters: &str) -> Result<UploadBytes, Fail> {
+    let bytes = Vec::from_slice(alloc, letters.as_bytes())?;
+    Ok(UploadBytes::new(bytes).ok_or("no upload")?)
+}
+
+/// Whether the bytes are these letters.
+fn are_letters(bytes: &[u8], letters: &str) -> bool {
+    bytes == letters.as_bytes()
+}
+
+/// The bytes of an upload are those that it was made of, also of a copy, and as they are taken out of it.
 #[test]
 fn upload_bytes(rt: HostRuntime) -> Result<(), Fail> {
     assert!(rt; UploadBytes::new(Vec::new(rt.alloc())).is_none());
-    let bytes = [0x61, 0x62, 0x63].to_vec(rt.alloc())?;
-    let upload = UploadBytes::new(bytes).ok_or("no upload")?;
-    assert_eq!(rt; upload.as_slice(), [0x61, 0x62, 0x63].as_slice());
-    let value = Value::Upload(upload.clone()?);
-    assert_eq!(rt; value.as_bytes(), [0x61, 0x62, 0x63].as_slice());
+    let upload = upload(rt.alloc(), "abc")?;
+    let copy = upload.clone()?;
+    assert!(rt; are_letters(upload.as_slice(), "abc"));
+    assert!(rt; are_letters(copy.as_slice(), "abc"));
+    let taken = upload.into_vec();
+    assert!(rt; are_letters(taken.as_slice(), "abc"));
+    Ok(())
+}
+
+/// Values are the same where their bytes are, and no value is one of no bytes.
+#[test]
+fn values(rt: HostRuntime) -> Result<(), Fail> {
+    let value = Value::Upload(upload(rt.alloc(), "abc")?);
+    assert!(rt; are_letters(value.as_bytes(), "abc"));
     let copy = value.clone()?;
     assert!(rt; copy == value);
     assert!(rt; value != Value::Noop);
-    assert!(rt; Value::Noop.as_bytes().is_empty());
-    assert_eq!(rt; upload.into_vec().as_slice(), [0x61, 0x62, 0x63].as_slice());
-    let one_more = [7].to_vec(rt.alloc())?;
-    let other = UploadBytes::new(one_more).ok_or("no upload")?;
-    assert!(rt; value != Value::Upload(other));
+    assert!(rt; are_letters(Value::Noop.as_bytes(), ""));
+    let other = Value::Upload(upload(rt.alloc(), "\x07")?);
+    assert!(rt; value != other);
     Ok(())
 }

@@ -140,7 +140,7 @@ pub(crate) fn message_meant(alloc: Global, parts: &Parts<'_>) -> Result<Option<M
 }
 
 /// A set of faults.
-#[derive(Clone, Copy, Debug, PartialEq, Eq)]
+#[derive(Clone, Copy, PartialEq, Eq)]
 pub(crate) struct Faults {
     wire_type: bool,
     range: bool,

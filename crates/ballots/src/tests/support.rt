@@ -1,39 +1,120 @@
-//! Nodes, slots, ballots and values by their numbers, and what a text is read as.
+//! Rows of tables, messages by their names and numbers, and what a text is read as.
 
-use crate::{Ballot, Message, MessageFault, NodeId, Slot, UploadBytes, Value};
-use std::alloc::Global;
+use super::plain_meaning::message_meant;
+use crate::parts::Parts;
+use crate::spelled::Made;
+use crate::{Ballot, Message, MessageFault, NodeId};
+use std::alloc::{AllocError, Global};
 use std::test::Fail;
 
 pub(crate) fn node(number: u8) -> Result<NodeId, Fail> {
     Ok(NodeId::new(number).ok_or("no node")?)
 }
 
-pub(crate) fn slot(number: u32) -> Result<Slot, Fail> {
-    Ok(Slot::new(number).ok_or("no slot")?)
-}
-
 pub(crate) fn ballot(round: u32, number: u8) -> Result<Ballot, Fail> {
     Ok(Ballot::new(round, node(number)?).ok_or("no ballot")?)
 }
 
-/// An upload of these bytes.
-pub(crate) fn upload(alloc: Global, bytes: &[u8]) -> Result<Value, Fail> {
-    let bytes = Vec::from_slice(alloc, bytes)?;
-    Ok(Value::Upload(UploadBytes::new(bytes).ok_or("no upload")?))
+/// The cells of a row of a table, between bars.
+pub(crate) fn cells(alloc: Global, row: &str) -> Result<Vec<&str>, AllocError> {
+    let mut cells = Vec::new(alloc);
+    for cell in row.split('|') {
+        cells.push(cell)?;
+    }
+    Ok(cells)
+}
+
+/// The cell at this place.
+pub(crate) fn cell<'a>(cells: &[&'a str], index: usize) -> Result<&'a str, Fail> {
+    match cells.get(index) {
+        Some(cell) => Ok(*cell),
+        None => Err(Fail::from("no cell")),
+    }
+}
+
+/// The number in a cell.
+pub(crate) fn number(cell: &str) -> Result<u64, Fail> {
+    match cell.parse::<u64>() {
+        Ok(number) => Ok(number),
+        Err(_) => Err(Fail::from("no number")),
+    }
+}
+
+/// The bytes that hexadecimal digits spell, spaces passed over.
+pub(crate) fn bytes_of(alloc: Global, digits: &str) -> Result<Vec<u8>, Fail> {
+    let mut bytes = Vec::new(alloc);
+    let mut first = None;
+    for digit in digits.chars() {
+        if digit == ' ' {
+            continue;
+        }
+        let value = (digit.to_digit(16).ok_or("no hexadecimal digit")? % 16) as u8;
+        first = match first {
+            None => Some(value),
+            Some(high) => {
+                bytes.push((high << 4) | value)?;
+                None
+            }
+        };
+    }
+    Ok(bytes)
+}
+
+/// The name of a message.
+pub(crate) fn name_of(message: &Message) -> &'static str {
+    match message {
+        Message::Prepare { .. } => "Prepare",
+        Message::Promise { .. } => "Promise",
+        Message::Nack { .. } => "Nack",
+        Message::Accept { .. } => "Accept",
+        Message::Accepted { .. } => "Accepted",
+        Message::Ask { .. } => "Ask",
+        Message::Decided { .. } => "Decided",
+    }
+}
+
+/// The message with these numbers, beside its text: its kind, sender and slot, its ballot and the second one, each a round
+/// and a node, and its value, where it has them.
+pub(crate) fn made(alloc: Global, numbers: [u64; 7], value: &str) -> Result<Made, Fail> {
+    let [kind, sender, slot, round, node, second_round, second_node] = numbers;
+    let parts = Parts {
+        kind: Some(kind),
+        sender: Some(sender),
+        slot: Some(slot),
+        round: Some(round),
+        node: Some(node),
+        second_round: Some(second_round),
+        second_node: Some(second_node),
+        value: Some(value.as_bytes()),
+    };
+    match message_meant(alloc, &parts)? {
+        Some(made) => Ok(made),
+        None => Err(Fail::from("no message")),
+    }
+}
+
+/// What the text is read as.
+pub(crate) fn read(alloc: Global, text: &[u8]) -> Result<Message, MessageFault> {
+    Message::decode(alloc, text)
 }
 
 /// Whether the text is read as this message.
 pub(crate) fn is_read_as(alloc: Global, text: &[u8], message: &Message) -> bool {
-    match Message::decode(alloc, text) {
+    match read(alloc, text) {
         Ok(read) => read == *message,
         Err(_) => false,
     }
 }
 
-/// Whether the text is refused for this reason.
-pub(crate) fn is_refused_as(alloc: Global, text: &[u8], fault: MessageFault) -> bool {
-    match Message::decode(alloc, text) {
-        Ok(_) => false,
-        Err(found) => found == fault,
+/// Why the text is refused.
+pub(crate) fn refusal(alloc: Global, text: &[u8]) -> Option<MessageFault> {
+    match read(alloc, text) {
+        Ok(_) => None,
+        Err(fault) => Some(fault),
     }
+}
+
+/// Appends the message.
+pub(crate) fn write(message: &Message, out: &mut Vec<u8>) -> Result<(), AllocError> {
+    message.encode(out)
 }

@@ -1,12 +1,11 @@
 //! Short texts, most of which are no list of fields: every text up to four bytes over a few telling ones.
 
-use super::meaning::expect_meaning;
+use super::meaning::is_read_as_meant;
 use super::plain_meaning::Field;
-use super::support::is_refused_as;
+use super::support::refusal;
 use crate::MessageFault;
 use proto_wire::{Content, Part, read_fields};
 use std::alloc::{AllocError, Global};
-use std::process::Abort;
 use std::test::Fail;
 
 /// Keys of numbers, a key of field 0, a key of wire type 3, kinds, and a byte of a varint that goes on.
@@ -38,17 +37,11 @@ fn lent(alloc: Global, fields: &[(u32, Content)]) -> Result<Vec<Field<'_>>, Allo
     Ok(lent)
 }
 
-/// A text that is no list of fields is refused with what is wrong with it, and another means what its fields mean.
-fn expect_read(rt: &impl Abort, alloc: Global, text: &[u8]) -> Result<(), Fail> {
+/// Whether a text that is no list of fields is refused with what is wrong with it, and another means what its fields mean.
+fn is_read_right(alloc: Global, text: &[u8]) -> Result<bool, AllocError> {
     match read_fields(alloc, text) {
-        Ok(fields) => expect_meaning(rt, alloc, text, &lent(alloc, &fields)?),
-        Err(fault) => {
-            assert!(rt;
-                is_refused_as(alloc, text, MessageFault::Wire(fault)),
-                "{text:?}"
-            );
-            Ok(())
-        }
+        Ok(fields) => is_read_as_meant(alloc, text, lent(alloc, fields.as_slice())?.as_slice()),
+        Err(fault) => Ok(refusal(alloc, text) == Some(MessageFault::Wire(fault))),
     }
 }
 
@@ -57,7 +50,8 @@ fn short_texts(rt: HostRuntime) -> Result<(), Fail> {
     for (length, texts) in [(0, 1), (1, 8), (2, 64), (3, 512), (4, 4_096)] {
         for number in 0..texts {
             let text = text_of(rt.alloc(), length, number)?;
-            expect_read(&rt, rt.alloc(), &text)?;
+            let is_right = is_read_right(rt.alloc(), text.as_slice())?;
+            assert!(rt; is_right, "text {number} of {length} bytes");
         }
     }
     Ok(())

@@ -3,7 +3,7 @@
 
 use super::plain_runs::{PlainRun, Room, run_of};
 use super::streams::Narrow;
-use super::support::{digits_of, spelled};
+use super::support::{digits_of, spelled, tells};
 use crate::fault::RunFault;
 use crate::runs::acceptor_run;
 use crate::serving::serve;
@@ -25,36 +25,32 @@ const PAYLOAD_BYTES: [u8; 8] = [0x00, 0x01, 0x02, 0x04, 0x06, 0x08, 0x28, 0x80];
 /// The payloads of at most five of [`PAYLOAD_BYTES`].
 const PAYLOADS: usize = 1 + 8 + 64 + 512 + 4_096 + 32_768;
 
-/// Pieces of an input. A cut one takes its rest from the next pieces.
-const PIECES: [(&str, &str); 24] = [
-    ("Prepare at (1, 0)", "00 00000004 08012801"),
-    ("Prepare at (1, 1)", "00 00000006 080128013001"),
-    ("Prepare at (2, 0)", "00 00000004 08012802"),
-    ("Prepare at (1, 0), slot 9", "00 00000006 080118092801"),
-    ("Accept of a Noop at (1, 0)", "00 00000004 08042801"),
-    ("Accept of a at (2, 0)", "00 00000007 080428024a0161"),
-    ("Ask", "00 00000002 0806"),
-    ("an end", "80 00000000"),
-    ("compressed", "01 00000000"),
-    ("no flag", "02 00000000"),
-    ("too long", "00 00400001"),
-    ("a cut header", "00 0000"),
-    ("a cut payload", "00 00000004 0801"),
-    ("no kind 9", "00 00000002 0809"),
-    ("no kind at all", "00 00000000"),
-    ("no round", "00 00000002 0801"),
-    ("a kind that is bytes", "00 00000003 0a0108"),
-    ("a wire type 3", "00 00000001 0b"),
-    ("a cut field", "00 00000001 08"),
-    ("field 0", "00 00000002 0000"),
-    ("a long number", "00 0000000b ffffffffffffffffffff01"),
-    ("no kind 9 and no node 7", "00 00000004 08091007"),
-    ("field 0 of wire type 3", "00 00000001 03"),
-    (
-        "a round that is bytes and no node 7",
-        "00 00000006 08012a003007",
-    ),
-];
+/// Pieces of an input, each behind what it is. A cut one takes its rest from the next pieces.
+const PIECES: &str = "\
+Prepare at (1, 0)|00 00000004 08012801
+Prepare at (1, 1)|00 00000006 080128013001
+Prepare at (2, 0)|00 00000004 08012802
+Prepare at (1, 0), slot 9|00 00000006 080118092801
+Accept of a Noop at (1, 0)|00 00000004 08042801
+Accept of a at (2, 0)|00 00000007 080428024a0161
+Ask|00 00000002 0806
+an end|80 00000000
+compressed|01 00000000
+no flag|02 00000000
+too long|00 00400001
+a cut header|00 0000
+a cut payload|00 00000004 0801
+no kind 9|00 00000002 0809
+no kind at all|00 00000000
+no round|00 00000002 0801
+a kind that is bytes|00 00000003 0a0108
+a wire type 3|00 00000001 0b
+a cut field|00 00000001 08
+field 0|00 00000002 0000
+a long number|00 0000000b ffffffffffffffffffff01
+no kind 9 and no node 7|00 00000004 08091007
+field 0 of wire type 3|00 00000001 03
+a round that is bytes and no node 7|00 00000006 08012a003007";
 
 /// The lists of at most three of [`PIECES`].
 const LISTS: usize = 1 + 24 + 576 + 13_824;
@@ -91,7 +87,7 @@ pub(super) fn new_tally(alloc: Global) -> Tally {
     }
 }
 
-/// The line of a run that ends so, with the name by which docs/FORMATS.md has the fault, and nothing where it ends well.
+/// What the line says of a run that ends so, with the name by which docs/FORMATS.md has the fault, and nothing where it ends well.
 fn line_of(alloc: Global, ending: Result<(), (u32, RunFault)>) -> Result<String, AllocError> {
     let Err((number, fault)) = ending else {
         return Ok(String::new(alloc));
@@ -110,7 +106,7 @@ fn line_of(alloc: Global, ending: Result<(), (u32, RunFault)>) -> Result<String,
         RunFault::Message(MessageFault::OutOfRange) => "OutOfRange",
         _ => "another fault",
     };
-    format!(in alloc; "flightd: frame {number}: {name}\n")
+    format!(in alloc; "frame {number}: {name}")
 }
 
 /// Notes how the run ended, and what was answered in it.
@@ -139,6 +135,46 @@ fn note(
     Ok(())
 }
 
+/// How the run ended that wrote so much, and how it may have.
+fn ends_as_it_may(
+    alloc: Global,
+    run: &PlainRun<'_>,
+    input: &[u8],
+    room: Room,
+) -> Result<Option<Result<(), (u32, RunFault)>>, Fail> {
+    let mut reader = input;
+    let mut served = Narrow::new(alloc, room.bytes, room.flushes);
+    let ending = serve(alloc, &mut reader, &mut served);
+    for outcome in run.outcomes.iter() {
+        let written = run.written.get(..outcome.written);
+        if outcome.ending == ending && written == Some(served.written.as_slice()) {
+            return Ok(Some(ending));
+        }
+    }
+    Ok(None)
+}
+
+/// Whether the run ended with the status and the line of one of its outcomes, and wrote so much.
+fn says_as_it_may(
+    alloc: Global,
+    run: &PlainRun<'_>,
+    input: &[u8],
+    room: Room,
+) -> Result<bool, Fail> {
+    let mut reader = input;
+    let mut writer = Narrow::new(alloc, room.bytes, room.flushes);
+    let mut said = Vec::new(alloc);
+    let status = acceptor_run(alloc, &mut reader, &mut writer, &mut said);
+    for outcome in run.outcomes.iter() {
+        let line = line_of(alloc, outcome.ending)?;
+        let is_written = run.written.get(..outcome.written) == Some(writer.written.as_slice());
+        if is_written && tells(alloc, status, &said, &line)? {
+            return Ok(true);
+        }
+    }
+    Ok(false)
+}
+
 /// Runs over the input into a writer of this room, by both calls, each of which has to end as it may.
 pub(super) fn compare(
     rt: &impl Abort,
@@ -147,31 +183,23 @@ pub(super) fn compare(
     room: Room,
     tally: &mut Tally,
 ) -> Result<(), Fail> {
+    let Room { bytes, flushes } = room;
+    let number = tally.runs;
     let run = run_of(alloc, input, room)?;
-    assert!(rt; !run.outcomes.is_empty(), "{room:?} over {input:?}");
-
-    let mut reader = input;
-    let mut served = Narrow::new(alloc, room.bytes, room.flushes);
-    let ending = serve(alloc, &mut reader, &mut served);
-
-    let mut reader = input;
-    let mut writer = Narrow::new(alloc, room.bytes, room.flushes);
-    let mut said = Vec::new(alloc);
-    let status = acceptor_run(alloc, &mut reader, &mut writer, &mut said);
-
-    let mut is_outcome = false;
-    let mut is_said = false;
-    for outcome in run.outcomes.iter() {
-        let written = run.written.get(..outcome.written);
-        is_outcome |= outcome.ending == ending && written == Some(served.written.as_slice());
-        let line = line_of(alloc, outcome.ending)?;
-        let wanted = (if outcome.ending.is_ok() { 0 } else { 1 }, line.as_bytes());
-        let is_written = written == Some(writer.written.as_slice());
-        is_said |= is_written && (status, said.as_slice()) == wanted;
+    let is_said = says_as_it_may(alloc, &run, input, room)?;
+    assert!(rt;
+        is_said,
+        "run {number}, in {bytes} bytes and {flushes} flushes"
+    );
+    let ended = ends_as_it_may(alloc, &run, input, room)?;
+    assert!(rt;
+        ended.is_some(),
+        "run {number}, in {bytes} bytes and {flushes} flushes"
+    );
+    match ended {
+        Some(ending) => note(tally, &run, ending),
+        None => Ok(()),
     }
-    assert!(rt; is_outcome, "{ending:?} in {room:?} over {input:?}");
-    assert!(rt; is_said, "{status} in {room:?} over {input:?}");
-    note(tally, &run, ending)
 }
 
 /// These endings and replies were met, each of them, and none else.
@@ -181,15 +209,14 @@ pub(super) fn expect_met(
     endings: &[Ending],
     replies: &[(u64, bool)],
 ) {
-    for ending in endings {
-        assert!(rt;
-            tally.endings.contains(ending),
-            "no run ended by {ending:?}"
-        );
+    for (place, ending) in endings.iter().enumerate() {
+        let is_met = tally.endings.contains(ending);
+        assert!(rt; is_met, "no run ended by {place}");
     }
     assert_eq!(rt; tally.endings.len(), endings.len());
-    for reply in replies {
-        assert!(rt; tally.replies.contains(reply), "no reply was {reply:?}");
+    for (place, reply) in replies.iter().enumerate() {
+        let is_met = tally.replies.contains(reply);
+        assert!(rt; is_met, "no reply was {place}");
     }
     assert_eq!(rt; tally.replies.len(), replies.len());
 }
@@ -254,6 +281,14 @@ fn ends_as_it_may_over_payloads(rt: HostRuntime) -> Result<(), Fail> {
     Ok(())
 }
 
+/// Appends the piece of this number.
+fn push_piece(alloc: Global, text: &mut Vec<u8>, number: usize) -> Result<(), Fail> {
+    let row = PIECES.lines().nth(number).ok_or("no such piece")?;
+    let (_, digits) = row.split_once('|').ok_or("no bar")?;
+    text.extend_from_slice(&spelled(alloc, digits)?)?;
+    Ok(())
+}
+
 /// Runs over the pieces of this list, one after the other, into writers of every room up to what the run writes, and with
 /// every number of flushes.
 fn compare_rooms(
@@ -264,8 +299,7 @@ fn compare_rooms(
 ) -> Result<(), Fail> {
     let mut text = Vec::new(alloc);
     for digit in digits_of(alloc, 24, number)?.iter() {
-        let (_, piece) = PIECES[*digit % 24];
-        text.extend_from_slice(&spelled(alloc, piece)?)?;
+        push_piece(alloc, &mut text, *digit)?;
     }
     let run = run_of(alloc, &text, ENOUGH)?;
     for bytes in 0..=run.written.len() {

@@ -1,67 +1,85 @@
 //! The words of the command line.
 
 use crate::words::{audited_file, parse};
-use std::alloc::Global;
+use clap::Error;
+use std::alloc::{AllocError, Global};
 use std::process::Abort;
 use std::test::Fail;
 
-/// What a call asks for: the file that is to be audited, if any, or else its exit status and whether a line for standard
-/// error tells of it.
-type Asked = Result<Option<&'static str>, (i32, bool)>;
+/// Calls, each the program's name and then its words, parted by spaces, and what is asked for: the acceptor, the file that
+/// is to be audited, between brackets, or an end with this status, whose line is for standard error or for the output.
+const CALLS: &str = "
+# No word, or a command.
+flightd|acceptor
+flightd acceptor|acceptor
+# The file of an audit.
+flightd audit run.json|[run.json]
+flightd audit /tmp/runs/3|[/tmp/runs/3]
+flightd audit acceptor|[acceptor]
+flightd audit audit|[audit]
+flightd audit help|[help]
+flightd audit -|[-]
+flightd audit |[]
+# Other words.
+flightd audit|2 error
+flightd audit run.json run.json|2 error
+flightd audit --file run.json|2 error
+flightd audit -f|2 error
+flightd Audit run.json|2 error
+flightd run.json|2 error
+flightd serve|2 error
+flightd acceptor acceptor|2 error
+flightd acceptor audit|2 error
+flightd Acceptor|2 error
+flightd --slots|2 error
+# The help and the version.
+flightd --help|0 output
+flightd --version|0 output
+flightd acceptor --help|0 output
+flightd audit --help|0 output
+";
 
-/// Calls, each the program's name and then its words, parted by spaces.
-const CALLS: [(&str, Asked); 24] = [
-    // No word, or a command.
-    ("flightd", Ok(None)),
-    ("flightd acceptor", Ok(None)),
-    // The file of an audit.
-    ("flightd audit run.json", Ok(Some("run.json"))),
-    ("flightd audit /tmp/runs/3", Ok(Some("/tmp/runs/3"))),
-    ("flightd audit acceptor", Ok(Some("acceptor"))),
-    ("flightd audit audit", Ok(Some("audit"))),
-    ("flightd audit help", Ok(Some("help"))),
-    ("flightd audit -", Ok(Some("-"))),
-    ("flightd audit ", Ok(Some(""))),
-    // Other words.
-    ("flightd audit", Err((2, true))),
-    ("flightd audit run.json run.json", Err((2, true))),
-    ("flightd audit --file run.json", Err((2, true))),
-    ("flightd audit -f", Err((2, true))),
-    ("flightd Audit run.json", Err((2, true))),
-    ("flightd run.json", Err((2, true))),
-    ("flightd serve", Err((2, true))),
-    ("flightd acceptor acceptor", Err((2, true))),
-    ("flightd acceptor audit", Err((2, true))),
-    ("flightd Acceptor", Err((2, true))),
-    ("flightd --slots", Err((2, true))),
-    // The help and the version.
-    ("flightd --help", Err((0, false))),
-    ("flightd --version", Err((0, false))),
-    ("flightd acceptor --help", Err((0, false))),
-    ("flightd audit --help", Err((0, false))),
-];
+/// How the program is to end for this.
+fn end_of(alloc: Global, error: &Error) -> Result<String, AllocError> {
+    let status = error.exit_code();
+    let stream = if error.use_stderr() {
+        "error"
+    } else {
+        "output"
+    };
+    format!(in alloc; "{status} {stream}")
+}
 
-fn expect(rt: &impl Abort, alloc: Global, call: &str, asked: Asked) -> Result<(), Fail> {
+/// What the words ask for.
+fn asked(alloc: Global, words: &[String]) -> Result<String, AllocError> {
+    match parse(alloc, words) {
+        Ok(matches) => match audited_file(&matches) {
+            Some(file) => format!(in alloc; "[{file}]"),
+            None => String::from_str(alloc, "acceptor"),
+        },
+        Err(error) => end_of(alloc, &error),
+    }
+}
+
+fn expect(rt: &impl Abort, alloc: Global, call: &str, wanted: &str) -> Result<(), Fail> {
     let mut words = Vec::new(alloc);
     for word in call.split(' ') {
         words.push(String::from_str(alloc, word)?)?;
     }
-    match parse(alloc, &words) {
-        Ok(matches) => {
-            assert_eq!(rt; Ok(audited_file(&matches)), asked, "at {call}");
-        }
-        Err(error) => {
-            let told = (error.exit_code(), error.use_stderr());
-            assert_eq!(rt; Err(told), asked, "at {call}");
-        }
-    }
+    let found = asked(alloc, &words)?;
+    assert!(rt; found.as_str() == wanted, "{found} at {call}");
     Ok(())
 }
 
 #[test]
 fn takes_a_call_or_refuses_it(rt: HostRuntime) -> Result<(), Fail> {
-    for (call, asked) in CALLS {
-        expect(&rt, rt.alloc(), call, asked)?;
+    let mut calls = 0_usize;
+    for row in CALLS.lines() {
+        if let Some((call, wanted)) = row.split_once('|') {
+            expect(&rt, rt.alloc(), call, wanted)?;
+            calls = calls.saturating_add(1);
+        }
     }
+    assert_eq!(rt; calls, 24);
     Ok(())
 }

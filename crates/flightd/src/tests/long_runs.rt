@@ -3,7 +3,7 @@
 
 use super::all_runs::{compare, expect_met, new_tally};
 use super::plain_runs::Room;
-use super::support::{run_over, spelled};
+use super::support::{run_over, spelled, tells};
 use crate::fault::RunFault;
 use std::alloc::Global;
 use std::test::Fail;
@@ -11,11 +11,11 @@ use std::test::Fail;
 /// Room for a short answer, for one byte less than the longest Accepted below, for that, for one byte more, and for all.
 const ROOMS: [usize; 5] = [1_000, 4_194_307, 4_194_308, 4_194_309, 20_000_000];
 
-/// Counts of frames, each with the status and the line of a run over so many.
-const COUNTS: [(usize, u8, &str); 3] = [
-    (999_999, 0, ""),
-    (1_000_000, 1, "flightd: frame 1000000: Io\n"),
-    (1_000_001, 1, "flightd: frame 1000000: Io\n"),
+/// Counts of frames, each with what the line of a run over so many says. Without a line the status is 0.
+const COUNTS: [(usize, &str); 3] = [
+    (999_999, ""),
+    (1_000_000, "frame 1000000: Io"),
+    (1_000_001, "frame 1000000: Io"),
 ];
 
 #[test]
@@ -27,7 +27,7 @@ fn ends_as_it_may_about_the_limit_of_frames(rt: HostRuntime) -> Result<(), Fail>
     };
     let ask = spelled(alloc, "00 00000002 0806")?;
     let mut tally = new_tally(alloc);
-    for (count, status, line) in COUNTS {
+    for (count, line) in COUNTS {
         // So many Asks, each a frame that needs no reply.
         let mut text = Vec::new(alloc);
         for _ in 0..count {
@@ -35,8 +35,8 @@ fn ends_as_it_may_about_the_limit_of_frames(rt: HostRuntime) -> Result<(), Fail>
         }
         let outcome = run_over(alloc, &text);
         assert!(rt; outcome.output.is_empty(), "over {count}");
-        assert_eq!(rt; outcome.said.as_slice(), line.as_bytes(), "over {count}");
-        assert_eq!(rt; outcome.status, status, "over {count}");
+        let is_told = tells(alloc, outcome.status, &outcome.said, line)?;
+        assert!(rt; is_told, "over {count}");
 
         compare(&rt, alloc, &text, enough, &mut tally)?;
         text.extend_from_slice(&[0x80, 0, 0, 0, 0])?;
@@ -88,17 +88,15 @@ fn ends_as_it_may_about_the_limit_of_payloads(rt: HostRuntime) -> Result<(), Fai
         text.extend_from_slice(&spelled(alloc, "00 00000004 08012802")?)?;
         let mut wanted = Vec::new(alloc);
         push_with_value(alloc, &mut wanted, accepted, count)?;
-        let mut line = "flightd: frame 1: TooLong\n";
-        let mut status = 1;
+        let mut line = "frame 1: TooLong";
         if let Some(beginning) = promise {
             push_with_value(alloc, &mut wanted, beginning, count)?;
             line = "";
-            status = 0;
         }
         let outcome = run_over(alloc, &text);
         assert!(rt; outcome.output == wanted, "at {count}");
-        assert_eq!(rt; outcome.said.as_slice(), line.as_bytes(), "at {count}");
-        assert_eq!(rt; outcome.status, status, "at {count}");
+        let is_told = tells(alloc, outcome.status, &outcome.said, line)?;
+        assert!(rt; is_told, "at {count}");
 
         for bytes in ROOMS {
             let room = Room { bytes, flushes: 9 };

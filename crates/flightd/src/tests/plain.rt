@@ -85,11 +85,7 @@ fn answers_as_a_plain_acceptor(rt: HostRuntime) -> Result<(), Fail> {
             append_frame(&mut answers, plain_answer(&mut kept, request)?)?;
         }
         let outcome = run_over(rt.alloc(), &input);
-        assert_eq!(rt;
-            outcome.output.as_slice(),
-            answers.as_slice(),
-            "in {sequence}"
-        );
+        assert!(rt; outcome.output == answers, "in {sequence}");
         assert!(rt; outcome.said.is_empty(), "in {sequence}");
         assert_eq!(rt; outcome.status, 0, "in {sequence}");
     }

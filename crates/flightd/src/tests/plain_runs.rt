@@ -90,6 +90,33 @@ fn front_of(text: &[u8]) -> Front<'_> {
     }
 }
 
+/// The last row of the slot.
+fn standing_of<'a>(rows: &[Row<'a>], slot: u64) -> Option<Row<'a>> {
+    let mut standing = None;
+    for row in rows {
+        if row.slot == slot {
+            standing = Some(*row);
+        }
+    }
+    standing
+}
+
+/// A Promise, which reports what was accepted, if anything.
+fn promise_of<'a>(slot: u64, ballot: Ballot, accepted: Option<(Ballot, &'a [u8])>) -> Reply<'a> {
+    let mut reply = Reply {
+        kind: 2,
+        slot,
+        ballot,
+        second: None,
+        value: &[],
+    };
+    if let Some((at, value)) = accepted {
+        reply.second = Some(at);
+        reply.value = value;
+    }
+    reply
+}
+
 /// `RepliesToAccept`, where there is a value: an Accepted from what the slot has promised on, and a Nack below it.
 /// `RepliesToPrepare`, where there is none: a Promise above what the slot has promised, which reports what it has accepted,
 /// and a Nack else.
@@ -99,38 +126,32 @@ fn reply_to<'a>(
     ballot: Ballot,
     value: Option<&'a [u8]>,
 ) -> Result<Reply<'a>, AllocError> {
-    let mut standing = None;
-    for row in rows.iter() {
-        if row.slot == slot {
-            standing = Some(*row);
-        }
-    }
-    let mut reply = Reply {
-        kind: if value.is_some() { 5 } else { 2 },
-        slot,
-        ballot,
-        second: None,
-        value: value.unwrap_or(&[]),
-    };
     let mut accepted = None;
-    if let Some(row) = standing {
+    if let Some(row) = standing_of(rows, slot) {
         if ballot < row.promised || (ballot == row.promised && value.is_none()) {
-            reply.kind = 3;
-            reply.second = Some(row.promised);
-            reply.value = &[];
-            return Ok(reply);
+            return Ok(Reply {
+                kind: 3,
+                slot,
+                ballot,
+                second: Some(row.promised),
+                value: &[],
+            });
         }
         accepted = row.accepted;
     }
-    match value {
-        Some(value) => accepted = Some((ballot, value)),
-        None => {
-            if let Some((at, value)) = accepted {
-                reply.second = Some(at);
-                reply.value = value;
+    let reply = match value {
+        Some(value) => {
+            accepted = Some((ballot, value));
+            Reply {
+                kind: 5,
+                slot,
+                ballot,
+                second: None,
+                value,
             }
         }
-    }
+        None => promise_of(slot, ballot, accepted),
+    };
     rows.push(Row {
         slot,
         promised: ballot,

@@ -8,7 +8,7 @@
 use super::support::digits_of;
 use crate::auditing::{AuditFault, audit_file};
 use crate::trace_file::{TraceFault, read_trace};
-use schedule_runner::audit;
+use schedule_runner::{Trace, audit};
 use std::alloc::{AllocError, Global};
 use std::process::Abort;
 use std::test::Fail;
@@ -124,6 +124,18 @@ const NONE_YET: Tally = Tally {
     unlawful: 0,
 };
 
+fn entry_at(number: usize) -> (&'static str, Says) {
+    ENTRIES[number % 20]
+}
+
+fn around_at(number: usize) -> (&'static [u8], &'static [u8], bool) {
+    AROUND[number % 12]
+}
+
+fn item_at(number: usize) -> (&'static str, Option<&'static [u8]>) {
+    ITEMS[number % 16]
+}
+
 /// Appends a message in its one spelling, which is shorter than 256 bytes here.
 fn push_message(meaning: &mut Vec<u8>, text: &[u8]) -> Result<(), AllocError> {
     meaning.push((text.len() % 256) as u8)?;
@@ -146,7 +158,7 @@ fn object_of(
         if place > 0 {
             file.push(b',')?;
         }
-        let (text, says) = ENTRIES[*entry % 20];
+        let (text, says) = entry_at(*entry);
         file.extend_from_slice(text.as_bytes())?;
         match says {
             Says::Members(count) => members = count,
@@ -167,21 +179,53 @@ fn object_of(
     Ok((file, meaning))
 }
 
-/// What the file is read as, and whether that run is lawful, where it is read.
-fn read_as(alloc: Global, file: &[u8]) -> Result<(Vec<u8>, Result<bool, AuditFault>), Fail> {
+/// What a trace means.
+fn meaning_of(alloc: Global, trace: &Trace) -> Result<Vec<u8>, Fail> {
     let mut meaning = Vec::new(alloc);
+    meaning.push(trace.members.count())?;
+    for message in trace.sent.iter() {
+        let mut text = Vec::new(alloc);
+        message.encode(&mut text)?;
+        push_message(&mut meaning, &text)?;
+    }
+    Ok(meaning)
+}
+
+/// The line that docs/FORMATS.md has for a judgement.
+fn line_of(is_lawful: bool) -> &'static str {
+    if is_lawful { "lawful\n" } else { "unlawful\n" }
+}
+
+/// What the file is read as, and the line of that run, where it is read.
+fn read_as(alloc: Global, file: &[u8]) -> Result<(Vec<u8>, &'static str), Fail> {
     match read_trace(alloc, file) {
-        Ok(trace) => {
-            meaning.push(trace.members.count())?;
-            for message in trace.sent.iter() {
-                let mut text = Vec::new(alloc);
-                message.encode(&mut text)?;
-                push_message(&mut meaning, &text)?;
-            }
-            Ok((meaning, Ok(audit(&trace))))
-        }
-        Err(TraceFault::BadTrace) => Ok((meaning, Err(AuditFault::BadTrace))),
+        Ok(trace) => Ok((meaning_of(alloc, &trace)?, line_of(audit(&trace)))),
+        Err(TraceFault::BadTrace) => Ok((Vec::new(alloc), "")),
         Err(TraceFault::OutOfMemory) => Err(Fail::from("out of memory")),
+    }
+}
+
+/// The line of the file's audit, which has to be what is written.
+fn audited(alloc: Global, file: &[u8]) -> Result<&'static str, Fail> {
+    let mut output = Vec::new(alloc);
+    let line = match audit_file(alloc, file, &mut output) {
+        Ok(is_lawful) => line_of(is_lawful),
+        Err(AuditFault::BadTrace) => "",
+        Err(_) => return Err(Fail::from("another fault")),
+    };
+    if output.as_slice() == line.as_bytes() {
+        Ok(line)
+    } else {
+        Err(Fail::from("another line"))
+    }
+}
+
+/// Notes a file with this line.
+fn note(tally: &mut Tally, line: &str) {
+    match line {
+        "" => tally.nothing = tally.nothing.saturating_add(1),
+        "lawful\n" => tally.lawful = tally.lawful.saturating_add(1),
+        _ => tally.unlawful = tally.unlawful.saturating_add(1),
     }
 }
 
@@ -193,27 +237,13 @@ fn compare(
     meaning: &[u8],
     tally: &mut Tally,
 ) -> Result<(), Fail> {
-    let (read, wanted) = read_as(alloc, file)?;
-    assert_eq!(rt; read.as_slice(), meaning, "over {file:?}");
-    let mut output = Vec::new(alloc);
-    let judgement = audit_file(alloc, file, &mut output);
-    assert_eq!(rt; judgement, wanted, "over {file:?}");
-    assert_eq!(rt; judgement.is_err(), meaning.is_empty(), "over {file:?}");
-    let line = match judgement {
-        Ok(true) => {
-            tally.lawful = tally.lawful.saturating_add(1);
-            "lawful\n"
-        }
-        Ok(false) => {
-            tally.unlawful = tally.unlawful.saturating_add(1);
-            "unlawful\n"
-        }
-        Err(_) => {
-            tally.nothing = tally.nothing.saturating_add(1);
-            ""
-        }
-    };
-    assert_eq!(rt; output.as_slice(), line.as_bytes(), "over {file:?}");
+    let shown = str::from_utf8(file).unwrap_or("bytes that are no text");
+    let (read, line) = read_as(alloc, file)?;
+    assert!(rt; read.as_slice() == meaning, "over {shown}");
+    let told = audited(alloc, file)?;
+    assert!(rt; told == line, "over {shown}");
+    assert!(rt; line.is_empty() == meaning.is_empty(), "over {shown}");
+    note(tally, line);
     Ok(())
 }
 
@@ -239,7 +269,7 @@ fn a_file_is_one_whole_object(rt: HostRuntime) -> Result<(), Fail> {
     let mut tally = NONE_YET;
     for number in 0..SHORT_OBJECTS * 12 {
         let entries = digits_of(alloc, 20, number / 12)?;
-        let (before, after, is_object) = AROUND[number % 12];
+        let (before, after, is_object) = around_at(number);
         let (file, mut meaning) = object_of(alloc, &entries, before, after)?;
         if !is_object {
             meaning.clear();
@@ -250,12 +280,18 @@ fn a_file_is_one_whole_object(rt: HostRuntime) -> Result<(), Fail> {
     assert_eq!(rt; tally.nothing, SHORT_OBJECTS * 12 - 48);
     assert_eq!(rt; tally.lawful, 48);
     assert_eq!(rt; tally.unlawful, 0);
+    Ok(())
+}
 
-    // A beginning of a file means nothing.
+/// A beginning of a file means nothing.
+#[test]
+fn a_beginning_means_nothing(rt: HostRuntime) -> Result<(), Fail> {
+    let alloc = rt.alloc();
     let (file, meaning) = object_of(alloc, &[1, 13, 19], b"{", b"}")?;
     let mut tally = NONE_YET;
     for len in 0..file.len() {
-        compare(&rt, alloc, &file[..len], &[], &mut tally)?;
+        let beginning = file.get(..len).unwrap_or(&[]);
+        compare(&rt, alloc, beginning, &[], &mut tally)?;
     }
     assert_eq!(rt; tally.nothing, file.len());
     compare(&rt, alloc, &file, &meaning, &mut tally)?;
@@ -263,30 +299,35 @@ fn a_file_is_one_whole_object(rt: HostRuntime) -> Result<(), Fail> {
     Ok(())
 }
 
-/// A file of each list of items means the messages that they spell, or nothing where one spells none.
+/// A file whose list has these items, and what it means: the messages that they spell, or nothing where one spells none.
+fn list_of(alloc: Global, items: &[usize]) -> Result<(Vec<u8>, Vec<u8>), AllocError> {
+    let mut file = Vec::from_slice(alloc, b"{\"members\":3,\"sent\":[")?;
+    let mut meaning = Vec::from_slice(alloc, &[3])?;
+    let mut is_spelled = true;
+    for (place, item) in items.iter().enumerate() {
+        if place > 0 {
+            file.push(b',')?;
+        }
+        let (text, spells) = item_at(*item);
+        file.extend_from_slice(text.as_bytes())?;
+        match spells {
+            Some(bytes) => push_message(&mut meaning, bytes)?,
+            None => is_spelled = false,
+        }
+    }
+    file.extend_from_slice(b"]}")?;
+    if !is_spelled {
+        meaning.clear();
+    }
+    Ok((file, meaning))
+}
+
 #[test]
 fn a_list_means_what_its_items_spell(rt: HostRuntime) -> Result<(), Fail> {
     let alloc = rt.alloc();
     let mut tally = NONE_YET;
     for number in 0..LISTS {
-        let mut file = Vec::from_slice(alloc, b"{\"members\":3,\"sent\":[")?;
-        let mut meaning = Vec::from_slice(alloc, &[3])?;
-        let mut is_spelled = true;
-        for (place, item) in digits_of(alloc, 16, number)?.iter().enumerate() {
-            if place > 0 {
-                file.push(b',')?;
-            }
-            let (text, spells) = ITEMS[*item % 16];
-            file.extend_from_slice(text.as_bytes())?;
-            match spells {
-                Some(bytes) => push_message(&mut meaning, bytes)?,
-                None => is_spelled = false,
-            }
-        }
-        file.extend_from_slice(b"]}")?;
-        if !is_spelled {
-            meaning.clear();
-        }
+        let (file, meaning) = list_of(alloc, &digits_of(alloc, 16, number)?)?;
         compare(&rt, alloc, &file, &meaning, &mut tally)?;
     }
     // The lists of the seven items that are messages.

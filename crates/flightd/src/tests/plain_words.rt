@@ -57,8 +57,8 @@ fn takes_the_words_of_a_call(rt: HostRuntime) -> Result<(), Fail> {
             words.push(String::from_str(rt.alloc(), WORDS[*digit % 12])?)?;
         }
         let is_parsed = parse(rt.alloc(), words.as_slice()).is_ok();
-        assert!(rt; is_parsed || !is_call(words.as_slice()), "at {words:?}");
-        assert_eq!(rt; is_parsed, is_taken(words.as_slice()), "at {words:?}");
+        assert!(rt; is_parsed || !is_call(words.as_slice()), "at list {number}");
+        assert_eq!(rt; is_parsed, is_taken(words.as_slice()), "at list {number}");
     }
     Ok(())
 }

@@ -1,11 +1,12 @@
 //! Readers and writers that fail, and the order of reads and flushes.
 
-use super::support::{ANSWERS, CONVERSATION, ENDS, answered_within, spelled};
+use super::support::{ANSWERS, CONVERSATION, ENDS, answered_within, spelled, tells};
 use crate::runs::acceptor_run;
-use std::alloc::Global;
+use std::alloc::{AllocError, Global};
 use std::cell::Cell;
 use std::io;
 use std::io::{Read, Write};
+use std::process::Abort;
 use std::test::Fail;
 
 /// Gives its bytes, and then ends or fails. It looks at each read whether the answers to the frames that it has given have
@@ -76,46 +77,112 @@ impl<'a> Write for Narrow<'a> {
     }
 }
 
+/// The conversation's bytes, and its answers'.
+#[derive(Drop)]
+struct Spelled {
+    input: Vec<u8>,
+    answers: Vec<u8>,
+}
+
+fn conversation(alloc: Global) -> Result<Spelled, Fail> {
+    let input = spelled(alloc, CONVERSATION)?;
+    let answers = spelled(alloc, ANSWERS)?;
+    Ok(Spelled { input, answers })
+}
+
+/// The line of a read or a write that fails at this frame.
+fn io_line(alloc: Global, frame: usize) -> Result<String, AllocError> {
+    format!(in alloc; "frame {frame}: Io")
+}
+
+/// Runs over so many bytes of the conversation, behind which the reader fails or ends.
+fn expect_in_order(
+    rt: &impl Abort,
+    alloc: Global,
+    spelled: &Spelled,
+    given: usize,
+    fails: bool,
+) -> Result<(), Fail> {
+    let flushed = Cell::new(0);
+    let mut reader = Watching {
+        bytes: spelled.input.get(..given).unwrap_or(&[]),
+        given: 0,
+        fails,
+        flushed: &flushed,
+        is_in_order: true,
+    };
+    let mut writer = Narrow::new(alloc, 48, 4);
+    writer.flushed = Some(&flushed);
+    let mut said = Vec::new(alloc);
+    let status = acceptor_run(alloc, &mut reader, &mut writer, &mut said);
+    let (frames, written) = answered_within(given);
+    let line = if fails {
+        io_line(alloc, frames)?
+    } else {
+        String::new(alloc)
+    };
+    let is_told = tells(alloc, status, &said, &line)?;
+    assert!(rt; is_told, "behind {given} bytes");
+    let is_answered = spelled.answers.get(..written) == Some(writer.written.as_slice());
+    assert!(rt; is_answered, "behind {given} bytes");
+    assert!(rt; reader.is_in_order, "behind {given} bytes");
+    assert_eq!(rt; reader.given, given);
+    assert_eq!(rt; flushed.get(), written, "behind {given} bytes");
+    Ok(())
+}
+
 /// The reader fails behind every number of bytes, and at last it ends behind all of them: the answers to the whole frames
 /// have gone out, each before the next read.
 #[test]
 fn answers_before_the_next_read(rt: HostRuntime) -> Result<(), Fail> {
     let alloc = rt.alloc();
-    let input = spelled(alloc, CONVERSATION)?;
-    let answers = spelled(alloc, ANSWERS)?;
-    for number in 0..=input.len() + 1 {
-        let given = number.min(input.len());
-        let fails = number <= input.len();
-        let flushed = Cell::new(0);
-        let mut reader = Watching {
-            bytes: &input[..given],
-            given: 0,
-            fails,
-            flushed: &flushed,
-            is_in_order: true,
-        };
-        let mut writer = Narrow::new(alloc, 48, 4);
-        writer.flushed = Some(&flushed);
-        let mut said = Vec::new(alloc);
-        let status = acceptor_run(alloc, &mut reader, &mut writer, &mut said);
-        let (frames, written) = answered_within(given);
-        let line = format!(in alloc; "flightd: frame {frames}: Io\n")?;
-        let wanted = if fails {
-            (1, line.as_bytes())
-        } else {
-            (0, [].as_slice())
-        };
-        assert_eq!(rt; (status, said.as_slice()), wanted, "behind {given} bytes");
-        assert!(rt; written <= answers.len());
-        assert_eq!(rt;
-            writer.written.as_slice(),
-            &answers[..written],
-            "behind {given} bytes"
-        );
-        assert!(rt; reader.is_in_order, "behind {given} bytes");
-        assert_eq!(rt; reader.given, given);
-        assert_eq!(rt; flushed.get(), written, "behind {given} bytes");
+    let spelled = conversation(alloc)?;
+    let len = spelled.input.len();
+    for given in 0..=len {
+        expect_in_order(&rt, alloc, &spelled, given, true)?;
     }
+    expect_in_order(&rt, alloc, &spelled, len, false)
+}
+
+/// How many answers fit into the room and are flushed, and how much has gone out of them and of the next one.
+fn sent_into(room: usize, flushes: usize) -> (usize, usize) {
+    let mut sent = 0;
+    let mut written = 0;
+    for (at, (_, answer_end)) in ENDS.iter().enumerate() {
+        if sent == at {
+            written = room.min(*answer_end);
+            if *answer_end <= room && at < flushes {
+                sent = at + 1;
+            }
+        }
+    }
+    (sent, written)
+}
+
+/// Runs over the conversation into a writer of this room, which takes so many flushes.
+fn expect_sent(
+    rt: &impl Abort,
+    alloc: Global,
+    spelled: &Spelled,
+    room: usize,
+    flushes: usize,
+) -> Result<(), Fail> {
+    let mut reader = spelled.input.as_slice();
+    let mut writer = Narrow::new(alloc, room, flushes);
+    let mut said = Vec::new(alloc);
+    let status = acceptor_run(alloc, &mut reader, &mut writer, &mut said);
+    let (sent, written) = sent_into(room, flushes);
+    let line = if sent < 4 {
+        io_line(alloc, sent)?
+    } else {
+        String::new(alloc)
+    };
+    let is_told = tells(alloc, status, &said, &line)?;
+    assert!(rt; is_told, "at {room}, {flushes}");
+    let left = writer.flushes.saturating_add(sent);
+    assert!(rt; left == flushes, "at {room}, {flushes}");
+    let is_written = spelled.answers.get(..written) == Some(writer.written.as_slice());
+    assert!(rt; is_written, "at {room}, {flushes}");
     Ok(())
 }
 
@@ -123,61 +190,29 @@ fn answers_before_the_next_read(rt: HostRuntime) -> Result<(), Fail> {
 #[test]
 fn tells_a_write_or_a_flush_that_fails(rt: HostRuntime) -> Result<(), Fail> {
     let alloc = rt.alloc();
-    let input = spelled(alloc, CONVERSATION)?;
-    let answers = spelled(alloc, ANSWERS)?;
+    let spelled = conversation(alloc)?;
     for number in 0..49 * 5 {
-        let room = number / 5;
-        let flushes = number % 5;
-        // The answers that fit and are flushed, and what has gone out of them and of the next one.
-        let mut sent = 0;
-        let mut written = 0;
-        for (at, (_, answer_end)) in ENDS.iter().enumerate() {
-            if sent == at {
-                written = room.min(*answer_end);
-                if *answer_end <= room && at < flushes {
-                    sent = at + 1;
-                }
-            }
-        }
-        let mut reader = input.as_slice();
-        let mut writer = Narrow::new(alloc, room, flushes);
-        let mut said = Vec::new(alloc);
-        let status = acceptor_run(alloc, &mut reader, &mut writer, &mut said);
-        let line = format!(in alloc; "flightd: frame {sent}: Io\n")?;
-        let wanted = if sent < 4 {
-            (1, line.as_bytes())
-        } else {
-            (0, [].as_slice())
-        };
-        let place = (room, flushes);
-        assert_eq!(rt; (status, said.as_slice()), wanted, "at {place:?}");
-        assert_eq!(rt;
-            writer.flushes.saturating_add(sent),
-            flushes,
-            "at {place:?}"
-        );
-        assert!(rt; written <= answers.len());
-        assert_eq!(rt;
-            writer.written.as_slice(),
-            &answers[..written],
-            "at {place:?}"
-        );
+        expect_sent(&rt, alloc, &spelled, number / 5, number % 5)?;
     }
     Ok(())
 }
 
+/// The line's first bytes go out, as many as there is room for.
+fn expect_cut_line(rt: &impl Abort, alloc: Global, line: &[u8], room: usize) {
+    let mut reader: &[u8] = &[0x00, 0x00, 0x00, 0x00, 0x02, 0x08, 0x09];
+    let mut output = Vec::new(alloc);
+    let mut said = Narrow::new(alloc, room, 0);
+    let status = acceptor_run(alloc, &mut reader, &mut output, &mut said);
+    assert!(rt; status == 1, "in {room} bytes");
+    assert!(rt; output.is_empty());
+    let is_cut = line.get(..room) == Some(said.written.as_slice());
+    assert!(rt; is_cut, "in {room} bytes");
+}
+
 #[test]
-fn fails_where_its_line_cannot_be_written(rt: HostRuntime) -> Result<(), Fail> {
-    let alloc = rt.alloc();
+fn fails_where_its_line_cannot_be_written(rt: HostRuntime) {
     let line = b"flightd: frame 0: BadKind\n";
     for room in 0..=line.len() {
-        let mut reader: &[u8] = &[0x00, 0x00, 0x00, 0x00, 0x02, 0x08, 0x09];
-        let mut output = Vec::new(alloc);
-        let mut said = Narrow::new(alloc, room, 0);
-        let status = acceptor_run(alloc, &mut reader, &mut output, &mut said);
-        assert_eq!(rt; status, 1, "in {room} bytes");
-        assert!(rt; output.is_empty());
-        assert_eq!(rt; said.written.as_slice(), &line[..room]);
+        expect_cut_line(&rt, rt.alloc(), line, room);
     }
-    Ok(())
 }

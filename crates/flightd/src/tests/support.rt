@@ -49,6 +49,20 @@ pub(super) fn run_over(alloc: Global, input: &[u8]) -> Outcome {
     }
 }
 
+/// Whether a run ended with this line and status 1, or, where the line is empty, with none and status 0.
+pub(super) fn tells(
+    alloc: Global,
+    status: u8,
+    said: &[u8],
+    line: &str,
+) -> Result<bool, AllocError> {
+    if line.is_empty() {
+        return Ok(status == 0 && said.is_empty());
+    }
+    let whole = format!(in alloc; "flightd: {line}\n")?;
+    Ok(status == 1 && said == whole.as_bytes())
+}
+
 /// The bytes that hexadecimal digits spell, spaces passed over.
 pub(super) fn spelled(alloc: Global, digits: &str) -> Result<Vec<u8>, Fail> {
     let mut bytes = Vec::new(alloc);

@@ -1,39 +1,25 @@
 //! What stands in a text by a plain program beside the frame that is read, over all short texts and over payloads.
 
+use super::frames::read;
 use super::plain_frames::{Outcome, outcomes_of};
-use super::texts::text_of;
-use crate::{Frame, FrameFault, read_frame};
-use std::alloc::Global;
+use super::texts::{are_equal, pieces_of, push_choice, spelled, text_of};
+use crate::{Frame, FrameFault};
+use std::alloc::{AllocError, Global};
 use std::process::Abort;
 use std::test::Fail;
 
 /// Flags of each kind, short lengths, the highest byte of the limit, and the greatest byte.
-const BYTES: [&[u8]; 6] = [&[0x00], &[0x01], &[0x02], &[0x40], &[0x80], &[0xff]];
+const BYTES: &str = "00|01|02|40|80|ff";
 
 /// The texts of at most six of [`BYTES`].
 const SHORT_TEXTS: usize = 1 + 6 + 36 + 216 + 1_296 + 7_776 + 46_656;
 
-const FLAGS: [u8; 6] = [0x00, 0x80, 0x01, 0x02, 0x7f, 0xff];
+const FLAGS: &str = "00|80|01|02|7f|ff";
 
 /// Lengths that are announced, each about where another of the four bytes counts, or at the limit.
-const LENGTHS: [[u8; 4]; 16] = [
-    [0, 0, 0, 0],
-    [0, 0, 0, 1],
-    [0, 0, 0, 2],
-    [0, 0, 0, 255],
-    [0, 0, 1, 0],
-    [0, 0, 1, 1],
-    [0, 0, 2, 0],
-    [0, 0, 255, 255],
-    [0, 1, 0, 0],
-    [0, 1, 0, 1],
-    [0, 63, 255, 255],
-    [0, 64, 0, 0],
-    [0, 64, 0, 1],
-    [0, 255, 0, 0],
-    [1, 0, 0, 0],
-    [2, 0, 0, 1],
-];
+const LENGTHS: &str = "\
+00000000|00000001|00000002|000000ff|00000100|00000101|00000200|0000ffff|\
+00010000|00010001|003fffff|00400000|00400001|00ff0000|01000000|02000001";
 
 /// How many bytes follow.
 const COUNTS: [usize; 11] = [0, 1, 2, 3, 254, 255, 256, 257, 258, 512, 513];
@@ -41,72 +27,104 @@ const COUNTS: [usize; 11] = [0, 1, 2, 3, 254, 255, 256, 257, 258, 512, 513];
 /// The texts of a flag, a length and so many bytes.
 const PAYLOADS: usize = 6 * 16 * 11;
 
-/// What was read, with the text that is left.
-fn outcome_in<'a>(read: &'a Result<Option<Frame>, FrameFault>, rest: &'a [u8]) -> Outcome<'a> {
-    match read {
-        Ok(None) => Outcome::End,
-        Ok(Some(frame)) => Outcome::Frame {
-            flag: frame.flag,
-            payload: frame.payload.as_slice(),
-            rest,
-        },
-        Err(fault) => Outcome::Fault(*fault),
+/// Flags, and lengths of payloads that are read in steps: 65,535, 65,536 and 65,537 bytes.
+const LONG: &str = "800000ffff|8000010000|8000010001";
+
+/// Whether what was read, with the text that is left, is the outcome.
+fn is_outcome(
+    read: &Result<Option<Frame>, FrameFault>,
+    left: &[u8],
+    outcome: &Outcome<'_>,
+) -> bool {
+    match (read, outcome) {
+        (Ok(None), Outcome::End) => true,
+        (
+            Ok(Some(frame)),
+            Outcome::Frame {
+                flag,
+                payload,
+                rest,
+            },
+        ) => {
+            frame.flag == *flag
+                && are_equal(frame.payload.as_slice(), payload)
+                && are_equal(left, rest)
+        }
+        (Err(found), Outcome::Fault(fault)) => *found == *fault,
+        _ => false,
     }
 }
 
-/// What is read, and where the reader then stands, which has to be the one outcome that stands there.
-fn compare(rt: &impl Abort, alloc: Global, text: &[u8]) -> Result<(), Fail> {
-    let outcomes = outcomes_of(alloc, text)?;
-    assert_eq!(rt; outcomes.len(), 1, "outcomes at {} bytes", text.len());
+/// Whether the outcome is read, and the reader then stands behind a beginning of the text.
+fn is_read(alloc: Global, text: &[u8], outcome: &Outcome<'_>) -> bool {
     let mut rest = text;
-    let read = read_frame(alloc, &mut rest);
-    let is_found = outcomes.first() == Some(&outcome_in(&read, rest));
-    assert!(rt; is_found, "{:?} of {} bytes", text.get(..5), text.len());
-    let is_left = text.ends_with(rest);
-    assert!(rt; is_left, "{:?} of {} bytes", text.get(..5), text.len());
+    let read = read(alloc, &mut rest);
+    is_outcome(&read, rest, outcome) && text.ends_with(rest)
+}
+
+/// What is read, and where the reader then stands, which has to be the one outcome that stands in the text of this number.
+fn compare(rt: &impl Abort, alloc: Global, text: &[u8], number: usize) -> Result<(), AllocError> {
+    let outcomes = outcomes_of(alloc, text)?;
+    assert!(rt; outcomes.len() == 1, "outcomes of text {number}");
+    let is_read = match outcomes.first() {
+        Some(outcome) => is_read(alloc, text, outcome),
+        None => false,
+    };
+    assert!(rt; is_read, "text {number}");
     Ok(())
 }
 
 #[test]
 fn reads_what_stands_in_short_texts(rt: HostRuntime) -> Result<(), Fail> {
+    let pieces = pieces_of(rt.alloc(), BYTES)?;
     for number in 0..SHORT_TEXTS {
-        let text = text_of(rt.alloc(), &BYTES, number)?;
-        compare(&rt, rt.alloc(), text.as_slice())?;
+        let text = text_of(rt.alloc(), pieces.as_slice(), number)?;
+        compare(&rt, rt.alloc(), text.as_slice(), number)?;
     }
     Ok(())
 }
 
-/// The text of a flag, a length and so many bytes.
-fn frame_text(alloc: Global, flag: u8, len: [u8; 4], count: usize) -> Result<Vec<u8>, Fail> {
-    let mut text = Vec::new(alloc);
-    text.push(flag)?;
-    text.extend_from_slice(&len)?;
+/// Appends so many bytes.
+fn push_payload(text: &mut Vec<u8>, count: usize) -> Result<(), AllocError> {
     for place in 0..count {
         text.push((place % 251) as u8)?;
     }
+    Ok(())
+}
+
+/// The text of a flag, a length and so many bytes that the digits of the number name.
+fn frame_text(alloc: Global, number: usize) -> Result<Vec<u8>, Fail> {
+    let mut text = Vec::new(alloc);
+    let left = push_choice(&mut text, alloc, FLAGS, number)?;
+    let left = push_choice(&mut text, alloc, LENGTHS, left)?;
+    let count = COUNTS.get(left).ok_or("no count")?;
+    push_payload(&mut text, *count)?;
     Ok(text)
 }
 
 #[test]
 fn reads_what_stands_before_payloads(rt: HostRuntime) -> Result<(), Fail> {
     for number in 0..PAYLOADS {
-        let flag = FLAGS[number % 6];
-        let len = LENGTHS[number / 6 % 16];
-        let count = COUNTS[number / 96 % 11];
-        let text = frame_text(rt.alloc(), flag, len, count)?;
-        compare(&rt, rt.alloc(), text.as_slice())?;
+        let text = frame_text(rt.alloc(), number)?;
+        compare(&rt, rt.alloc(), text.as_slice(), number)?;
+    }
+    Ok(())
+}
+
+/// Compares with so many bytes behind each of the fronts in [`LONG`].
+fn compare_long(rt: &impl Abort, alloc: Global, count: usize) -> Result<(), Fail> {
+    for front in LONG.split('|') {
+        let mut text = spelled(alloc, front)?;
+        push_payload(&mut text, count)?;
+        compare(rt, alloc, text.as_slice(), count)?;
     }
     Ok(())
 }
 
 #[test]
 fn reads_what_stands_before_long_payloads(rt: HostRuntime) -> Result<(), Fail> {
-    // Payloads of 65,535, 65,536 and 65,537 bytes, which are read in steps.
-    for len in [[0, 0, 255, 255], [0, 1, 0, 0], [0, 1, 0, 1]] {
-        for count in 65_534..65_539 {
-            let text = frame_text(rt.alloc(), 0x80, len, count)?;
-            compare(&rt, rt.alloc(), text.as_slice())?;
-        }
+    for count in 65_534..65_539 {
+        compare_long(&rt, rt.alloc(), count)?;
     }
     Ok(())
 }

@@ -1,8 +1,9 @@
 //! What a write leaves, by a plain program beside the frame that is written, over short frames, old contents and writers of
 //! every room (gRPC over HTTP/2, "Length-Prefixed-Message").
 
-use super::frames::spelled;
-use crate::{END_FLAG, FrameFault, MAX_FRAME_PAYLOAD, MESSAGE_FLAG, write_frame};
+use super::frames::{spelled, write};
+use super::texts::{are_both, spelled as bytes_of};
+use crate::{END_FLAG, FrameFault, MESSAGE_FLAG};
 use std::alloc::{AllocError, Global};
 use std::io;
 use std::io::Write;
@@ -10,19 +11,10 @@ use std::process::Abort;
 use std::test::Fail;
 
 /// Payloads are the beginnings of these bytes, the empty one and the whole among them.
-const BYTES: [u8; 40] = [
-    0x08, 0x01, 0x28, 0x01, 0x00, 0xff, 0x80, 0x7f, 0x10, 0x06, 0x18, 0xbf, 0x84, 0x3d, 0x30, 0x05,
-    0x00, 0x00, 0x00, 0x00, 0x04, 0x08, 0x01, 0x28, 0x01, 0x80, 0x00, 0x00, 0x00, 0x00, 0x4a, 0x03,
-    0x61, 0x62, 0x63, 0x38, 0x01, 0x40, 0x02, 0xfe,
-];
+const BYTES: &str = "\
+0801280100ff807f100618bf843d3005 00000000040801280180000000004a03 61626338014002fe";
 
-/// What a writer held before.
-const OLD: [&[u8]; 3] = [b"", b"\x00", b"\x00\x00\x00\x00\x04\x08\x01"];
-
-/// The most bytes that a writer takes in one call.
-const STEPS: [usize; 4] = [1, 2, 3, 1_000];
-
-/// The writers of one room: their old contents, steps, and whether a full one fails or takes no byte.
+/// The writers of one room: three old contents, four steps, and whether a full one fails or takes no byte.
 const WRITERS: usize = 3 * 4 * 2;
 
 /// The frames: two flags, and payloads of 0 to 40 bytes.
@@ -56,40 +48,69 @@ impl Write for Narrow {
     }
 }
 
-/// How many writes ended well, and how many did not.
-#[derive(Clone, Copy, Debug, PartialEq, Eq)]
-struct Tally {
-    whole: usize,
-    cut: usize,
+/// What the writer of this number held before.
+fn old_of(number: usize) -> &'static [u8] {
+    match number % 3 {
+        0 => b"",
+        1 => b"\x00",
+        _ => b"\x00\x00\x00\x00\x04\x08\x01",
+    }
+}
+
+/// The most bytes that the writer of this number takes in one call.
+fn step_of(number: usize) -> usize {
+    match number / 3 % 4 {
+        0 => 1,
+        1 => 2,
+        2 => 3,
+        _ => 1_000,
+    }
 }
 
 /// The writer of this number and room.
 fn writer_of(alloc: Global, number: usize, room: usize) -> Result<Narrow, AllocError> {
     Ok(Narrow {
-        contents: Vec::from_slice(alloc, OLD[number % 3])?,
+        contents: Vec::from_slice(alloc, old_of(number))?,
         room,
-        step: STEPS[number / 3 % 4],
+        step: step_of(number),
         is_full: number / 12 % 2 == 1,
     })
 }
 
 /// Whether the contents are the old ones and then these bytes.
 fn are_grown_by(contents: &[u8], old: &[u8], bytes: &[u8]) -> bool {
-    contents.strip_prefix(old) == Some(bytes)
+    are_both(contents.strip_prefix(old), Some(bytes))
 }
 
-/// `Writes`: whether a write of the text may end so. Either all of it stands behind the old contents, or a beginning, of
-/// which each is tried.
+/// Whether the contents are the old ones and then a beginning of the text, of which each is tried.
+fn are_grown_by_a_beginning(contents: &[u8], old: &[u8], text: &[u8]) -> bool {
+    for len in 0..=text.len() {
+        let written = text.get(..len).unwrap_or(text);
+        if are_grown_by(contents, old, written) {
+            return true;
+        }
+    }
+    false
+}
+
+/// `Writes`: whether a write of the text may end so. Either all of it stands behind the old contents, or a beginning.
 fn may_leave(ending: &Result<(), FrameFault>, text: &[u8], old: &[u8], new: &[u8]) -> bool {
     match ending {
         Ok(()) => are_grown_by(new, old, text),
-        Err(_) => (0..=text.len())
-            .filter_map(|len| text.get(..len))
-            .any(|written| are_grown_by(new, old, written)),
+        Err(_) => are_grown_by_a_beginning(new, old, text),
     }
 }
 
-/// Writes the frame to the writer of this number and room, and compares.
+/// Whether a write of the text ends so at a writer that takes what it has room for.
+fn is_ended(ending: &Result<(), FrameFault>, text: &[u8], room: usize) -> bool {
+    match ending {
+        Ok(()) => text.len() <= room,
+        Err(FrameFault::Io) => room < text.len(),
+        Err(_) => false,
+    }
+}
+
+/// Writes the frame to the writer of this number and room, and compares. Returns whether all of it was written.
 fn compare(
     rt: &impl Abort,
     alloc: Global,
@@ -98,26 +119,34 @@ fn compare(
     number: usize,
     room: usize,
 ) -> Result<bool, Fail> {
-    assert!(rt; flag == MESSAGE_FLAG || flag == END_FLAG);
-    assert!(rt; payload.len() <= MAX_FRAME_PAYLOAD);
     let text = spelled(alloc, flag, payload)?;
-    let old = OLD[number % 3];
+    let text = text.as_slice();
+    let old = old_of(number);
     let mut writer = writer_of(alloc, number, room)?;
-    let ending = write_frame(&mut writer, flag, payload);
+    let ending = write(&mut writer, flag, payload)?;
     let new = writer.contents.as_slice();
-    assert!(rt; may_leave(&ending, &text, old, new), "{text:?} in {room}");
+    let written = text.get(..room).unwrap_or(text);
+    let len = payload.len();
+    assert!(rt;
+        may_leave(&ending, text, old, new),
+        "{len} bytes in {room}, {number}"
+    );
+    assert!(rt;
+        are_grown_by(new, old, written),
+        "{len} bytes in {room}, {number}"
+    );
+    assert!(rt;
+        is_ended(&ending, text, room),
+        "{len} bytes in {room}, {number}"
+    );
+    Ok(text.len() <= room)
+}
 
-    // This writer takes what it has room for.
-    let is_whole = text.len() <= room;
-    let written = text.get(..room.min(text.len()));
-    assert_eq!(rt; new.strip_prefix(old), written, "{text:?} in {room}");
-    let wanted = if is_whole {
-        Ok(())
-    } else {
-        Err(FrameFault::Io)
-    };
-    assert_eq!(rt; ending, wanted, "{text:?} in {room}");
-    Ok(is_whole)
+/// How many writes ended well, and how many did not.
+#[derive(Drop)]
+struct Tally {
+    whole: usize,
+    cut: usize,
 }
 
 /// Writes the frame to every writer of every room.
@@ -130,29 +159,25 @@ fn compare_all(
 ) -> Result<(), Fail> {
     let rooms = payload.len().saturating_add(6);
     for case in 0..rooms.saturating_mul(WRITERS) {
-        let is_whole = compare(rt, alloc, flag, payload, case % WRITERS, case / WRITERS)?;
-        let count = if is_whole {
-            &mut tally.whole
+        if compare(rt, alloc, flag, payload, case % WRITERS, case / WRITERS)? {
+            tally.whole = tally.whole.saturating_add(1);
         } else {
-            &mut tally.cut
-        };
-        *count = count.saturating_add(1);
+            tally.cut = tally.cut.saturating_add(1);
+        }
     }
     Ok(())
 }
 
 #[test]
 fn a_write_leaves_the_frame_or_a_beginning(rt: HostRuntime) -> Result<(), Fail> {
+    let bytes = bytes_of(rt.alloc(), BYTES)?;
     let mut tally = Tally { whole: 0, cut: 0 };
     for len in 0..=40 {
-        let payload = &BYTES[..len];
+        let payload = bytes.as_slice().get(..len).ok_or("no payload")?;
         compare_all(&rt, rt.alloc(), MESSAGE_FLAG, payload, &mut tally)?;
         compare_all(&rt, rt.alloc(), END_FLAG, payload, &mut tally)?;
     }
-    let wanted = Tally {
-        whole: FRAMES * WRITERS,
-        cut: (2 * ROOMS - FRAMES) * WRITERS,
-    };
-    assert_eq!(rt; tally, wanted);
+    assert!(rt; tally.whole == FRAMES * WRITERS);
+    assert!(rt; tally.cut == (2 * ROOMS - FRAMES) * WRITERS);
     Ok(())
 }

@@ -1,232 +1,129 @@
 //! The messages of Arrow Flight against bytes worked out by hand (Apache Arrow, "Flight.proto"; Protocol Buffers,
 //! "Encoding").
 
-use crate::{
-    Criteria, DescriptorType, FlightData, FlightDescriptor, FlightEndpoint, FlightInfo, Location,
-    MESSAGE_FLAG, PutResult, SchemaResult, Ticket, write_frame,
-};
-use std::alloc::{AllocError, Global};
+use super::frames::write;
+use super::shown::told_of;
+use super::texts::{are_equal, cells, is_told, spelled};
+use crate::MESSAGE_FLAG;
+use std::alloc::Global;
+use std::process::Abort;
 use std::test::Fail;
 
-/// The path of these elements.
-pub fn path_of(alloc: Global, elements: &[&str]) -> Result<Vec<String>, AllocError> {
-    let mut path = Vec::new(alloc);
-    for element in elements {
-        path.push(String::from_str(alloc, element)?)?;
+/// Messages and their texts, the values that they mean, each behind its path, and the texts that are written: a path, also
+/// with a longer spelling of its type, a path with empty elements, a ticket, a location, an endpoint, an info of all fields (a
+/// schema, a command, an endpoint with an empty ticket and one without, -1 rows, 300 bytes), data, criteria, and the answer to
+/// an upload.
+const MESSAGES: &str = "\
+descriptor|0801 1a0573616c6573|/1=1;/2=;/3=73616c6573;|0801 1a0573616c6573
+descriptor|088100 1a0573616c6573|/1=1;/2=;/3=73616c6573;|0801 1a0573616c6573
+descriptor|0801 1a00 1a02c3a9 1a00|/1=1;/2=;/3=;/3:1=c3a9;/3:2=;|0801 1a00 1a02c3a9 1a00
+ticket|0a09 0a0573616c65731003|/1=0a0573616c65731003;|0a09 0a0573616c65731003
+location|0a1a 677270632b7463703a2f2f3132372e302e302e313a3432303030|/1=677270632b7463703a2f2f3132372e302e302e313a3432303030;|0a1a 677270632b7463703a2f2f3132372e302e302e313a3432303030
+endpoint|0a040a020102 12030a0161 1200|/1;/1/1=0102;/2;/2/1=61;/2:1;/2:1/1=;|0a040a020102 12030a0161 1200
+info|0a04ffffffff 12050802120171 1a020a00 1a00 20ffffffffffffffffff01 28ac02 3001|/1=ffffffff;/2;/2/1=2;/2/2=71;/3;/3/1;/3/1/1=;/3:1;/4=-1;/5=300;/6=true;|0a04ffffffff 12050802120171 1a020a00 1a00 20ffffffffffffffffff01 28ac02 3001
+data|0a0508011a0173 120107 1a016d c23e04626f6479|/1;/1/1=1;/1/2=;/1/3=73;/2=07;/3=6d;/1000=626f6479;|0a0508011a0173 120107 1a016d c23e04626f6479
+criteria|0a02ff00|/1=ff00;|0a02ff00
+answer|0a03038001|/1=038001;|0a03038001";
+
+/// What each message holds that no field means, which has no bytes.
+pub const NOTHING: &str = "\
+descriptor||/1=0;/2=;|
+ticket||/1=;|
+location||/1=;|
+endpoint|||
+info||/1=;/4=0;/5=0;/6=false;|
+schema||/1=;|
+criteria||/1=;|
+data||/2=;/3=;/1000=;|
+answer||/1=;|";
+
+/// Fields 7, 15 and 2047 of each wire type, which no message has: 150, eight bytes, bytes that are not UTF-8, and four.
+const OTHER_FIELDS: &str = "389601 790102030405060708 fa7f02fffe 3d01020304 7a00 f87f00";
+
+/// The bytes in a cell, where `other` stands for [`OTHER_FIELDS`].
+fn text_in(alloc: Global, cell: &str) -> Result<Vec<u8>, Fail> {
+    let mut text = Vec::new(alloc);
+    for word in cell.split(' ') {
+        let digits = if is_told(word, "other") {
+            OTHER_FIELDS
+        } else {
+            word
+        };
+        text.extend_from_slice(spelled(alloc, digits)?.as_slice())?;
     }
-    Ok(path)
+    Ok(text)
 }
 
-/// The descriptor with this path and no command.
-pub fn descriptor_of(alloc: Global, elements: &[&str]) -> Result<FlightDescriptor, AllocError> {
-    Ok(FlightDescriptor {
-        descriptor_type: DescriptorType::PATH,
-        cmd: Vec::new(alloc),
-        path: path_of(alloc, elements)?,
-    })
-}
-
-/// The endpoint with this ticket and these locations.
-pub fn endpoint_of(
-    alloc: Global,
-    ticket: &[u8],
-    uris: &[&str],
-) -> Result<FlightEndpoint, AllocError> {
-    let mut location = Vec::new(alloc);
-    for uri in uris {
-        location.push(Location {
-            uri: String::from_str(alloc, uri)?,
-        })?;
-    }
-    Ok(FlightEndpoint {
-        ticket: Some(Ticket {
-            ticket: Vec::from_slice(alloc, ticket)?,
-        }),
-        location,
-    })
-}
-
-/// An info of all fields: a schema, a command, an endpoint with an empty ticket and one without, -1 rows, 300 bytes.
-const INFO: [u8; 35] = [
-    0x0a, 0x04, 0xff, 0xff, 0xff, 0xff, 0x12, 0x05, 0x08, 0x02, 0x12, 0x01, 0x71, 0x1a, 0x02, 0x0a,
-    0x00, 0x1a, 0x00, 0x20, 0xff, 0xff, 0xff, 0xff, 0xff, 0xff, 0xff, 0xff, 0xff, 0x01, 0x28, 0xac,
-    0x02, 0x30, 0x01,
-];
-
-/// What [`INFO`] means.
-fn info(alloc: Global) -> Result<FlightInfo, AllocError> {
-    let without_ticket = FlightEndpoint {
-        ticket: None,
-        location: Vec::new(alloc),
+/// The text of the message has to be told so, and the message written so.
+pub fn expect(rt: &impl Abort, alloc: Global, cells: &[&str]) -> Result<(), Fail> {
+    let [name, text, want, written] = cells else {
+        return Err(Fail::from("no row"));
     };
-    let mut endpoint = Vec::new(alloc);
-    endpoint.push(endpoint_of(alloc, &[], &[])?)?;
-    endpoint.push(without_ticket)?;
-    Ok(FlightInfo {
-        schema: Vec::from_slice(alloc, &[0xff; 4])?,
-        flight_descriptor: Some(FlightDescriptor {
-            descriptor_type: DescriptorType::CMD,
-            cmd: Vec::from_slice(alloc, b"q")?,
-            path: Vec::new(alloc),
-        }),
-        endpoint,
-        total_records: -1,
-        total_bytes: 300,
-        ordered: true,
-    })
+    let bytes = text_in(alloc, text)?;
+    let mut out = Vec::new(alloc);
+    let told = told_of(alloc, name, bytes.as_slice(), &mut out)?;
+    assert!(rt; is_told(told.as_str(), want), "{name} {text}: {told}");
+    let written = spelled(alloc, written)?;
+    assert!(rt;
+        are_equal(out.as_slice(), written.as_slice()),
+        "{name} {text}"
+    );
+    Ok(())
 }
 
-#[test]
-fn a_path_is_read_and_written(rt: HostRuntime) -> Result<(), Fail> {
-    let want = b"\x08\x01\x1a\x05sales";
-    let longer = b"\x08\x81\x00\x1a\x05sales";
-    let sales = descriptor_of(rt.alloc(), &["sales"])?;
-    assert_eq!(rt; FlightDescriptor::decode(rt.alloc(), want)?, sales);
-    assert_eq!(rt; FlightDescriptor::decode(rt.alloc(), longer)?, sales);
-    let mut out = Vec::new(rt.alloc());
-    FlightDescriptor::decode(rt.alloc(), longer)?.encode(&mut out)?;
-    assert_eq!(rt; out.as_slice(), want.as_slice());
+/// Each row has a message, its text, what is told, and what is written.
+pub fn expect_all(rt: &impl Abort, alloc: Global, rows: &str) -> Result<(), Fail> {
+    for row in rows.lines() {
+        let cells = cells(alloc, row)?;
+        expect(rt, alloc, cells.as_slice())?;
+    }
     Ok(())
 }
 
 #[test]
-fn empty_elements_of_a_path_are_kept(rt: HostRuntime) -> Result<(), Fail> {
-    let text = b"\x08\x01\x1a\x00\x1a\x02\xc3\xa9\x1a\x00";
-    let message = descriptor_of(rt.alloc(), &["", "é", ""])?;
-    assert_eq!(rt; FlightDescriptor::decode(rt.alloc(), text)?, message);
-    let mut out = Vec::new(rt.alloc());
-    message.encode(&mut out)?;
-    assert_eq!(rt; out.as_slice(), text.as_slice());
-    Ok(())
+fn messages_are_read_and_written(rt: HostRuntime) -> Result<(), Fail> {
+    expect_all(&rt, rt.alloc(), MESSAGES)
+}
+
+#[test]
+fn what_holds_nothing_has_no_bytes(rt: HostRuntime) -> Result<(), Fail> {
+    expect_all(&rt, rt.alloc(), NOTHING)
 }
 
 #[test]
 fn a_ticket_travels_in_a_frame(rt: HostRuntime) -> Result<(), Fail> {
-    let ticket = Ticket {
-        ticket: Vec::from_slice(rt.alloc(), b"\x0a\x05sales\x10\x03")?,
-    };
-    let mut text = Vec::new(rt.alloc());
-    ticket.encode(&mut text)?;
-    assert_eq!(rt; text.len(), 11);
+    let text = spelled(rt.alloc(), "0a09 0a0573616c65731003")?;
+    let mut out = Vec::new(rt.alloc());
+    told_of(rt.alloc(), "ticket", text.as_slice(), &mut out)?;
+    assert!(rt; out.len() == 11);
     let mut frame = Vec::new(rt.alloc());
-    write_frame(&mut frame, MESSAGE_FLAG, text.as_slice())?;
-    let want = b"\x00\x00\x00\x00\x0b\x0a\x09\x0a\x05sales\x10\x03";
-    assert_eq!(rt; frame.as_slice(), want.as_slice());
-    assert_eq!(rt; Ticket::decode(rt.alloc(), text.as_slice())?, ticket);
+    write(&mut frame, MESSAGE_FLAG, out.as_slice())??;
+    let want = spelled(rt.alloc(), "00 0000000b 0a09 0a0573616c65731003")?;
+    assert!(rt; are_equal(frame.as_slice(), want.as_slice()));
     Ok(())
 }
 
 #[test]
 fn a_schema_of_160_bytes_has_a_length_of_two(rt: HostRuntime) -> Result<(), Fail> {
-    let mut schema = Vec::from_slice(rt.alloc(), b"\xff\xff\xff\xff\x98\x00\x00\x00")?;
-    schema.resize(160, 0x17)?;
-    let message = SchemaResult { schema };
+    let mut text = spelled(rt.alloc(), "0aa001 ffffffff98000000")?;
+    text.resize(163, 0x17)?;
     let mut out = Vec::new(rt.alloc());
-    message.encode(&mut out)?;
-    let begins = b"\x0a\xa0\x01\xff\xff\xff\xff\x98\x00\x00\x00\x17";
-    assert_eq!(rt; out.as_slice().get(..12), Some(begins.as_slice()));
-    assert_eq!(rt; out.len(), 163);
-    assert_eq!(rt; SchemaResult::decode(rt.alloc(), out.as_slice())?, message);
-    Ok(())
-}
-
-#[test]
-fn a_location_is_read_and_written(rt: HostRuntime) -> Result<(), Fail> {
-    let text = b"\x0a\x1agrpc+tcp://127.0.0.1:42000";
-    let message = Location {
-        uri: String::from_str(rt.alloc(), "grpc+tcp://127.0.0.1:42000")?,
-    };
-    let mut out = Vec::new(rt.alloc());
-    message.encode(&mut out)?;
-    assert_eq!(rt; out.as_slice(), text.as_slice());
-    assert_eq!(rt; Location::decode(rt.alloc(), text)?, message);
-    Ok(())
-}
-
-#[test]
-fn an_endpoint_is_read_and_written(rt: HostRuntime) -> Result<(), Fail> {
-    let text = b"\x0a\x04\x0a\x02\x01\x02\x12\x03\x0a\x01a\x12\x00";
-    let message = endpoint_of(rt.alloc(), &[1, 2], &["a", ""])?;
-    let mut out = Vec::new(rt.alloc());
-    message.encode(&mut out)?;
-    assert_eq!(rt; out.as_slice(), text.as_slice());
-    assert_eq!(rt; FlightEndpoint::decode(rt.alloc(), text)?, message);
-    Ok(())
-}
-
-#[test]
-fn an_info_is_read_and_written(rt: HostRuntime) -> Result<(), Fail> {
-    let message = info(rt.alloc())?;
-    let mut out = Vec::new(rt.alloc());
-    message.encode(&mut out)?;
-    assert_eq!(rt; out.as_slice(), INFO.as_slice());
-    assert_eq!(rt; FlightInfo::decode(rt.alloc(), &INFO)?, message);
-    Ok(())
-}
-
-#[test]
-fn data_is_read_and_written(rt: HostRuntime) -> Result<(), Fail> {
-    let text = b"\x0a\x05\x08\x01\x1a\x01s\x12\x01\x07\x1a\x01m\xc2\x3e\x04body";
-    let message = FlightData {
-        flight_descriptor: Some(descriptor_of(rt.alloc(), &["s"])?),
-        data_header: Vec::from_slice(rt.alloc(), &[7])?,
-        app_metadata: Vec::from_slice(rt.alloc(), b"m")?,
-        data_body: Vec::from_slice(rt.alloc(), b"body")?,
-    };
-    let mut out = Vec::new(rt.alloc());
-    message.encode(&mut out)?;
-    assert_eq!(rt; out.as_slice(), text.as_slice());
-    assert_eq!(rt; FlightData::decode(rt.alloc(), text)?, message);
-    Ok(())
-}
-
-#[test]
-fn criteria_are_read_and_written(rt: HostRuntime) -> Result<(), Fail> {
-    let message = Criteria {
-        expression: Vec::from_slice(rt.alloc(), &[0xff, 0x00])?,
-    };
-    let mut out = Vec::new(rt.alloc());
-    message.encode(&mut out)?;
-    assert_eq!(rt; out.as_slice(), [0x0a, 0x02, 0xff, 0x00].as_slice());
-    assert_eq!(rt; Criteria::decode(rt.alloc(), out.as_slice())?, message);
-    Ok(())
-}
-
-#[test]
-fn the_answer_to_an_upload_is_read_and_written(rt: HostRuntime) -> Result<(), Fail> {
-    let message = PutResult {
-        app_metadata: Vec::from_slice(rt.alloc(), &[0x03, 0x80, 0x01])?,
-    };
-    let mut out = Vec::new(rt.alloc());
-    message.encode(&mut out)?;
-    assert_eq!(rt; out.as_slice(), [0x0a, 0x03, 0x03, 0x80, 0x01].as_slice());
-    assert_eq!(rt; PutResult::decode(rt.alloc(), out.as_slice())?, message);
+    let told = told_of(rt.alloc(), "schema", text.as_slice(), &mut out)?;
+    assert!(rt; told.as_str().starts_with("/1=ffffffff980000001717"));
+    assert!(rt; told.as_str().ends_with("1717;"));
+    assert!(rt; told.len() == 3 + 2 * 160 + 1);
+    assert!(rt; are_equal(out.as_slice(), text.as_slice()));
     Ok(())
 }
 
 #[test]
 fn a_message_is_appended(rt: HostRuntime) -> Result<(), Fail> {
-    let mut out = Vec::from_slice(rt.alloc(), b"\x0a\x01")?;
-    descriptor_of(rt.alloc(), &["s"])?.encode(&mut out)?;
-    assert_eq!(rt; out.as_slice(), b"\x0a\x01\x08\x01\x1a\x01s".as_slice());
-    endpoint_of(rt.alloc(), &[9], &[])?.encode(&mut out)?;
-    let want = b"\x0a\x01\x08\x01\x1a\x01s\x0a\x03\x0a\x01\x09";
-    assert_eq!(rt; out.as_slice(), want.as_slice());
-    Ok(())
-}
-
-#[test]
-fn what_holds_nothing_has_no_bytes(rt: HostRuntime) -> Result<(), Fail> {
-    let mut out = Vec::new(rt.alloc());
-    FlightDescriptor::decode(rt.alloc(), &[])?.encode(&mut out)?;
-    Ticket::decode(rt.alloc(), &[])?.encode(&mut out)?;
-    Location::decode(rt.alloc(), &[])?.encode(&mut out)?;
-    FlightEndpoint::decode(rt.alloc(), &[])?.encode(&mut out)?;
-    FlightInfo::decode(rt.alloc(), &[])?.encode(&mut out)?;
-    SchemaResult::decode(rt.alloc(), &[])?.encode(&mut out)?;
-    Criteria::decode(rt.alloc(), &[])?.encode(&mut out)?;
-    FlightData::decode(rt.alloc(), &[])?.encode(&mut out)?;
-    PutResult::decode(rt.alloc(), &[])?.encode(&mut out)?;
-    assert_eq!(rt; out.as_slice(), [].as_slice());
+    let mut out = spelled(rt.alloc(), "0a01")?;
+    told_of(rt.alloc(), "descriptor", b"\x08\x01\x1a\x01s", &mut out)?;
+    let want = spelled(rt.alloc(), "0a01 08011a0173")?;
+    assert!(rt; are_equal(out.as_slice(), want.as_slice()));
+    told_of(rt.alloc(), "endpoint", b"\x0a\x03\x0a\x01\x09", &mut out)?;
+    let want = spelled(rt.alloc(), "0a01 08011a0173 0a030a0109")?;
+    assert!(rt; are_equal(out.as_slice(), want.as_slice()));
     Ok(())
 }

@@ -1,222 +1,150 @@
 //! Texts that no message of Arrow Flight is (Apache Arrow, "Flight.proto"; Protocol Buffers, "Encoding").
 
-use crate::{
-    Criteria, FlightData, FlightDescriptor, FlightEndpoint, FlightInfo, Location, PutResult,
-    SchemaResult, Ticket, WireFault,
-};
+use super::flight::{expect, expect_all};
+use super::shown::NAMES;
+use super::texts::cells;
 use std::alloc::Global;
+use std::process::Abort;
 use std::test::Fail;
 
-/// Texts of no message, and why. Field 1 of each message is a number or bytes, and none has a field 7, 15 or 2047.
-const ANY_FAULTY: [(&[u8], WireFault); 18] = [
-    (
-        b"\xff\xff\xff\xff\xff\xff\xff\xff\xff\xff\x01",
-        WireFault::BadVarint,
-    ),
-    (
-        b"\xff\xff\xff\xff\xff\xff\xff\xff\xff\x02",
-        WireFault::BadVarint,
-    ),
-    (b"\x00\x00", WireFault::BadKey),
-    (b"\x80\x80\x80\x80\x10", WireFault::BadKey),
-    // Field 1 of wire types 3, 4, 6 and 7, and of eight and four bytes.
-    (b"\x0b", WireFault::BadWireType),
-    (b"\x0c", WireFault::BadWireType),
-    (b"\x0e", WireFault::BadWireType),
-    (b"\x0f", WireFault::BadWireType),
-    (
-        b"\x09\x00\x00\x00\x00\x00\x00\x00\x00",
-        WireFault::BadWireType,
-    ),
-    (b"\x0d\x00\x00\x00\x00", WireFault::BadWireType),
-    // A field that is passed over, of the same wire types.
-    (b"\x3b", WireFault::BadWireType),
-    (b"\x7c", WireFault::BadWireType),
-    (b"\xfe\x7f", WireFault::BadWireType),
-    (b"\x38\x01\x3f", WireFault::BadWireType),
-    // Such a field that ends early.
-    (b"\x80", WireFault::CutShort),
-    (b"\x38", WireFault::CutShort),
-    (b"\x7a\x02\x61", WireFault::CutShort),
-    (b"\xfd\x7f\x01\x02\x03", WireFault::CutShort),
-];
+/// Texts of no message, and why: a number in its eleventh byte and one above 64 bits; the field numbers 0 and 536870912;
+/// field 1 of the wire types 3, 4, 6 and 7, and of eight and four bytes; a field that is passed over, of the same wire types;
+/// and such a field that ends early. Field 1 of each message is a number or bytes, and none has a field 7, 15 or 2047.
+const ANY_FAULTY: &str = "\
+ffffffffffffffffffff01|BadVarint
+ffffffffffffffffff02|BadVarint
+0000|BadKey
+8080808010|BadKey
+0b|BadWireType
+0c|BadWireType
+0e|BadWireType
+0f|BadWireType
+090000000000000000|BadWireType
+0d00000000|BadWireType
+3b|BadWireType
+7c|BadWireType
+fe7f|BadWireType
+38013f|BadWireType
+80|CutShort
+38|CutShort
+7a0261|CutShort
+fd7f010203|CutShort";
 
-/// Texts of no descriptor.
-const FAULTY_DESCRIPTORS: [(&[u8], WireFault); 13] = [
-    (b"\x08", WireFault::CutShort),
-    (b"\x08\x80", WireFault::CutShort),
-    (b"\x08\x01\x1a\x05sale", WireFault::CutShort),
-    (
-        b"\x08\xff\xff\xff\xff\xff\xff\xff\xff\xff\x02",
-        WireFault::BadVarint,
-    ),
-    (b"\x0a\x00", WireFault::BadWireType),
-    (b"\x10\x00", WireFault::BadWireType),
-    (b"\x18\x00", WireFault::BadWireType),
-    (
-        b"\x08\x01\x1a\x01s\x1d\x01\x02\x03\x04",
-        WireFault::BadWireType,
-    ),
-    (b"\x1a\x01\xff", WireFault::NotUtf8),
-    // A good element on each side, an overlong zero, half of a pair, and the first byte of two.
-    (b"\x1a\x01a\x1a\x02\xc3\x28\x1a\x01a", WireFault::NotUtf8),
-    (b"\x1a\x02\xc0\x80", WireFault::NotUtf8),
-    (b"\x1a\x03\xed\xa0\x80", WireFault::NotUtf8),
-    (b"\x1a\x01\xc3", WireFault::NotUtf8),
-];
+/// Texts of no descriptor. Those that are no UTF-8 have a faulty byte, a good element on each side, an overlong zero, half of
+/// a pair, and the first byte of two.
+const DESCRIPTORS: &str = "\
+descriptor|08|CutShort|
+descriptor|0880|CutShort|
+descriptor|08011a0573616c65|CutShort|
+descriptor|08ffffffffffffffffff02|BadVarint|
+descriptor|0a00|BadWireType|
+descriptor|1000|BadWireType|
+descriptor|1800|BadWireType|
+descriptor|08011a01731d01020304|BadWireType|
+descriptor|1a01ff|NotUtf8|
+descriptor|1a01611a02c3281a0161|NotUtf8|
+descriptor|1a02c080|NotUtf8|
+descriptor|1a03eda080|NotUtf8|
+descriptor|1a01c3|NotUtf8|";
 
-/// Texts of no location.
-const FAULTY_LOCATIONS: [(&[u8], WireFault); 5] = [
-    (b"\x0a\x05\x61", WireFault::CutShort),
-    (b"\x08\x01", WireFault::BadWireType),
-    (b"\x0a\x01\xff", WireFault::NotUtf8),
-    // The last one would win.
-    (b"\x0a\x01\xff\x0a\x01a", WireFault::NotUtf8),
-    (b"\x0a\x01a\x0a\x01\xff", WireFault::NotUtf8),
-];
+/// Texts of no location, also where a good URI would win.
+const LOCATIONS: &str = "\
+location|0a0561|CutShort|
+location|0801|BadWireType|
+location|0a01ff|NotUtf8|
+location|0a01ff0a0161|NotUtf8|
+location|0a01610a01ff|NotUtf8|";
 
-/// Texts of no endpoint: faults in the ticket, and then in a location.
-const FAULTY_ENDPOINTS: [(&[u8], WireFault); 17] = [
-    (b"\x08\x00", WireFault::BadWireType),
-    (b"\x0a\x02\x08\x01", WireFault::BadWireType),
-    (b"\x0a\x05\x0d\x00\x00\x00\x00", WireFault::BadWireType),
-    (b"\x0a\x01\x0b", WireFault::BadWireType),
-    (b"\x0a\x02\x00\x00", WireFault::BadKey),
-    (
-        b"\x0a\x0a\xff\xff\xff\xff\xff\xff\xff\xff\xff\x02",
-        WireFault::BadVarint,
-    ),
-    (b"\x0a\x01\x80", WireFault::CutShort),
-    (b"\x0a\x03\x0a\x00\x0a", WireFault::CutShort),
-    (b"\x0a\x03\x0a\x00", WireFault::CutShort),
-    (b"\x10\x00", WireFault::BadWireType),
-    (b"\x12\x02\x08\x01", WireFault::BadWireType),
-    (b"\x12\x01\x08", WireFault::CutShort),
-    // The piece ends inside a field, also where bytes stand behind the piece, and a good piece heals none.
-    (b"\x12\x02\x0a\x02\x38\x01", WireFault::CutShort),
-    (b"\x12\x02\x0a\x01\x12\x01a", WireFault::CutShort),
-    (b"\x12\x03\x0a\x01\xff", WireFault::NotUtf8),
-    (b"\x12\x06\x0a\x01\xff\x0a\x01a", WireFault::NotUtf8),
-    (b"\x12\x03\x0a\x01a\x12\x03\x0a\x01\xff", WireFault::NotUtf8),
-];
+/// Texts of no endpoint: faults in the ticket, and then in a location. A piece may end inside a field, also where bytes stand
+/// behind the piece, and a good piece heals none.
+const ENDPOINTS: &str = "\
+endpoint|0800|BadWireType|
+endpoint|0a020801|BadWireType|
+endpoint|0a050d00000000|BadWireType|
+endpoint|0a010b|BadWireType|
+endpoint|0a020000|BadKey|
+endpoint|0a0affffffffffffffffff02|BadVarint|
+endpoint|0a0180|CutShort|
+endpoint|0a030a000a|CutShort|
+endpoint|0a030a00|CutShort|
+endpoint|1000|BadWireType|
+endpoint|12020801|BadWireType|
+endpoint|120108|CutShort|
+endpoint|12020a023801|CutShort|
+endpoint|12020a01120161|CutShort|
+endpoint|12030a01ff|NotUtf8|
+endpoint|12060a01ff0a0161|NotUtf8|
+endpoint|12030a016112030a01ff|NotUtf8|";
 
 /// Texts of no info: fields of another wire type, and faults in the descriptor and in endpoints.
-const FAULTY_INFOS: [(&[u8], WireFault); 16] = [
-    (b"\x08\x00", WireFault::BadWireType),
-    (b"\x10\x00", WireFault::BadWireType),
-    (b"\x18\x00", WireFault::BadWireType),
-    (b"\x22\x00", WireFault::BadWireType),
-    (b"\x2a\x00", WireFault::BadWireType),
-    (b"\x32\x00", WireFault::BadWireType),
-    (b"\x20\x80", WireFault::CutShort),
-    (
-        b"\x30\xff\xff\xff\xff\xff\xff\xff\xff\xff\x02",
-        WireFault::BadVarint,
-    ),
-    (b"\x12\x02\x10\x00", WireFault::BadWireType),
-    (b"\x12\x03\x1a\x01\xff", WireFault::NotUtf8),
-    (b"\x12\x02\x1a\x02\x20\x01", WireFault::CutShort),
-    (b"\x1a\x02\x08\x00", WireFault::BadWireType),
-    (b"\x1a\x04\x12\x02\x08\x00", WireFault::BadWireType),
-    (b"\x1a\x05\x12\x03\x0a\x01\xff", WireFault::NotUtf8),
-    (b"\x1a\x04\x0a\x02\x00\x00", WireFault::BadKey),
-    (b"\x1a\x00\x1a\x03\x12\x01\x0a", WireFault::CutShort),
-];
+const INFOS: &str = "\
+info|0800|BadWireType|
+info|1000|BadWireType|
+info|1800|BadWireType|
+info|2200|BadWireType|
+info|2a00|BadWireType|
+info|3200|BadWireType|
+info|2080|CutShort|
+info|30ffffffffffffffffff02|BadVarint|
+info|12021000|BadWireType|
+info|12031a01ff|NotUtf8|
+info|12021a022001|CutShort|
+info|1a020800|BadWireType|
+info|1a0412020800|BadWireType|
+info|1a0512030a01ff|NotUtf8|
+info|1a040a020000|BadKey|
+info|1a001a0312010a|CutShort|";
 
 /// Texts of no data.
-const FAULTY_DATA: [(&[u8], WireFault); 9] = [
-    (b"\x08\x00", WireFault::BadWireType),
-    (b"\x10\x00", WireFault::BadWireType),
-    (b"\x18\x00", WireFault::BadWireType),
-    (b"\xc0\x3e\x00", WireFault::BadWireType),
-    (b"\xc5\x3e\x00\x00\x00\x00", WireFault::BadWireType),
-    (b"\xc2\x3e\x05body", WireFault::CutShort),
-    (b"\x0a\x02\x08\x01\x0a\x02\x1a\x01", WireFault::CutShort),
-    (b"\x0a\x02\x0a\x00", WireFault::BadWireType),
-    (b"\x0a\x03\x1a\x01\xff", WireFault::NotUtf8),
-];
+const DATA: &str = "\
+data|0800|BadWireType|
+data|1000|BadWireType|
+data|1800|BadWireType|
+data|c03e00|BadWireType|
+data|c53e00000000|BadWireType|
+data|c23e05626f6479|CutShort|
+data|0a0208010a021a01|CutShort|
+data|0a020a00|BadWireType|
+data|0a031a01ff|NotUtf8|";
 
-/// What each of the nine messages says of the text.
-fn faults(alloc: Global, text: &[u8]) -> [Option<WireFault>; 9] {
-    [
-        FlightDescriptor::decode(alloc, text).err(),
-        Ticket::decode(alloc, text).err(),
-        Location::decode(alloc, text).err(),
-        FlightEndpoint::decode(alloc, text).err(),
-        FlightInfo::decode(alloc, text).err(),
-        SchemaResult::decode(alloc, text).err(),
-        Criteria::decode(alloc, text).err(),
-        FlightData::decode(alloc, text).err(),
-        PutResult::decode(alloc, text).err(),
-    ]
-}
+/// Texts of some messages and not of others: field 1 with a number, and bytes that are not UTF-8.
+const OF_SOME: &str = "\
+descriptor|0801|/1=1;/2=;|0801
+ticket|0801|BadWireType|
+location|0801|BadWireType|
+endpoint|0801|BadWireType|
+info|0801|BadWireType|
+schema|0801|BadWireType|
+criteria|0801|BadWireType|
+data|0801|BadWireType|
+answer|0801|BadWireType|
+ticket|0a01ff|/1=ff;|0a01ff
+descriptor|1201ff|/1=0;/2=ff;|1201ff";
 
-#[test]
-fn texts_of_no_message(rt: HostRuntime) {
-    for (text, want) in ANY_FAULTY {
-        let found = faults(rt.alloc(), text);
-        assert_eq!(rt; found, [Some(want); 9], "{text:?}");
+/// What each of the nine messages says of the row's text.
+fn expect_each(rt: &impl Abort, alloc: Global, row: &str) -> Result<(), Fail> {
+    let cells = cells(alloc, row)?;
+    let [text, fault] = cells.as_slice() else {
+        return Err(Fail::from("no row"));
+    };
+    for name in NAMES.split('|') {
+        expect(rt, alloc, &[name, *text, *fault, ""])?;
     }
+    Ok(())
 }
 
 #[test]
-fn texts_of_no_descriptor(rt: HostRuntime) {
-    for (text, want) in FAULTY_DESCRIPTORS {
-        let found = FlightDescriptor::decode(rt.alloc(), text).err();
-        assert_eq!(rt; found, Some(want), "{text:?}");
+fn texts_of_no_message(rt: HostRuntime) -> Result<(), Fail> {
+    for row in ANY_FAULTY.lines() {
+        expect_each(&rt, rt.alloc(), row)?;
     }
+    Ok(())
 }
 
 #[test]
-fn texts_of_no_location(rt: HostRuntime) {
-    for (text, want) in FAULTY_LOCATIONS {
-        let found = Location::decode(rt.alloc(), text).err();
-        assert_eq!(rt; found, Some(want), "{text:?}");
+fn texts_of_not_this_message(rt: HostRuntime) -> Result<(), Fail> {
+    for rows in [DESCRIPTORS, LOCATIONS, ENDPOINTS, INFOS, DATA, OF_SOME] {
+        expect_all(&rt, rt.alloc(), rows)?;
     }
-}
-
-#[test]
-fn texts_of_no_endpoint(rt: HostRuntime) {
-    for (text, want) in FAULTY_ENDPOINTS {
-        let found = FlightEndpoint::decode(rt.alloc(), text).err();
-        assert_eq!(rt; found, Some(want), "{text:?}");
-    }
-}
-
-#[test]
-fn texts_of_no_info(rt: HostRuntime) {
-    for (text, want) in FAULTY_INFOS {
-        let found = FlightInfo::decode(rt.alloc(), text).err();
-        assert_eq!(rt; found, Some(want), "{text:?}");
-    }
-}
-
-#[test]
-fn texts_of_no_data(rt: HostRuntime) {
-    for (text, want) in FAULTY_DATA {
-        let found = FlightData::decode(rt.alloc(), text).err();
-        assert_eq!(rt; found, Some(want), "{text:?}");
-    }
-}
-
-#[test]
-fn bytes_of_a_number_are_no_bytes(rt: HostRuntime) {
-    let text = [0x08, 0x01];
-    let mut found = faults(rt.alloc(), &text).into_iter();
-    assert_eq!(rt; found.next(), Some(None));
-    assert_eq!(rt;
-        found
-            .filter(|fault| *fault == Some(WireFault::BadWireType))
-            .count(),
-        8
-    );
-}
-
-#[test]
-fn bytes_need_not_be_utf8(rt: HostRuntime) -> Result<(), Fail> {
-    let ticket = Ticket::decode(rt.alloc(), &[0x0a, 0x01, 0xff])?;
-    assert_eq!(rt; ticket.ticket.as_slice(), [0xff].as_slice());
-    let descriptor = FlightDescriptor::decode(rt.alloc(), &[0x12, 0x01, 0xff])?;
-    assert_eq!(rt; descriptor.cmd.as_slice(), [0xff].as_slice());
     Ok(())
 }

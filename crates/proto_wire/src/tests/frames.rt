@@ -1,8 +1,9 @@
 //! Frames against bytes from outside, and readers and writers that fail.
 
-ghost use Rattle.std.specs.Prelude.{◌≡◌, ◌≤◌, length, IfOk};
-ghost use Rattle.proto_wire.specs.Frame.{frame_text, payload_limit, IsFlag};
+ghost use Rattle.std.specs.Prelude.{◌≡◌, IfOk};
+ghost use Rattle.proto_wire.specs.Frame.{frame_text};
 
+use super::texts::{are_both, are_equal, cells, digits_of, is_told, spelled as bytes_of};
 use crate::{
     END_FLAG, Frame, FrameFault, MAX_FRAME_PAYLOAD, MESSAGE_FLAG, read_frame, write_frame,
 };
@@ -13,16 +14,36 @@ use std::process::Abort;
 use std::test::Fail;
 
 /// A message frame that carries the bytes 08 01 28 01.
-const FRAME: [u8; 9] = [0x00, 0x00, 0x00, 0x00, 0x04, 0x08, 0x01, 0x28, 0x01];
+const FRAME: &str = "00 00000004 08012801";
+
+/// Texts, and what is read: the flag, the payload and the text behind it, that the input has ended, or the fault. Every
+/// beginning of a frame is cut short; then come a payload above 4 MiB and one of a byte more than that, another flag, and
+/// that of a compressed message.
+const READ: &str = "\
+00 00000004 08012801 80 00000000|0; 08012801; 8000000000.
+80 00000000|128; ; .
+|end
+00|Truncated
+0000|Truncated
+000000|Truncated
+00000000|Truncated
+00 00000004|Truncated
+00 00000004 08|Truncated
+00 00000004 0801|Truncated
+00 00000004 080128|Truncated
+00 ffffffff|TooLong
+00 00400001|TooLong
+02 00000000|BadFlag
+01 00000000|Compressed";
 
 /// Gives its bytes, and fails at every read but the first.
 #[derive(Drop)]
-struct FailsSecond {
-    bytes: &'static [u8],
+struct FailsSecond<'a> {
+    bytes: &'a [u8],
     was_read: bool,
 }
 
-impl Read for FailsSecond {
+impl<'a> Read for FailsSecond<'a> {
     fn read(&mut self, buf: &mut [u8]) -> io::Result<usize> {
         if self.was_read {
             return Err(io::ErrorKind::Interrupted.into());
@@ -71,110 +92,138 @@ pub fn spelled(alloc: Global, flag: u8, payload: &[u8]) -> Result<Vec<u8>, Alloc
     Ok(text)
 }
 
-/// Whether the text is read as this fault.
-fn is_read_as(alloc: Global, mut text: &[u8], fault: FrameFault) -> bool {
-    match read_frame(alloc, &mut text) {
-        Ok(_) => false,
-        Err(found) => found == fault,
+/// `read_frame`.
+pub fn read<R: Read>(alloc: Global, reader: &mut R) -> Result<Option<Frame>, FrameFault> {
+    read_frame(alloc, reader)
+}
+
+/// `write_frame`, where such a frame may be written.
+pub fn write<W: Write>(
+    writer: &mut W,
+    flag: u8,
+    payload: &[u8],
+) -> Result<Result<(), FrameFault>, Fail> {
+    if flag != MESSAGE_FLAG && flag != END_FLAG {
+        return Err(Fail::from("no flag"));
+    }
+    if payload.len() > MAX_FRAME_PAYLOAD {
+        return Err(Fail::from("too long a payload"));
+    }
+    Ok(write_frame(writer, flag, payload))
+}
+
+/// The name of the fault.
+fn name_of(fault: FrameFault) -> &'static str {
+    match fault {
+        FrameFault::Truncated => "Truncated",
+        FrameFault::BadFlag => "BadFlag",
+        FrameFault::Compressed => "Compressed",
+        FrameFault::TooLong => "TooLong",
+        FrameFault::Io => "Io",
+        FrameFault::OutOfMemory => "OutOfMemory",
     }
 }
 
-fn expect_spelled(rt: &impl Abort, alloc: Global, flag: u8, payload: &[u8]) -> Result<(), Fail>
-    requires flag { IsFlag flag }
-    requires payload { length payload.now ≤ payload_limit }
-{
-    let mut written = Vec::new(alloc);
-    write_frame(&mut written, flag, payload)?;
-    let text = spelled(alloc, flag, payload)?;
-    assert_eq!(rt; written.as_slice(), text.as_slice());
+/// The frame and the text behind it, as they stand in the table.
+fn shown(alloc: Global, frame: &Frame, rest: &[u8]) -> Result<String, Fail> {
+    let payload = digits_of(alloc, frame.payload.as_slice())?;
+    let rest = digits_of(alloc, rest)?;
+    let flag = frame.flag;
+    Ok(format!(in alloc; "{flag}; {payload}; {rest}.")?)
+}
+
+/// What is read at the front of the text.
+fn told(alloc: Global, text: &[u8]) -> Result<String, Fail> {
+    let mut rest = text;
+    match read(alloc, &mut rest) {
+        Ok(Some(frame)) => shown(alloc, &frame, rest),
+        Ok(None) => Ok(String::from_str(alloc, "end")?),
+        Err(fault) => Ok(String::from_str(alloc, name_of(fault))?),
+    }
+}
+
+fn expect_read(rt: &impl Abort, alloc: Global, row: &str) -> Result<(), Fail> {
+    let cells = cells(alloc, row)?;
+    let [text, want] = cells.as_slice() else {
+        return Err(Fail::from("no row"));
+    };
+    let text = bytes_of(alloc, text)?;
+    let told = told(alloc, text.as_slice())?;
+    assert!(rt; is_told(told.as_str(), want), "{row}");
     Ok(())
 }
 
 #[test]
 fn reads_a_frame_and_leaves_the_rest(rt: HostRuntime) -> Result<(), Fail> {
-    let bytes = [
-        0x00, 0x00, 0x00, 0x00, 0x04, 0x08, 0x01, 0x28, 0x01, 0x80, 0x00, 0x00, 0x00, 0x00,
-    ];
-    let mut rest = bytes.as_slice();
-    let message = read_frame(rt.alloc(), &mut rest)?.ok_or("a message stands first")?;
-    assert_eq!(rt; message.flag, MESSAGE_FLAG);
-    assert_eq!(rt;
-        message.payload.as_slice(),
-        [0x08, 0x01, 0x28, 0x01].as_slice()
-    );
-    assert_eq!(rt; rest, [0x80, 0x00, 0x00, 0x00, 0x00].as_slice());
-    let end = read_frame(rt.alloc(), &mut rest)?.ok_or("an end stands next")?;
-    assert_eq!(rt; end.flag, END_FLAG);
-    assert!(rt; end.payload.is_empty());
-    assert!(rt; read_frame(rt.alloc(), &mut rest)?.is_none());
+    for row in READ.lines() {
+        expect_read(&rt, rt.alloc(), row)?;
+    }
     Ok(())
 }
 
 #[test]
-fn faults(rt: HostRuntime) {
-    for len in 1..9 {
-        assert!(rt;
-            is_read_as(rt.alloc(), &FRAME[..len], FrameFault::Truncated),
-            "{len} bytes"
-        );
-    }
-    let too_long = [0x00, 0xff, 0xff, 0xff, 0xff];
-    assert!(rt; is_read_as(rt.alloc(), &too_long, FrameFault::TooLong));
-    let one_more = [0x00, 0x00, 0x40, 0x00, 0x01];
-    assert!(rt; is_read_as(rt.alloc(), &one_more, FrameFault::TooLong));
-    let other_flag = [0x02, 0x00, 0x00, 0x00, 0x00];
-    assert!(rt; is_read_as(rt.alloc(), &other_flag, FrameFault::BadFlag));
-    let compressed = [0x01, 0x00, 0x00, 0x00, 0x00];
-    assert!(rt; is_read_as(rt.alloc(), &compressed, FrameFault::Compressed));
-}
-
-#[test]
 fn reads_the_longest_payload(rt: HostRuntime) -> Result<(), Fail> {
-    let mut bytes = Vec::new(rt.alloc());
-    bytes.extend_from_slice(&[0x80, 0x00, 0x40, 0x00, 0x00])?;
+    let mut bytes = bytes_of(rt.alloc(), "80 00400000")?;
     bytes.resize(4_194_309, 7)?;
     let mut rest = bytes.as_slice();
-    let Frame { flag, payload } = read_frame(rt.alloc(), &mut rest)?.ok_or("a frame stands there")?;
-    assert_eq!(rt; flag, END_FLAG);
-    assert_eq!(rt; payload.len(), 4_194_304);
-    assert_eq!(rt; payload.len(), MAX_FRAME_PAYLOAD);
-    assert!(rt; payload.iter().all(|byte| *byte == 7));
+    let frame = read(rt.alloc(), &mut rest)?.ok_or("a frame stands there")?;
+    assert!(rt; frame.flag == END_FLAG);
+    assert!(rt; frame.payload.len() == 4_194_304);
+    assert!(rt; frame.payload.len() == MAX_FRAME_PAYLOAD);
+    assert!(rt; frame.payload.iter().all(|byte| *byte == 7));
     assert!(rt; rest.is_empty());
+    Ok(())
+}
+
+fn expect_spelled(rt: &impl Abort, alloc: Global, flag: u8, payload: &[u8]) -> Result<(), Fail> {
+    let mut written = Vec::new(alloc);
+    write(&mut written, flag, payload)??;
+    let text = spelled(alloc, flag, payload)?;
+    assert!(rt; are_equal(written.as_slice(), text.as_slice()));
     Ok(())
 }
 
 #[test]
 fn writes_what_is_spelled(rt: HostRuntime) -> Result<(), Fail> {
     let mut written = Vec::new(rt.alloc());
-    write_frame(&mut written, MESSAGE_FLAG, &[0x08, 0x01, 0x28, 0x01])?;
-    assert_eq!(rt; written.as_slice(), FRAME.as_slice());
-    expect_spelled(&rt, rt.alloc(), END_FLAG, &[])?;
-    expect_spelled(&rt, rt.alloc(), END_FLAG, &[0xff])?;
-    expect_spelled(&rt, rt.alloc(), MESSAGE_FLAG, &[0x80; 70_000])?;
-    Ok(())
+    write(&mut written, MESSAGE_FLAG, b"\x08\x01\x28\x01")??;
+    let frame = bytes_of(rt.alloc(), FRAME)?;
+    assert!(rt; are_equal(written.as_slice(), frame.as_slice()));
+    expect_spelled(&rt, rt.alloc(), END_FLAG, b"")?;
+    expect_spelled(&rt, rt.alloc(), END_FLAG, b"\xff")?;
+    let mut payload = Vec::new(rt.alloc());
+    payload.resize(70_000, 0x80)?;
+    expect_spelled(&rt, rt.alloc(), MESSAGE_FLAG, payload.as_slice())
 }
 
 #[test]
-fn a_failed_read_is_told(rt: HostRuntime) {
+fn a_failed_read_is_told(rt: HostRuntime) -> Result<(), Fail> {
+    let frame = bytes_of(rt.alloc(), FRAME)?;
     let mut reader = FailsSecond {
-        bytes: &FRAME,
+        bytes: frame.as_slice(),
         was_read: false,
     };
-    let outcome = read_frame(rt.alloc(), &mut reader);
+    let outcome = read(rt.alloc(), &mut reader);
     assert!(rt; matches!(outcome, Err(FrameFault::Io)));
+    Ok(())
+}
+
+/// Writes the frame where there is room for seven of its bytes.
+fn expect_failed_write(rt: &impl Abort, alloc: Global, is_full: bool) -> Result<(), Fail> {
+    let mut writer = Narrow {
+        written: Vec::new(alloc),
+        room: 7,
+        is_full,
+    };
+    let outcome = write(&mut writer, MESSAGE_FLAG, b"\x08\x01\x28\x01")?;
+    assert!(rt; matches!(outcome, Err(FrameFault::Io)));
+    let frame = bytes_of(alloc, FRAME)?;
+    assert!(rt; are_both(frame.as_slice().get(..7), Some(writer.written.as_slice())));
+    Ok(())
 }
 
 #[test]
 fn a_failed_write_is_told(rt: HostRuntime) -> Result<(), Fail> {
-    for is_full in [false, true] {
-        let mut writer = Narrow {
-            written: Vec::new(rt.alloc()),
-            room: 7,
-            is_full,
-        };
-        let outcome = write_frame(&mut writer, MESSAGE_FLAG, &[0x08, 0x01, 0x28, 0x01]);
-        assert!(rt; matches!(outcome, Err(FrameFault::Io)));
-        assert_eq!(rt; writer.written.as_slice(), &FRAME[..7]);
-    }
-    Ok(())
+    expect_failed_write(&rt, rt.alloc(), false)?;
+    expect_failed_write(&rt, rt.alloc(), true)
 }

@@ -9,7 +9,7 @@ use crate::WireFault;
 use std::alloc::{AllocError, Global};
 
 /// What a field holds, `Held`.
-#[derive(Clone, Copy, Debug, PartialEq, Eq)]
+#[derive(Clone, Copy)]
 pub enum Held<'a> {
     Varint(u64),
     Eight(&'a [u8]),
@@ -18,7 +18,7 @@ pub enum Held<'a> {
 }
 
 /// A field of the text, with the places where its spelling begins and ends.
-#[derive(Clone, Copy, Debug)]
+#[derive(Clone, Copy)]
 pub struct Span<'a> {
     pub start: usize,
     pub end: usize,

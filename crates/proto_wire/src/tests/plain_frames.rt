@@ -18,7 +18,7 @@ struct Header<'a> {
 }
 
 /// What reading a frame gives at a text, `ReadsFrame`.
-#[derive(Clone, Copy, Debug, PartialEq, Eq)]
+#[derive(Clone, Copy)]
 pub enum Outcome<'a> {
     /// The input ends before a frame.
     End,

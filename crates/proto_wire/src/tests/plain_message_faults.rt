@@ -7,7 +7,7 @@ use crate::WireFault;
 use std::alloc::{AllocError, Global};
 
 /// What can be wrong with a text.
-pub const FAULTS: [WireFault; 5] = [
+const FAULTS: [WireFault; 5] = [
     WireFault::BadVarint,
     WireFault::BadKey,
     WireFault::BadWireType,

@@ -6,7 +6,7 @@ use super::plain_fields::{Held, Span, is_reached, spans_of};
 use std::alloc::{AllocError, Global};
 
 /// A message of Flight.proto.
-#[derive(Clone, Copy, Debug, PartialEq, Eq)]
+#[derive(Clone, Copy)]
 pub enum Table {
     Descriptor,
     Ticket,
@@ -17,7 +17,7 @@ pub enum Table {
 }
 
 /// The type of a field, with the message that is embedded in it, once or repeated.
-#[derive(Clone, Copy, Debug, PartialEq, Eq)]
+#[derive(Clone, Copy)]
 pub enum Kind {
     Enumeration,
     Int64,
@@ -30,7 +30,7 @@ pub enum Kind {
 }
 
 /// A field of a message.
-#[derive(Clone, Copy, Debug)]
+#[derive(Clone, Copy)]
 pub struct Row {
     pub number: u64,
     pub kind: Kind,
@@ -130,11 +130,23 @@ pub fn rows_of(table: Table) -> &'static [Row] {
     }
 }
 
+/// Which of the messages it is.
+pub fn place_of(table: Table) -> u8 {
+    match table {
+        Table::Descriptor => 1,
+        Table::Ticket => 2,
+        Table::Location => 3,
+        Table::Endpoint => 4,
+        Table::Info => 5,
+        Table::Data => 6,
+    }
+}
+
 /// How many messages stand one inside the other at most: an info, its endpoint, and a ticket.
 pub const LEVELS: usize = 3;
 
 /// What a field holds as a value of its type.
-#[derive(Clone, Copy, Debug, PartialEq, Eq)]
+#[derive(Clone, Copy)]
 pub enum Value<'a> {
     Number(i64),
     Truth(bool),
@@ -144,7 +156,7 @@ pub enum Value<'a> {
 }
 
 /// A value of a message, and where it stands.
-#[derive(Clone, Copy, Debug, PartialEq, Eq)]
+#[derive(Clone, Copy)]
 pub struct Entry<'a> {
     /// For each message around the value and then itself, the number of the field and its place among those of the number.
     pub path: u64,

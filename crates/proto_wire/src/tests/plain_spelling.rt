@@ -62,7 +62,7 @@ fn push_entry(
         Value::Number(0) | Value::Truth(false) => Ok(()),
         Value::Number(number) => push_number(out, row, bits_of(number)),
         Value::Truth(true) => push_number(out, row, 1),
-        Value::Bytes(bytes) if bytes.is_empty() && row.kind != Kind::Texts => Ok(()),
+        Value::Bytes(bytes) if bytes.is_empty() && !matches!(row.kind, Kind::Texts) => Ok(()),
         Value::Bytes(bytes) => push_bytes(out, row, bytes),
         Value::Message(_) => match inner.iter().find(|inner| inner.path == entry.path) {
             Some(inner) => push_bytes(out, row, inner.text.as_slice()),

@@ -1,14 +1,18 @@
 //! The messages of Arrow Flight as the values of the plain program, field by field (Apache Arrow, "Flight.proto").
 
+use super::fields::name_of;
 use super::plain_messages::{Entry, Table, Value, below};
+use super::texts::digits_of;
 use crate::{
-    FlightData, FlightDescriptor, FlightEndpoint, FlightInfo, Location, Ticket, WireFault,
+    Criteria, FlightData, FlightDescriptor, FlightEndpoint, FlightInfo, Location, PutResult,
+    SchemaResult, Ticket, WireFault,
 };
 use std::alloc::{AllocError, Global};
+use std::test::Fail;
 
 /// A message that can be laid out as values.
 pub trait Shown {
-    /// Its table in the plain program.
+    /// Its table in the plain program. All messages of bytes alone have the same.
     const TABLE: Table;
 
     /// `decode` of the message.
@@ -187,3 +191,134 @@ impl Shown for FlightData {
         push_value(entries, path, 1000, Value::Bytes(self.data_body.as_slice()))
     }
 }
+
+impl Shown for SchemaResult {
+    const TABLE: Table = Table::Ticket;
+
+    fn decoded(alloc: Global, text: &[u8]) -> Result<SchemaResult, WireFault> {
+        SchemaResult::decode(alloc, text)
+    }
+
+    fn encoded(&self, out: &mut Vec<u8>) -> Result<(), WireFault> {
+        self.encode(out)
+    }
+
+    fn show<'a>(&'a self, path: u64, entries: &mut Vec<Entry<'a>>) -> Result<(), AllocError> {
+        push_value(entries, path, 1, Value::Bytes(self.schema.as_slice()))
+    }
+}
+
+impl Shown for Criteria {
+    const TABLE: Table = Table::Ticket;
+
+    fn decoded(alloc: Global, text: &[u8]) -> Result<Criteria, WireFault> {
+        Criteria::decode(alloc, text)
+    }
+
+    fn encoded(&self, out: &mut Vec<u8>) -> Result<(), WireFault> {
+        self.encode(out)
+    }
+
+    fn show<'a>(&'a self, path: u64, entries: &mut Vec<Entry<'a>>) -> Result<(), AllocError> {
+        push_value(entries, path, 1, Value::Bytes(self.expression.as_slice()))
+    }
+}
+
+impl Shown for PutResult {
+    const TABLE: Table = Table::Ticket;
+
+    fn decoded(alloc: Global, text: &[u8]) -> Result<PutResult, WireFault> {
+        PutResult::decode(alloc, text)
+    }
+
+    fn encoded(&self, out: &mut Vec<u8>) -> Result<(), WireFault> {
+        self.encode(out)
+    }
+
+    fn show<'a>(&'a self, path: u64, entries: &mut Vec<Entry<'a>>) -> Result<(), AllocError> {
+        push_value(entries, path, 1, Value::Bytes(self.app_metadata.as_slice()))
+    }
+}
+
+/// A part of a path: the number of a field, and the place among those of the number where it is not the first.
+fn step_text(alloc: Global, step: u64) -> Result<String, Fail> {
+    let number = step / 64;
+    match step % 64 {
+        0 => Ok(format!(in alloc; "/{number}")?),
+        place => Ok(format!(in alloc; "/{number}:{place}")?),
+    }
+}
+
+/// A path, from the outermost message on.
+fn path_text(alloc: Global, path: u64) -> Result<String, Fail> {
+    let mut list = String::new(alloc);
+    for level in [4_294_967_296, 65_536, 1] {
+        let step = path / level % 65_536;
+        if step != 0 {
+            list.push_str(step_text(alloc, step)?.as_str())?;
+        }
+    }
+    Ok(list)
+}
+
+/// What stands at a path. Of an embedded message that is nothing.
+fn value_text(alloc: Global, value: Value<'_>) -> Result<String, Fail> {
+    match value {
+        Value::Number(number) => Ok(format!(in alloc; "={number}")?),
+        Value::Truth(truth) => Ok(format!(in alloc; "={truth}")?),
+        Value::Bytes(bytes) => {
+            let digits = digits_of(alloc, bytes)?;
+            Ok(format!(in alloc; "={digits}")?)
+        }
+        Value::Message(_) => Ok(String::new(alloc)),
+    }
+}
+
+/// The values, as they stand in tables.
+fn listed(alloc: Global, entries: &[Entry<'_>]) -> Result<String, Fail> {
+    let mut list = String::new(alloc);
+    for entry in entries {
+        list.push_str(path_text(alloc, entry.path)?.as_str())?;
+        list.push_str(value_text(alloc, entry.value)?.as_str())?;
+        list.push_str(";")?;
+    }
+    Ok(list)
+}
+
+/// The values of the message, as they stand in tables.
+fn values_of<M: Shown>(alloc: Global, message: &M) -> Result<String, Fail> {
+    let mut entries = Vec::new(alloc);
+    message.show(0, &mut entries)?;
+    listed(alloc, entries.as_slice())
+}
+
+/// The values of the message that the text means, as they stand in tables, or the fault's name. Appends the message as it
+/// is written.
+fn told<M: Shown + Drop>(alloc: Global, text: &[u8], out: &mut Vec<u8>) -> Result<String, Fail> {
+    match M::decoded(alloc, text) {
+        Ok(message) => {
+            message.encoded(out)?;
+            values_of(alloc, &message)
+        }
+        Err(fault) => Ok(String::from_str(alloc, name_of(fault))?),
+    }
+}
+
+/// The same for the message of this name in [`NAMES`].
+pub fn told_of(alloc: Global, name: &str, text: &[u8], out: &mut Vec<u8>) -> Result<String, Fail> {
+    match name {
+        "descriptor" => told::<FlightDescriptor>(alloc, text, out),
+        "ticket" => told::<Ticket>(alloc, text, out),
+        "location" => told::<Location>(alloc, text, out),
+        "endpoint" => told::<FlightEndpoint>(alloc, text, out),
+        "info" => told::<FlightInfo>(alloc, text, out),
+        "schema" => told::<SchemaResult>(alloc, text, out),
+        "criteria" => told::<Criteria>(alloc, text, out),
+        "data" => told::<FlightData>(alloc, text, out),
+        "answer" => told::<PutResult>(alloc, text, out),
+        _ => Err(Fail::from("no message")),
+    }
+}
+
+/// The nine messages.
+pub const NAMES: &str = "descriptor|ticket|location|endpoint|info|schema|criteria|data|answer";
