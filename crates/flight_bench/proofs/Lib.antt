@@ -2,3 +2,4 @@ pub mod Asking
 pub mod FirstValues
 pub mod Operands
 pub mod Sums
+pub mod Calls

@@ -1,16 +1,17 @@
 //! The words of the command line.
 
-ghost use Rattle.std.specs.Prelude.{◌≡◌, map, option_map, string_bytes, IfOk, IfErr};
-ghost use Rattle.clap.specs.Words.{FailsBy, fault_of, kind_of};
+ghost use Rattle.std.specs.Prelude.{◌≡◌, false, codes, map, option_map, string_bytes, IfOk, IfErr};
+ghost use Rattle.clap.specs.Words.{FailsBy, app_of, fault_of, kind_of, new_app, rule_of};
+ghost use Rattle.clap.specs.declared.builder.value_parser.ValueParser.TheVariants.{Names};
 ghost use Rattle.clap.specs.declared.error.kind.ErrorKind.TheVariants.{OutOfMemory};
-ghost use Rattle.flight_bench.specs.CommandLine.{IsCall, AsksFor, HoldsMatchesOf, IsTaskNames, asked_by, command_line};
+ghost use Rattle.flight_bench.specs.CommandLine.{IsCall, AsksFor, HoldsMatchesOf, IsTaskNames, asked_by, command_line, count_parser, needed, needed_by, with_version};
 ghost use Rattle.flight_bench.specs.Tasks.{task_of};
 
 use crate::repeat::Work;
 use crate::respell::MessageKind;
 use clap::builder::ValueParser;
 use clap::{Arg, ArgMatches, Command, Error};
-use std::alloc::Global;
+use std::alloc::{AllocError, Global};
 
 /// What the program was called for.
 #[derive(Clone, Copy, Debug, PartialEq, Eq)]
@@ -44,24 +45,55 @@ pub fn parse(alloc: Global, words: &[String]) -> Result<ArgMatches<'_>, Error>
     // Whatever the words, the outcome is the one that they have at this command line, or memory refused.
     ensures refused { (names : _) × IsTaskNames names × FailsBy (fault_of (command_line names) (map string_bytes words.now)) result }
 {
-    let task = Arg::new(alloc, "TASK")
+    let command = command(alloc)?;
+    command.try_get_matches_from(words)
+}
+
+// The program's words: its version, and its three arguments in their order.
+fn command<'a>(alloc: Global) -> Result<Command<'a>, AllocError>
+    ensures { (names : _) × IsTaskNames names × IfOk result (λ made. app_of made ≡ command_line names) }
+{
+    let task = task_argument(alloc);
+    let count = count_argument(alloc);
+    let file = file_argument(alloc);
+    program(alloc).arg(task)?.arg(count)?.arg(file)
+}
+
+fn program<'a>(alloc: Global) -> Command<'a>
+    ensures { app_of result ≡ with_version (new_app (codes "flight_bench")) }
+{
+    Command::new(alloc, "flight_bench").version("0.1.0").about(
+        "Reads or writes a message of Arrow Flight over and over, to be timed from outside",
+    )
+}
+
+fn task_argument<'a>(alloc: Global) -> Arg<'a>
+    ensures rule { (names : _) × IsTaskNames names × (rule_of result ≡ needed_by (codes "TASK") (Names names)) }
+    ensures local { result.global ≡ false }
+{
+    Arg::new(alloc, "TASK")
         .required(true)
         .value_parser(ValueParser::Names(TASKS))
-        .help("What to do with the message, and which one it is");
-    let count = Arg::new(alloc, "COUNT")
+        .help("What to do with the message, and which one it is")
+}
+
+fn count_argument<'a>(alloc: Global) -> Arg<'a>
+    ensures rule { rule_of result ≡ needed_by (codes "COUNT") count_parser }
+    ensures local { result.global ≡ false }
+{
+    Arg::new(alloc, "COUNT")
         .required(true)
         .value_parser(ValueParser::Unsigned(0, u64::MAX))
-        .help("How many times");
-    let file = Arg::new(alloc, "FILE")
+        .help("How many times")
+}
+
+fn file_argument<'a>(alloc: Global) -> Arg<'a>
+    ensures rule { rule_of result ≡ needed (codes "FILE") }
+    ensures local { result.global ≡ false }
+{
+    Arg::new(alloc, "FILE")
         .required(true)
-        .help("A file that holds the bytes of one message");
-    let command = Command::new(alloc, "flight_bench")
-        .version("0.1.0")
-        .about("Reads or writes a message of Arrow Flight over and over, to be timed from outside")
-        .arg(task)?
-        .arg(count)?
-        .arg(file)?;
-    command.try_get_matches_from(words)
+        .help("A file that holds the bytes of one message")
 }
 
 /// The task that its word names.

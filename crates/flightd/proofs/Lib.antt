@@ -2,3 +2,4 @@ pub mod FileNamed
 pub mod Replying
 pub mod Running
 pub mod TraceReading
+pub mod Calls

@@ -1,0 +1,9 @@
+use Rattle.std.proofs.Common.{◌∙◌, Some, ap, ap₂, true}
+use Rattle.clap.specs.Words.{Rule, rule_of}
+use Rattle.flight_bench.proofs.words.count_argument.Goals as goal
+
+pub returns-clause-rule : goal.returns-clause-rule
+returns-clause-rule c =
+    ap rule_of c.help.ensures ∙ ap rule_of c.value_parser.ensures.others
+    ∙ ap₂ (λ (r : Rule) p. record r { parser = p }) (ap rule_of c.required.ensures ∙ ap (λ (r : Rule). record r { required = true }) c.new.ensures.rule)
+    (c.value_parser.ensures.given.1 ∙ ap Some c.value_parser.ensures.given.2)
