@@ -8,3 +8,15 @@ pub mod Building
 pub mod BatchFacts
 pub mod MessageFacts
 pub mod NoMemory
+pub mod Filling
+pub mod FieldFacts
+pub mod Fitting
+pub mod SameShape
+pub mod Writers
+pub mod TypeTables
+pub mod Appending
+pub mod Lying
+pub mod TypesShown
+pub mod TreesShown
+pub mod BatchesShown
+pub mod WrittenSizes

@@ -14,3 +14,12 @@ pub mod KindView
 pub mod ColumnView
 pub mod Building
 pub mod HeaderViews
+pub mod Objects
+pub mod Canonical
+pub mod Filling
+pub mod Written
+pub mod Profile
+pub mod Shape
+pub mod ShapeView
+pub mod Fitting
+pub mod Writing

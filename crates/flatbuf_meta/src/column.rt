@@ -161,7 +161,7 @@ fn no_dictionary(buf: &[u8], table: usize) -> Result<(), MetaFault>
 }
 
 /// So many columns may stand inside one of this type (Schema.fbs, the union `Type`).
-fn allows_children(ty: &Ty, count: usize) -> bool
+pub(crate) fn allows_children(ty: &Ty, count: usize) -> bool
     ensures { IsTrue result ↔ AllowsChildren (shape_of ty.now) count }
 {
     match ty {

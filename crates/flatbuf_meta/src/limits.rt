@@ -11,3 +11,6 @@ pub const MAX_METADATA_ENTRIES: usize = 4_096;
 
 /// How many bytes the names, time zones, keys and values of a schema may have in all.
 pub const MAX_TEXT_BYTES: usize = 1_048_576;
+
+/// How many buffers a batch may have that is written: three of each column.
+pub const MAX_BUFFERS: usize = 1_536;

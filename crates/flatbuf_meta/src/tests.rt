@@ -1,7 +1,13 @@
-//! Reading against texts from outside, which are spelled here or written from the format alone.
+//! Reading against texts from outside, which are spelled here, written from the format alone, or made by the FlatBuffers
+//! compiler.
 
+mod canonical;
+mod compiled;
 mod messages;
+mod profile;
+mod shown;
 mod texts;
 mod trees;
 mod types;
 mod writing;
+mod written;

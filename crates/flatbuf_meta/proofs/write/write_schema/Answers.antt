@@ -1,0 +1,13 @@
+use Rattle.std.proofs.Common.{length, ◌<◌, ◌^◌}
+use Rattle.flatbuf_meta.specs.Canonical.{header_text}
+use Rattle.flatbuf_meta.specs.Header.{schema_header, ShowsHeader}
+use Rattle.flatbuf_meta.specs.Views.{columns_of}
+use Rattle.flatbuf_meta.proofs.Writers.{in_any_case}
+use Rattle.flatbuf_meta.proofs.WrittenSizes.{schema_shown, schema_small}
+use Rattle.flatbuf_meta.proofs.write.write_schema.Goals as goal
+
+pub returns-clause-shown : goal.returns-clause-shown
+returns-clause-shown c = in_any_case c.extend_from_slice.result (schema_shown (columns_of c.args.schema.now) c.requires.profile c.in_ok-text.ensures.fits)
+
+pub returns-clause-small : goal.returns-clause-small
+returns-clause-small c = in_any_case c.extend_from_slice.result (schema_small (columns_of c.args.schema.now) c.requires.profile)
