@@ -12,7 +12,8 @@ use Rattle.flatbuf_meta.specs.Header.{ShowsInt64, ShowsPairs, ShowsPairsAt, Head
 use Rattle.flatbuf_meta.specs.Objects.{Object, Cells, no_cells, link, cells_size, lead, laid}
 use Rattle.flatbuf_meta.specs.Canonical.{number, gap, int64_number, pairs_text, pairs_object, batch_object, header_text}
 use Rattle.flatbuf_meta.specs.Written.{FitsPair, FitsHead}
-use Rattle.flatbuf_meta.proofs.Lying.{Lies, number_long, held_front, held_back, uint_lies, link_lies, structs_lie, table_lies, field_behind}
+use Rattle.flatbuf_meta.proofs.Filling.{length_little}
+use Rattle.flatbuf_meta.proofs.Lying.{Lies, held_front, held_back, uint_lies, link_lies, structs_lie, table_lies, field_behind}
 use Rattle.flatbuf_meta.proofs.TypesShown.{number_shown, link_shown, row_at}
 use Rattle.flatbuf_meta.proofs.TreesShown.{MessageLies, message_lies}
 
@@ -31,7 +32,7 @@ pairs_long (pair ∷ rest) =
     let one : List ℕ = little_bytes 8 (int64_number pair.0) in
     let two : List ℕ = little_bytes 8 (int64_number pair.1) in
     length-append (one ++ two) (pairs_text rest)
-    ∙ omega (arith, length-append one two, number_long 8 (int64_number pair.0), number_long 8 (int64_number pair.1), pairs_long rest)
+    ∙ omega (arith, length-append one two, length_little 8 (int64_number pair.0), length_little 8 (int64_number pair.1), pairs_long rest)
 
 pairs_held : (text : List ℕ) (place : ℕ) (pairs : List (ℤ × ℤ)) → AllByRecursion FitsPair pairs → Holds text place (pairs_text pairs)
     → ShowsPairs text place pairs
@@ -39,8 +40,8 @@ pairs_held text place [] fits held = tt
 pairs_held text place (pair ∷ rest) fits held =
     let one : List ℕ = little_bytes 8 (int64_number pair.0) in
     let two : List ℕ = little_bytes 8 (int64_number pair.1) in
-    let long : length one ≡ 8 = number_long 8 (int64_number pair.0) in
-    let long' : length two ≡ 8 = number_long 8 (int64_number pair.1) in
+    let long : length one ≡ 8 = length_little 8 (int64_number pair.0) in
+    let long' : length two ≡ 8 = length_little 8 (int64_number pair.1) in
     let both : length (one ++ two) ≡ 16 = length-append one two ∙ omega arith in
     let front : Holds text place (one ++ two) = held_front text place (one ++ two) (pairs_text rest) held in (
       int64_held text place pair.0 fits.0.0 (held_front text place one two front),

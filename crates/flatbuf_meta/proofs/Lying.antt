@@ -3,7 +3,6 @@ use Rattle.std.proofs.Common.{◌≡◌, ℕ, zero, suc, pos, ◌+◌, ◌-◌, 
 use Rattle.std.proofs.lemmas.Int.{ints}
 use Rattle.std.proofs.lemmas.Bool.{lt-ltb}
 use Rattle.byteorder.specs.Endian.{little_bytes, twos_complement}
-use Rattle.byteorder.specs.Numbers.{length-bytes_low_first}
 use Rattle.flat_places.specs.Held.{Holds}
 use Rattle.flat_places.specs.Number.{ShowsUint, ShowsReference}
 use Rattle.flat_places.specs.Table.{ShowsVtable, ShowsTable, ShowsField, slot_place}
@@ -11,19 +10,9 @@ use Rattle.flat_places.specs.Vector.{ShowsVector, ShowsText}
 use Rattle.flat_places.proofs.Bytes.{holds_within}
 use Rattle.flat_places.proofs.Fields.{field_short, field_zero, field_there}
 use Rattle.flatbuf_meta.specs.Objects.{Object, string_object, structs_object, references_object, table_object, Cells, no_cells, inline, link, zeros, padding, shorts, cell_count, cells_size, table_lead, lead, laid, cells_text, objects_text}
+use Rattle.flatbuf_meta.proofs.Filling.{length_zeros, length_little, length_shorts}
 
 -- ---- lengths
-
-pub zeros_long : (n : ℕ) → length (zeros n) ≡ n
-zeros_long zero = refl
-zeros_long (suc n) = ap suc (zeros_long n)
-
-pub number_long : (size x : ℕ) → length (little_bytes size x) ≡ size
-number_long size x = length-bytes_low_first 0 size x
-
-pub shorts_long : (xs : List ℕ) → length (shorts xs) ≡ 2 * length xs
-shorts_long [] = refl
-shorts_long (x ∷ xs) = length-append (little_bytes 2 x) (shorts xs) ∙ omega (arith, number_long 2 x, shorts_long xs)
 
 pub cells_long : (at next : ℕ) (cells : Cells) → length (cells_text at next cells) ≡ cells_size cells
 cells_long at next no_cells = refl
@@ -31,7 +20,7 @@ cells_long at next (inline bytes rest) =
     length-append bytes (cells_text (at + length bytes) next rest) ∙ omega (arith, cells_long (at + length bytes) next rest)
 cells_long at next (link o rest) =
     length-append (little_bytes 4 (next + lead next o - at)) (cells_text (at + 4) (next + length (laid next o)) rest)
-    ∙ omega (arith, number_long 4 (next + lead next o - at), cells_long (at + 4) (next + length (laid next o)) rest)
+    ∙ omega (arith, length_little 4 (next + lead next o - at), cells_long (at + 4) (next + length (laid next o)) rest)
 
 -- ---- bytes at a place
 
@@ -71,7 +60,7 @@ pub record CellsLie (text : List ℕ) (at next : ℕ) (cells : Cells) : Type 0 w
 pub uint_lies : (text : List ℕ) (at there next size x : ℕ) (rest : Cells) → CellsLie text at next (inline (little_bytes size x) rest)
     → x < 256 ^ size → at + size ≡ there → ShowsUint text at size x × CellsLie text there next rest
 uint_lies text at there next size x rest lies fits is =
-    let long : length (little_bytes size x) ≡ size = number_long size x in
+    let long : length (little_bytes size x) ≡ size = length_little size x in
     let same : at + length (little_bytes size x) ≡ there = omega arith in
     let tail : List ℕ = cells_text (at + length (little_bytes size x)) next rest in (
       record { held = held_front text at (little_bytes size x) tail lies.held; fits = fits },
@@ -86,7 +75,7 @@ uint_lies text at there next size x rest lies fits is =
 pub gap_lies : (text : List ℕ) (at there next size : ℕ) (rest : Cells) → CellsLie text at next (inline (zeros size) rest) → at + size ≡ there
     → CellsLie text there next rest
 gap_lies text at there next size rest lies is =
-    let long : length (zeros size) ≡ size = zeros_long size in
+    let long : length (zeros size) ≡ size = length_zeros size in
     let same : at + length (zeros size) ≡ there = omega arith in
     subst (λ k. CellsLie text k next rest) same (record {
       held = held_back text at (at + length (zeros size)) (zeros size) (cells_text (at + length (zeros size)) next rest) refl lies.held;
@@ -98,13 +87,13 @@ gap_lies text at there next size rest lies is =
 -- the place that references name is in the object
 pub lead_within : (place : ℕ) (o : Object) → lead place o ≤ length (laid place o)
 lead_within place (string_object bytes) =
-    simp (length-append, zeros_long) (omega arith)
+    simp (length-append, length_zeros) (omega arith)
 lead_within place (structs_object count bytes) =
-    simp (length-append, zeros_long) (omega arith)
+    simp (length-append, length_zeros) (omega arith)
 lead_within place (references_object cells) =
-    simp (length-append, zeros_long) (omega arith)
+    simp (length-append, length_zeros) (omega arith)
 lead_within place (table_object numbers cells) =
-    simp (length-append, zeros_long, shorts_long) (omega arith)
+    simp (length-append, length_zeros, length_shorts) (omega arith)
 
 reference_lies : (text : List ℕ) (at target : ℕ) → Holds text at (little_bytes 4 (target - at)) → at ≤ target → target - at < 2 ^ 32
     → ShowsReference text at target
@@ -122,7 +111,7 @@ link_lies text at there next o rest lies is =
     let ahead : at + (4 + cells_size rest) ≤ next = lies.ahead in
     let small : length text < 2 ^ 32 = lies.small in
     let first : Holds text at number = held_front text at number tail lies.held in
-    let long : length number ≡ 4 = number_long 4 (next + lead next o - at) in
+    let long : length number ≡ 4 = length_little 4 (next + lead next o - at) in
     let leads : lead next o ≤ length (laid next o) = lead_within next o in (
       reference_lies text at (next + lead next o) first (omega arith) (omega arith),
       record { held = object; small = small },
@@ -148,8 +137,8 @@ pub string_lies : (text : List ℕ) (place : ℕ) (bytes : List ℕ) → Lies te
 string_lies text place bytes lies utf8 =
     let lead_bytes : List ℕ = zeros (padding 4 place) in
     let number : List ℕ = little_bytes 4 (length bytes) in
-    let filled : length lead_bytes ≡ padding 4 place = zeros_long (padding 4 place) in
-    let long : length number ≡ 4 = number_long 4 (length bytes) in
+    let filled : length lead_bytes ≡ padding 4 place = length_zeros (padding 4 place) in
+    let long : length number ≡ 4 = length_little 4 (length bytes) in
     let behind : length (lead_bytes ++ number) ≡ padding 4 place + 4 = length-append lead_bytes number ∙ omega arith in
     let all : Holds text place (lead_bytes ++ number ++ bytes) = held_front text place (lead_bytes ++ number ++ bytes) (0 ∷ []) lies.held in
     let first : Holds text place (lead_bytes ++ number) = held_front text place (lead_bytes ++ number) bytes all in
@@ -175,8 +164,8 @@ structs_lie text place count size bytes lies all some =
     let pad : ℕ = padding 8 (place + 4) in
     let lead_bytes : List ℕ = zeros pad in
     let number : List ℕ = little_bytes 4 count in
-    let filled : length lead_bytes ≡ pad = zeros_long pad in
-    let long : length number ≡ 4 = number_long 4 count in
+    let filled : length lead_bytes ≡ pad = length_zeros pad in
+    let long : length number ≡ 4 = length_little 4 count in
     let behind : length (lead_bytes ++ number) ≡ pad + 4 = length-append lead_bytes number ∙ omega arith in
     let first : Holds text place (lead_bytes ++ number) = held_front text place (lead_bytes ++ number) bytes lies.held in
     let held : Holds text (place + pad + 4) bytes = held_back text place (place + pad + 4) (lead_bytes ++ number) bytes (omega arith) lies.held in
@@ -207,8 +196,8 @@ references_lie text place cells lies all =
     let number : List ℕ = little_bytes 4 (cell_count cells) in
     let elements : List ℕ = cells_text at next cells in
     let objects : List ℕ = objects_text next cells in
-    let filled : length lead_bytes ≡ pad = zeros_long pad in
-    let long : length number ≡ 4 = number_long 4 (cell_count cells) in
+    let filled : length lead_bytes ≡ pad = length_zeros pad in
+    let long : length number ≡ 4 = length_little 4 (cell_count cells) in
     let wide : length elements ≡ cells_size cells = cells_long at next cells in
     let behind : length (lead_bytes ++ number) ≡ pad + 4 = length-append lead_bytes number ∙ omega arith in
     let farther : length (lead_bytes ++ number ++ elements) ≡ pad + 4 + cells_size cells =
@@ -279,9 +268,9 @@ table_lies text place own_size size slots cells lies whole few =
     let fields : List ℕ = cells_text at next cells in
     let objects : List ℕ = objects_text next cells in
     let many : length numbers ≡ 2 + length slots = omega arith in
-    let filled : length lead_bytes ≡ pad = zeros_long pad in
-    let spelled : length vtable_bytes ≡ 2 * length numbers = shorts_long numbers in
-    let long : length offset ≡ 4 = number_long 4 (2 * length numbers) in
+    let filled : length lead_bytes ≡ pad = length_zeros pad in
+    let spelled : length vtable_bytes ≡ 2 * length numbers = length_shorts numbers in
+    let long : length offset ≡ 4 = length_little 4 (2 * length numbers) in
     let wide : length fields ≡ cells_size cells = cells_long at next cells in
     let one : length (lead_bytes ++ vtable_bytes) ≡ pad + 2 * length numbers = length-append lead_bytes vtable_bytes ∙ omega arith in
     let two : length (lead_bytes ++ vtable_bytes ++ offset) ≡ pad + 2 * length numbers + 4 =
@@ -295,7 +284,7 @@ table_lies text place own_size size slots cells lies whole few =
     let there : Holds text vtable vtable_bytes = held_back text place vtable lead_bytes vtable_bytes (omega arith) to_vtable in
     let offset_there : Holds text table offset = held_back text place table (lead_bytes ++ vtable_bytes) offset (omega arith) to_offset in
     let sizes : Holds text (vtable + 2) (shorts (size ∷ slots)) =
-    held_back text vtable (vtable + 2) (little_bytes 2 own_size) (shorts (size ∷ slots)) (omega (arith, number_long 2 own_size)) there in (
+    held_back text vtable (vtable + 2) (little_bytes 2 own_size) (shorts (size ∷ slots)) (omega (arith, length_little 2 own_size)) there in (
       record {
         vtable = vtable;
         shown = record {
@@ -303,7 +292,7 @@ table_lies text place own_size size slots cells lies whole few =
           size = record { held = held_front text vtable (little_bytes 2 own_size) (shorts (size ∷ slots)) there; fits = omega arith };
         };
         whole = whole;
-        held = held_back text (vtable + 2) (vtable + 4) (little_bytes 2 size) (shorts slots) (omega (arith, number_long 2 size)) sizes;
+        held = held_back text (vtable + 2) (vtable + 4) (little_bytes 2 size) (shorts slots) (omega (arith, length_little 2 size)) sizes;
       },
       record {
         held = held_back text place at (lead_bytes ++ vtable_bytes ++ offset) fields (omega arith) to_fields;
@@ -322,7 +311,7 @@ slot_lies text place there zero (x ∷ rest) held few is =
     subst (λ k. Holds text k (little_bytes 2 x)) (omega arith) (held_front text place (little_bytes 2 x) (shorts rest) held)
 slot_lies text place there (suc n) (x ∷ rest) held few is =
     slot_lies text (place + 2) there n rest
-    (held_back text place (place + 2) (little_bytes 2 x) (shorts rest) (omega (arith, number_long 2 x)) held) (omega arith) (omega arith)
+    (held_back text place (place + 2) (little_bytes 2 x) (shorts rest) (omega (arith, length_little 2 x)) held) (omega arith) (omega arith)
 
 slot_shown : (text : List ℕ) (table own_size : ℕ) (slots : List ℕ) (n v : ℕ) (lies : TableLies text table own_size slots) → n < length slots
     → get_or slots n 0 ≡ v → v < 65536 → ShowsUint text (slot_place lies.vtable n) 2 v

@@ -14,7 +14,8 @@ use Rattle.flatbuf_meta.specs.Objects.{Object, string_object, references_object,
 use Rattle.flatbuf_meta.specs.Canonical.{number, gap, entry_object, entry_cells, metadata_cell, metadata_place, flag, kind_of, type_object, column_cells, field_object, field_cells, schema_object, message_cells, message_object, header_text}
 use Rattle.flatbuf_meta.specs.Written.{FitsEntry, FitsTree, FitsForest, FitsColumns}
 use Rattle.flatbuf_meta.specs.Profile.{IsWellFormedTree, IsWellFormedForest, InProfile}
-use Rattle.flatbuf_meta.proofs.Lying.{Lies, CellsLie, TableLies, number_long, lead_within, held_front, held_back, uint_lies, gap_lies, link_lies, string_lies, references_lie, table_lies, field_none}
+use Rattle.flatbuf_meta.proofs.Filling.{length_little}
+use Rattle.flatbuf_meta.proofs.Lying.{Lies, CellsLie, TableLies, lead_within, held_front, held_back, uint_lies, gap_lies, link_lies, string_lies, references_lie, table_lies, field_none}
 use Rattle.flatbuf_meta.proofs.TypesShown.{number_shown, number_absent, link_shown, link_absent, string_at, row_at, row_absent, flag_fits, shape_lies}
 
 -- ---- metadata
@@ -275,7 +276,7 @@ root_lies root small =
       stands = refl;
     } in
     let number : List ℕ = little_bytes 4 (4 + lead 4 root) in
-    let laid_out : Holds text 4 (laid 4 root) = held_back text 0 4 number (laid 4 root) (number_long 4 (4 + lead 4 root)) all in (
+    let laid_out : Holds text 4 (laid 4 root) = held_back text 0 4 number (laid 4 root) (length_little 4 (4 + lead 4 root)) all in (
       record {
         offset = 4 + lead 4 root;
         shown = record { held = held_front text 0 number (laid 4 root) all; fits = root_near text root laid_out small };

@@ -1,15 +1,15 @@
 -- Tables and vectors that are written, from the steps that write them.
-use Rattle.std.proofs.Common.{◌≡◌, ◌≤◌, ◌<◌, ℕ, zero, suc, ◌+◌, ◌*◌, List, [], ◌∷◌, ◌++◌, map, length, drop, slice_index_or, String, arith, refl, sym, ap, ◌∙◌, subst, Result, Ok, Err, OnOk}
+use Rattle.std.proofs.Common.{◌≡◌, ◌≤◌, ◌<◌, ℕ, suc, ◌+◌, ◌*◌, List, [], ◌∷◌, ◌++◌, map, length, drop, slice_index_or, String, arith, refl, sym, ap, ◌∙◌, subst, Result, Ok, Err, OnOk}
 use Rattle.std.specs.declared.alloc.AllocError.{AllocError}
 use Rattle.std.specs.List.{AllByRecursion}
 use Rattle.std.specs.declared.alloc.Global.{Global}
 use Rattle.std.proofs.lemmas.List.{at_drop_more, length-map}
 use Rattle.std.proofs.Math.ListN.{drop_of_length-le}
 use Rattle.flatbuf_meta.specs.declared.schema.Field.{Field}
-use Rattle.flatbuf_meta.specs.Columns.{Entry, Column, Tree, tree, Forest, no_more, more, width, Columns}
+use Rattle.flatbuf_meta.specs.Columns.{Entry, Column, tree, Forest, no_more, more, width, Columns}
 use Rattle.flatbuf_meta.specs.Views.{entry_of, tree_of, forest_of}
 use Rattle.flatbuf_meta.specs.ShapeView.{column_of, entries_in, columns_in}
-use Rattle.flatbuf_meta.specs.Objects.{Object, string_object, references_object, table_object, Cells, no_cells, inline, link, zeros, padding, table_lead, laid, cell_count, text_of, unpadded}
+use Rattle.flatbuf_meta.specs.Objects.{Object, string_object, references_object, table_object, Cells, no_cells, link, zeros, padding, table_lead, cell_count, text_of, unpadded}
 use Rattle.flatbuf_meta.specs.Canonical.{metadata_place, int64_number, pairs_object, batch_object, message_numbers, message_cells, message_object, flag, kind_of, empty_table, number, gap, metadata_cell, entry_object, entry_cells, type_object, column_numbers, column_cells, field_object, field_cells, schema_object}
 use Rattle.flatbuf_meta.specs.Header.{Head}
 use Rattle.flatbuf_meta.specs.Filling.{linked, filled, blank, table_begun, references_begun, column_begun, message_begun}

@@ -8,7 +8,8 @@ use Rattle.flatbuf_meta.specs.Objects.{Object, string_object, structs_object, re
 use Rattle.flatbuf_meta.specs.Canonical.{entry_cells, metadata_cell, type_object, field_object, field_cells, schema_object, int64_number, batch_object, message_object, header_text}
 use Rattle.flatbuf_meta.specs.Written.{FitsColumns, FitsHead}
 use Rattle.flatbuf_meta.specs.Profile.{InProfile}
-use Rattle.flatbuf_meta.proofs.Lying.{zeros_long, number_long, shorts_long, cells_long}
+use Rattle.flatbuf_meta.proofs.Filling.{length_zeros, length_little, length_shorts}
+use Rattle.flatbuf_meta.proofs.Lying.{cells_long}
 use Rattle.flatbuf_meta.proofs.TreesShown.{schema_text_shown}
 use Rattle.flatbuf_meta.proofs.BatchesShown.{pairs_long, batch_text_shown}
 
@@ -28,29 +29,29 @@ abbrev mutual
   cells_weight (link o rest) = 4 + weight o + cells_weight rest
 
 few_zeros : (place : ℕ) → length (zeros (padding 4 place)) ≤ 3
-few_zeros place = omega (arith, zeros_long (padding 4 place))
+few_zeros place = omega (arith, length_zeros (padding 4 place))
 
 some_zeros : (place : ℕ) → length (zeros (padding 8 place)) ≤ 7
-some_zeros place = omega (arith, zeros_long (padding 8 place))
+some_zeros place = omega (arith, length_zeros (padding 8 place))
 
 mutual
   pub light : (place : ℕ) (o : Object) → length (laid place o) ≤ weight o
   light place (string_object bytes) =
-      simp length-append (omega (arith, few_zeros place, number_long 4 (length bytes)))
+      simp length-append (omega (arith, few_zeros place, length_little 4 (length bytes)))
   light place (structs_object count bytes) =
-      simp length-append (omega (arith, some_zeros (place + 4), number_long 4 count))
+      simp length-append (omega (arith, some_zeros (place + 4), length_little 4 count))
   light place (references_object cells) =
       let at : ℕ = place + padding 4 place + 4 in
       let next : ℕ = at + cells_size cells in
-      simp length-append (omega (arith, few_zeros place, number_long 4 (cell_count cells), cells_long at next cells, cells_light next cells))
+      simp length-append (omega (arith, few_zeros place, length_little 4 (cell_count cells), cells_long at next cells, cells_light next cells))
   light place (table_object numbers cells) =
       let at : ℕ = place + table_lead place numbers + 4 in
       let next : ℕ = at + cells_size cells in
       simp length-append (omega (
         arith,
         some_zeros (place + 2 * length numbers),
-        shorts_long numbers,
-        number_long 4 (2 * length numbers),
+        length_shorts numbers,
+        length_little 4 (2 * length numbers),
         cells_long at next cells,
         cells_light next cells,
       ))
@@ -71,7 +72,7 @@ front_long number bytes long = length-append number bytes ∙ omega arith
 text_light : (root : Object) → length (text_of root) ≤ 11 + weight root
 text_light root =
     let front : length (unpadded root) ≡ 4 + length (laid 4 root) =
-    front_long (little_bytes 4 (4 + lead 4 root)) (laid 4 root) (number_long 4 (4 + lead 4 root)) in
+    front_long (little_bytes 4 (4 + lead 4 root)) (laid 4 root) (length_little 4 (4 + lead 4 root)) in
     let whole : length (text_of root) ≤ 7 + length (unpadded root) = padded_light (unpadded root) in
     omega (arith, light 4 root)
 

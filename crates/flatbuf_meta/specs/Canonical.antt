@@ -2,7 +2,7 @@
 -- "Message.fbs". A vtable's numbers are its size, its table's size, and where each field stands in the table, 0 for an absent one.
 -- A table's cells are given from behind its first four bytes. Metadata that has no entries is absent, as is a time zone; a vector
 -- of columns is always there, one without elements too.
-use Rattle.std.specs.Prelude.{ℕ, ◌+◌, ℤ, Bool, true, false, List, [], ◌∷◌, ◌++◌, length, Option, Some, None}
+use Rattle.std.specs.Prelude.{ℕ, ℤ, Bool, true, false, List, [], ◌∷◌, ◌++◌, length, Option, Some, None}
 use Rattle.std.specs.Int.{w32, w64, cast_unsigned}
 use Rattle.byteorder.specs.Endian.{little_bytes}
 use Rattle.flatbuf_meta.specs.declared.field_type.BitWidth.{BitWidth}

@@ -1,6 +1,6 @@
 -- Texts that are written from the front on: a reference is left blank, and set once its object is begun. Tools of the contracts
 -- of private functions.
-use Rattle.std.specs.Prelude.{ℕ, ◌+◌, ◌-◌, ◌*◌, List, [], ◌∷◌, ◌++◌, length}
+use Rattle.std.specs.Prelude.{ℕ, ◌+◌, ◌-◌, ◌*◌, List, [], ◌++◌, length}
 use Rattle.std.specs.List.{splice}
 use Rattle.byteorder.specs.Endian.{little_bytes}
 use Rattle.flatbuf_meta.specs.Columns.{Entry, Column}

@@ -7,7 +7,7 @@ use Rattle.flatbuf_meta.specs.declared.field_type.Ty.TheVariants as types
 use Rattle.flatbuf_meta.specs.declared.schema.Field.{Field, fold-Field}
 use Rattle.flatbuf_meta.specs.declared.schema.Field.TheOpen.{Field-F}
 use Rattle.flatbuf_meta.specs.declared.schema.Schema.{Schema}
-use Rattle.flatbuf_meta.specs.Columns.{Entry, Shape, null_shape, int_shape, floating_point_shape, binary_shape, utf8_shape, bool_shape, decimal_shape, date_shape, time_shape, timestamp_shape, list_shape, struct_shape, fixed_size_binary_shape, fixed_size_list_shape, duration_shape, Column, Tree, tree, Forest, no_more, more, Columns}
+use Rattle.flatbuf_meta.specs.Columns.{Entry, Shape, null_shape, int_shape, floating_point_shape, binary_shape, utf8_shape, bool_shape, decimal_shape, date_shape, time_shape, timestamp_shape, list_shape, struct_shape, fixed_size_binary_shape, fixed_size_list_shape, duration_shape, Tree, tree, Forest, no_more, more, Columns}
 
 abbrev pub shape_of : Ty → Shape
 shape_of types.Null = null_shape

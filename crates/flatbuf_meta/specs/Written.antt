@@ -1,13 +1,13 @@
 -- What is written of the program's values, and that their numbers are such of the program. Tools of the contracts of private
 -- functions.
-use Rattle.std.specs.Prelude.{ℕ, ℤ, List, [], ◌∷◌, ◌++◌, Option, Some, IsUtf8}
+use Rattle.std.specs.Prelude.{ℕ, ℤ, List, [], ◌∷◌, ◌++◌, Some, IsUtf8}
 use Rattle.std.specs.Int.{w64, w32}
 use Rattle.std.specs.Int.RustNames.{FitsSigned}
 use Rattle.std.specs.List.{AllByRecursion}
 use Rattle.byteorder.specs.Endian.{little_bytes}
 use Rattle.flatbuf_meta.specs.declared.layout.Cell.{Cell}
 use Rattle.flatbuf_meta.specs.declared.layout.Cell.TheVariants.{Byte, Short, Word, Long}
-use Rattle.flatbuf_meta.specs.Columns.{Text, Entry, Shape, decimal_shape, timestamp_shape, fixed_size_binary_shape, fixed_size_list_shape, Column, Tree, tree, Forest, no_more, more, Columns}
+use Rattle.flatbuf_meta.specs.Columns.{Entry, Shape, decimal_shape, timestamp_shape, fixed_size_binary_shape, fixed_size_list_shape, Column, Tree, tree, Forest, no_more, more, Columns}
 use Rattle.flatbuf_meta.specs.Header.{Head}
 
 abbrev pub cell_bytes : Cell → List ℕ
