@@ -7,8 +7,6 @@
 
 mod acceptor;
 mod answer;
-#[cfg(test)]
-mod tests;
 
 pub use acceptor::Acceptor;
 pub use answer::Answer;

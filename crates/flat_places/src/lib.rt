@@ -11,8 +11,6 @@ mod fault;
 mod laws;
 mod number;
 mod table;
-#[cfg(test)]
-mod tests;
 
 pub use elements::{text, vector};
 pub use fault::PlaceFault;

@@ -33,8 +33,6 @@ mod profile;
 mod schema;
 mod shape;
 mod slots;
-#[cfg(test)]
-mod tests;
 mod type_table;
 mod verify;
 mod write;

@@ -4,19 +4,20 @@
     python3 canonical.py        anywhere; not a part of the gate
 
 ours/NAME.hex is the text of NAME.json, for each header that can be written: none that is refused, and no batch that is
-compressed or has more than 512 nodes. ../src/tests/canonical.rt has a row for each. Running it again changes nothing.
+compressed or has more than 512 nodes. canonical.rt among the tests of header_conformance has a row for each. Running it again
+changes nothing.
 An object is here a function that writes it, and then all that it refers to, behind a text, and returns the object's place.
 """
 import json
 import sys
 
 sys.dont_write_bytecode = True
-from make import HERE, TYPES, shown, write_hex
+from make import HERE, TABLES, TYPES, packed, shown, write_hex
 
-HEAD = """//! The canonical texts of the headers of the JSON files in `vectors/` that can be written. Written by
-//! `vectors/canonical.py`, and not by hand.
+HEAD = """//! The canonical texts of the headers of the JSON files in `flatbuf_meta/vectors/` that can be written. Written by
+//! `canonical.py` there, and not by hand.
 
-/// A header's name, and its text in hexadecimal.
+/// A header's name, and its text as [`crate::rows::spelled`] reads it.
 pub(super) const TEXTS: &str = "\\
 """
 NUMBERS = dict(zip(TYPES, (1, 4, 5, 6, 12, 13, 2, 3, 7, 8, 9, 10, 15, 16, 18), strict=True))
@@ -111,8 +112,8 @@ def main():
             continue
         digits = message(said)
         write_hex(HERE / f"ours/{source.stem}.hex", digits)
-        rows.append(f"{source.stem}|{digits}")
-    (HERE.parent / "src/tests/canonical.rt").write_text(HEAD + "\n".join(rows) + '";\n')
+        rows.append(f"{source.stem}|{packed(digits)}")
+    (TABLES / "canonical.rt").write_text(HEAD + "\n".join(rows) + '";\n')
 
 
 if __name__ == "__main__":

@@ -4,20 +4,22 @@
     python3 make.py        anywhere, with flatc (Debian's flatbuffers-compiler) on the PATH; not a part of the gate
 
 NAME.hex is what `flatc -b` makes of NAME.json; where `--force-defaults`, which writes numbers that are their defaults too,
-makes other bytes, NAME.full.hex is that. ../src/tests/compiled.rt has a row for each: its name, its bytes, and what is to
-be read, which is taken from the JSON alone. Running it again changes nothing; the files here are from flatc 2.0.8, and another
-version may order the parts of a header in another way.
+makes other bytes, NAME.full.hex is that. compiled.rt among the tests of header_conformance has a row for each: its name, its
+bytes, with a letter for each run of zero bytes, and what is to be read, which is taken from the JSON alone. Running it again
+changes nothing; the files here are from flatc 2.0.8, and another version may order the parts of a header in another way.
 """
 import json
 import pathlib
+import re
 import subprocess
 import tempfile
 
 HERE = pathlib.Path(__file__).resolve().parent
-HEAD = """//! What the FlatBuffers compiler made of the JSON files in `vectors/`, and what is to be read there. Written by
-//! `vectors/make.py`, and not by hand.
+TABLES = HERE.parent.parent / "header_conformance/src/headers"  # the tables that the tests read
+HEAD = """//! What the FlatBuffers compiler made of the JSON files in `flatbuf_meta/vectors/`, and what is to be read there. Written by
+//! `make.py` there, and not by hand.
 
-/// A header's name, its bytes in hexadecimal, and what it shows in the form of [`crate::tests::shown`].
+/// A header's name, its bytes as [`crate::rows::spelled`] reads them, and what it shows in the form of [`crate::headers::shown`].
 pub(super) const COMPILED: &str = "\\
 """
 
@@ -125,6 +127,12 @@ def write_hex(file, digits):
     file.write_text("".join(digits[at:at + 64] + "\n" for at in range(0, len(digits), 64)))
 
 
+def packed(digits):
+    """The digits with a letter for zero bytes, up to twenty of them: g is one, h is two."""
+    parts = re.findall(rb"\0{1,20}|[^\0]", bytes.fromhex(digits))
+    return "".join(part.hex() if part[0] else chr(ord("f") + len(part)) for part in parts)
+
+
 def main():
     for old in HERE.glob("*.hex"):
         old.unlink()
@@ -135,8 +143,8 @@ def main():
             del forms[source.stem + ".full"]
         for name, digits in forms.items():
             write_hex(HERE / f"{name}.hex", digits)
-            rows.append(f"{name}|{digits}|{shown(source)}")
-    (HERE.parent / "src/tests/compiled.rt").write_text(HEAD + "\n".join(rows) + '";\n')
+            rows.append(f"{name}|{packed(digits)}|{shown(source)}")
+    (TABLES / "compiled.rt").write_text(HEAD + "\n".join(rows) + '";\n')
 
 
 if __name__ == "__main__":

@@ -20,8 +20,6 @@ mod message;
 mod message_laws;
 mod rows;
 mod scalar;
-#[cfg(test)]
-mod tests;
 mod transfer;
 mod varint;
 mod writing;

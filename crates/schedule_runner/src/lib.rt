@@ -8,8 +8,6 @@
 mod judge;
 mod laws;
 mod sayings;
-#[cfg(test)]
-mod tests;
 mod trace;
 
 pub use laws::one_value;

@@ -213,18 +213,39 @@ pub(crate) fn is_read_as_meant(
     }
 }
 
+/// Whether the list of this number behind the beginning is read as it is meant.
+fn is_list_right(
+    alloc: Global,
+    beginning: &[Field<'static>],
+    fields: &[Field<'static>],
+    number: usize,
+) -> Result<bool, AllocError> {
+    let list = list_of(alloc, beginning, fields, number)?;
+    let text = text_of(alloc, list.as_slice())?;
+    is_read_as_meant(alloc, text.as_slice(), list.as_slice())
+}
+
+/// Every list of up to three of the fields behind the beginning, which is of this row.
+fn expect_lists_of(
+    rt: &impl Abort,
+    alloc: Global,
+    row: &str,
+    beginning: &[Field<'static>],
+    fields: &[Field<'static>],
+) -> Result<(), Fail> {
+    for number in 0..27_000 {
+        let is_right = is_list_right(alloc, beginning, fields, number)?;
+        assert!(rt; is_right, "list {number} behind {row}");
+    }
+    Ok(())
+}
+
 /// Every list of up to three of the fields, behind the beginning of this row.
 fn expect_lists(rt: &impl Abort, alloc: Global, row: &str) -> Result<(), Fail> {
     let beginning = beginning_of(alloc, row)?;
     let fields = fields_of_rows(alloc)?;
-    assert_eq!(rt; fields.len(), 29);
-    for number in 0..27_000 {
-        let list = list_of(alloc, beginning.as_slice(), fields.as_slice(), number)?;
-        let text = text_of(alloc, list.as_slice())?;
-        let is_right = is_read_as_meant(alloc, text.as_slice(), list.as_slice())?;
-        assert!(rt; is_right, "list {number} behind {row}");
-    }
-    Ok(())
+    assert!(rt; fields.len() == 29);
+    expect_lists_of(rt, alloc, row, beginning.as_slice(), fields.as_slice())
 }
 
 #[test]

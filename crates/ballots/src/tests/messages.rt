@@ -225,17 +225,19 @@ fn many_messages_both_ways(rt: HostRuntime) -> Result<(), Fail> {
     Ok(())
 }
 
-/// What is told of a text that is refused.
-fn told_fault(alloc: Global, text: &[u8]) -> Result<String, Fail> {
-    let fault = refusal(alloc, text).ok_or("read")?;
+/// What is told of the text of these digits, which is refused.
+fn told_fault(alloc: Global, digits: &str) -> Result<String, Fail> {
+    let text = bytes_of(alloc, digits)?;
+    let fault = refusal(alloc, text.as_slice()).ok_or("read")?;
     Ok(format!(in alloc; "{fault}")?)
 }
 
 /// Whether the text is refused for the reason that the row names.
 fn is_refused(alloc: Global, cells: &[&str]) -> Result<bool, Fail> {
-    let text = bytes_of(alloc, cell(cells, 1)?)?;
-    let told = told_fault(alloc, text.as_slice())?;
-    Ok(told.as_str() == cell(cells, 0)?)
+    let wanted = cell(cells, 0)?;
+    let digits = cell(cells, 1)?;
+    let told = told_fault(alloc, digits)?;
+    Ok(told.as_str() == wanted)
 }
 
 #[test]
@@ -277,12 +279,19 @@ fn told_len(alloc: Global, text: &[u8]) -> Result<String, AllocError> {
     }
 }
 
+/// The same of the text of these digits with so many bytes of a value.
+fn told_of_long(alloc: Global, digits: &str, len: u64) -> Result<String, Fail> {
+    let text = long_text(alloc, digits, len)?;
+    Ok(told_len(alloc, text.as_slice())?)
+}
+
 /// Whether the value is as long as the row says, or too long.
 fn is_of_length(alloc: Global, cells: &[&str]) -> Result<bool, Fail> {
     let len = number(cell(cells, 0)?)?;
-    let text = long_text(alloc, cell(cells, 1)?, len)?;
-    let told = told_len(alloc, text.as_slice())?;
-    Ok(told.as_str() == cell(cells, 2)?)
+    let digits = cell(cells, 1)?;
+    let wanted = cell(cells, 2)?;
+    let told = told_of_long(alloc, digits, len)?;
+    Ok(told.as_str() == wanted)
 }
 
 #[test]

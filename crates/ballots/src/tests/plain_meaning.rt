@@ -113,30 +113,101 @@ fn value_meant(alloc: Global, bytes: Option<&[u8]>) -> Result<Option<Value>, All
     Ok(upload.map(|bytes| Value::Upload(bytes)))
 }
 
+/// The Promise that this means.
+fn promise_meant(
+    alloc: Global,
+    parts: &Parts<'_>,
+    (sender, slot): (NodeId, Slot),
+    ballot: Ballot,
+) -> Result<Option<Made>, AllocError> {
+    if parts.second_round == Some(0) {
+        return Ok(Some(promise(alloc, sender, slot, ballot)?));
+    }
+    let Some(second) = ballot_meant(parts.second_round, parts.second_node) else {
+        return Ok(None);
+    };
+    match value_meant(alloc, parts.value)? {
+        Some(value) => {
+            let made = reporting_promise(alloc, sender, slot, ballot, second, value)?;
+            Ok(Some(made))
+        }
+        None => Ok(None),
+    }
+}
+
+/// The Nack that this means.
+fn nack_meant(
+    alloc: Global,
+    parts: &Parts<'_>,
+    (sender, slot): (NodeId, Slot),
+    ballot: Ballot,
+) -> Result<Option<Made>, AllocError> {
+    match ballot_meant(parts.second_round, parts.second_node) {
+        Some(second) => Ok(Some(nack(alloc, sender, slot, ballot, second)?)),
+        None => Ok(None),
+    }
+}
+
+/// The Accept that this means, or the Accepted.
+fn acceptance_meant(
+    alloc: Global,
+    parts: &Parts<'_>,
+    (sender, slot): (NodeId, Slot),
+    ballot: Ballot,
+) -> Result<Option<Made>, AllocError> {
+    let Some(value) = value_meant(alloc, parts.value)? else {
+        return Ok(None);
+    };
+    if parts.kind == Some(4) {
+        Ok(Some(accept(alloc, sender, slot, ballot, value)?))
+    } else {
+        Ok(Some(accepted(alloc, sender, slot, ballot, value)?))
+    }
+}
+
+/// The Decided that this means.
+fn decided_meant(
+    alloc: Global,
+    parts: &Parts<'_>,
+    (sender, slot): (NodeId, Slot),
+) -> Result<Option<Made>, AllocError> {
+    match value_meant(alloc, parts.value)? {
+        Some(value) => Ok(Some(decided(alloc, sender, slot, value)?)),
+        None => Ok(None),
+    }
+}
+
+/// The message at this ballot that this means.
+fn meant_at(
+    alloc: Global,
+    parts: &Parts<'_>,
+    head: (NodeId, Slot),
+    ballot: Ballot,
+) -> Result<Option<Made>, AllocError> {
+    match parts.kind {
+        Some(1) => Ok(Some(prepare(alloc, head.0, head.1, ballot)?)),
+        Some(2) => promise_meant(alloc, parts, head, ballot),
+        Some(3) => nack_meant(alloc, parts, head, ballot),
+        Some(4) | Some(5) => acceptance_meant(alloc, parts, head, ballot),
+        _ => Ok(None),
+    }
+}
+
 /// The definition `Means`: the message that this means, if any, beside its text.
 pub(crate) fn message_meant(alloc: Global, parts: &Parts<'_>) -> Result<Option<Made>, AllocError> {
     let (Some(sender), Some(slot)) = (node_meant(parts.sender), slot_meant(parts.slot)) else {
         return Ok(None);
     };
-    let ballot = ballot_meant(parts.round, parts.node);
-    let second = ballot_meant(parts.second_round, parts.second_node);
-    let value = value_meant(alloc, parts.value)?;
-    let made = match (parts.kind, ballot, second, value) {
-        (Some(1), Some(ballot), _, _) => prepare(alloc, sender, slot, ballot),
-        (Some(2), Some(ballot), _, _) if parts.second_round == Some(0) => {
-            promise(alloc, sender, slot, ballot)
-        }
-        (Some(2), Some(ballot), Some(second), Some(value)) => {
-            reporting_promise(alloc, sender, slot, ballot, second, value)
-        }
-        (Some(3), Some(ballot), Some(second), _) => nack(alloc, sender, slot, ballot, second),
-        (Some(4), Some(ballot), _, Some(value)) => accept(alloc, sender, slot, ballot, value),
-        (Some(5), Some(ballot), _, Some(value)) => accepted(alloc, sender, slot, ballot, value),
-        (Some(6), _, _, _) => ask(alloc, sender, slot),
-        (Some(7), _, _, Some(value)) => decided(alloc, sender, slot, value),
-        _ => return Ok(None),
-    };
-    Ok(Some(made?))
+    if parts.kind == Some(6) {
+        return Ok(Some(ask(alloc, sender, slot)?));
+    }
+    if parts.kind == Some(7) {
+        return decided_meant(alloc, parts, (sender, slot));
+    }
+    match ballot_meant(parts.round, parts.node) {
+        Some(ballot) => meant_at(alloc, parts, (sender, slot), ballot),
+        None => Ok(None),
+    }
 }
 
 /// A set of faults.

@@ -87,10 +87,7 @@ pub(crate) fn made(alloc: Global, numbers: [u64; 7], value: &str) -> Result<Made
         second_node: Some(second_node),
         value: Some(value.as_bytes()),
     };
-    match message_meant(alloc, &parts)? {
-        Some(made) => Ok(made),
-        None => Err(Fail::from("no message")),
-    }
+    Ok(message_meant(alloc, &parts)?.ok_or("no message")?)
 }
 
 /// What the text is read as.

@@ -1,7 +1,0 @@
-//! Histories by name, and the judge beside a plain program.
-
-mod clauses;
-mod comparison;
-mod lawful;
-mod plain;
-mod support;

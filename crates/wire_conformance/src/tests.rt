@@ -1,0 +1,20 @@
+//! The calls of `proto_wire` against bytes from outside, and against plain programs for the definitions.
+
+mod all_fields;
+mod all_frames;
+mod all_messages;
+mod all_writes;
+mod fields;
+mod flight;
+mod flight_faults;
+mod flight_merging;
+mod frames;
+mod plain_fields;
+mod plain_frames;
+mod plain_message_faults;
+mod plain_messages;
+mod plain_spelling;
+mod plain_values;
+mod shown;
+mod texts;
+mod told_fields;
