@@ -20,14 +20,14 @@ use Rattle.ballots.specs.Message.{Parts, parts_of, Means, IsInRange, IsValue, Is
 
 -- ---- each field has a spelling
 
-number_fits : (number n : ℕ) → (0 < number) × (number ≤ MAX_FIELD_NUMBER) → n < 2 ^ 64 → FitsField (number_field number n)
+pub number_fits : (number n : ℕ) → (0 < number) × (number ≤ MAX_FIELD_NUMBER) → n < 2 ^ 64 → FitsField (number_field number n)
 number_fits number n is lt = record { number = is; held = lt }
 
-all_fit-append : (xs ys : List Field) → AllByRecursion FitsField xs → AllByRecursion FitsField ys → AllByRecursion FitsField (xs ++ ys)
+pub all_fit-append : (xs ys : List Field) → AllByRecursion FitsField xs → AllByRecursion FitsField ys → AllByRecursion FitsField (xs ++ ys)
 all_fit-append [] ys a b = b
 all_fit-append (x ∷ xs) ys a b = (a.0, all_fit-append xs ys a.1 b)
 
-all_fit-filter : (p : Field → Bool) (xs : List Field) → AllByRecursion FitsField xs → AllByRecursion FitsField (filter p xs)
+pub all_fit-filter : (p : Field → Bool) (xs : List Field) → AllByRecursion FitsField xs → AllByRecursion FitsField (filter p xs)
 all_fit-filter p [] a = tt
 all_fit-filter p (x ∷ xs) a =
     elim (p x) as (λ b. AllByRecursion FitsField (cond b (x ∷ filter p xs) (filter p xs))) [
@@ -47,7 +47,7 @@ second_fits : (b : Ballot) → IsBallot b → AllByRecursion FitsField (second_f
 second_fits b is =
     (number_fits SECOND_ROUND b.round (omega arith, omega arith) (omega (arith, is.round)), (number_fits SECOND_NODE b.node (omega arith, omega arith) (omega (arith, is.node)), tt))
 
-value_is_short : (v : Value) → IsValue v → length (value_bytes v) < 2 ^ 64
+pub value_is_short : (v : Value) → IsValue v → length (value_bytes v) < 2 ^ 64
 value_is_short Noop is = omega arith
 value_is_short (Upload bytes) is = omega (arith, is.within)
 
@@ -81,7 +81,7 @@ all_fits (Decided sender slot v) h = after_head DECIDED sender slot (value_field
 
 -- ---- each field means what it says, written or left out
 
-abbrev is_single : {A : Type 0} → (Held → Option A) → ℕ → List Field → Bool
+abbrev pub is_single : {A : Type 0} → (Held → Option A) → ℕ → List Field → Bool
 is_single thing number fields = all_hold thing number fields && nat_le (length (things_of thing number fields)) 1
 
 abbrev are_single : List Field → Bool
@@ -89,17 +89,17 @@ are_single fields =
     is_single number_in KIND fields && (is_single number_in SENDER fields && (is_single number_in SLOT fields && (is_single number_in ROUND fields
     && (is_single number_in NODE fields && (is_single number_in SECOND_ROUND fields && (is_single number_in SECOND_NODE fields && is_single bytes_in VALUE fields))))))
 
-and_true : (a b : Bool) → (a && b) ≡ true → (a ≡ true) × (b ≡ true)
+pub and_true : (a b : Bool) → (a && b) ≡ true → (a ≡ true) × (b ≡ true)
 and_true true true e = (refl, refl)
 and_true true false e = absurd cc
 and_true false b e = absurd cc
 
-number_same : (number : ℕ) (fields : List Field) → is_single number_in number fields ≡ true → number_meant number (present fields) ≡ number_meant number fields
+pub number_same : (number : ℕ) (fields : List Field) → is_single number_in number fields ≡ true → number_meant number (present fields) ≡ number_meant number fields
 number_same number fields e =
     let p = and_true (all_hold number_in number fields) (nat_le (length (things_of number_in number fields)) 1) e in
     number_meant-present number fields p.0 (leb-true _ _ p.1)
 
-bytes_same : (number : ℕ) (fields : List Field) → is_single bytes_in number fields ≡ true → bytes_meant number (present fields) ≡ bytes_meant number fields
+pub bytes_same : (number : ℕ) (fields : List Field) → is_single bytes_in number fields ≡ true → bytes_meant number (present fields) ≡ bytes_meant number fields
 bytes_same number fields e =
     let p = and_true (all_hold bytes_in number fields) (nat_le (length (things_of bytes_in number fields)) 1) e in
     bytes_meant-present number fields p.0 (leb-true _ _ p.1)

@@ -6,3 +6,8 @@ pub mod Decodes
 pub mod Written
 pub mod Canonical
 pub mod Rows
+pub mod RecordGathering
+pub mod RecordBodies
+pub mod RecordDecodes
+pub mod RecordCanonical
+pub mod RecordRows

@@ -5,3 +5,7 @@ pub mod Message
 pub mod MessageReading
 pub mod Parts
 pub mod Row
+pub mod Record
+pub mod RecordReading
+pub mod RecordParts
+pub mod RecordRow

@@ -43,7 +43,7 @@ fn node_of(number: Option<u64>) -> Result<NodeId, MessageFault>
     }
 }
 
-fn slot_of(number: Option<u64>) -> Result<Slot, MessageFault>
+pub(crate) fn slot_of(number: Option<u64>) -> Result<Slot, MessageFault>
     ensures { Gives result (within MAX_SLOT number) }
 {
     let number = number_within(number, u64::from(MAX_SLOT))?;
@@ -54,7 +54,7 @@ fn slot_of(number: Option<u64>) -> Result<Slot, MessageFault>
 }
 
 #[tactic(auto, unfolding(crate::specs::MessageReading::ballot_at))]
-fn ballot_of(round: Option<u64>, node: Option<u64>) -> Result<Ballot, MessageFault>
+pub(crate) fn ballot_of(round: Option<u64>, node: Option<u64>) -> Result<Ballot, MessageFault>
     ensures { Gives result (ballot_at round node) }
 {
     let round = number_within(round, u64::from(MAX_ROUND))?;
@@ -66,7 +66,7 @@ fn ballot_of(round: Option<u64>, node: Option<u64>) -> Result<Ballot, MessageFau
 }
 
 #[tactic(auto, unfolding(crate::specs::MessageReading::value_at, crate::specs::MessageReading::known))]
-fn value_of(alloc: Global, bytes: Option<&[u8]>) -> Result<Value, MessageFault>
+pub(crate) fn value_of(alloc: Global, bytes: Option<&[u8]>) -> Result<Value, MessageFault>
     ensures { Gives result (value_at (option_map (λ b. b.now) bytes.entry)) }
 {
     let Some(bytes) = bytes else {

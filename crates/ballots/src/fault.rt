@@ -1,15 +1,15 @@
-//! Why bytes are no message.
+//! Why bytes are no message, or no record.
 
 use proto_wire::WireFault;
 use thiserror::Error;
 
-/// What is wrong with a text that should be a message. Which fault is told where several stand is open.
+/// What is wrong with a text that should be a message or a record. Which fault is told where several stand is open.
 #[derive(Clone, Copy, Debug, PartialEq, Eq, Error)]
 pub enum MessageFault {
-    /// The text is no list of fields, or a field that the kind of message has is of another wire type.
+    /// The text is no list of fields, or a field that the kind has is of another wire type.
     #[error("{0}")]
     Wire(WireFault),
-    /// The kind is none of the seven.
+    /// The kind is none of the seven of messages, or none of the three of records.
     #[error("BadKind")]
     BadKind,
     /// A number is outside its limits, or the value is too long.

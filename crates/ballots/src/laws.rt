@@ -8,6 +8,10 @@ ghost use Rattle.ballots.specs.declared.message.Message.TheVariants.{Prepare, Pr
 ghost use Rattle.ballots.specs.Ballot.{Ballot as Pair, IsBelow, ballot_cmp};
 ghost use Rattle.ballots.specs.Message.{IsMessageText, IsInRange, canonical, value_bytes};
 ghost use Rattle.ballots.specs.Row.{row_text};
+ghost use Rattle.ballots.specs.declared.record.Record.{Record as Kept};
+ghost use Rattle.ballots.specs.declared.record.Record.TheVariants.{Began, Promised, Accepted as HasAccepted};
+ghost use Rattle.ballots.specs.Record.{IsRecordText, IsRecordInRange, canonical_record};
+ghost use Rattle.ballots.specs.RecordRow.{record_row};
 
 /// Of two ballots that are not the same, exactly one is below the other, and below is carried along.
 pub fn ballots_are_ordered()
@@ -48,4 +52,24 @@ pub fn messages_are_rows()
         ≡ row_text 5 s t b.round b.node 0 0 (value_bytes v) }
     ensures ask { (s t : ℕ) → canonical (Ask s t) ≡ row_text 6 s t 0 0 0 0 [] }
     ensures decided { (s t : ℕ) (v : Value) → canonical (Decided s t v) ≡ row_text 7 s t 0 0 0 0 (value_bytes v) }
+{}
+
+/// A text means one record at most.
+pub fn records_are_one()
+    ensures { (text : List ℕ) (r q : Kept) → IsRecordText text r → IsRecordText text q → r ≡ q }
+{}
+
+/// The one written spelling of a record means that record.
+pub fn canonical_means_its_record()
+    ensures { (r : Kept) → IsRecordInRange r → IsRecordText (canonical_record r) r }
+{}
+
+/// Whatever its kind, a record is written as all five fields in their order, those left out that are 0 or no bytes: a Began
+/// as kind 1, a Promised as kind 2, an Accepted as kind 3.
+#[tactic(auto, using(crate::proofs::RecordRows::record_rows))]
+pub fn records_are_rows()
+    ensures began { (b : Pair) → canonical_record (Began b) ≡ record_row 1 0 b.round b.node [] }
+    ensures promised { (t : ℕ) (b : Pair) → canonical_record (Promised t b) ≡ record_row 2 t b.round b.node [] }
+    ensures accepted { (t : ℕ) (b : Pair) (v : Value) → canonical_record (HasAccepted t b v)
+        ≡ record_row 3 t b.round b.node (value_bytes v) }
 {}

@@ -1,9 +1,10 @@
-//! Ballots, slots, values and the messages of Paxos (Lamport, *Paxos Made Simple*, 2001), with their bytes.
+//! Ballots, slots, values, the messages of Paxos and the records of its nodes (Lamport, *Paxos Made Simple*, 2001), with
+//! their bytes.
 //!
 //! The nodes agree on one list of uploads, one decision for each slot. A ballot is a round and the node that began it,
 //! and ballots are ordered by round, then by node. What a message's bytes mean is defined in `specs/`, as a relation
 //! between a message and a list of protobuf fields; `decode` is `Ok` exactly where the bytes mean a message, memory
-//! apart, and `encode` appends the one canonical spelling.
+//! apart, and `encode` appends the one canonical spelling. The same holds of a record, what a node keeps before it answers.
 #![tactic(auto)]
 
 mod ballot;
@@ -15,6 +16,10 @@ mod members;
 mod message;
 mod node;
 mod parts;
+mod record;
+mod record_decoding;
+mod record_encoding;
+mod record_parts;
 mod slot;
 #[cfg(test)]
 mod spelled;
@@ -25,11 +30,13 @@ mod value;
 pub use ballot::{Ballot, MAX_ROUND};
 pub use fault::MessageFault;
 pub use laws::{
-    ballots_are_ordered, canonical_means_its_message, comparison_is_the_order, messages_are_one,
-    messages_are_rows,
+    ballots_are_ordered, canonical_means_its_message, canonical_means_its_record,
+    comparison_is_the_order, messages_are_one, messages_are_rows, records_are_one,
+    records_are_rows,
 };
 pub use members::{MAX_MEMBERS, Members};
 pub use message::Message;
 pub use node::{MAX_NODE, NodeId};
+pub use record::Record;
 pub use slot::{MAX_SLOT, Slot};
 pub use value::{MAX_UPLOAD_BYTES, OutOfMemory, UploadBytes, Value};

@@ -5,5 +5,6 @@ mod members;
 mod messages;
 mod order;
 mod plain_meaning;
+mod records;
 mod support;
 mod wire;

@@ -1,0 +1,22 @@
+-- Reading a record from what its fields mean, with the fault that is met first: a tool of the proofs. What a text means is
+-- defined in `Record`.
+use Rattle.std.specs.Prelude.{ℕ, Result, Ok, Err, ◌==◌, if◌then◌else◌}
+use Rattle.proto_wire.specs.Reading.{◌>>=◌}
+use Rattle.ballots.specs.declared.slot.TheConstants.{MAX_SLOT}
+use Rattle.ballots.specs.declared.record.numbers.TheConstants.{BEGAN, PROMISED, ACCEPTED}
+use Rattle.ballots.specs.declared.record.Record.{Record}
+use Rattle.ballots.specs.declared.record.Record.TheVariants.{Began, Promised, Accepted}
+use Rattle.ballots.specs.declared.fault.MessageFault.{MessageFault}
+use Rattle.ballots.specs.declared.fault.MessageFault.TheVariants.{BadKind}
+use Rattle.ballots.specs.Record.{RecordParts}
+use Rattle.ballots.specs.MessageReading.{known, within, ballot_at, value_at}
+
+unfoldable pub kept_at : ℕ → RecordParts → Result Record MessageFault
+kept_at kind p =
+    if kind == BEGAN then (ballot_at p.round p.node >>= λ b. Ok (Began b))
+    else if kind == PROMISED then (within MAX_SLOT p.slot >>= λ s. ballot_at p.round p.node >>= λ b. Ok (Promised s b))
+    else if kind == ACCEPTED then (within MAX_SLOT p.slot >>= λ s. ballot_at p.round p.node >>= λ b. value_at p.value >>= λ v. Ok (Accepted s b v))
+    else Err BadKind
+
+unfoldable pub record_at : RecordParts → Result Record MessageFault
+record_at p = known p.kind >>= λ kind. kept_at kind p
