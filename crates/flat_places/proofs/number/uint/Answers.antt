@@ -1,4 +1,5 @@
-use Rattle.std.proofs.Common.{Ok, ap, sym, subst, arith}
+use Rattle.std.proofs.Common.{Ok, ap, sym, subst, arith, rules}
+use Rattle.std.proofs.lemmas.Grind.{common_steps}
 use Rattle.flat_places.specs.Number.{ShowsUint}
 use Rattle.flat_places.proofs.Bytes.{held_fit}
 use Rattle.flat_places.proofs.Numbers.{uint_shown, uint_same}
@@ -13,3 +14,15 @@ returns-clause-read c =
 
 pub returns-clause-only : goal.returns-clause-only
 returns-clause-only c = λ x shown. ap Ok (uint_same c.args.buf.now c.args.place c.args.size c.read_uint.result x (returns-clause-read c) shown)
+
+pub returns-in_err-bytes-clause-read : goal.returns-in_err-bytes-clause-read
+returns-in_err-bytes-clause-read c = search rules steps 300000
+
+pub returns-in_err-bytes-clause-only : goal.returns-in_err-bytes-clause-only
+returns-in_err-bytes-clause-only c = grind (arith, common_steps) steps 600000
+
+pub returns-in_err-bytes-clause-fault : goal.returns-in_err-bytes-clause-fault
+returns-in_err-bytes-clause-fault c = search rules steps 300000
+
+pub returns-clause-fault : goal.returns-clause-fault
+returns-clause-fault c = search rules steps 300000

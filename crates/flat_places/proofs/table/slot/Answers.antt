@@ -1,4 +1,5 @@
-use Rattle.std.proofs.Common.{◌≡◌, ◌≤◌, ◌<◌, ◌+◌, ◌*◌, Ok, Some, None, inl, inr, true, false, refl, ap, arith}
+use Rattle.std.proofs.Common.{◌≡◌, ◌≤◌, ◌<◌, ◌+◌, ◌*◌, Ok, Some, None, inl, inr, true, false, refl, ap, arith, rules}
+use Rattle.std.proofs.lemmas.Grind.{common_steps}
 use Rattle.std.proofs.lemmas.Bool.{cases_lt}
 use Rattle.flat_places.specs.Fault.{SlotFault}
 use Rattle.flat_places.proofs.Numbers.{handed_on}
@@ -48,3 +49,24 @@ returns-in_default-clause-read c =
 pub returns-in_default-clause-only : goal.returns-in_default-clause-only
 returns-in_default-clause-only c = λ field shown.
     ap Ok (field_same c.args.buf.now c.args.table c.args.n (Some (c.args.table + c.in_ok-offset.offset)) field (returns-in_default-clause-read c) shown)
+
+pub returns-in_err-vtable-clause-read : goal.returns-in_err-vtable-clause-read
+returns-in_err-vtable-clause-read c = search rules steps 300000
+
+pub returns-in_err-vtable-clause-fault : goal.returns-in_err-vtable-clause-fault
+returns-in_err-vtable-clause-fault c = search rules steps 300000
+
+pub returns-then-not-has_slot-clause-read : goal.returns-then-not-has_slot-clause-read
+returns-then-not-has_slot-clause-read c = grind (arith, common_steps) steps 600000
+
+pub returns-then-not-has_slot-clause-fault : goal.returns-then-not-has_slot-clause-fault
+returns-then-not-has_slot-clause-fault c = search rules steps 300000
+
+pub returns-in_err-offset-clause-read : goal.returns-in_err-offset-clause-read
+returns-in_err-offset-clause-read c = grind (arith, common_steps) steps 600000
+
+pub returns-in-0-clause-fault : goal.returns-in-0-clause-fault
+returns-in-0-clause-fault c = search rules steps 300000
+
+pub returns-in_default-clause-fault : goal.returns-in_default-clause-fault
+returns-in_default-clause-fault c = search rules steps 300000

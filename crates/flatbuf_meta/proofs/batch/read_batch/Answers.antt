@@ -1,4 +1,5 @@
-use Rattle.std.proofs.Common.{◌≡◌, ◌⊎◌, inr, arith}
+use Rattle.std.proofs.Common.{◌≡◌, ◌⊎◌, inr, arith, rules}
+use Rattle.std.proofs.lemmas.Grind.{common_steps}
 use Rattle.flatbuf_meta.specs.declared.fault.MetaFault.{MetaFault}
 use Rattle.flatbuf_meta.specs.declared.fault.MetaFault.TheVariants.{OutOfMemory}
 use Rattle.flatbuf_meta.specs.Rows.{row_of}
@@ -31,3 +32,30 @@ returns-in_err-buffers-clause-memory c =
     let b = c.in_ok-batch.batch in
     λ refused. batch_there c.args.buf.now c.args.message c.args.table b.length (row_of b.nodes) (row_of b.buffers) b.compressed b.body_length
     c.in_ok-batch.ensures.read (λ i. omega (arith, c.type_inv.buf i))
+
+pub returns-in_err-batch-clause-read : goal.returns-in_err-batch-clause-read
+returns-in_err-batch-clause-read c = search rules steps 300000
+
+pub returns-in_err-batch-clause-memory : goal.returns-in_err-batch-clause-memory
+returns-in_err-batch-clause-memory c = search rules steps 300000
+
+pub returns-in_err-nodes-clause-read : goal.returns-in_err-nodes-clause-read
+returns-in_err-nodes-clause-read c = search rules steps 300000
+
+pub returns-in_err-nodes-clause-fault : goal.returns-in_err-nodes-clause-fault
+returns-in_err-nodes-clause-fault c = search rules steps 300000
+
+pub returns-in_err-buffers-clause-read : goal.returns-in_err-buffers-clause-read
+returns-in_err-buffers-clause-read c = grind (arith, common_steps) steps 600000
+
+pub returns-in_err-buffers-clause-fault : goal.returns-in_err-buffers-clause-fault
+returns-in_err-buffers-clause-fault c = grind (arith, common_steps) steps 600000
+
+pub returns-clause-read : goal.returns-clause-read
+returns-clause-read c = search rules steps 2000000
+
+pub returns-clause-fault : goal.returns-clause-fault
+returns-clause-fault c = search rules steps 300000
+
+pub returns-clause-memory : goal.returns-clause-memory
+returns-clause-memory c = search rules steps 300000

@@ -1,4 +1,5 @@
-use Rattle.std.proofs.Common.{◌≡◌, ◌⊎◌, inr}
+use Rattle.std.proofs.Common.{◌≡◌, ◌⊎◌, inr, rules, arith}
+use Rattle.std.proofs.lemmas.Grind.{common_steps}
 use Rattle.flatbuf_meta.specs.declared.fault.MetaFault.{MetaFault}
 use Rattle.flatbuf_meta.specs.declared.fault.MetaFault.TheVariants.{OutOfMemory}
 use Rattle.flatbuf_meta.specs.Rows.{row_of}
@@ -36,3 +37,24 @@ pub returns-clause-read : goal.returns-clause-read
 returns-clause-read c =
     schema_built c.args.buf.now c.args.table (row_of c.in_ok-parts.parts.fields) (row_of c.in_ok-parts.parts.metadata) c.in_ok-fields.fields.items c.in_ok-metadata.metadata.items
     c.in_ok-parts.ensures.shown c.in_ok-fields.ensures.read c.in_ok-fields.ensures.all c.in_ok-metadata.ensures.read c.in_ok-metadata.ensures.all
+
+pub returns-in_err-parts-clause-read : goal.returns-in_err-parts-clause-read
+returns-in_err-parts-clause-read c = search rules steps 300000
+
+pub returns-in_err-fields-clause-read : goal.returns-in_err-fields-clause-read
+returns-in_err-fields-clause-read c = search rules steps 300000
+
+pub returns-in_err-fields-clause-memory : goal.returns-in_err-fields-clause-memory
+returns-in_err-fields-clause-memory c = search rules steps 300000
+
+pub returns-in_err-metadata-clause-read : goal.returns-in_err-metadata-clause-read
+returns-in_err-metadata-clause-read c = grind (arith, common_steps) steps 600000
+
+pub returns-in_err-metadata-clause-memory : goal.returns-in_err-metadata-clause-memory
+returns-in_err-metadata-clause-memory c = search rules steps 2000000
+
+pub returns-clause-fault : goal.returns-clause-fault
+returns-clause-fault c = search rules steps 300000
+
+pub returns-clause-memory : goal.returns-clause-memory
+returns-clause-memory c = search rules steps 300000

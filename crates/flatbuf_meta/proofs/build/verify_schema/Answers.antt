@@ -1,3 +1,5 @@
+use Rattle.std.proofs.Common.{rules, arith}
+use Rattle.std.proofs.lemmas.Grind.{common_steps}
 use Rattle.flatbuf_meta.specs.declared.fault.MetaFault.{MetaFault}
 use Rattle.flatbuf_meta.specs.Rows.{row_of}
 use Rattle.flatbuf_meta.specs.Extents.{extent_of}
@@ -26,3 +28,18 @@ returns-clause-shown c =
     (extent_of c.in_ok-verify_entries.field-0)
     c.in_ok-parts.ensures.little_endian c.in_ok-parts.ensures.fields c.in_ok-parts.ensures.metadata
     c.in_ok-seen.ensures.passes c.in_ok-verify_entries.ensures.passes c.in_ok-verify_entries.ensures.within
+
+pub returns-in_err-parts-clause-shown : goal.returns-in_err-parts-clause-shown
+returns-in_err-parts-clause-shown c = search rules steps 300000
+
+pub returns-in_err-parts-clause-fault : goal.returns-in_err-parts-clause-fault
+returns-in_err-parts-clause-fault c = search rules steps 300000
+
+pub returns-in_err-seen-clause-shown : goal.returns-in_err-seen-clause-shown
+returns-in_err-seen-clause-shown c = search rules steps 300000
+
+pub returns-in_err-verify_entries-clause-shown : goal.returns-in_err-verify_entries-clause-shown
+returns-in_err-verify_entries-clause-shown c = grind (arith, common_steps) steps 600000
+
+pub returns-clause-fault : goal.returns-clause-fault
+returns-clause-fault c = search rules steps 300000

@@ -1,4 +1,5 @@
-use Rattle.std.proofs.Common.{◌≡◌, length, rules}
+use Rattle.std.proofs.Common.{◌≡◌, length, rules, arith}
+use Rattle.std.proofs.lemmas.Grind.{common_steps}
 use Rattle.flatbuf_meta.specs.Written.{cells_bytes}
 use Rattle.flatbuf_meta.proofs.Appending.{table_put, table_first}
 use Rattle.flatbuf_meta.proofs.layout.put_table.Goals as goal
@@ -15,3 +16,27 @@ returns-clause-first c =
     table_first c.args.text.now.items c.pad.new.text.items c.put_shorts.new.text.items c.refer.new.text.items c.put_word.new.text.items
     c.args.numbers.now c.args.from c.len-first.result c.requires.within c.in_ok-pad.ensures.padded c.in_ok-put_shorts.ensures.put
     c.refer.ensures.set c.in_ok-put_word.ensures.put ends
+
+pub returns-in_err-pad-clause-put : goal.returns-in_err-pad-clause-put
+returns-in_err-pad-clause-put c = search rules steps 300000
+
+pub returns-in_err-pad-clause-first : goal.returns-in_err-pad-clause-first
+returns-in_err-pad-clause-first c = search rules steps 300000
+
+pub returns-in_err-put_shorts-clause-put : goal.returns-in_err-put_shorts-clause-put
+returns-in_err-put_shorts-clause-put c = search rules steps 300000
+
+pub returns-in_err-put_shorts-clause-first : goal.returns-in_err-put_shorts-clause-first
+returns-in_err-put_shorts-clause-first c = search rules steps 300000
+
+pub returns-in_err-put_word-clause-put : goal.returns-in_err-put_word-clause-put
+returns-in_err-put_word-clause-put c = grind (arith, common_steps) steps 600000
+
+pub returns-in_err-put_word-clause-first : goal.returns-in_err-put_word-clause-first
+returns-in_err-put_word-clause-first c = search rules steps 300000
+
+pub returns-in_err-put_cells-clause-put : goal.returns-in_err-put_cells-clause-put
+returns-in_err-put_cells-clause-put c = grind (arith, common_steps) steps 600000
+
+pub returns-in_err-put_cells-clause-first : goal.returns-in_err-put_cells-clause-first
+returns-in_err-put_cells-clause-first c = grind (arith, common_steps) steps 600000

@@ -1,4 +1,5 @@
-use Rattle.std.proofs.Common.{◌≡◌, ℤ, List, ◌+◌, ap, ◌∙◌, subst, rules, of_z}
+use Rattle.std.proofs.Common.{◌≡◌, ℤ, List, ◌+◌, ap, ◌∙◌, subst, rules, of_z, arith}
+use Rattle.std.proofs.lemmas.Grind.{common_steps}
 use Rattle.std.specs.Int.{w64}
 use Rattle.std.specs.Int.RustNames.{FitsSigned}
 use Rattle.std.specs.List.{AllByRecursion}
@@ -27,3 +28,21 @@ returns-clause-fit c =
       nodes = subst (AllByRecursion FitsPair) c.deref.ensures.value c.in_ok-put_pairs.ensures.fit;
       buffers = subst (AllByRecursion FitsPair) c.deref-2.ensures.value c.in_ok-put_pairs-2.ensures.fit;
     }
+
+pub returns-in_err-first-clause-put : goal.returns-in_err-first-clause-put
+returns-in_err-first-clause-put c = grind (arith, common_steps) steps 600000
+
+pub returns-in_err-first-clause-fit : goal.returns-in_err-first-clause-fit
+returns-in_err-first-clause-fit c = search rules steps 300000
+
+pub returns-in_err-put_pairs-clause-put : goal.returns-in_err-put_pairs-clause-put
+returns-in_err-put_pairs-clause-put c = grind (arith, common_steps) steps 600000
+
+pub returns-in_err-put_pairs-clause-fit : goal.returns-in_err-put_pairs-clause-fit
+returns-in_err-put_pairs-clause-fit c = search rules steps 300000
+
+pub returns-in_err-put_pairs-2-clause-put : goal.returns-in_err-put_pairs-2-clause-put
+returns-in_err-put_pairs-2-clause-put c = grind (arith, common_steps) steps 600000
+
+pub returns-in_err-put_pairs-2-clause-fit : goal.returns-in_err-put_pairs-2-clause-fit
+returns-in_err-put_pairs-2-clause-fit c = grind (arith, common_steps) steps 600000

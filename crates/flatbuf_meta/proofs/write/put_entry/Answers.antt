@@ -1,4 +1,4 @@
-use Rattle.std.proofs.Common.{◌≡◌, ◌+◌, [], ◌∷◌, length, arith, ap, ◌∙◌}
+use Rattle.std.proofs.Common.{◌+◌, [], ◌∷◌, arith, ap, ◌∙◌}
 use Rattle.flatbuf_meta.specs.Objects.{string_object, zeros}
 use Rattle.flatbuf_meta.specs.Filling.{linked}
 use Rattle.flatbuf_meta.specs.Views.{entry_of}

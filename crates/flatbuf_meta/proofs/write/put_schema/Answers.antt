@@ -1,4 +1,5 @@
-use Rattle.std.proofs.Common.{◌≡◌, [], ◌∷◌, List, map, ◌+◌, String, arith, ap, ◌∙◌}
+use Rattle.std.proofs.Common.{[], ◌∷◌, List, map, ◌+◌, String, arith, ap, ◌∙◌, rules}
+use Rattle.std.proofs.lemmas.Grind.{common_steps}
 use Rattle.std.specs.declared.alloc.Global.{Global}
 use Rattle.flatbuf_meta.specs.declared.schema.Field.{Field}
 use Rattle.flatbuf_meta.specs.Objects.{references_object, zeros}
@@ -24,3 +25,24 @@ returns-clause-put c =
     ∙ ap (λ (fields : List Field). linked c.put_table.new.text.items c.in_ok-first.first (references_object (field_cells (forest_of (map tree_of fields))))) c.deref-2.ensures.value)
     (c.in_ok-put_metadata.ensures.put
     ∙ ap (λ (entries : List (String Global × String Global)). filled c.put_fields.new.text.items (c.in_ok-first.first + 4) (metadata_cell (map entry_of entries))) c.deref-3.ensures.value)
+
+pub returns-in_err-first-clause-put : goal.returns-in_err-first-clause-put
+returns-in_err-first-clause-put c = search rules steps 300000
+
+pub returns-in_err-first-clause-fit : goal.returns-in_err-first-clause-fit
+returns-in_err-first-clause-fit c = search rules steps 300000
+
+pub returns-in_err-put_fields-clause-put : goal.returns-in_err-put_fields-clause-put
+returns-in_err-put_fields-clause-put c = grind (arith, common_steps) steps 600000
+
+pub returns-in_err-put_fields-clause-fit : goal.returns-in_err-put_fields-clause-fit
+returns-in_err-put_fields-clause-fit c = search rules steps 300000
+
+pub returns-in_err-put_metadata-clause-put : goal.returns-in_err-put_metadata-clause-put
+returns-in_err-put_metadata-clause-put c = grind (arith, common_steps) steps 600000
+
+pub returns-in_err-put_metadata-clause-fit : goal.returns-in_err-put_metadata-clause-fit
+returns-in_err-put_metadata-clause-fit c = grind (arith, common_steps) steps 600000
+
+pub returns-clause-fit : goal.returns-clause-fit
+returns-clause-fit c = grind (arith, common_steps) steps 600000

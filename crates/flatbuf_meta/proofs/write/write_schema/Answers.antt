@@ -1,6 +1,3 @@
-use Rattle.std.proofs.Common.{length, ◌<◌, ◌^◌}
-use Rattle.flatbuf_meta.specs.Canonical.{header_text}
-use Rattle.flatbuf_meta.specs.Header.{schema_header, ShowsHeader}
 use Rattle.flatbuf_meta.specs.Views.{columns_of}
 use Rattle.flatbuf_meta.proofs.Writers.{in_any_case}
 use Rattle.flatbuf_meta.proofs.WrittenSizes.{schema_shown, schema_small}

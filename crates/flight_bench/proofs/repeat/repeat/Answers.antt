@@ -1,4 +1,4 @@
-use Rattle.std.proofs.Common.{sym, subst}
+use Rattle.std.proofs.Common.{sym, subst, rules}
 use Rattle.flight_bench.specs.Repeating.{IsReadBy, Means, SumsTo, table_of, weight_of}
 use Rattle.flight_bench.specs.declared.repeat.Work.{Work}
 use Rattle.flight_bench.proofs.repeat.repeat.Goals as goal
@@ -42,3 +42,15 @@ pub returns-in_ok-sum-in-EncodeInfo-clause-read : goal.returns-in_ok-sum-in-Enco
 returns-in_ok-sum-in-EncodeInfo-clause-read c =
     subst (λ (work : Work). IsReadBy work c.args.count → Means (table_of work) c.args.text.now) (sym c.in-EncodeInfo.is)
     (λ _. c.in_ok-sum-in-EncodeInfo.ensures.read)
+
+pub returns-in_err-sum-in-DecodeData-clause-sum : goal.returns-in_err-sum-in-DecodeData-clause-sum
+returns-in_err-sum-in-DecodeData-clause-sum c = search rules steps 300000
+
+pub returns-in_err-sum-in-EncodeData-clause-sum : goal.returns-in_err-sum-in-EncodeData-clause-sum
+returns-in_err-sum-in-EncodeData-clause-sum c = search rules steps 300000
+
+pub returns-in_err-sum-in-DecodeInfo-clause-sum : goal.returns-in_err-sum-in-DecodeInfo-clause-sum
+returns-in_err-sum-in-DecodeInfo-clause-sum c = search rules steps 300000
+
+pub returns-in_err-sum-in-EncodeInfo-clause-sum : goal.returns-in_err-sum-in-EncodeInfo-clause-sum
+returns-in_err-sum-in-EncodeInfo-clause-sum c = search rules steps 300000

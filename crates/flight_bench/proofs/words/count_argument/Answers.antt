@@ -1,4 +1,4 @@
-use Rattle.std.proofs.Common.{◌∙◌, Some, ap, ap₂, true}
+use Rattle.std.proofs.Common.{◌∙◌, Some, ap, ap₂, true, rules}
 use Rattle.clap.specs.Words.{Rule, rule_of}
 use Rattle.flight_bench.proofs.words.count_argument.Goals as goal
 
@@ -7,3 +7,6 @@ returns-clause-rule c =
     ap rule_of c.help.ensures ∙ ap rule_of c.value_parser.ensures.others
     ∙ ap₂ (λ (r : Rule) p. record r { parser = p }) (ap rule_of c.required.ensures ∙ ap (λ (r : Rule). record r { required = true }) c.new.ensures.rule)
     (c.value_parser.ensures.given.1 ∙ ap Some c.value_parser.ensures.given.2)
+
+pub returns-clause-local : goal.returns-clause-local
+returns-clause-local c = search rules steps 300000

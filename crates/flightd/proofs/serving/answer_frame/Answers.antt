@@ -1,4 +1,4 @@
-use Rattle.std.proofs.Common.{ap, ◌∙◌}
+use Rattle.std.proofs.Common.{ap, ◌∙◌, rules}
 use Rattle.proto_wire.specs.Frame.{Frame}
 use Rattle.acceptor.specs.Holding.{standing}
 use Rattle.flightd.proofs.Replying.{message_flag, answered_none, answered_some}
@@ -19,3 +19,12 @@ returns-in-Ok-Some g c =
     let payload_is = c.deref.ensures.value ∙ ap (λ (x : Frame). x.payload) c.frame.view_is in
     answered_some (standing c.args.acceptor.now) (standing c.reply_to.new.acceptor) f c.deref.result.now c.in-Ok.message
     (message_flag f.flag c.requires (λ e. c.if-frame.false (flag_is ∙ e))) payload_is c.in-Ok.ensures.read c.send.result c.in-Ok-Some.reply (g.W.Write.contents c.args.w.now) (g.W.Write.contents c.send.new.w) (rw c.in-Ok-Some.field-0-is at c.in-Ok-Some.ensures.answered) c.send.ensures
+
+pub returns-then-frame : goal.returns-then-frame
+returns-then-frame g c = search rules steps 300000
+
+pub returns-in-Err : goal.returns-in-Err
+returns-in-Err g c = search rules steps 300000
+
+pub returns-in-Err-reply_to : goal.returns-in-Err-reply_to
+returns-in-Err-reply_to g c = search rules steps 300000

@@ -1,4 +1,5 @@
-use Rattle.std.proofs.Common.{sym, subst, ◌∙◌, map, ◌≡◌, List, MatchResult}
+use Rattle.std.proofs.Common.{sym, subst, ◌∙◌, map, ◌≡◌, List, MatchResult, rules, arith}
+use Rattle.std.proofs.lemmas.Grind.{common_steps}
 use Rattle.std.specs.List.{AllZip}
 use Rattle.serde_json.specs.View.{view}
 use Rattle.serde_json.specs.declared.value.Value.{Value}
@@ -24,3 +25,24 @@ pub returns-clause-only : goal.returns-clause-only
 returns-clause-only c = λ members sent h.
     let means = means_at _ (view c.in_ok-value.value) (map view c.in-Some.items.now.items) members sent c.in_ok-value.ensures.read.1 c.in-Some.ensures h in
     (some_is c.in_ok-members.members members (sym c.in_ok-members.ensures.read.0 ∙ means.count), c.in_ok-sent.ensures.only sent (subst (λ (vs : List Value). AllZip SpellsMessage (map view vs) sent) (sym c.deref.ensures.value) means.messages))
+
+pub returns-in_err-value-clause-read : goal.returns-in_err-value-clause-read
+returns-in_err-value-clause-read c = search rules steps 300000
+
+pub returns-in_err-value-clause-only : goal.returns-in_err-value-clause-only
+returns-in_err-value-clause-only c = search rules steps 300000
+
+pub returns-in_err-members-clause-read : goal.returns-in_err-members-clause-read
+returns-in_err-members-clause-read c = search rules steps 300000
+
+pub returns-in_err-members-clause-only : goal.returns-in_err-members-clause-only
+returns-in_err-members-clause-only c = search rules steps 300000
+
+pub returns-in_default-clause-read : goal.returns-in_default-clause-read
+returns-in_default-clause-read c = search rules steps 300000
+
+pub returns-in_default-clause-only : goal.returns-in_default-clause-only
+returns-in_default-clause-only c = search rules steps 300000
+
+pub returns-in_err-sent-clause-read : goal.returns-in_err-sent-clause-read
+returns-in_err-sent-clause-read c = grind (arith, common_steps) steps 600000

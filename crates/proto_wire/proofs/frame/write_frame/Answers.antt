@@ -1,4 +1,4 @@
-use Rattle.std.proofs.Common.{sym, subst}
+use Rattle.std.proofs.Common.{sym, subst, rules}
 use Rattle.proto_wire.specs.Frame.{frame_text}
 use Rattle.proto_wire.specs.FrameFaults.{WhereKnown, Writes}
 use Rattle.proto_wire.proofs.FrameParts.{frame_written, frame_cut, residual}
@@ -13,3 +13,9 @@ returns-in_err-put-clause-written g c =
 pub returns-clause-written : goal.returns-clause-written
 returns-clause-written g c =
     frame_written _ _ _ c.args.flag c.to_be_bytes.result c.args.payload.now _ c.to_be_bytes.ensures c.in_ok-put.ensures.written c.put-2.ensures.written
+
+pub returns-in_err-put-clause-io : goal.returns-in_err-put-clause-io
+returns-in_err-put-clause-io g c = search rules steps 300000
+
+pub returns-clause-io : goal.returns-clause-io
+returns-clause-io g c = search rules steps 300000

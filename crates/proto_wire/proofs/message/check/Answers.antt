@@ -1,4 +1,4 @@
-use Rattle.std.proofs.Common.{List, ℕ, [], ◌∷◌, ◌++◌, refl, subst, inr}
+use Rattle.std.proofs.Common.{List, ℕ, [], ◌∷◌, ◌++◌, refl, subst, inr, rules}
 use Rattle.std.proofs.lemmas.Result.{err_from_is_err_and}
 use Rattle.proto_wire.specs.Field.{FieldsThen, field_at}
 use Rattle.proto_wire.proofs.Fronts.{fields_push, is_over}
@@ -32,3 +32,15 @@ pub returns-clause-ok : goal.returns-clause-ok
 returns-clause-ok g c =
     let over = is_over c.is_empty.result c.loop-left.left.now c.is_empty.ensures c.loop-left-test.false in
     no_text_fault g.M.Message.table c.args.text.now c.loop-left.invariant.0 (subst (FieldsThen c.args.text.now c.loop-left.invariant.0) over c.loop-left.invariant.1) c.loop-left.invariant.2
+
+pub returns-in_err-number-clause-ok : goal.returns-in_err-number-clause-ok
+returns-in_err-number-clause-ok g c = search rules steps 300000
+
+pub returns-in_err-number-clause-fault : goal.returns-in_err-number-clause-fault
+returns-in_err-number-clause-fault g c = search rules steps 300000
+
+pub returns-in_err-check_field-clause-ok : goal.returns-in_err-check_field-clause-ok
+returns-in_err-check_field-clause-ok g c = search rules steps 300000
+
+pub returns-clause-fault : goal.returns-clause-fault
+returns-clause-fault g c = search rules steps 300000

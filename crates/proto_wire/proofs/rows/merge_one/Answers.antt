@@ -1,4 +1,4 @@
-use Rattle.std.proofs.Common.{refl}
+use Rattle.std.proofs.Common.{refl, rules}
 use Rattle.proto_wire.proofs.Merging.{on_ok}
 use Rattle.proto_wire.proofs.rows.merge_one.Goals as goal
 
@@ -8,3 +8,6 @@ returns-in-Some-clause-taken g c =
 
 pub returns-in_ok-read_piece-in-None-clause-taken : goal.returns-in_ok-read_piece-in-None-clause-taken
 returns-in_ok-read_piece-in-None-clause-taken g c = rw c.in-None.is (g.M.Message.values c.in_ok-read_piece-in-None.field-0, refl, c.in_ok-read_piece-in-None.ensures.taken)
+
+pub returns-in-Some-clause-fault : goal.returns-in-Some-clause-fault
+returns-in-Some-clause-fault g c = search rules steps 300000

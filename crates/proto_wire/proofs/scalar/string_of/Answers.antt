@@ -1,4 +1,4 @@
-use Rattle.std.proofs.Common.{refl, sym, ap, ◌∙◌, inr, Some}
+use Rattle.std.proofs.Common.{refl, sym, ap, ◌∙◌, inr, Some, rules}
 use Rattle.std.proofs.lemmas.Str.{is_utf8-from_IsUtf8}
 use Rattle.proto_wire.proofs.scalar.string_of.Goals as goal
 
@@ -9,3 +9,18 @@ returns-in_default-from_utf8-clause-fault c =
 pub returns-in-Ok-from_str-clause-read : goal.returns-in-Ok-from_str-clause-read
 returns-in-Ok-from_str-clause-read c =
     rw (c.in-Bytes.is, is_utf8-from_IsUtf8 c.in-Bytes.bytes.now c.in-Ok.ensures.cases.1) (ap Some (sym (c.in-Ok-from_str.ensures.ok ∙ c.in-Ok.ensures.cases.0)))
+
+pub returns-in_default : goal.returns-in_default
+returns-in_default c = search rules steps 300000
+
+pub returns-in_default-from_utf8-clause-read : goal.returns-in_default-from_utf8-clause-read
+returns-in_default-from_utf8-clause-read c = search rules steps 300000
+
+pub returns-in-Ok-from_str-clause-fault : goal.returns-in-Ok-from_str-clause-fault
+returns-in-Ok-from_str-clause-fault c = search rules steps 300000
+
+pub returns-in-Err-clause-read : goal.returns-in-Err-clause-read
+returns-in-Err-clause-read c = search rules steps 300000
+
+pub returns-in-Err-clause-fault : goal.returns-in-Err-clause-fault
+returns-in-Err-clause-fault c = search rules steps 300000

@@ -1,4 +1,5 @@
-use Rattle.std.proofs.Common.{rules}
+use Rattle.std.proofs.Common.{rules, arith}
+use Rattle.std.proofs.lemmas.Grind.{common_steps}
 use Rattle.std.proofs.KnownBytes.{Appends-kept}
 use Rattle.proto_wire.specs.declared.fault.FrameFault.TheVariants.{Io}
 use Rattle.proto_wire.proofs.Transfers.{Appends-more, Writes-part}
@@ -15,3 +16,15 @@ loop-at-preserved g c =
 pub returns-in-Err-clause-written : goal.returns-in-Err-clause-written
 returns-in-Err-clause-written g c =
     Writes-part _ _ c.loop-at.at _ Io (Appends-kept _ _ _ _ c.loop-at.invariant.1 c.in-Err.ensures.bytes)
+
+pub returns-in-Ok-eq0-clause-io : goal.returns-in-Ok-eq0-clause-io
+returns-in-Ok-eq0-clause-io g c = search rules steps 300000
+
+pub returns-in-Err-clause-io : goal.returns-in-Err-clause-io
+returns-in-Err-clause-io g c = search rules steps 300000
+
+pub returns-clause-written : goal.returns-clause-written
+returns-clause-written g c = grind (arith, common_steps) steps 600000
+
+pub returns-clause-io : goal.returns-clause-io
+returns-clause-io g c = search rules steps 300000

@@ -1,0 +1,48 @@
+use Rattle.std.proofs.Common.{rules, arith}
+use Rattle.std.proofs.lemmas.Grind.{common_steps}
+use Rattle.proto_wire.proofs.flight.data.FlightDataMessage.append.Goals as goal
+
+pub returns-in_err-append_one-clause-ok : goal.returns-in_err-append_one-clause-ok
+returns-in_err-append_one-clause-ok c = search rules steps 300000
+
+pub returns-in_err-append_one-clause-err : goal.returns-in_err-append_one-clause-err
+returns-in_err-append_one-clause-err c = search rules steps 300000
+
+pub returns-in_err-append_one-clause-fits : goal.returns-in_err-append_one-clause-fits
+returns-in_err-append_one-clause-fits c = search rules steps 300000
+
+pub returns-in_err-append_present-clause-ok : goal.returns-in_err-append_present-clause-ok
+returns-in_err-append_present-clause-ok c = search rules steps 300000
+
+pub returns-in_err-append_present-clause-err : goal.returns-in_err-append_present-clause-err
+returns-in_err-append_present-clause-err c = grind (arith, common_steps) steps 600000
+
+pub returns-in_err-append_present-clause-fits : goal.returns-in_err-append_present-clause-fits
+returns-in_err-append_present-clause-fits c = search rules steps 300000
+
+pub returns-in_err-append_present-2-clause-ok : goal.returns-in_err-append_present-2-clause-ok
+returns-in_err-append_present-2-clause-ok c = grind (arith, common_steps) steps 600000
+
+pub returns-in_err-append_present-2-clause-err : goal.returns-in_err-append_present-2-clause-err
+returns-in_err-append_present-2-clause-err c = grind (arith, common_steps) steps 600000
+
+pub returns-in_err-append_present-2-clause-fits : goal.returns-in_err-append_present-2-clause-fits
+returns-in_err-append_present-2-clause-fits c = search rules steps 300000
+
+pub returns-in_err-append_present-3-clause-ok : goal.returns-in_err-append_present-3-clause-ok
+returns-in_err-append_present-3-clause-ok c = grind (arith, common_steps) steps 600000
+
+pub returns-in_err-append_present-3-clause-err : goal.returns-in_err-append_present-3-clause-err
+returns-in_err-append_present-3-clause-err c = grind (arith, common_steps) steps 600000
+
+pub returns-in_err-append_present-3-clause-fits : goal.returns-in_err-append_present-3-clause-fits
+returns-in_err-append_present-3-clause-fits c = grind (arith, common_steps) steps 600000
+
+pub returns-clause-ok : goal.returns-clause-ok
+returns-clause-ok c = grind (arith, common_steps) steps 600000
+
+pub returns-clause-err : goal.returns-clause-err
+returns-clause-err c = search rules steps 300000
+
+pub returns-clause-fits : goal.returns-clause-fits
+returns-clause-fits c = grind (arith, common_steps) steps 600000

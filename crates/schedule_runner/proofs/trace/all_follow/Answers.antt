@@ -1,0 +1,12 @@
+use Rattle.std.proofs.Common.{rules, arith}
+use Rattle.std.proofs.lemmas.Grind.{common_steps}
+use Rattle.schedule_runner.proofs.trace.all_follow.Goals as goal
+
+pub returns-then-not-follows : goal.returns-then-not-follows
+returns-then-not-follows c = search rules steps 300000
+
+pub loop-place-preserved : goal.loop-place-preserved
+loop-place-preserved c = grind (arith, common_steps) steps 3000000
+
+pub returns : goal.returns
+returns c = search rules steps 300000
