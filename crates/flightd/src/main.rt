@@ -1,22 +1,13 @@
 //! The program: what the proved crates do, over standard input and output.
 //!
 //! `flightd acceptor`, or no word at all, answers Paxos messages as node 0 of three, with nothing kept. `flightd audit
-//! FILE` says whether a recorded run of such messages is one that correct nodes may have sent. Each command is one
-//! function of `runs` over any reader and writers, with its contract; `main` gives it the real ones.
+//! FILE` says whether a recorded run of such messages is one that correct nodes may have sent. The words are read by
+//! `program_words`, and each command is one function of `program_runs` over any reader and writers, with its contract;
+//! `main` gives it the real ones.
 #![tactic(auto)]
 
-mod answering;
-mod auditing;
-mod fault;
-mod runs;
-mod serving;
-#[cfg(test)]
-mod tests;
-mod trace_file;
-mod words;
-
-use auditing::AuditFault;
-use runs::{acceptor_run, audit_run};
+use program_runs::{AuditFault, FAILURE, acceptor_run, audit_run};
+use program_words::{audited_file, parse};
 use std::io::{BufReader, BufWriter};
 use std::process::ExitCode;
 use std::{fs, io};
@@ -31,7 +22,7 @@ fn main(rt: HostRuntime) -> ExitCode {
             };
             // Where this fails too, the status alone tells.
             let _ = eprintln!(rt; "flightd: {fault}");
-            runs::FAILURE
+            FAILURE
         }
     };
     ExitCode::from(status)
@@ -41,8 +32,8 @@ fn main(rt: HostRuntime) -> ExitCode {
 fn start(rt: &HostRuntime) -> io::Result<u8> {
     let alloc = rt.alloc();
     let words: Vec<String> = std::env::args(rt)?.collect(alloc)?;
-    match words::parse(alloc, &words) {
-        Ok(matches) => match words::audited_file(&matches) {
+    match parse(alloc, &words) {
+        Ok(matches) => match audited_file(&matches) {
             Some(file) => judge(rt, file),
             None => answer(rt),
         },

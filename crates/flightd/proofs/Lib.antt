@@ -1,5 +1,0 @@
-pub mod FileNamed
-pub mod Replying
-pub mod Running
-pub mod TraceReading
-pub mod Calls

@@ -1,4 +1,0 @@
-pub mod CommandLine
-pub mod Conversation
-pub mod Serving
-pub mod TraceFile

@@ -1,0 +1,218 @@
+//! Readers and writers that fail, and the order of reads and flushes.
+
+use crate::support::{ANSWERS, CONVERSATION, ENDS, answered_within, spelled, tells};
+use program_runs::acceptor_run;
+use std::alloc::{AllocError, Global};
+use std::cell::Cell;
+use std::io;
+use std::io::{Read, Write};
+use std::process::Abort;
+use std::test::Fail;
+
+/// Gives its bytes, and then ends or fails. It looks at each read whether the answers to the frames that it has given have
+/// been flushed.
+#[derive(Drop)]
+struct Watching<'a> {
+    bytes: &'a [u8],
+    given: usize,
+    fails: bool,
+    flushed: &'a Cell<usize>,
+    is_in_order: bool,
+}
+
+impl<'a> Read for Watching<'a> {
+    fn read(&mut self, buf: &mut [u8]) -> io::Result<usize> {
+        let (_, due) = answered_within(self.given);
+        self.is_in_order &= self.flushed.get() == due;
+        if self.fails && self.bytes.is_empty() {
+            return Err(io::ErrorKind::BrokenPipe.into());
+        }
+        let count = self.bytes.read(buf)?;
+        self.given = self.given.saturating_add(count);
+        Ok(count)
+    }
+}
+
+/// Takes `room` bytes in all and then fails. It takes so many flushes, and then they fail. Where it has a cell, it tells
+/// there how many bytes have been flushed.
+#[derive(Drop)]
+pub(crate) struct Narrow<'a> {
+    pub(crate) written: Vec<u8>,
+    room: usize,
+    flushes: usize,
+    flushed: Option<&'a Cell<usize>>,
+}
+
+impl<'a> Narrow<'a> {
+    pub(crate) fn new(alloc: Global, room: usize, flushes: usize) -> Narrow<'a> {
+        Narrow {
+            written: Vec::new(alloc),
+            room,
+            flushes,
+            flushed: None,
+        }
+    }
+}
+
+impl<'a> Write for Narrow<'a> {
+    fn write(&mut self, buf: &[u8]) -> io::Result<usize> {
+        if self.room == 0 {
+            return Err(io::ErrorKind::BrokenPipe.into());
+        }
+        let count = buf.len().min(self.room);
+        self.written.extend_from_slice(&buf[..count])?;
+        self.room -= count;
+        Ok(count)
+    }
+
+    fn flush(&mut self) -> io::Result<()> {
+        if self.flushes == 0 {
+            return Err(io::ErrorKind::BrokenPipe.into());
+        }
+        self.flushes -= 1;
+        if let Some(flushed) = self.flushed {
+            flushed.set(self.written.len());
+        }
+        Ok(())
+    }
+}
+
+/// The conversation's bytes, and its answers'.
+#[derive(Drop)]
+struct Spelled {
+    input: Vec<u8>,
+    answers: Vec<u8>,
+}
+
+fn conversation(alloc: Global) -> Result<Spelled, Fail> {
+    let input = spelled(alloc, CONVERSATION)?;
+    let answers = spelled(alloc, ANSWERS)?;
+    Ok(Spelled { input, answers })
+}
+
+/// The line of a read or a write that fails at this frame.
+fn io_line(alloc: Global, frame: usize) -> Result<String, AllocError> {
+    format!(in alloc; "frame {frame}: Io")
+}
+
+/// Runs over so many bytes of the conversation, behind which the reader fails or ends.
+fn expect_in_order(
+    rt: &impl Abort,
+    alloc: Global,
+    spelled: &Spelled,
+    given: usize,
+    fails: bool,
+) -> Result<(), Fail> {
+    let flushed = Cell::new(0);
+    let mut reader = Watching {
+        bytes: spelled.input.get(..given).unwrap_or(&[]),
+        given: 0,
+        fails,
+        flushed: &flushed,
+        is_in_order: true,
+    };
+    let mut writer = Narrow::new(alloc, 48, 4);
+    writer.flushed = Some(&flushed);
+    let mut said = Vec::new(alloc);
+    let status = acceptor_run(alloc, &mut reader, &mut writer, &mut said);
+    let (frames, written) = answered_within(given);
+    let line = if fails {
+        io_line(alloc, frames)?
+    } else {
+        String::new(alloc)
+    };
+    let is_told = tells(alloc, status, &said, &line)?;
+    assert!(rt; is_told, "behind {given} bytes");
+    let is_answered = spelled.answers.get(..written) == Some(writer.written.as_slice());
+    assert!(rt; is_answered, "behind {given} bytes");
+    assert!(rt; reader.is_in_order, "behind {given} bytes");
+    assert_eq!(rt; reader.given, given);
+    assert_eq!(rt; flushed.get(), written, "behind {given} bytes");
+    Ok(())
+}
+
+/// The reader fails behind every number of bytes, and at last it ends behind all of them: the answers to the whole frames
+/// have gone out, each before the next read.
+#[test]
+fn answers_before_the_next_read(rt: HostRuntime) -> Result<(), Fail> {
+    let alloc = rt.alloc();
+    let spelled = conversation(alloc)?;
+    let len = spelled.input.len();
+    for given in 0..=len {
+        expect_in_order(&rt, alloc, &spelled, given, true)?;
+    }
+    expect_in_order(&rt, alloc, &spelled, len, false)
+}
+
+/// How many answers fit into the room and are flushed, and how much has gone out of them and of the next one.
+fn sent_into(room: usize, flushes: usize) -> (usize, usize) {
+    let mut sent = 0;
+    let mut written = 0;
+    for (at, (_, answer_end)) in ENDS.iter().enumerate() {
+        if sent == at {
+            written = room.min(*answer_end);
+            if *answer_end <= room && at < flushes {
+                sent = at + 1;
+            }
+        }
+    }
+    (sent, written)
+}
+
+/// Runs over the conversation into a writer of this room, which takes so many flushes.
+fn expect_sent(
+    rt: &impl Abort,
+    alloc: Global,
+    spelled: &Spelled,
+    room: usize,
+    flushes: usize,
+) -> Result<(), Fail> {
+    let mut reader = spelled.input.as_slice();
+    let mut writer = Narrow::new(alloc, room, flushes);
+    let mut said = Vec::new(alloc);
+    let status = acceptor_run(alloc, &mut reader, &mut writer, &mut said);
+    let (sent, written) = sent_into(room, flushes);
+    let line = if sent < 4 {
+        io_line(alloc, sent)?
+    } else {
+        String::new(alloc)
+    };
+    let is_told = tells(alloc, status, &said, &line)?;
+    assert!(rt; is_told, "at {room}, {flushes}");
+    let left = writer.flushes.saturating_add(sent);
+    assert!(rt; left == flushes, "at {room}, {flushes}");
+    let is_written = spelled.answers.get(..written) == Some(writer.written.as_slice());
+    assert!(rt; is_written, "at {room}, {flushes}");
+    Ok(())
+}
+
+/// Into writers of every room, with every number of flushes up to one for each answer, and none else.
+#[test]
+fn tells_a_write_or_a_flush_that_fails(rt: HostRuntime) -> Result<(), Fail> {
+    let alloc = rt.alloc();
+    let spelled = conversation(alloc)?;
+    for number in 0..49 * 5 {
+        expect_sent(&rt, alloc, &spelled, number / 5, number % 5)?;
+    }
+    Ok(())
+}
+
+/// The line's first bytes go out, as many as there is room for.
+fn expect_cut_line(rt: &impl Abort, alloc: Global, line: &[u8], room: usize) {
+    let mut reader: &[u8] = &[0x00, 0x00, 0x00, 0x00, 0x02, 0x08, 0x09];
+    let mut output = Vec::new(alloc);
+    let mut said = Narrow::new(alloc, room, 0);
+    let status = acceptor_run(alloc, &mut reader, &mut output, &mut said);
+    assert!(rt; status == 1, "in {room} bytes");
+    assert!(rt; output.is_empty());
+    let is_cut = line.get(..room) == Some(said.written.as_slice());
+    assert!(rt; is_cut, "in {room} bytes");
+}
+
+#[test]
+fn fails_where_its_line_cannot_be_written(rt: HostRuntime) {
+    let line = b"flightd: frame 0: BadKind\n";
+    for room in 0..=line.len() {
+        expect_cut_line(&rt, rt.alloc(), line, room);
+    }
+}

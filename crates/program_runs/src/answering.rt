@@ -1,0 +1,96 @@
+//! What node 0 answers as an acceptor.
+
+ghost use Rattle.std.specs.Prelude.{◌≡◌, IfOk, OnErr};
+ghost use Rattle.acceptor.specs.Holding.{standing};
+ghost use Rattle.program_runs.specs.Conversation.{Answers, RepliesToPrepare, RepliesToAccept};
+
+use acceptor::{Acceptor, Answer};
+use ballots::{Ballot, Message, NodeId, OutOfMemory, Slot, Value};
+
+/// The number of the node that answers.
+pub const NODE: u8 = 0;
+
+fn me() -> NodeId
+    ensures { result ≡ NODE }
+{
+    match NodeId::new(NODE) {
+        Some(node) => node,
+        None => unreachable!(),
+    }
+}
+
+/// The reply to a message, as the acceptor answers it: to a Prepare a Promise or a Nack, to an Accept an Accepted or a
+/// Nack, and none to any other message. The error is memory refused, after which the acceptor is as it was.
+pub fn reply_to(acceptor: &mut Acceptor, message: Message) -> Result<Option<Message>, OutOfMemory>
+    ensures answered { IfOk result (λ reply. Answers (standing acceptor.old) message reply (standing acceptor.new)) }
+    ensures err { OnErr result (acceptor.new ≡ acceptor.old) }
+{
+    match message {
+        Message::Prepare {
+            sender: _,
+            slot,
+            ballot,
+        } => reply_to_prepare(acceptor, slot, ballot),
+        Message::Accept {
+            sender: _,
+            slot,
+            ballot,
+            value,
+        } => reply_to_accept(acceptor, slot, ballot, value),
+        _ => Ok(None),
+    }
+}
+
+fn reply_to_prepare(
+    acceptor: &mut Acceptor,
+    slot: Slot,
+    ballot: Ballot,
+) -> Result<Option<Message>, OutOfMemory>
+    ensures answered { IfOk result (λ reply. RepliesToPrepare (standing acceptor.old) slot ballot reply (standing acceptor.new)) }
+    ensures err { OnErr result (acceptor.new ≡ acceptor.old) }
+{
+    let sender = me();
+    Ok(match acceptor.on_prepare(slot, ballot)? {
+        Answer::Promise(report) => Some(Message::Promise {
+            sender,
+            slot,
+            ballot,
+            report,
+        }),
+        Answer::Nack(promised) => Some(Message::Nack {
+            sender,
+            slot,
+            ballot,
+            promised,
+        }),
+        Answer::Granted => None,
+    })
+}
+
+fn reply_to_accept(
+    acceptor: &mut Acceptor,
+    slot: Slot,
+    ballot: Ballot,
+    value: Value,
+) -> Result<Option<Message>, OutOfMemory>
+    ensures answered { IfOk result (λ reply. RepliesToAccept (standing acceptor.old) slot ballot value reply (standing acceptor.new)) }
+    ensures err { OnErr result (acceptor.new ≡ acceptor.old) }
+{
+    let sender = me();
+    let accepted = value.clone()?;
+    Ok(match acceptor.on_accept(slot, ballot, accepted)? {
+        Answer::Granted => Some(Message::Accepted {
+            sender,
+            slot,
+            ballot,
+            value,
+        }),
+        Answer::Nack(promised) => Some(Message::Nack {
+            sender,
+            slot,
+            ballot,
+            promised,
+        }),
+        Answer::Promise(_) => None,
+    })
+}

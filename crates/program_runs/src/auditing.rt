@@ -1,0 +1,69 @@
+//! The judgement of a recorded run, and where it is written.
+
+ghost use Rattle.std.specs.Prelude.{◌≡◌, IfErr, OnOk};
+ghost use Rattle.std.specs.Io.KnownBytes.{Appends};
+ghost use Rattle.program_runs.specs.TraceFile.{Judges, Tells, judgement_line};
+ghost use Rattle.program_runs.specs.declared.auditing.AuditFault.TheVariants.{Io};
+
+use crate::trace_file::{TraceFault, read_trace};
+use schedule_runner::audit;
+use std::alloc::Global;
+use std::io::Write;
+use thiserror::Error;
+
+/// The line of a history that correct nodes may have sent.
+pub const LAWFUL_LINE: &[u8] = b"lawful\n";
+
+/// The line of any other history.
+pub const UNLAWFUL_LINE: &[u8] = b"unlawful\n";
+
+/// What kept a judgement from being made or written.
+#[derive(Clone, Copy, Debug, PartialEq, Eq, Error)]
+pub enum AuditFault {
+    /// The file tells no recorded run.
+    #[error("BadTrace")]
+    BadTrace,
+    /// Memory was refused.
+    #[error("OutOfMemory")]
+    OutOfMemory,
+    /// The judgement could not be written.
+    #[error("Io")]
+    Io,
+}
+
+/// Judges the recorded run that a file tells, as [`read_trace`] reads it, and writes `lawful` or `unlawful` and a newline
+/// to `w`, which is flushed. The result is whether it is lawful.
+///
+/// On [`AuditFault::BadTrace`] and [`AuditFault::OutOfMemory`] nothing was written; on [`AuditFault::Io`] a write or the
+/// flush failed, and part of the line may have gone out.
+pub fn audit_file<W: Write>(alloc: Global, file: &[u8], w: &mut W) -> Result<bool, AuditFault>
+    ensures judged { Judges result file.now }
+    ensures told { Tells result (W.contents w.old) (W.contents w.new) }
+{
+    let trace = match read_trace(alloc, file) {
+        Ok(trace) => trace,
+        Err(TraceFault::BadTrace) => return Err(AuditFault::BadTrace),
+        Err(TraceFault::OutOfMemory) => return Err(AuditFault::OutOfMemory),
+    };
+    let is_lawful = audit(&trace);
+    tell(is_lawful, w)?;
+    Ok(is_lawful)
+}
+
+fn tell<W: Write>(is_lawful: bool, w: &mut W) -> Result<(), AuditFault>
+    ensures written { OnOk result (Appends (W.contents w.old) (W.contents w.new) (judgement_line is_lawful)) }
+    ensures io { IfErr result (λ fault. fault ≡ Io) }
+{
+    let line = if is_lawful {
+        LAWFUL_LINE
+    } else {
+        UNLAWFUL_LINE
+    };
+    if w.write_all(line).is_err() {
+        return Err(AuditFault::Io);
+    }
+    if w.flush().is_err() {
+        return Err(AuditFault::Io);
+    }
+    Ok(())
+}

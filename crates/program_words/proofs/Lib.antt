@@ -1,0 +1,2 @@
+pub mod FileNamed
+pub mod Calls
