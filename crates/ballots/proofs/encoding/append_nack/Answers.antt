@@ -1,0 +1,31 @@
+use Rattle.std.proofs.Common.{arith, rules}
+use Rattle.std.proofs.lemmas.Grind.{common_steps}
+use Rattle.ballots.proofs.Written.{written_rules}
+use Rattle.ballots.proofs.encoding.append_nack.Goals as goal
+
+pub returns-in_err-append_head-clause-ok : goal.returns-in_err-append_head-clause-ok
+returns-in_err-append_head-clause-ok c = search rules steps 300000
+
+pub returns-in_err-append_head-clause-err : goal.returns-in_err-append_head-clause-err
+returns-in_err-append_head-clause-err c = search rules steps 300000
+
+pub returns-in_err-append_head-clause-within : goal.returns-in_err-append_head-clause-within
+returns-in_err-append_head-clause-within c = search rules steps 300000
+
+pub returns-in_err-append_ballots-clause-ok : goal.returns-in_err-append_ballots-clause-ok
+returns-in_err-append_ballots-clause-ok c = search rules steps 300000
+
+pub returns-in_err-append_ballots-clause-err : goal.returns-in_err-append_ballots-clause-err
+returns-in_err-append_ballots-clause-err c = grind (arith, common_steps, written_rules) steps 600000
+
+pub returns-in_err-append_ballots-clause-within : goal.returns-in_err-append_ballots-clause-within
+returns-in_err-append_ballots-clause-within c = search rules steps 300000
+
+pub returns-clause-ok : goal.returns-clause-ok
+returns-clause-ok c = grind (arith, common_steps, written_rules) steps 3000000
+
+pub returns-clause-err : goal.returns-clause-err
+returns-clause-err c = grind (arith, common_steps, written_rules) steps 600000
+
+pub returns-clause-within : goal.returns-clause-within
+returns-clause-within c = search rules steps 300000
