@@ -7,9 +7,6 @@ returns-in-1 c = search rules steps 300000
 pub returns-in-2 : goal.returns-in-2
 returns-in-2 c = search rules steps 300000
 
-pub returns-in-3 : goal.returns-in-3
-returns-in-3 c = search rules steps 300000
-
 pub returns-in-5 : goal.returns-in-5
 returns-in-5 c = search rules steps 300000
 
