@@ -1,4 +1,5 @@
-pub mod Entries
-pub mod Holding
 pub mod Standing
+pub mod Holding
 pub mod Answering
+pub mod Restored
+pub mod Raising

@@ -1,28 +1,26 @@
-ghost use Rattle.std.specs.Prelude.{◌≡◌, ◌==◌, ◌↔◌, position, IsTrue, IfOk, OnOk, OnErr};
-ghost use Rattle.std.specs.Option.{option_map};
+ghost use Rattle.std.specs.Prelude.{◌≡◌, ◌↔◌, ◌<◌, ◌≤◌, ◌+◌, ◌∷◌, ◌++◌, [], List, Some, IsTrue, IfOk, OnOk, OnErr, option_map};
 ghost use Rattle.ballots.specs.Ballot.{IsAbove, IsAtLeast};
-ghost use Rattle.acceptor.specs.Standing.{IsFresh, Sets};
-ghost use Rattle.acceptor.specs.Holding.{found, promised_at, accepted_at, standing};
+ghost use Rattle.ballots.specs.declared.record.Record.{Record as Kept};
+ghost use Rattle.acceptor.specs.Standing.{IsFresh, IsSame, Sets};
+ghost use Rattle.acceptor.specs.Holding.{HasRoomFor, promised_at, accepted_at, standing};
 ghost use Rattle.acceptor.specs.Answering.{Prepares, Accepts};
-ghost use Rattle.acceptor.specs.Entries.{row_of, holding_of};
+ghost use Rattle.acceptor.specs.Restored.{IsRestored};
 
 use crate::answer::Answer;
-use ballots::{Ballot, OutOfMemory, Slot, Value};
+use crate::maps::{
+    held_acceptance, held_promise, put_acceptance, put_promise, raise_acceptance, raise_promise,
+};
+use crate::records::copied;
+use ballots::{Ballot, OutOfMemory, Record, Slot, Value};
+use indexmap::IndexMap;
 use std::alloc::Global;
 use std::marker::Model;
-
-/// What one slot has promised and accepted.
-#[derive(Debug, Drop)]
-struct Entry {
-    slot: Slot,
-    promised: Ballot,
-    accepted: Option<(Ballot, Value)>,
-}
 
 /// An acceptor for all slots. It takes memory for each slot that it has promised or accepted for, and no other.
 #[derive(Debug, Drop)]
 pub struct Acceptor {
-    entries: Vec<Entry>,
+    promises: IndexMap<Slot, Ballot>,
+    acceptances: IndexMap<Slot, (Ballot, Value)>,
 }
 
 impl Model for Acceptor {
@@ -30,26 +28,45 @@ impl Model for Acceptor {
 
     ghost Value = { Holding };
 
-    ghost use Rattle.acceptor.specs.Entries.{holding_of};
+    ghost use Rattle.std.specs.Prelude.{min};
+    ghost use Rattle.indexmap.specs.IndexMap.{spare};
 
-    ghost view = { λ a. holding_of a.entries.items };
+    ghost view = { λ a. record {
+      promises = a.promises.entries;
+      acceptances = a.acceptances.entries;
+      room = min (spare a.promises) (spare a.acceptances);
+    } };
 }
 
 impl Acceptor {
     /// An acceptor that has promised and accepted nothing. It takes memory from this allocator as it grows.
     pub fn new(alloc: Global) -> Acceptor
-        ensures { IsFresh (standing result) }
+        ensures fresh { IsFresh (standing result) }
+        ensures restored { IsRestored [] (standing result) }
     {
         Acceptor {
-            entries: Vec::new(alloc),
+            promises: IndexMap::new(alloc),
+            acceptances: IndexMap::new(alloc),
         }
+    }
+
+    /// The acceptor that these records leave, the first of them kept first (section 2.4). Each slot has the highest ballot that
+    /// a record promises or accepts at, and the acceptance at the highest ballot, the last one where ballots are equal.
+    pub fn from_records(alloc: Global, records: &[Record]) -> Result<Acceptor, OutOfMemory>
+        ensures { IfOk result (λ acceptor. IsRestored records.now (standing acceptor)) }
+    {
+        let mut acceptor = Acceptor::new(alloc);
+        for told in records {
+            acceptor.apply_copy(told)?;
+        }
+        Ok(acceptor)
     }
 
     /// The highest ballot that the slot has promised, `None` where it has promised nothing.
     pub fn promised(&self, slot: Slot) -> Option<Ballot>
         ensures { result ≡ promised_at self.now slot }
     {
-        Some(self.entry(slot)?.promised)
+        held_promise(&self.promises, slot)
     }
 
     /// The value that the slot has last accepted, with the ballot that it was accepted at, `None` where it has
@@ -57,10 +74,7 @@ impl Acceptor {
     pub fn accepted(&self, slot: Slot) -> Option<(Ballot, &Value)>
         ensures { option_map (λ held. (held.0, held.1.now)) result ≡ accepted_at self.now slot }
     {
-        match &self.entry(slot)?.accepted {
-            Some((ballot, value)) => Some((*ballot, value)),
-            None => None,
-        }
+        held_acceptance(&self.acceptances, slot)
     }
 
     /// Whether `on_prepare` would promise the ballot, memory apart: it is above what the slot has promised.
@@ -86,7 +100,7 @@ impl Acceptor {
     /// Answers a Prepare. A promise is kept before it is answered. Only a promise takes memory.
     pub fn on_prepare(&mut self, slot: Slot, ballot: Ballot) -> Result<Answer, OutOfMemory>
         ensures answered { IfOk result (Prepares (standing self.old) (standing self.new) slot ballot) }
-        ensures err { OnErr result (self.new ≡ self.old) }
+        ensures err { OnErr result (IsSame (standing self.old) (standing self.new)) }
         ensures memory { OnErr result (IsAbove ballot (promised_at self.old slot)) }
     {
         if let Some(promised) = self.promised(slot) {
@@ -97,7 +111,7 @@ impl Acceptor {
 
         // The copy comes first: where memory is refused, nothing has changed.
         let report = self.accepted_copy(slot)?;
-        set_promise(&mut self.entries, slot, ballot)?;
+        put_promise(&mut self.promises, slot, ballot)?;
         Ok(Answer::Promise(report))
     }
 
@@ -109,7 +123,7 @@ impl Acceptor {
         value: Value,
     ) -> Result<Answer, OutOfMemory>
         ensures answered { IfOk result (Accepts (standing self.old) (standing self.new) slot ballot value) }
-        ensures err { OnErr result (self.new ≡ self.old) }
+        ensures err { OnErr result (IsSame (standing self.old) (standing self.new)) }
         ensures memory { OnErr result (IsAtLeast ballot (promised_at self.old slot)) }
     {
         if let Some(promised) = self.promised(slot) {
@@ -117,23 +131,67 @@ impl Acceptor {
                 return Ok(Answer::Nack(promised));
             }
         }
-        put_entry(
-            &mut self.entries,
-            Entry {
-                slot,
-                promised: ballot,
-                accepted: Some((ballot, value)),
-            },
-        )?;
+        self.set(slot, ballot, value)?;
         Ok(Answer::Granted)
     }
 
-    // What the slot has promised and accepted.
-    fn entry(&self, slot: Slot) -> Option<&Entry>
-        ensures { option_map (λ entry. row_of entry.now) result ≡ found self.now slot }
+    /// Makes room for a record of the slot, which [`Acceptor::apply`] then takes without memory. Nothing else changes, whatever
+    /// the answer. Memory can be refused only where there is no room yet.
+    pub fn make_room(&mut self, slot: Slot) -> Result<(), OutOfMemory>
+        ensures ready { OnOk result (0 < self.new.room) }
+        ensures same { IsSame (standing self.old) (standing self.new) }
+        ensures room { self.old.room ≤ self.new.room }
+        ensures memory { OnErr result (self.old.room ≡ 0) }
     {
-        let at = find_entry(&self.entries, slot)?;
-        Some(&self.entries[at])
+        self.reserve_one()
+    }
+
+    /// Takes a record as the last of those that the acceptor has. It takes no memory: [`Acceptor::make_room`] makes the room.
+    pub fn apply(&mut self, told: Record)
+        requires { HasRoomFor self.old told }
+        ensures restored { (records : List Kept) → IsRestored records (standing self.old)
+            → IsRestored (records ++ told ∷ []) (standing self.new) }
+        ensures room { self.old.room ≤ self.new.room + 1 }
+    {
+        match told {
+            Record::Began(_) => {}
+            Record::Promised(slot, ballot) => raise_promise(&mut self.promises, slot, ballot),
+            Record::Accepted(slot, ballot, value) => {
+                raise_promise(&mut self.promises, slot, ballot);
+                raise_acceptance(&mut self.acceptances, slot, ballot, value);
+            }
+        }
+    }
+
+    fn apply_copy(&mut self, told: &Record) -> Result<(), OutOfMemory>
+        ensures { (records : List Kept) → IsRestored records (standing self.old)
+            → OnOk result (IsRestored (records ++ told.now ∷ []) (standing self.new)) }
+    {
+        let copy = copied(told)?;
+        self.reserve_one()?;
+        self.apply(copy);
+        Ok(())
+    }
+
+    fn reserve_one(&mut self) -> Result<(), OutOfMemory>
+        ensures ready { OnOk result (0 < self.new.room) }
+        ensures same { IsSame (standing self.old) (standing self.new) }
+        ensures room { self.old.room ≤ self.new.room }
+        ensures memory { OnErr result (self.old.room ≡ 0) }
+    {
+        self.promises.reserve(1)?;
+        self.acceptances.reserve(1)
+    }
+
+    // Promises the ballot, and keeps the value as accepted at it. Where memory is refused, nothing has changed.
+    fn set(&mut self, slot: Slot, granted: Ballot, value: Value) -> Result<(), OutOfMemory>
+        ensures ok { OnOk result (Sets (standing self.old) (standing self.new) slot granted (Some (granted, value))) }
+        ensures err { OnErr result (IsSame (standing self.old) (standing self.new)) }
+    {
+        self.reserve_one()?;
+        put_promise(&mut self.promises, slot, granted)?;
+        put_acceptance(&mut self.acceptances, slot, granted, value);
+        Ok(())
     }
 
     // What the slot has accepted, for a report: the acceptor keeps the value, so the report has a copy.
@@ -144,48 +202,5 @@ impl Acceptor {
             Some((ballot, value)) => Ok(Some((ballot, value.clone()?))),
             None => Ok(None),
         }
-    }
-}
-
-// The place of the slot's entry, `None` where it has none.
-fn find_entry(entries: &[Entry], slot: Slot) -> Option<usize>
-    ensures { result ≡ position (λ entry. entry.slot == slot) entries.now }
-{
-    entries.iter().position(|entry| entry.slot == slot)
-}
-
-// Makes the ballot what the slot has promised, and keeps what it has accepted.
-fn set_promise(entries: &mut Vec<Entry>, slot: Slot, ballot: Ballot) -> Result<(), OutOfMemory>
-    ensures ok { OnOk result (Sets
-        (standing (holding_of entries.old.items)) (standing (holding_of entries.new.items))
-        slot ballot (accepted_at (holding_of entries.old.items) slot)) }
-    ensures err { OnErr result (entries.new.items ≡ entries.old.items) }
-{
-    match find_entry(entries, slot) {
-        Some(at) => {
-            entries[at].promised = ballot;
-            Ok(())
-        }
-        None => Ok(entries.push(Entry {
-            slot,
-            promised: ballot,
-            accepted: None,
-        })?),
-    }
-}
-
-// Puts an entry in place of its slot's, or at the end where the slot has none.
-fn put_entry(entries: &mut Vec<Entry>, entry: Entry) -> Result<(), OutOfMemory>
-    ensures ok { OnOk result (Sets
-        (standing (holding_of entries.old.items)) (standing (holding_of entries.new.items))
-        entry.slot entry.promised entry.accepted) }
-    ensures err { OnErr result (entries.new.items ≡ entries.old.items) }
-{
-    match find_entry(entries, entry.slot) {
-        Some(at) => {
-            entries[at] = entry;
-            Ok(())
-        }
-        None => Ok(entries.push(entry)?),
     }
 }

@@ -9,4 +9,6 @@ mod acceptors;
 #[cfg(test)]
 mod audits;
 #[cfg(test)]
+mod restored;
+#[cfg(test)]
 mod rows;

@@ -2,6 +2,7 @@
 
 ghost use Rattle.std.specs.Prelude.{◌≡◌, IfOk, OnErr};
 ghost use Rattle.acceptor.specs.Holding.{standing};
+ghost use Rattle.acceptor.specs.Standing.{IsSame};
 ghost use Rattle.program_runs.specs.Conversation.{Answers, RepliesToPrepare, RepliesToAccept};
 
 use acceptor::{Acceptor, Answer};
@@ -23,7 +24,7 @@ fn me() -> NodeId
 /// Nack, and none to any other message. The error is memory refused, after which the acceptor is as it was.
 pub fn reply_to(acceptor: &mut Acceptor, message: Message) -> Result<Option<Message>, OutOfMemory>
     ensures answered { IfOk result (λ reply. Answers (standing acceptor.old) message reply (standing acceptor.new)) }
-    ensures err { OnErr result (acceptor.new ≡ acceptor.old) }
+    ensures err { OnErr result (IsSame (standing acceptor.old) (standing acceptor.new)) }
 {
     match message {
         Message::Prepare {
@@ -47,7 +48,7 @@ fn reply_to_prepare(
     ballot: Ballot,
 ) -> Result<Option<Message>, OutOfMemory>
     ensures answered { IfOk result (λ reply. RepliesToPrepare (standing acceptor.old) slot ballot reply (standing acceptor.new)) }
-    ensures err { OnErr result (acceptor.new ≡ acceptor.old) }
+    ensures err { OnErr result (IsSame (standing acceptor.old) (standing acceptor.new)) }
 {
     let sender = me();
     Ok(match acceptor.on_prepare(slot, ballot)? {
@@ -74,7 +75,7 @@ fn reply_to_accept(
     value: Value,
 ) -> Result<Option<Message>, OutOfMemory>
     ensures answered { IfOk result (λ reply. RepliesToAccept (standing acceptor.old) slot ballot value reply (standing acceptor.new)) }
-    ensures err { OnErr result (acceptor.new ≡ acceptor.old) }
+    ensures err { OnErr result (IsSame (standing acceptor.old) (standing acceptor.new)) }
 {
     let sender = me();
     let accepted = value.clone()?;

@@ -4,7 +4,7 @@ use Rattle.program_runs.proofs.Running.{run_starts, run_goes_on}
 use Rattle.program_runs.proofs.serving.serve.Goals as goal
 
 pub loop-number-init : goal.loop-number-init
-loop-number-init g c = run_starts (standing c.new-acceptor.result) (g.R.Read.remaining c.args.r.now) (g.W.Write.contents c.args.w.now) c.new-acceptor.ensures
+loop-number-init g c = run_starts (standing c.new-acceptor.result) (g.R.Read.remaining c.args.r.now) (g.W.Write.contents c.args.w.now) c.new-acceptor.ensures.fresh
 
 pub loop-number-preserved : goal.loop-number-preserved
 loop-number-preserved g c =
@@ -12,10 +12,10 @@ loop-number-preserved g c =
     (g.W.Write.contents c.args.w.now) (g.W.Write.contents c.loop-number.w) (g.W.Write.contents c.serve_next.new.w) c.loop-number.invariant (rw c.in-Ok-true.field-0-test at c.in-Ok-true.ensures)
 
 pub returns-in-Ok-false : goal.returns-in-Ok-false
-returns-in-Ok-false g c = search rules steps 300000
+returns-in-Ok-false g c = search rules steps 2000000
 
 pub returns-in-Err : goal.returns-in-Err
 returns-in-Err g c = search rules steps 2000000
 
 pub returns : goal.returns
-returns g c = search rules steps 300000
+returns g c = search rules steps 2000000

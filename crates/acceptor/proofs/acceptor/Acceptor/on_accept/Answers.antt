@@ -11,14 +11,14 @@ returns-then-is_below-clause-err c = search rules steps 300000
 pub returns-then-is_below-clause-memory : goal.returns-then-is_below-clause-memory
 returns-then-is_below-clause-memory c = search rules steps 300000
 
-pub returns-in_err-put_entry-clause-answered : goal.returns-in_err-put_entry-clause-answered
-returns-in_err-put_entry-clause-answered c = search rules steps 300000
+pub returns-in_err-set-clause-answered : goal.returns-in_err-set-clause-answered
+returns-in_err-set-clause-answered c = search rules steps 300000
 
-pub returns-in_err-put_entry-clause-err : goal.returns-in_err-put_entry-clause-err
-returns-in_err-put_entry-clause-err c = search rules steps 300000
+pub returns-in_err-set-clause-err : goal.returns-in_err-set-clause-err
+returns-in_err-set-clause-err c = search rules steps 300000
 
-pub returns-in_err-put_entry-clause-memory : goal.returns-in_err-put_entry-clause-memory
-returns-in_err-put_entry-clause-memory c = search rules steps 300000
+pub returns-in_err-set-clause-memory : goal.returns-in_err-set-clause-memory
+returns-in_err-set-clause-memory c = search rules steps 300000
 
 pub returns-clause-answered : goal.returns-clause-answered
 returns-clause-answered c = search rules steps 300000

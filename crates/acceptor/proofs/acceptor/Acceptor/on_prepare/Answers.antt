@@ -20,14 +20,14 @@ returns-in_err-report-clause-err c = search rules steps 300000
 pub returns-in_err-report-clause-memory : goal.returns-in_err-report-clause-memory
 returns-in_err-report-clause-memory c = search rules steps 300000
 
-pub returns-in_err-set_promise-clause-answered : goal.returns-in_err-set_promise-clause-answered
-returns-in_err-set_promise-clause-answered c = grind (arith, common_steps) steps 600000
+pub returns-in_err-put_promise-clause-answered : goal.returns-in_err-put_promise-clause-answered
+returns-in_err-put_promise-clause-answered c = grind (arith, common_steps) steps 600000
 
-pub returns-in_err-set_promise-clause-err : goal.returns-in_err-set_promise-clause-err
-returns-in_err-set_promise-clause-err c = grind (arith, common_steps) steps 600000
+pub returns-in_err-put_promise-clause-err : goal.returns-in_err-put_promise-clause-err
+returns-in_err-put_promise-clause-err c = grind (arith, common_steps) steps 600000
 
-pub returns-in_err-set_promise-clause-memory : goal.returns-in_err-set_promise-clause-memory
-returns-in_err-set_promise-clause-memory c = grind (arith, common_steps) steps 600000
+pub returns-in_err-put_promise-clause-memory : goal.returns-in_err-put_promise-clause-memory
+returns-in_err-put_promise-clause-memory c = grind (arith, common_steps) steps 600000
 
 pub returns-clause-answered : goal.returns-clause-answered
 returns-clause-answered c = grind (arith, common_steps) steps 600000

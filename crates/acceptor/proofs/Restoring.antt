@@ -1,0 +1,212 @@
+-- One record more: what its slot then has is what the records then leave.
+use Rattle.std.proofs.Common.{◌≡◌, ◌≢◌, ◌≤◌, ℕ, nat_eq, true, false, ◌⊎◌, inl, inr, List, [], ◌∷◌, ◌++◌, Bool, if◌then◌else◌, Option, Some, None, refl, sym, ap, subst, ◌∙◌, arith}
+use Rattle.std.specs.Option.{option_map}
+use Rattle.std.specs.List.{Contains, filter_map, cons_option}
+use Rattle.std.proofs.lemmas.Bool.Decides.{eqb_tells}
+use Rattle.std.proofs.lemmas.List.{append_assoc, append-nil}
+use Rattle.std.proofs.lemmas.List.Elements.{filter_map-append, Contains-append_left, Contains-append_right, Contains-append_cases}
+use Rattle.ballots.specs.Ballot.{Ballot, IsBelow, IsAtLeast}
+use Rattle.ballots.specs.declared.value.Value.{Value}
+use Rattle.ballots.specs.declared.record.Record.{Record}
+use Rattle.ballots.specs.declared.record.Record.TheVariants.{Began, Promised, Accepted}
+use Rattle.acceptor.specs.Standing.{Standing, IsSame}
+use Rattle.acceptor.specs.Raising.{Raises}
+use Rattle.acceptor.specs.Restored.{promise_in, acceptance_in, IsHighest, IsLastHighest, IsRestored, round_in, IsHighestRound}
+use Rattle.acceptor.proofs.Order.{below_or_at_least, not_below_itself, not_below_more, nothing_in, one_in, only_one}
+
+-- ---- the highest of one ballot more
+
+raised_highest : (ballots : List Ballot) (held b : Ballot) → IsHighest ballots (Some held) → IsAtLeast b (Some held) → IsHighest (ballots ++ b ∷ []) (Some b)
+raised_highest ballots held b is more = (
+  Contains-append_right ballots (b ∷ []) b (one_in b),
+  λ other has. elim (Contains-append_cases ballots (b ∷ []) other has) as (λ _. ¬ IsBelow b other) [
+    | inl there ↦ not_below_more held b other more (is.1 other there)
+    | inr here ↦ subst (λ (x : Ballot). ¬ IsBelow b x) (sym (only_one b other here)) (not_below_itself b)
+  ],
+)
+
+kept_highest : (ballots : List Ballot) (held b : Ballot) → IsHighest ballots (Some held) → IsBelow b held → IsHighest (ballots ++ b ∷ []) (Some held)
+kept_highest ballots held b is less = (
+  Contains-append_left ballots (b ∷ []) held is.0,
+  λ other has. elim (Contains-append_cases ballots (b ∷ []) other has) as (λ _. ¬ IsBelow held other) [
+    | inl there ↦ is.1 other there
+    | inr here ↦ subst (λ (x : Ballot). ¬ IsBelow held x) (sym (only_one b other here)) (not_below_more b held b (inl less) (not_below_itself b))
+  ],
+)
+
+first_highest : (b : Ballot) → IsHighest (b ∷ []) (Some b)
+first_highest b = (one_in b, λ other has. subst (λ (x : Ballot). ¬ IsBelow b x) (sym (only_one b other has)) (not_below_itself b))
+
+highest_of_more : (ballots : List Ballot) (old new : Option Ballot) (b : Ballot) → IsHighest ballots old
+    → ((held : Ballot) → old ≡ Some held → IsBelow b held → new ≡ old) → (IsAtLeast b (option_map (λ held. held) old) → new ≡ Some b)
+    → IsHighest (ballots ++ b ∷ []) new
+highest_of_more ballots None new b is kept raised =
+    subst (IsHighest (ballots ++ b ∷ [])) (sym (raised tt)) (subst (λ (l : List Ballot). IsHighest (l ++ b ∷ []) (Some b)) (sym is) (first_highest b))
+highest_of_more ballots (Some held) new b is kept raised =
+    elim (below_or_at_least b held) as (λ _. IsHighest (ballots ++ b ∷ []) new) [
+      | inl less ↦ subst (IsHighest (ballots ++ b ∷ [])) (sym (kept held refl less)) (kept_highest ballots held b is less)
+      | inr more ↦ subst (IsHighest (ballots ++ b ∷ [])) (sym (raised more)) (raised_highest ballots held b is more)
+    ]
+
+-- ---- the last of the highest acceptances, with one more
+
+none_above : (before after : List (Ballot × Value)) (held a other : Ballot × Value) → ((o : Ballot × Value) → Contains before o → ¬ IsBelow held.0 o.0)
+    → ((o : Ballot × Value) → Contains after o → IsBelow o.0 held.0) → IsAtLeast a.0 (Some held.0) → Contains (before ++ held ∷ after) other → ¬ IsBelow a.0 other.0
+none_above before after held a other not_above below more has =
+    not_below_more held.0 a.0 other.0 more (
+    elim (Contains-append_cases before (held ∷ after) other has) as (λ _. ¬ IsBelow held.0 other.0) [
+      | inl there ↦ not_above other there
+      | inr from ↦ elim (Contains-append_cases (held ∷ []) after other from) as (λ _. ¬ IsBelow held.0 other.0) [
+        | inl here ↦ subst (λ (x : Ballot × Value). ¬ IsBelow held.0 x.0) (sym (only_one held other here)) (not_below_itself held.0)
+        | inr behind ↦ not_below_more other.0 held.0 other.0 (inl (below other behind)) (not_below_itself other.0)
+      ]
+    ])
+
+last_of_more : (list : List (Ballot × Value)) (old new : Option (Ballot × Value)) (a : Ballot × Value) → IsLastHighest list old
+    → ((held : Ballot × Value) → old ≡ Some held → IsBelow a.0 held.0 → new ≡ old) → (IsAtLeast a.0 (option_map (λ (held : Ballot × Value). held.0) old) → new ≡ Some a)
+    → IsLastHighest (list ++ a ∷ []) new
+last_of_more list None new a is kept raised =
+    subst (IsLastHighest (list ++ a ∷ [])) (sym (raised tt))
+    ([], [], ap (λ (l : List (Ballot × Value)). l ++ a ∷ []) is, (λ other has. absurd (nothing_in other has)), (λ other has. absurd (nothing_in other has)))
+last_of_more list (Some held) new a (before, after, is, not_above, below) kept raised =
+    elim (below_or_at_least a.0 held.0) as (λ _. IsLastHighest (list ++ a ∷ []) new) [
+      | inl less ↦ subst (IsLastHighest (list ++ a ∷ [])) (sym (kept held refl less)) (
+        before,
+        after ++ a ∷ [],
+        ap (λ (l : List (Ballot × Value)). l ++ a ∷ []) is ∙ append_assoc before (held ∷ after) (a ∷ []),
+        not_above,
+        (λ other has. elim (Contains-append_cases after (a ∷ []) other has) as (λ _. IsBelow other.0 held.0) [
+          | inl there ↦ below other there
+          | inr here ↦ subst (λ (x : Ballot × Value). IsBelow x.0 held.0) (sym (only_one a other here)) less
+        ]),
+      )
+      | inr more ↦ subst (IsLastHighest (list ++ a ∷ [])) (sym (raised more)) (
+        list,
+        [],
+        refl,
+        (λ other has. none_above before after held a other not_above below more (subst (λ (l : List (Ballot × Value)). Contains l other) is has)),
+        (λ other has. absurd (nothing_in other has)),
+      )
+    ]
+
+-- ---- records
+
+-- a record that gives nothing, or one thing more
+nothing_more : {X : Type 0} (h : Record → Option X) (records : List Record) (r : Record) → h r ≡ None → filter_map h (records ++ r ∷ []) ≡ filter_map h records
+nothing_more {X} h records r none =
+    filter_map-append h records (r ∷ []) ∙ ap (λ (o : Option X). filter_map h records ++ cons_option o []) none ∙ append-nil (filter_map h records)
+
+one_more : {X : Type 0} (h : Record → Option X) (records : List Record) (r : Record) (x : X) → h r ≡ Some x → filter_map h (records ++ r ∷ []) ≡ filter_map h records ++ x ∷ []
+one_more {X} h records r x some =
+    filter_map-append h records (r ∷ []) ∙ ap (λ (o : Option X). filter_map h records ++ cons_option o []) some
+
+-- what a record gives of its own slot, and of another
+given : {X : Type 0} (slot : ℕ) (x : X) → (if nat_eq slot slot then Some x else None) ≡ Some x
+given {X} slot x =
+    elim (eqb_tells slot slot) [
+      | inl same ↦ ap (λ (b : Bool). let o : Option X = if b then Some x else None in o) same.0
+      | inr differs ↦ absurd (differs.1 refl)
+    ]
+
+skipped : {X : Type 0} (slot other : ℕ) (x : X) → other ≢ slot → (if nat_eq other slot then Some x else None) ≡ None
+skipped {X} slot other x apart =
+    elim (eqb_tells other slot) [
+      | inl same ↦ absurd (apart same.1)
+      | inr differs ↦ ap (λ (b : Bool). let o : Option X = if b then Some x else None in o) differs.0
+    ]
+
+module _ (records : List Record) (r : Record) (slot : ℕ) where
+  promises_more : (old new : ℕ → Option Ballot) (b : Ballot) → promise_in slot r ≡ Some b → ((s : ℕ) → s ≢ slot → promise_in s r ≡ None)
+      → ((s : ℕ) → IsHighest (filter_map (promise_in s) records) (old s)) → Raises (λ held. held) old new slot b
+      → (s : ℕ) → IsHighest (filter_map (promise_in s) (records ++ r ∷ [])) (new s)
+  promises_more old new b here elsewhere was raises s =
+      elim (eqb_tells s slot) as (λ _. IsHighest (filter_map (promise_in s) (records ++ r ∷ [])) (new s)) [
+        | inl same ↦ subst (λ (k : ℕ). IsHighest (filter_map (promise_in k) (records ++ r ∷ [])) (new k)) (sym same.1)
+            (subst (λ (l : List Ballot). IsHighest l (new slot)) (sym (one_more (promise_in slot) records r b here))
+            (highest_of_more (filter_map (promise_in slot) records) (old slot) (new slot) b (was slot) raises.kept raises.raised))
+        | inr differs ↦ subst (λ (l : List Ballot). IsHighest l (new s)) (sym (nothing_more (promise_in s) records r (elsewhere s differs.1)))
+            (subst (IsHighest (filter_map (promise_in s) records)) (sym (raises.others s differs.1)) (was s))
+      ]
+
+  acceptances_more : (old new : ℕ → Option (Ballot × Value)) (a : Ballot × Value) → acceptance_in slot r ≡ Some a → ((s : ℕ) → s ≢ slot → acceptance_in s r ≡ None)
+      → ((s : ℕ) → IsLastHighest (filter_map (acceptance_in s) records) (old s)) → Raises (λ (held : Ballot × Value). held.0) old new slot a
+      → (s : ℕ) → IsLastHighest (filter_map (acceptance_in s) (records ++ r ∷ [])) (new s)
+  acceptances_more old new a here elsewhere was raises s =
+      elim (eqb_tells s slot) as (λ _. IsLastHighest (filter_map (acceptance_in s) (records ++ r ∷ [])) (new s)) [
+        | inl same ↦ subst (λ (k : ℕ). IsLastHighest (filter_map (acceptance_in k) (records ++ r ∷ [])) (new k)) (sym same.1)
+            (subst (λ (l : List (Ballot × Value)). IsLastHighest l (new slot)) (sym (one_more (acceptance_in slot) records r a here))
+            (last_of_more (filter_map (acceptance_in slot) records) (old slot) (new slot) a (was slot) raises.kept raises.raised))
+        | inr differs ↦ subst (λ (l : List (Ballot × Value)). IsLastHighest l (new s)) (sym (nothing_more (acceptance_in s) records r (elsewhere s differs.1)))
+            (subst (IsLastHighest (filter_map (acceptance_in s) records)) (sym (raises.others s differs.1)) (was s))
+      ]
+
+-- ---- one record more of each kind
+
+pub began_more : (records : List Record) (ballot : Ballot) (now : Standing) → IsRestored records now → IsRestored (records ++ Began ballot ∷ []) now
+began_more records ballot now is = record {
+  promises = λ s. subst (λ (l : List Ballot). IsHighest l (now.promised s)) (sym (nothing_more (promise_in s) records (Began ballot) refl)) (is.promises s);
+  acceptances = λ s. subst (λ (l : List (Ballot × Value)). IsLastHighest l (now.accepted s)) (sym (nothing_more (acceptance_in s) records (Began ballot) refl)) (is.acceptances s);
+}
+
+pub promised_more : (records : List Record) (slot : ℕ) (ballot : Ballot) (old new : Standing) → IsRestored records old
+    → Raises (λ held. held) old.promised new.promised slot ballot → ((s : ℕ) → new.accepted s ≡ old.accepted s)
+    → IsRestored (records ++ Promised slot ballot ∷ []) new
+promised_more records slot ballot old new is raises same =
+    let r = Promised slot ballot in
+    record {
+      promises = promises_more records r slot old.promised new.promised ballot (given slot ballot) (λ s apart. skipped slot s ballot apart) is.promises raises;
+      acceptances = λ s. subst (λ (l : List (Ballot × Value)). IsLastHighest l (new.accepted s)) (sym (nothing_more (acceptance_in s) records r refl))
+          (subst (IsLastHighest (filter_map (acceptance_in s) records)) (sym (same s)) (is.acceptances s));
+    }
+
+pub accepted_more : (records : List Record) (slot : ℕ) (ballot : Ballot) (value : Value) (old new : Standing) → IsRestored records old
+    → Raises (λ held. held) old.promised new.promised slot ballot → Raises (λ (held : Ballot × Value). held.0) old.accepted new.accepted slot (ballot, value)
+    → IsRestored (records ++ Accepted slot ballot value ∷ []) new
+accepted_more records slot ballot value old new is raises accepts =
+    let r = Accepted slot ballot value in
+    record {
+      promises = promises_more records r slot old.promised new.promised ballot (given slot ballot) (λ s apart. skipped slot s ballot apart) is.promises raises;
+      acceptances = acceptances_more records r slot old.accepted new.accepted (ballot, value) (given slot (ballot, value)) (λ s apart. skipped slot s (ballot, value) apart)
+          is.acceptances accepts;
+    }
+
+pub restored_as_before : (records : List Record) (old new : Standing) → IsSame old new → IsRestored records old → IsRestored records new
+restored_as_before records old new same is = record {
+  promises = λ s. subst (IsHighest (filter_map (promise_in s) records)) (sym (same.promises s)) (is.promises s);
+  acceptances = λ s. subst (IsLastHighest (filter_map (acceptance_in s) records)) (sym (same.acceptances s)) (is.acceptances s);
+}
+
+-- ---- rounds
+
+pub begun_round_more : (records : List Record) (ballot : Ballot) (highest round : ℕ) → IsHighestRound records highest
+    → ((ballot.round ≤ highest) × (round ≡ highest)) ⊎ ((highest ≤ ballot.round) × (round ≡ ballot.round)) → IsHighestRound (records ++ Began ballot ∷ []) round
+begun_round_more records ballot highest round is cases =
+    let all = filter_map round_in records in
+    let more = one_more round_in records (Began ballot) ballot.round refl in
+    elim cases as (λ _. IsHighestRound (records ++ Began ballot ∷ []) round) [
+      | inl kept ↦ subst (IsHighestRound (records ++ Began ballot ∷ [])) (sym kept.1) (record {
+        begun = elim is.begun as (λ _. (highest ≡ 0) ⊎ Contains (filter_map round_in (records ++ Began ballot ∷ [])) highest) [
+          | inl none ↦ inl none
+          | inr there ↦ inr (subst (λ (l : List ℕ). Contains l highest) (sym more) (Contains-append_left all (ballot.round ∷ []) highest there))
+        ];
+        highest = λ other has. elim (Contains-append_cases all (ballot.round ∷ []) other (subst (λ (l : List ℕ). Contains l other) more has)) as (λ _. other ≤ highest) [
+          | inl there ↦ is.highest other there
+          | inr here ↦ subst (λ (k : ℕ). k ≤ highest) (sym (only_one ballot.round other here)) kept.0
+        ];
+      })
+      | inr raised ↦ subst (IsHighestRound (records ++ Began ballot ∷ [])) (sym raised.1) (record {
+        begun = inr (subst (λ (l : List ℕ). Contains l ballot.round) (sym more) (Contains-append_right all (ballot.round ∷ []) ballot.round (one_in ballot.round)));
+        highest = λ other has. elim (Contains-append_cases all (ballot.round ∷ []) other (subst (λ (l : List ℕ). Contains l other) more has)) as (λ _. other ≤ ballot.round) [
+          | inl there ↦ (let old = is.highest other there in let above = raised.0 in omega (arith, old, above))
+          | inr here ↦ (let same = only_one ballot.round other here in omega (arith, same))
+        ];
+      })
+    ]
+
+pub other_round_more : (records : List Record) (r : Record) (highest : ℕ) → round_in r ≡ None → IsHighestRound records highest → IsHighestRound (records ++ r ∷ []) highest
+other_round_more records r highest none is =
+    let same = nothing_more round_in records r none in
+    record {
+      begun = subst (λ (l : List ℕ). (highest ≡ 0) ⊎ Contains l highest) (sym same) is.begun;
+      highest = λ other has. is.highest other (subst (λ (l : List ℕ). Contains l other) same has);
+    }

@@ -1,0 +1,22 @@
+use Rattle.std.proofs.Common.{sym, refl, subst, List, [], ◌∷◌, ◌++◌}
+use Rattle.ballots.specs.declared.record.Record.{Record}
+use Rattle.acceptor.specs.Holding.{Holding, standing}
+use Rattle.acceptor.specs.Restored.{IsRestored}
+use Rattle.acceptor.proofs.Restoring.{began_more, promised_more, accepted_more}
+use Rattle.acceptor.proofs.acceptor.Acceptor.apply.Goals as goal
+
+pub returns-in-Began-clause-restored : goal.returns-in-Began-clause-restored
+returns-in-Began-clause-restored c records is =
+    subst (λ (r : Record). IsRestored (records ++ r ∷ []) (standing c.args.self.now)) (sym c.in-Began.is) (began_more records c.in-Began.field-0 _ is)
+
+pub returns-in-Promised-clause-restored : goal.returns-in-Promised-clause-restored
+returns-in-Promised-clause-restored c records is =
+    rw c.in-Promised.is
+    (promised_more records c.in-Promised.slot c.in-Promised.ballot _ _ (subst (λ (h : Holding). IsRestored records (standing h)) (sym c.self.view_is) is)
+    c.raise_promise.ensures.raises (λ s. refl))
+
+pub returns-in-Accepted-clause-restored : goal.returns-in-Accepted-clause-restored
+returns-in-Accepted-clause-restored c records is =
+    rw c.in-Accepted.is
+    (accepted_more records c.in-Accepted.slot c.in-Accepted.ballot c.in-Accepted.value _ _ (subst (λ (h : Holding). IsRestored records (standing h)) (sym c.self.view_is) is)
+    c.raise_promise-in-Accepted.ensures.raises c.raise_acceptance.ensures.raises)

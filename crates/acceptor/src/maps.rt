@@ -1,0 +1,93 @@
+//! The two maps of an acceptor, by slots: what is promised, and what is accepted.
+
+ghost use Rattle.std.specs.Prelude.{◌≡◌, ◌<◌, ◌≤◌, ◌+◌, option_map, OnOk, OnErr};
+ghost use Rattle.indexmap.specs.IndexMap.{spare};
+ghost use Rattle.acceptor.specs.Holding.{at};
+ghost use Rattle.acceptor.specs.Raising.{Puts, Raises};
+
+use ballots::{Ballot, OutOfMemory, Slot, Value};
+use indexmap::IndexMap;
+
+pub(crate) fn held_promise(promises: &IndexMap<Slot, Ballot>, slot: Slot) -> Option<Ballot>
+    ensures { result ≡ at promises.now.entries slot }
+{
+    promises.get(&slot).copied()
+}
+
+pub(crate) fn held_acceptance(
+    acceptances: &IndexMap<Slot, (Ballot, Value)>,
+    slot: Slot,
+) -> Option<(Ballot, &Value)>
+    ensures { option_map (λ held. (held.0, held.1.now)) result ≡ at acceptances.now.entries slot }
+{
+    match acceptances.get(&slot) {
+        Some((ballot, value)) => Some((*ballot, value)),
+        None => None,
+    }
+}
+
+// Makes this the slot's promise. Memory can be refused only where the map has no room.
+pub(crate) fn put_promise(
+    promises: &mut IndexMap<Slot, Ballot>,
+    slot: Slot,
+    ballot: Ballot,
+) -> Result<(), OutOfMemory>
+    ensures puts { OnOk result (Puts (at promises.old.entries) (at promises.new.entries) slot ballot) }
+    ensures err { OnErr result (promises.new.entries ≡ promises.old.entries) }
+    ensures succeeds { 0 < spare promises.old → OnErr result ⊥ }
+    ensures room { spare promises.old ≤ spare promises.new + 1 }
+{
+    promises.insert(slot, ballot)?;
+    Ok(())
+}
+
+// Makes this what the slot has accepted, without memory.
+pub(crate) fn put_acceptance(
+    acceptances: &mut IndexMap<Slot, (Ballot, Value)>,
+    slot: Slot,
+    ballot: Ballot,
+    value: Value,
+)
+    requires { 0 < spare acceptances.old }
+    ensures puts { Puts (at acceptances.old.entries) (at acceptances.new.entries) slot (ballot, value) }
+    ensures room { spare acceptances.old ≤ spare acceptances.new + 1 }
+{
+    let Ok(_) = acceptances.insert(slot, (ballot, value)) else {
+        unreachable!()
+    };
+}
+
+// Makes this the slot's promise, unless a higher one is there, without memory.
+pub(crate) fn raise_promise(promises: &mut IndexMap<Slot, Ballot>, slot: Slot, ballot: Ballot)
+    requires { 0 < spare promises.old }
+    ensures raises { Raises (λ held. held) (at promises.old.entries) (at promises.new.entries) slot ballot }
+    ensures room { spare promises.old ≤ spare promises.new + 1 }
+{
+    if let Some(held) = held_promise(promises, slot) {
+        if ballot.is_below(held) {
+            return;
+        }
+    }
+    let Ok(()) = put_promise(promises, slot, ballot) else {
+        unreachable!()
+    };
+}
+
+// Makes this what the slot has accepted, unless it has accepted at a higher ballot, without memory.
+pub(crate) fn raise_acceptance(
+    acceptances: &mut IndexMap<Slot, (Ballot, Value)>,
+    slot: Slot,
+    ballot: Ballot,
+    value: Value,
+)
+    requires { 0 < spare acceptances.old }
+    ensures raises { Raises (λ held. held.0) (at acceptances.old.entries) (at acceptances.new.entries) slot (ballot, value) }
+    ensures room { spare acceptances.old ≤ spare acceptances.new + 1 }
+{
+    if let Some((highest, _)) = held_acceptance(acceptances, slot) {
+        if ballot.is_below(highest) {
+            return;
+        }
+    }
+    put_acceptance(acceptances, slot, ballot, value);
+}
