@@ -1,0 +1,4 @@
+pub mod Lookups
+pub mod Joining
+pub mod Gaining
+pub mod Asking

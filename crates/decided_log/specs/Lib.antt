@@ -1,0 +1,4 @@
+pub mod Decided
+pub mod Asked
+pub mod Holding
+pub mod Keeping
