@@ -9,6 +9,8 @@ mod acceptors;
 #[cfg(test)]
 mod audits;
 #[cfg(test)]
+mod learning;
+#[cfg(test)]
 mod log;
 #[cfg(test)]
 mod restored;

@@ -1,0 +1,5 @@
+pub mod Sizes
+pub mod Settling
+pub mod OneValue
+pub mod Learning
+pub mod Lookups

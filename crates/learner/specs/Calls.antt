@@ -1,0 +1,70 @@
+-- What a learner was told, and what it learned of it: Lamport, "Paxos Made Simple", section 2.3.
+use Rattle.std.specs.Prelude.{◌≡◌, ℕ, ◌==◌, ◌⊎◌, Bool, false, ◌&&◌, IsTrue, nat_lt, List, [], ◌∷◌, ◌++◌, find, Option, Some, None}
+use Rattle.std.specs.List.{list_any}
+use Rattle.std.specs.Option.{option_map}
+use Rattle.ballots.specs.Ballot.{Ballot}
+use Rattle.ballots.specs.Majority.{tally, IsMajority}
+use Rattle.ballots.specs.declared.value.Value.{Value}
+
+-- what one call tells: that an acceptor accepted a value for a slot at a ballot, or which value was decided for a slot
+pub data Call : Type 0 where
+  Accepted : ℕ → ℕ → Ballot → Value → Call
+  Decided : ℕ → Value → Call
+
+abbrev pub is_same_ballot : Ballot → Ballot → Bool
+is_same_ballot a b = (a.round == b.round) && (a.node == b.node)
+
+-- the value that it tells of
+abbrev pub value_in : Call → Value
+value_in (Accepted acceptor slot ballot value) = value
+value_in (Decided slot value) = value
+
+-- it tells that this value was decided for the slot
+abbrev pub is_decision_for : ℕ → Call → Bool
+is_decision_for slot (Accepted acceptor s ballot value) = false
+is_decision_for slot (Decided s value) = s == slot
+
+-- it tells that this member accepted for the slot at the ballot
+abbrev pub is_vote_of : ℕ → ℕ → Ballot → Call → Bool
+is_vote_of member slot ballot (Accepted acceptor s b value) = (acceptor == member) && (s == slot) && is_same_ballot b ballot
+is_vote_of member slot ballot (Decided s value) = false
+
+-- it tells that one of so many members accepted for the slot at the ballot
+abbrev pub is_counted : ℕ → ℕ → Ballot → Call → Bool
+is_counted members slot ballot (Accepted acceptor s b value) = nat_lt acceptor members && (s == slot) && is_same_ballot b ballot
+is_counted members slot ballot (Decided s value) = false
+
+-- a member counts once, however often it is told of
+abbrev pub has_voted : List Call → ℕ → Ballot → ℕ → Bool
+has_voted calls slot ballot member = list_any (is_vote_of member slot ballot) calls
+
+-- the value of the first counted at the slot and ballot
+abbrev pub first_counted : ℕ → List Call → ℕ → Ballot → Option Value
+first_counted members calls slot ballot = option_map value_in (find (is_counted members slot ballot) calls)
+
+-- the slot was told as decided, or at one ballot a majority of the members accepted for it
+abbrev pub IsSettled : ℕ → List Call → ℕ → Type 0
+IsSettled members calls slot =
+    IsTrue (list_any (is_decision_for slot) calls)
+    ⊎ ((ballot : Ballot) × IsMajority members (tally members (has_voted calls slot ballot)))
+
+-- what the last of the calls, which settled the slot, tells of its value: a decision has its own, and with an acceptance
+-- it is that of the first counted at the ballot
+abbrev pub Tells : ℕ → List Call → ℕ → Call → Value → Type 0
+Tells members calls slot (Accepted acceptor s ballot v) value = first_counted members calls slot ballot ≡ Some value
+Tells members calls slot (Decided s v) value = v ≡ value
+
+-- One of the calls settled the slot: those before it did not, with it they do. The value is what that call tells.
+pub record IsLearned (members : ℕ) (calls : List Call) (slot : ℕ) (value : Value) : Type 0 where
+  pub before : List Call
+  pub call : Call
+  pub after : List Call
+  pub parts : calls ≡ before ++ call ∷ after
+  pub not_before : IsSettled members before slot → ⊥
+  pub settled : IsSettled members (before ++ call ∷ []) slot
+  pub told : Tells members (before ++ call ∷ []) slot call value
+
+-- which value a further call makes the slot learn: none where it does not settle the slot, or the slot was settled
+abbrev pub Teaches : ℕ → List Call → Call → ℕ → Option Value → Type 0
+Teaches members calls call slot (Some value) = (IsSettled members calls slot → ⊥) × IsLearned members (calls ++ call ∷ []) slot value
+Teaches members calls call slot None = IsSettled members (calls ++ call ∷ []) slot → IsSettled members calls slot

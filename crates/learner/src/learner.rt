@@ -1,0 +1,281 @@
+ghost use Rattle.std.specs.Prelude.{slice_index_or, false, IsSome, ◌≡◌, ℕ, ◌<◌, ◌↔◌, [], ◌∷◌, ◌++◌, List, None, Some, IsTrue, IfOk, OnOk, OnErr, nat_eq};
+ghost use Rattle.std.specs.Option.{option_map};
+ghost use Rattle.indexmap.specs.IndexMap.{get, spare, IsUnchanged};
+ghost use Rattle.ballots.specs.Ballot.{Ballot as Pair};
+ghost use Rattle.learner.specs.Calls.{Call, Accepted, Decided, Teaches, is_same_ballot};
+ghost use Rattle.learner.specs.Holding.{decided_at, first_at, tally_in, tally_at, voted_at, HasRoomToLearn, HasRoomToCount, HasRoomForTally, HasRoomForVote};
+ghost use Rattle.learner.specs.Learned.{Learnt, IsSame};
+ghost use Rattle.learner.specs.Changes.{Counts, CountsIn, Drops, Puts, IsChosenWith};
+
+use crate::tally::{NO_VOTES, Tally, Votes, count_votes, with_vote};
+use ballots::{Ballot, Members, NodeId, OutOfMemory, Slot, Value};
+use indexmap::IndexMap;
+use std::alloc::Global;
+use std::marker::Model;
+
+/// The tallies of one slot, by ballot.
+type Tallies = IndexMap<Ballot, Tally>;
+
+/// A learner for all slots. It holds the value of each slot that it has learned, and of the others what it has counted.
+#[derive(Drop)]
+pub struct Learner {
+    members: Members,
+    learned: IndexMap<Slot, Value>,
+    tallies: IndexMap<Slot, Tallies>,
+}
+
+impl Model for Learner {
+    ghost use Rattle.learner.specs.Holding.{Holding, holding_code};
+
+    ghost Value = { Holding };
+
+    ghost use Rattle.std.specs.Coded.{codes};
+
+    ghost coded = { holding_code (Prim.hlevel codes) (Prim.hlevel codes) (Prim.hlevel codes) (Prim.hlevel codes) };
+
+    ghost view = { λ l. record { members = l.members; learned = l.learned; tallies = l.tallies } };
+}
+
+impl Learner {
+    /// A learner that was told nothing. It takes memory from this allocator as it grows, and counts these members.
+    pub fn new(alloc: Global, members: Members) -> Learner
+        ensures { Learnt members [] result }
+    {
+        Learner {
+            members,
+            learned: IndexMap::new(alloc),
+            tallies: IndexMap::new(alloc),
+        }
+    }
+
+    /// The value that the slot has learned, `None` where it has learned none.
+    pub fn decided(&self, slot: Slot) -> Option<&Value>
+        ensures { option_map (λ value. value.now) result ≡ decided_at self.now slot }
+    {
+        self.learned.get(&slot)
+    }
+
+    /// Makes the room for `on_decided`, and tells a copy of the value with which that call would make the slot learned,
+    /// `None` where the slot has learned one. What the learner holds stays.
+    pub fn see_on_decided(
+        &mut self,
+        slot: Slot,
+        value: &Value,
+    ) -> Result<Option<Value>, OutOfMemory>
+        ensures room { OnOk result (HasRoomToLearn self.new slot) }
+        ensures told { IfOk result (λ told. (n : ℕ) (calls : List Call) → Learnt n calls self.old
+            → Teaches n calls (Decided slot value.now) slot told) }
+        ensures same { IsSame self.old self.new }
+        ensures memory { OnErr result (decided_at self.old slot ≡ None) }
+    {
+        if !self.is_open(slot) {
+            return Ok(None);
+        }
+        self.learned.reserve(1)?;
+        Ok(Some(copy_of(value)?))
+    }
+
+    /// Learns that this value was decided for the slot. Where the slot has learned one, it stays.
+    pub fn on_decided(&mut self, slot: Slot, value: Value)
+        requires { HasRoomToLearn self.old slot }
+        ensures { (n : ℕ) (calls : List Call) → Learnt n calls self.old → Learnt n (calls ++ Decided slot value ∷ []) self.new }
+    {
+        if self.is_open(slot) {
+            self.learn(slot, value);
+        }
+    }
+
+    /// Makes the room for `on_accepted`, and tells a copy of the value with which that call would make the slot learned,
+    /// `None` where it would not. What the learner holds stays.
+    pub fn see_on_accepted(
+        &mut self,
+        acceptor: NodeId,
+        slot: Slot,
+        ballot: Ballot,
+        value: &Value,
+    ) -> Result<Option<Value>, OutOfMemory>
+        ensures room { OnOk result (HasRoomForVote self.new acceptor slot ballot) }
+        ensures told { IfOk result (λ told. (n : ℕ) (calls : List Call) → Learnt n calls self.old
+            → Teaches n calls (Accepted acceptor slot ballot value.now) slot told) }
+        ensures same { IsSame self.old self.new }
+        ensures memory { OnErr result ((acceptor < self.old.members) × (decided_at self.old slot ≡ None)) }
+    {
+        if !self.is_open_to(acceptor, slot) {
+            return Ok(None);
+        }
+        self.make_room(slot, ballot)?;
+        if !self.is_chosen_with(acceptor, slot, ballot) {
+            return Ok(None);
+        }
+        let first = self.first(slot, ballot).unwrap_or(value);
+        Ok(Some(copy_of(first)?))
+    }
+
+    /// Counts that the acceptor accepted the value for the slot at the ballot, once for each slot and ballot. What was told
+    /// by a node that is no member, or of a slot that has learned a value, counts for nothing.
+    pub fn on_accepted(&mut self, acceptor: NodeId, slot: Slot, ballot: Ballot, value: Value)
+        requires { HasRoomForVote self.old acceptor slot ballot }
+        ensures { (n : ℕ) (calls : List Call) → Learnt n calls self.old
+            → Learnt n (calls ++ Accepted acceptor slot ballot value ∷ []) self.new }
+    {
+        if !self.is_open_to(acceptor, slot) {
+            return;
+        }
+        if self.is_chosen_with(acceptor, slot, ballot) {
+            let first = self.take_first(slot, ballot).unwrap_or(value);
+            self.learn(slot, first);
+        } else {
+            self.count(acceptor, slot, ballot, value);
+        }
+    }
+
+    // Whether what the acceptor tells of the slot counts: it is a member, and the slot has learned no value.
+    fn is_open_to(&self, acceptor: NodeId, slot: Slot) -> bool
+        ensures { IsTrue result ↔ ((acceptor < self.now.members) × (decided_at self.now slot ≡ None)) }
+    {
+        acceptor.number() < self.members.count() && self.is_open(slot)
+    }
+
+    // Whether the slot has learned no value.
+    fn is_open(&self, slot: Slot) -> bool
+        ensures { IsTrue result ↔ (decided_at self.now slot ≡ None) }
+    {
+        !self.learned.contains_key(&slot)
+    }
+
+    fn tally(&self, slot: Slot, ballot: Ballot) -> Option<&Tally>
+        ensures { option_map (λ tally. tally.now) result ≡ tally_at self.now slot ballot }
+    {
+        self.tallies.get(&slot)?.get(&ballot)
+    }
+
+    // The value of the first that was counted at the slot and ballot.
+    fn first(&self, slot: Slot, ballot: Ballot) -> Option<&Value>
+        ensures { option_map (λ value. value.now) result ≡ first_at self.now slot ballot }
+    {
+        Some(&self.tally(slot, ballot)?.value)
+    }
+
+    fn votes(&self, slot: Slot, ballot: Ballot) -> Votes
+        ensures { (member : ℕ) → slice_index_or result member false ≡ voted_at self.now slot ballot member }
+    {
+        match self.tally(slot, ballot) {
+            Some(tally) => tally.voted,
+            None => NO_VOTES,
+        }
+    }
+
+    // Whether with this acceptor's vote a majority is counted at the slot and ballot.
+    fn is_chosen_with(&self, acceptor: NodeId, slot: Slot, ballot: Ballot) -> bool
+        ensures { IsTrue result ↔ IsChosenWith self.now acceptor slot ballot }
+    {
+        let votes = with_vote(self.votes(slot, ballot), acceptor);
+        self.members.is_majority(count_votes(&votes, self.members))
+    }
+
+    // Makes room for a value at the slot, and for a tally at the slot and ballot.
+    fn make_room(&mut self, slot: Slot, ballot: Ballot) -> Result<(), OutOfMemory>
+        ensures learned { OnOk result (0 < spare self.new.learned) }
+        ensures tallies { OnOk result (HasRoomToCount self.new slot ballot) }
+        ensures same { IsSame self.old self.new }
+    {
+        self.learned.reserve(1)?;
+        self.make_tallies(slot)?;
+        self.reserve_tally(slot, ballot)
+    }
+
+    // Makes room for a tally at the slot and ballot, where the slot has its tallies.
+    fn reserve_tally(&mut self, slot: Slot, ballot: Ballot) -> Result<(), OutOfMemory>
+        requires { IsSome (get nat_eq self.old.tallies slot) }
+        ensures room { OnOk result (HasRoomToCount self.new slot ballot) }
+        ensures learned { self.new.learned ≡ self.old.learned }
+        ensures same { IsSame self.old self.new }
+    {
+        match self.tallies.get_mut(&slot) {
+            Some(tallies) => make_tally_room(tallies, ballot),
+            None => unreachable!(),
+        }
+    }
+
+    // Puts empty tallies, with room for one, where the slot has none.
+    fn make_tallies(&mut self, slot: Slot) -> Result<(), OutOfMemory>
+        ensures here { OnOk result (IsSome (get nat_eq self.new.tallies slot)) }
+        ensures learned { self.new.learned ≡ self.old.learned }
+        ensures same { IsSame self.old self.new }
+    {
+        if self.tallies.contains_key(&slot) {
+            return Ok(());
+        }
+        let tallies = IndexMap::with_capacity(*self.tallies.allocator(), 1)?;
+        let None = self.tallies.insert(slot, tallies)? else {
+            unreachable!()
+        };
+        Ok(())
+    }
+
+    // Puts the value at the slot, which has none, and drops its tallies.
+    fn learn(&mut self, slot: Slot, value: Value)
+        requires none { decided_at self.old slot ≡ None }
+        requires room { 0 < spare self.old.learned }
+        ensures { Puts self.old self.new slot value }
+    {
+        self.tallies.swap_remove(&slot);
+        let Ok(_) = self.learned.insert(slot, value) else {
+            unreachable!()
+        };
+    }
+
+    // Takes the value of the first that was counted at the slot and ballot, and drops the slot's tallies.
+    fn take_first(&mut self, slot: Slot, ballot: Ballot) -> Option<Value>
+        ensures value { result ≡ first_at self.old slot ballot }
+        ensures drops { Drops self.old self.new slot }
+    {
+        let mut tallies = self.tallies.swap_remove(&slot)?;
+        let tally = tallies.swap_remove(&ballot)?;
+        Some(tally.value)
+    }
+
+    // Counts the acceptor at the slot and ballot.
+    fn count(&mut self, acceptor: NodeId, slot: Slot, ballot: Ballot, value: Value)
+        requires { HasRoomToCount self.old slot ballot }
+        ensures { Counts self.old self.new acceptor slot ballot value }
+    {
+        match self.tallies.get_mut(&slot) {
+            Some(tallies) => count_in(tallies, acceptor, ballot, value),
+            None => unreachable!(),
+        }
+    }
+}
+
+fn copy_of(value: &Value) -> Result<Value, OutOfMemory>
+    ensures { IfOk result (λ copy. copy ≡ value.now) }
+{
+    value.clone()
+}
+
+// Makes room for a tally at the ballot, where there is none.
+fn make_tally_room(tallies: &mut Tallies, ballot: Ballot) -> Result<(), OutOfMemory>
+    ensures room { OnOk result (HasRoomForTally tallies.new ballot) }
+    ensures same { IsUnchanged tallies.old tallies.new }
+{
+    if !tallies.contains_key(&ballot) {
+        tallies.reserve(1)?;
+    }
+    Ok(())
+}
+
+// Counts the acceptor at the ballot.
+fn count_in(tallies: &mut Tallies, acceptor: NodeId, ballot: Ballot, value: Value)
+    requires { HasRoomForTally tallies.old ballot }
+    ensures here { CountsIn (tally_in tallies.old ballot) (tally_in tallies.new ballot) acceptor value }
+    ensures others { (b : Pair) → is_same_ballot ballot b ≡ false → tally_in tallies.new b ≡ tally_in tallies.old b }
+{
+    if let Some(tally) = tallies.get_mut(&ballot) {
+        tally.voted = with_vote(tally.voted, acceptor);
+        return;
+    }
+    let voted = with_vote(NO_VOTES, acceptor);
+    let Ok(_) = tallies.insert(ballot, Tally { voted, value }) else {
+        unreachable!()
+    };
+}

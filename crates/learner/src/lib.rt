@@ -1,0 +1,14 @@
+//! The learner of Paxos (Lamport, *Paxos Made Simple*, section 2.3): it counts what the acceptors accepted, and knows for
+//! each slot the value that was chosen.
+//!
+//! A slot is learned where its value was told as decided, or where a majority of different acceptors was counted at one
+//! ballot. It then keeps its value. The calls that tell the learner something take no memory: before each of them the
+//! caller makes its room with the call of the same name behind `see_`, which tells what the call will make learned.
+#![tactic(auto)]
+
+mod laws;
+mod learner;
+mod tally;
+
+pub use laws::{learned_is_one, learned_stays, learned_where_settled};
+pub use learner::Learner;
