@@ -13,6 +13,8 @@ mod learning;
 #[cfg(test)]
 mod log;
 #[cfg(test)]
+mod proposing;
+#[cfg(test)]
 mod restored;
 #[cfg(test)]
 mod rows;

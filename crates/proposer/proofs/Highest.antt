@@ -1,0 +1,102 @@
+-- The highest report of a list is one, and stays or changes with one more.
+use Rattle.std.proofs.Common.{◌≡◌, inl, inr, List, [], ◌∷◌, ◌++◌, Option, Some, None, refl, sym, ap, ◌∙◌, append_assoc, arith}
+use Rattle.std.specs.List.{AllByRecursion}
+use Rattle.std.proofs.lemmas.Bool.{cases_lt}
+use Rattle.ballots.specs.Ballot.{Ballot, IsBelow, IsAbove}
+use Rattle.ballots.specs.declared.value.Value.{Value}
+use Rattle.proposer.specs.Choosing.{Report, IsHighest, Chooses}
+use Rattle.proposer.specs.Counting.{IsBest}
+use Rattle.proposer.proofs.Lists.{all-append, all_there, all_weaker, Meet, same, earlier, later, splits, nothing_there}
+
+-- ---- it is one
+
+one_where_they_meet : (reports : List Report) (r q : Report) (is_r : IsHighest reports r) (is_q : IsHighest reports q) → Meet is_r.before is_q.before r q is_r.after is_q.after → r ≡ q
+one_where_they_meet reports r q is_r is_q (same b e a) = e
+one_where_they_meet reports r q is_r is_q (earlier mid a b) =
+    absurd (all_there _ _ mid is_q.after q a is_r.not_below_those_after (all_there _ _ is_r.before mid r b is_q.above_those_before))
+one_where_they_meet reports r q is_r is_q (later mid a b) =
+    absurd (all_there _ _ mid is_r.after r a is_q.not_below_those_after (all_there _ _ is_q.before mid q b is_r.above_those_before))
+
+pub highest_is_one : (reports : List Report) (r q : Report) → IsHighest reports r → IsHighest reports q → r ≡ q
+highest_is_one reports r q is_r is_q =
+    one_where_they_meet reports r q is_r is_q (splits is_r.before is_q.before r q is_r.after is_q.after (sym is_r.split ∙ is_q.split))
+
+-- the highest is none of an empty list
+pub none_is_highest : (reports : List Report) (r : Report) → reports ≡ [] → IsHighest reports r → ⊥
+none_is_highest reports r empty is_r = nothing_there is_r.before r is_r.after (sym empty ∙ is_r.split)
+
+-- what is chosen is one
+pub chooses_one : (candidate : Value) (reports : List Report) (v w : Value) → Chooses candidate reports v → Chooses candidate reports w → v ≡ w
+chooses_one candidate reports v w (inl own) (inl other) = own.1 ∙ sym other.1
+chooses_one candidate reports v w (inl own) (inr other) = absurd (none_is_highest reports (other.0, w) own.0 other.1)
+chooses_one candidate reports v w (inr own) (inl other) = absurd (none_is_highest reports (own.0, v) other.0 own.1)
+chooses_one candidate reports v w (inr own) (inr other) = ap (λ (r : Report). r.1) (highest_is_one reports (own.0, v) (other.0, w) own.1 other.1)
+
+-- ---- one more report
+
+below_carried : (a b c : Ballot) → IsBelow a b → IsBelow b c → IsBelow a c
+below_carried a b c (inl lt) (inl less) = inl (omega (arith, lt, less))
+below_carried a b c (inl lt) (inr e) = inl (omega (arith, lt, e.0))
+below_carried a b c (inr e) (inl less) = inl (omega (arith, e.0, less))
+below_carried a b c (inr e) (inr f) = inr (omega (arith, e.0, f.0), omega (arith, e.1, f.1))
+
+-- a ballot that is not above another is below all that are above that other
+below_both : (a b c : Ballot) → (IsBelow b a → ⊥) → IsBelow b c → IsBelow a c
+below_both a b c not_above (inl lt) =
+    elim (cases_lt a.round c.round) as (λ _. IsBelow a c) [
+      | inl less ↦ inl less
+      | inr ge ↦ absurd (not_above (inl (omega (arith, lt, ge))))
+    ]
+below_both a b c not_above (inr e) =
+    elim (cases_lt a.round c.round) as (λ _. IsBelow a c) [
+      | inl less ↦ inl less
+      | inr ge ↦ elim (cases_lt b.round a.round) as (λ _. IsBelow a c) [
+        | inl above ↦ absurd (not_above (inl above))
+        | inr not ↦ elim (cases_lt b.node a.node) as (λ _. IsBelow a c) [
+          | inl above ↦ absurd (not_above (inr (omega (arith, e.0, ge, not), above)))
+          | inr le ↦ inr (omega (arith, e.0, ge, not), omega (arith, e.1, le))
+        ]
+      ]
+    ]
+
+-- a report that is not above the highest leaves it
+highest_stays : (reports : List Report) (h r : Report) → (IsBelow h.0 r.0 → ⊥) → IsHighest reports h → IsHighest (reports ++ r ∷ []) h
+highest_stays reports h r not_above is_h = record {
+  before = is_h.before;
+  after = is_h.after ++ r ∷ [];
+  split = rw is_h.split (append_assoc is_h.before (h ∷ is_h.after) (r ∷ []));
+  above_those_before = is_h.above_those_before;
+  not_below_those_after = all-append (λ other. IsBelow h.0 other.0 → ⊥) is_h.after (r ∷ []) is_h.not_below_those_after (not_above, tt);
+}
+
+-- one above the highest is the highest
+all_below : (reports : List Report) (h r : Report) → IsBelow h.0 r.0 → IsHighest reports h → AllByRecursion (λ other. IsBelow other.0 r.0) reports
+all_below reports h r above is_h =
+    rw is_h.split
+    (all-append (λ other. IsBelow other.0 r.0) is_h.before (h ∷ is_h.after)
+    (all_weaker (λ other. IsBelow other.0 h.0) (λ other. IsBelow other.0 r.0) is_h.before (λ other below. below_carried other.0 h.0 r.0 below above) is_h.above_those_before)
+    (above, all_weaker (λ other. IsBelow h.0 other.0 → ⊥) (λ other. IsBelow other.0 r.0) is_h.after (λ other not. below_both other.0 h.0 r.0 not above) is_h.not_below_those_after))
+
+highest_above_all : (reports : List Report) (r : Report) → AllByRecursion (λ other. IsBelow other.0 r.0) reports → IsHighest (reports ++ r ∷ []) r
+highest_above_all reports r of_all = record {
+  before = reports;
+  after = [];
+  split = refl;
+  above_those_before = of_all;
+  not_below_those_after = tt;
+}
+
+-- the best so far stays with a report that is not above it, and a report above it is the best
+pub best_stays : (candidate : Value) (reports : List Report) (at : Option Ballot) (value : Value) (ballot : Ballot) (other : Value) → (IsAbove ballot at → ⊥) → IsBest candidate reports at value → IsBest candidate (reports ++ (ballot, other) ∷ []) at value
+best_stays candidate reports None value ballot other not_above is_best = absurd (not_above tt)
+best_stays candidate reports (Some highest) value ballot other not_above is_best = highest_stays reports (highest, value) (ballot, other) not_above is_best
+
+pub best_changes : (candidate : Value) (reports : List Report) (at : Option Ballot) (value : Value) (ballot : Ballot) (other : Value) → IsAbove ballot at → IsBest candidate reports at value → IsBest candidate (reports ++ (ballot, other) ∷ []) (Some ballot) other
+best_changes candidate reports None value ballot other above is_best = rw is_best.0 (highest_above_all [] (ballot, other) tt)
+best_changes candidate reports (Some highest) value ballot other above is_best =
+    highest_above_all reports (ballot, other) (all_below reports (highest, value) (ballot, other) above is_best)
+
+-- the best is chosen
+pub best_is_chosen : (candidate : Value) (reports : List Report) (at : Option Ballot) (value : Value) → IsBest candidate reports at value → Chooses candidate reports value
+best_is_chosen candidate reports None value is_best = inl is_best
+best_is_chosen candidate reports (Some ballot) value is_best = inr (ballot, is_best)

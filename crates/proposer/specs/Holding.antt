@@ -1,0 +1,40 @@
+-- What a proposer holds, and how it stands after a list of calls.
+use Rattle.std.specs.Prelude.{◌≡◌, ℕ, List, Option, Some, None}
+use Rattle.std.specs.Option.{option_map}
+use Rattle.ballots.specs.Ballot.{Ballot}
+use Rattle.proposer.specs.declared.attempt.Attempt.{Attempt}
+use Rattle.proposer.specs.Call.{Start, Begun, Call}
+use Rattle.proposer.specs.Attempting.{highest_begun, Rises, IsOpen, answering}
+use Rattle.proposer.specs.Counting.{Counts}
+
+pub record Holding : Type 0 where
+  pub me : ℕ
+  pub members : ℕ
+  pub highest_round : ℕ
+  pub attempt : Option Attempt
+
+-- the slot and the ballot of the attempt, if there is one
+abbrev pub attempt_of : Holding → Option (ℕ × Ballot)
+attempt_of holding = option_map (λ attempt. (attempt.slot, attempt.ballot)) holding.attempt
+
+-- the attempt that is held is the open one
+pub record Holds (members : ℕ) (calls : List Call) (attempt : Attempt) : Type 0 where
+  pub begun : Begun
+  pub since : List Call
+  pub open_is : IsOpen calls begun since
+  pub slot_is : attempt.slot ≡ begun.slot
+  pub ballot_is : attempt.ballot ≡ begun.ballot
+  pub counts : Counts members begun.candidate (answering members begun since) attempt
+
+-- and none is held where none is open
+abbrev pub HoldsOpen : ℕ → List Call → Option Attempt → Type 0
+HoldsOpen members calls (Some attempt) = Holds members calls attempt
+HoldsOpen members calls None = (begun : Begun) (since : List Call) → IsOpen calls begun since → ⊥
+
+-- how a proposer that was made so stands after these calls
+pub record Stands (start : Start) (calls : List Call) (holding : Holding) : Type 0 where
+  pub me : holding.me ≡ start.me
+  pub members : holding.members ≡ start.members
+  pub highest_round : holding.highest_round ≡ highest_begun start.highest_round calls
+  pub rises : Rises start.me start.highest_round calls
+  pub attempt : HoldsOpen start.members calls holding.attempt

@@ -1,0 +1,5 @@
+pub mod Call
+pub mod Choosing
+pub mod Attempting
+pub mod Counting
+pub mod Holding

@@ -1,0 +1,180 @@
+ghost use Rattle.std.specs.Prelude.{◌≡◌, ℕ, ◌<◌, ◌++◌, ◌∷◌, [], List, Some, None, true, false, IsTrue, IfOk, OnErr, IsSome, ◌↔◌, slice_index_or, slice_set, option_to_list};
+ghost use Rattle.ballots.specs.Ballot.{IsAbove};
+ghost use Rattle.ballots.specs.Majority.{tally};
+ghost use Rattle.ballots.specs.declared.value.Value.{Value as Held};
+ghost use Rattle.proposer.specs.Call.{Promise};
+ghost use Rattle.proposer.specs.Choosing.{Report, Chooses};
+ghost use Rattle.proposer.specs.Counting.{IsBest, Counts, Gives, IsNew, Takes};
+
+use ballots::{Ballot, Members, NodeId, OutOfMemory, Slot, Value};
+
+/// The best value so far: the candidate, or that of the highest report, which has a ballot.
+#[derive(Debug, Drop)]
+pub(crate) struct Choice {
+    pub(crate) reported_at: Option<Ballot>,
+    pub(crate) value: Value,
+}
+
+/// An attempt to have a value accepted for a slot.
+#[derive(Debug, Drop)]
+pub(crate) struct Attempt {
+    pub(crate) slot: Slot,
+    pub(crate) ballot: Ballot,
+    // Whose promises are counted, by their numbers.
+    pub(crate) counted: [bool; 7],
+    // What would be proposed now. It is gone once the Accept was answered.
+    pub(crate) choice: Option<Choice>,
+}
+
+impl Attempt {
+    /// An attempt that nothing has answered yet.
+    pub(crate) fn new(slot: Slot, ballot: Ballot, candidate: Value) -> Attempt
+        ensures slot { result.slot ≡ slot }
+        ensures ballot { result.ballot ≡ ballot }
+        ensures counts { (members : ℕ) → Counts members candidate [] result }
+    {
+        Attempt {
+            slot,
+            ballot,
+            counted: [false; 7],
+            choice: Some(Choice {
+                reported_at: None,
+                value: candidate,
+            }),
+        }
+    }
+
+    /// Whether it is the attempt of this slot and ballot.
+    pub(crate) fn is_of(&self, slot: Slot, ballot: Ballot) -> bool
+        ensures { IsTrue result ↔ ((self.now.slot ≡ slot) × (self.now.ballot ≡ ballot)) }
+    {
+        self.slot == slot && self.ballot == ballot
+    }
+
+    /// Whether a promise of this node would be counted: it is a member, and none of its promises is counted.
+    pub(crate) fn is_new(&self, members: Members, sender: NodeId) -> bool
+        ensures { IsTrue result ↔ IsNew members sender self.now }
+    {
+        sender.number() < members.count() && !self.counted[usize::from(sender.number())]
+    }
+
+    /// Whether a promise of this node for this slot and ballot would be counted.
+    pub(crate) fn takes(&self, members: Members, sender: NodeId, slot: Slot, ballot: Ballot) -> bool
+        ensures { IsTrue result ↔ Takes members sender slot ballot self.now }
+    {
+        self.is_of(slot, ballot) && self.is_new(members, sender)
+    }
+
+    /// Counts a promise, and gives the value to propose where the majority comes with it.
+    pub(crate) fn count(
+        &mut self,
+        members: Members,
+        sender: NodeId,
+        report: Option<(Ballot, Value)>,
+    ) -> Option<Value>
+        requires { IsNew members sender self.old }
+        ensures slot { self.new.slot ≡ self.old.slot }
+        ensures ballot { self.new.ballot ≡ self.old.ballot }
+        ensures counts { (candidate : Held) (promises : List Promise) (promise : Promise) → promise.sender ≡ sender → promise.report ≡ report
+            → Counts members candidate promises self.old → Counts members candidate (promises ++ promise ∷ []) self.new }
+        ensures gives { (candidate : Held) (promises : List Promise) (promise : Promise) → promise.sender ≡ sender → promise.report ≡ report
+            → Counts members candidate promises self.old → Gives members candidate promises promise result }
+    {
+        self.counted[usize::from(sender.number())] = true;
+        let choice = weigh(self.choice.take()?, report);
+        if members.is_majority(size(members, &self.counted)) {
+            return Some(choice.value);
+        }
+        self.choice = Some(choice);
+        None
+    }
+
+    /// The value that `count` would give, as a copy.
+    pub(crate) fn see_count(
+        &self,
+        members: Members,
+        sender: NodeId,
+        report: &Option<(Ballot, Value)>,
+    ) -> Result<Option<Value>, OutOfMemory>
+        requires { IsNew members sender self.now }
+        ensures gives { IfOk result (λ given. (candidate : Held) (promises : List Promise) (promise : Promise) → promise.sender ≡ sender
+            → promise.report ≡ report.now → Counts members candidate promises self.now → Gives members candidate promises promise given) }
+        ensures memory { OnErr result ((candidate : Held) (promises : List Promise) (promise : Promise) → promise.sender ≡ sender
+            → promise.report ≡ report.now → Counts members candidate promises self.now → Gives members candidate promises promise None → ⊥) }
+    {
+        let Some(choice) = &self.choice else {
+            return Ok(None);
+        };
+        let mut counted = self.counted;
+        counted[usize::from(sender.number())] = true;
+        if !members.is_majority(size(members, &counted)) {
+            return Ok(None);
+        }
+        copied(weighed(choice, report))
+    }
+}
+
+// The better of the choice so far and a report: that of the higher ballot, and of equal ones the choice.
+fn weigh(choice: Choice, report: Option<(Ballot, Value)>) -> Choice
+    ensures { (candidate : Held) (reports : List Report) → IsBest candidate reports choice.reported_at choice.value
+        → IsBest candidate (reports ++ option_to_list report) result.reported_at result.value }
+{
+    match report {
+        Some((ballot, value)) => weigh_report(choice, ballot, value),
+        None => choice,
+    }
+}
+
+fn weigh_report(choice: Choice, ballot: Ballot, value: Value) -> Choice
+    ensures { (candidate : Held) (reports : List Report) → IsBest candidate reports choice.reported_at choice.value
+        → IsBest candidate (reports ++ (ballot, value) ∷ []) result.reported_at result.value }
+{
+    if !is_better(choice.reported_at, ballot) {
+        return choice;
+    }
+    Choice {
+        reported_at: Some(ballot),
+        value,
+    }
+}
+
+// The value that `weigh` would take.
+fn weighed<'a>(choice: &'a Choice, report: &'a Option<(Ballot, Value)>) -> &'a Value
+    ensures { (candidate : Held) (reports : List Report) → IsBest candidate reports choice.now.reported_at choice.now.value
+        → Chooses candidate (reports ++ option_to_list report.now) result.now }
+{
+    match report {
+        Some((ballot, value)) if is_better(choice.reported_at, *ballot) => value,
+        _ => &choice.value,
+    }
+}
+
+// A copy of the value.
+fn copied(value: &Value) -> Result<Option<Value>, OutOfMemory>
+    ensures { IfOk result (λ copy. copy ≡ Some value.now) }
+{
+    Ok(Some(value.clone()?))
+}
+
+// Whether a report of this ballot goes before the choice so far.
+fn is_better(reported_at: Option<Ballot>, ballot: Ballot) -> bool
+    ensures { IsTrue result ↔ IsAbove ballot reported_at }
+{
+    match reported_at {
+        Some(highest) => highest.is_below(ballot),
+        None => true,
+    }
+}
+
+// How many of the members are counted.
+fn size(members: Members, counted: &[bool; 7]) -> usize
+    ensures { result ≡ tally members (λ node. slice_index_or counted.now node false) }
+{
+    let mut size: usize = 0;
+    for node in 0..members.count() {
+        if counted[usize::from(node)] {
+            size += 1;
+        }
+    }
+    size
+}

@@ -1,0 +1,15 @@
+//! The proposer of Paxos (Lamport, *Paxos Made Simple*, sections 2.2 and 2.4): at most one attempt at a time, begun at a
+//! ballot above all that its node has begun or seen, and the one Accept that a majority of promises leads to.
+//!
+//! A caller sends a Prepare at the ballot that `begin` gives, after it has kept a record of it: a node that forgets
+//! which ballots it began may begin one twice. It hands each Promise to `on_promise`, and sends the Accept that this
+//! gives, and each Nack to `on_nack`. `see_begin`, `see_on_promise` and `see_on_nack` tell beforehand what these give, and
+//! change nothing. No call takes memory but `see_on_promise`, for the copy of a value, so none of them needs room.
+#![tactic(auto)]
+
+mod attempt;
+mod laws;
+mod proposer;
+
+pub use laws::{answers_are_one, choices_are_one, one_accept_a_ballot};
+pub use proposer::{Proposer, RoundsSpent};

@@ -1,0 +1,245 @@
+ghost use Rattle.std.specs.Prelude.{◌≡◌, ℕ, ◌≤◌, ◌++◌, ◌∷◌, [], List, max, Option, Some, None, IfOk, OnErr, IsErr, IsTrue, ◌↔◌};
+ghost use Rattle.ballots.specs.declared.ballot.TheConstants.{MAX_ROUND};
+ghost use Rattle.proposer.specs.Call.{Start, Begins, Promises, Nacks, Call};
+ghost use Rattle.proposer.specs.Attempting.{highest_begun, next_ballot, IsAttempt, Answers};
+ghost use Rattle.proposer.specs.Counting.{IsAt};
+ghost use Rattle.proposer.specs.Holding.{Stands, Holds, HoldsOpen, attempt_of};
+
+use crate::attempt::Attempt;
+use ballots::{Ballot, Members, NodeId, OutOfMemory, Slot, Value};
+use std::marker::Model;
+use thiserror::Error;
+
+/// No round is left for another attempt.
+#[derive(Clone, Copy, Debug, PartialEq, Eq, Error)]
+#[error("RoundsSpent")]
+pub struct RoundsSpent;
+
+/// A proposer of one node: at most one attempt at a time, to have a value accepted for one slot.
+#[derive(Debug, Drop)]
+pub struct Proposer {
+    me: NodeId,
+    members: Members,
+    highest_round: u32,
+    attempt: Option<Attempt>,
+}
+
+impl Model for Proposer {
+    ghost use Rattle.proposer.specs.Holding.{Holding};
+
+    ghost Value = { Holding };
+
+    ghost view = { λ p. record {
+      me = p.me;
+      members = p.members;
+      highest_round = p.highest_round;
+      attempt = p.attempt;
+    } };
+}
+
+impl Proposer {
+    /// A proposer with no attempt, of a node that has begun no ballot above this round (0 where it has begun none).
+    pub fn new(me: NodeId, members: Members, highest_round: u32) -> Proposer
+        ensures { Stands (record { me = me; members = members; highest_round = highest_round }) [] result }
+    {
+        Proposer {
+            me,
+            members,
+            highest_round,
+            attempt: None,
+        }
+    }
+
+    /// The slot and the ballot of the open attempt, `None` where none is open. An attempt stays open after its majority.
+    pub fn attempt(&self) -> Option<(Slot, Ballot)>
+        ensures value { result ≡ attempt_of self.now }
+        ensures open { (start : Start) (calls : List Call) → Stands start calls self.now → IsAttempt calls result }
+    {
+        match &self.attempt {
+            Some(attempt) => Some((attempt.slot, attempt.ballot)),
+            None => None,
+        }
+    }
+
+    /// Begins an attempt to have the candidate accepted for the slot, in place of an older attempt, and gives its ballot:
+    /// one round above what the node has seen and above all that it has begun. [`RoundsSpent`] where no round is left,
+    /// and then all is as before.
+    pub fn begin(
+        &mut self,
+        slot: Slot,
+        seen_round: u32,
+        candidate: Value,
+    ) -> Result<Ballot, RoundsSpent>
+        ensures spent { (start : Start) (calls : List Call) → Stands start calls self.old
+            → IsErr result ↔ (MAX_ROUND ≤ max seen_round (highest_begun start.highest_round calls)) }
+        ensures ballot { IfOk result (λ ballot. (start : Start) (calls : List Call) → Stands start calls self.old
+            → ballot ≡ next_ballot start.me (highest_begun start.highest_round calls) seen_round) }
+        ensures stands { IfOk result (λ ballot. (start : Start) (calls : List Call) → Stands start calls self.old
+            → Stands start (calls ++ Begins (record { slot = slot; seen_round = seen_round; candidate = candidate; ballot = ballot }) ∷ []) self.new) }
+        ensures err { OnErr result (self.new ≡ self.old) }
+    {
+        let ballot = self.next(seen_round)?;
+        self.highest_round = ballot.round();
+        self.attempt = Some(Attempt::new(slot, ballot, candidate));
+        Ok(ballot)
+    }
+
+    /// What `begin` would give.
+    pub fn see_begin(
+        &self,
+        _slot: Slot,
+        seen_round: u32,
+        _candidate: &Value,
+    ) -> Result<Ballot, RoundsSpent>
+        ensures spent { (start : Start) (calls : List Call) → Stands start calls self.now
+            → IsErr result ↔ (MAX_ROUND ≤ max seen_round (highest_begun start.highest_round calls)) }
+        ensures ballot { IfOk result (λ ballot. (start : Start) (calls : List Call) → Stands start calls self.now
+            → ballot ≡ next_ballot start.me (highest_begun start.highest_round calls) seen_round) }
+    {
+        self.next(seen_round)
+    }
+
+    /// Counts a promise for the open attempt's slot and ballot: of members, each once, whatever else it sends. With the
+    /// promise that makes the counted senders a majority it gives the Accept to send: the value of the report of the
+    /// highest ballot (the first counted, where ballots are equal), or the candidate where nothing is reported. An attempt
+    /// gives one Accept at most.
+    pub fn on_promise(
+        &mut self,
+        sender: NodeId,
+        slot: Slot,
+        ballot: Ballot,
+        report: Option<(Ballot, Value)>,
+    ) -> Option<(Slot, Ballot, Value)>
+        ensures answers { (start : Start) (calls : List Call) → Stands start calls self.old
+            → Answers start.members calls (record { sender = sender; slot = slot; ballot = ballot; report = report }) result }
+        ensures stands { (start : Start) (calls : List Call) → Stands start calls self.old
+            → Stands start (calls ++ Promises (record { sender = sender; slot = slot; ballot = ballot; report = report }) ∷ []) self.new }
+    {
+        let members = self.members;
+        count_in(&mut self.attempt, members, sender, slot, ballot, report)
+    }
+
+    /// What `on_promise` would give, with a copy of the value. Only that copy takes memory.
+    pub fn see_on_promise(
+        &self,
+        sender: NodeId,
+        slot: Slot,
+        ballot: Ballot,
+        report: &Option<(Ballot, Value)>,
+    ) -> Result<Option<(Slot, Ballot, Value)>, OutOfMemory>
+        ensures answers { IfOk result (λ answer. (start : Start) (calls : List Call) → Stands start calls self.now
+            → Answers start.members calls (record { sender = sender; slot = slot; ballot = ballot; report = report.now }) answer) }
+        ensures memory { OnErr result ((start : Start) (calls : List Call) → Stands start calls self.now
+            → Answers start.members calls (record { sender = sender; slot = slot; ballot = ballot; report = report.now }) None → ⊥) }
+    {
+        match &self.attempt {
+            Some(attempt) => see_count_in(attempt, self.members, sender, slot, ballot, report),
+            None => Ok(None),
+        }
+    }
+
+    /// Ends the attempt of this slot and ballot, if it is open: a member has promised a higher one.
+    pub fn on_nack(&mut self, slot: Slot, ballot: Ballot)
+        ensures stands { (start : Start) (calls : List Call) → Stands start calls self.old
+            → Stands start (calls ++ Nacks slot ballot ∷ []) self.new }
+    {
+        end_at(&mut self.attempt, slot, ballot);
+    }
+
+    /// What `on_nack` would give, which is nothing.
+    pub fn see_on_nack(&self, _slot: Slot, _ballot: Ballot) {}
+
+    // The node's next ballot.
+    fn next(&self, seen_round: u32) -> Result<Ballot, RoundsSpent>
+        ensures spent { IsErr result ↔ (MAX_ROUND ≤ max seen_round self.now.highest_round) }
+        ensures ballot { IfOk result (λ ballot. ballot ≡ next_ballot self.now.me self.now.highest_round seen_round) }
+    {
+        match Ballot::above(seen_round.max(self.highest_round), self.me) {
+            Some(ballot) => Ok(ballot),
+            None => Err(RoundsSpent),
+        }
+    }
+}
+
+// Counts a promise for what is held.
+fn count_in(
+    held: &mut Option<Attempt>,
+    members: Members,
+    sender: NodeId,
+    slot: Slot,
+    ballot: Ballot,
+    report: Option<(Ballot, Value)>,
+) -> Option<(Slot, Ballot, Value)>
+    ensures answers { (calls : List Call) → HoldsOpen members calls held.old
+        → Answers members calls (record { sender = sender; slot = slot; ballot = ballot; report = report }) result }
+    ensures stands { (calls : List Call) → HoldsOpen members calls held.old
+        → HoldsOpen members (calls ++ Promises (record { sender = sender; slot = slot; ballot = ballot; report = report }) ∷ []) held.new }
+{
+    match held {
+        Some(attempt) => count_for(attempt, members, sender, slot, ballot, report),
+        None => None,
+    }
+}
+
+fn count_for(
+    attempt: &mut Attempt,
+    members: Members,
+    sender: NodeId,
+    slot: Slot,
+    ballot: Ballot,
+    report: Option<(Ballot, Value)>,
+) -> Option<(Slot, Ballot, Value)>
+    ensures answers { (calls : List Call) → Holds members calls attempt.old
+        → Answers members calls (record { sender = sender; slot = slot; ballot = ballot; report = report }) result }
+    ensures stands { (calls : List Call) → Holds members calls attempt.old
+        → Holds members (calls ++ Promises (record { sender = sender; slot = slot; ballot = ballot; report = report }) ∷ []) attempt.new }
+{
+    if !attempt.takes(members, sender, slot, ballot) {
+        return None;
+    }
+    let value = attempt.count(members, sender, report)?;
+    Some((slot, ballot, value))
+}
+
+// What `count_for` would give.
+fn see_count_in(
+    attempt: &Attempt,
+    members: Members,
+    sender: NodeId,
+    slot: Slot,
+    ballot: Ballot,
+    report: &Option<(Ballot, Value)>,
+) -> Result<Option<(Slot, Ballot, Value)>, OutOfMemory>
+    ensures answers { IfOk result (λ answer. (calls : List Call) → Holds members calls attempt.now
+        → Answers members calls (record { sender = sender; slot = slot; ballot = ballot; report = report.now }) answer) }
+    ensures memory { OnErr result ((calls : List Call) → Holds members calls attempt.now
+        → Answers members calls (record { sender = sender; slot = slot; ballot = ballot; report = report.now }) None → ⊥) }
+{
+    if !attempt.takes(members, sender, slot, ballot) {
+        return Ok(None);
+    }
+    match attempt.see_count(members, sender, report)? {
+        Some(value) => Ok(Some((slot, ballot, value))),
+        None => Ok(None),
+    }
+}
+
+// Ends what is held, if it is of this slot and ballot.
+fn end_at(held: &mut Option<Attempt>, slot: Slot, ballot: Ballot)
+    ensures { (members : ℕ) (calls : List Call) → HoldsOpen members calls held.old
+        → HoldsOpen members (calls ++ Nacks slot ballot ∷ []) held.new }
+{
+    if is_at(held, slot, ballot) {
+        *held = None;
+    }
+}
+
+// Whether what is held is of this slot and ballot.
+fn is_at(held: &Option<Attempt>, slot: Slot, ballot: Ballot) -> bool
+    ensures { IsTrue result ↔ IsAt held.now slot ballot }
+{
+    match held {
+        Some(attempt) => attempt.is_of(slot, ballot),
+        None => false,
+    }
+}
