@@ -102,7 +102,13 @@ names_task word task e =
     (by_test _ _ _ task (is_word word (codes "write-data") ((λ h. absurd (omega (arith, h))), refl))
     (by_test _ _ _ task (is_word word (codes "decode-info") ((λ h. absurd (omega (arith, h))), refl))
     (by_test _ _ _ task (is_word word (codes "encode-info") ((λ h. absurd (omega (arith, h))), refl))
-    (by_test _ _ _ task (is_word word (codes "write-info") ((λ h. absurd (omega (arith, h))), refl)) (no_task task)))))) e
+    (by_test _ _ _ task (is_word word (codes "write-info") ((λ h. absurd (omega (arith, h))), refl))
+    (by_test _ _ _ task (is_word word (codes "decode-header") ((λ h. absurd (omega (arith, h))), refl))
+    (by_test _ _ _ task (is_word word (codes "encode-header") ((λ h. absurd (omega (arith, h))), refl))
+    (by_test _ _ _ task (is_word word (codes "write-header") ((λ h. absurd (omega (arith, h))), refl))
+    (by_test _ _ _ task (is_word word (codes "call-acceptor") ((λ h. absurd (omega (arith, h))), refl))
+    (by_test _ _ _ task (is_word word (codes "call-learner") ((λ h. absurd (omega (arith, h))), refl))
+    (by_test _ _ _ task (is_word word (codes "call-log") ((λ h. absurd (omega (arith, h))), refl)) (no_task task)))))))))))) e
 
 -- a number is accepted where it is read, and is an operand
 read_passes : (b : Bool) (n count : ℕ) → (if b then Some n else None) ≡ Some count → b ≡ true

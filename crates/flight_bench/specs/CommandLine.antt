@@ -41,7 +41,9 @@ AsksFor words found = (task : Task) → (count : ℕ) → (file : Text) → Asks
 -- the words that name a task
 abbrev pub task_words : List Text
 task_words =
-    codes "decode-data" ∷ codes "encode-data" ∷ codes "write-data" ∷ codes "decode-info" ∷ codes "encode-info" ∷ codes "write-info" ∷ []
+    codes "decode-data" ∷ codes "encode-data" ∷ codes "write-data" ∷ codes "decode-info" ∷ codes "encode-info" ∷ codes "write-info"
+    ∷ codes "decode-header" ∷ codes "encode-header" ∷ codes "write-header"
+    ∷ codes "call-acceptor" ∷ codes "call-learner" ∷ codes "call-log" ∷ []
 
 -- The names are those words, wherever they stand in memory.
 abbrev pub IsTaskNames : Bor (List (Bor Text)) → Type 0

@@ -1,3 +1,6 @@
 pub mod CommandLine
+pub mod Headers
+pub mod Parts
+pub mod PartSteps
 pub mod Repeating
 pub mod Tasks

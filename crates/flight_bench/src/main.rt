@@ -1,10 +1,12 @@
-//! Times the messages of Arrow Flight: `flight_bench TASK COUNT FILE` reads the message that a file holds, or writes it, as
-//! many times as it is told, and prints the count and a sum that depends on each repetition. Time is taken from outside.
+//! Times the messages of Arrow Flight and the headers of Arrow's metadata: `flight_bench TASK COUNT FILE` reads the message or the
+//! header that a file holds, or writes it, as many times as it is told, and prints the count and a sum that depends on each repetition. Time is taken from outside.
 //!
-//! `repeat` does the work, with its contract; `main` gives it the file and prints the tally.
+//! `repeat` and `headers` do the work, with their contracts; `main` gives it the file and prints the tally.
 #![tactic(auto)]
 
 mod fault;
+mod headers;
+mod parts;
 mod repeat;
 mod respell;
 #[cfg(test)]
@@ -12,8 +14,10 @@ mod tests;
 mod words;
 
 use fault::RunFault;
-use repeat::{Tally, Work, repeat};
-use respell::{MessageKind, respell};
+use headers::{repeat_header, respell_header};
+use parts::call_often;
+use repeat::{Tally, repeat};
+use respell::respell;
 use std::io::Write;
 use std::process::ExitCode;
 use std::{fs, io};
@@ -59,25 +63,60 @@ fn start(rt: &HostRuntime) -> io::Result<u8> {
 }
 
 fn run(rt: &HostRuntime, task: Task, count: u64, path: &str) -> io::Result<u8> {
+    let alloc = rt.alloc();
     let text = fs::read(rt, path)?;
     match task {
-        Task::Repeat(work) => print_tally(rt, work, count, &text),
-        Task::Write(kind) => print_spelling(rt, kind, count, &text),
+        Task::Repeat(work) => {
+            print_tally(
+                rt,
+                repeat(alloc, work, count, &text).map_err(RunFault::Message),
+            )
+        }
+        Task::RepeatHeader(work) => {
+            print_tally(
+                rt,
+                repeat_header(alloc, work, count, &text).map_err(RunFault::Header),
+            )
+        }
+        Task::Call(part) => {
+            print_tally(
+                rt,
+                call_often(alloc, part, count, &text).map_err(RunFault::Part),
+            )
+        }
+        Task::Write(kind) => {
+            print_spelling(
+                rt,
+                count,
+                respell(alloc, kind, &text).map_err(RunFault::Message),
+            )
+        }
+        Task::WriteHeader => {
+            print_spelling(
+                rt,
+                count,
+                respell_header(alloc, &text).map_err(RunFault::Header),
+            )
+        }
     }
 }
 
-fn print_tally(rt: &HostRuntime, work: Work, count: u64, text: &[u8]) -> io::Result<u8> {
-    match repeat(rt.alloc(), work, count, text) {
+fn print_tally(rt: &HostRuntime, tally: Result<Tally, RunFault>) -> io::Result<u8> {
+    match tally {
         Ok(Tally { count, sum }) => {
             println!(rt; "{count} {sum}")?;
             Ok(SUCCESS)
         }
-        Err(fault) => Ok(tell(rt, RunFault::Message(fault))),
+        Err(fault) => Ok(tell(rt, fault)),
     }
 }
 
-fn print_spelling(rt: &HostRuntime, kind: MessageKind, count: u64, text: &[u8]) -> io::Result<u8> {
-    match respell(rt.alloc(), kind, text) {
+fn print_spelling(
+    rt: &HostRuntime,
+    count: u64,
+    spelling: Result<Vec<u8>, RunFault>,
+) -> io::Result<u8> {
+    match spelling {
         Ok(spelling) => {
             let mut output = rt.stdout();
             for _ in 0..count {
@@ -86,7 +125,7 @@ fn print_spelling(rt: &HostRuntime, kind: MessageKind, count: u64, text: &[u8]) 
             output.flush()?;
             Ok(SUCCESS)
         }
-        Err(fault) => Ok(tell(rt, RunFault::Message(fault))),
+        Err(fault) => Ok(tell(rt, fault)),
     }
 }
 

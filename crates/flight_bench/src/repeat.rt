@@ -116,7 +116,8 @@ fn encode_info(alloc: Global, count: u64, text: &[u8]) -> Result<u64, WireFault>
     Ok(sum)
 }
 
-fn weight_of_text(text: &[u8]) -> u64
+/// The length of a text, and its last byte.
+pub fn weight_of_text(text: &[u8]) -> u64
     ensures { result ≡ text_weight text.now }
 {
     text.len() as u64 + last_byte(text)

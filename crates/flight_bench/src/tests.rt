@@ -1,8 +1,12 @@
-//! Each piece of work on a small message, against sums worked out by hand, and the words.
+//! Each piece of work on a small message or header, each part of a Paxos node on a few slots, against sums worked out by hand, and
+//! the words.
 
+use crate::headers::{HeaderFault, HeaderWork, repeat_header, respell_header};
+use crate::parts::{Part, PartFault, call_often};
 use crate::repeat::{Tally, Work, repeat};
 use crate::respell::{MessageKind, respell};
 use crate::words::{Task, asked, parse};
+use flatbuf_meta::MetaFault;
 use proto_wire::WireFault;
 use std::alloc::Global;
 use std::process::Abort;
@@ -16,6 +20,18 @@ const INFO: &[u8] = &[0x0a, 0x01, 0x73, 0x78, 0x05, 0x1a, 0x00];
 
 /// Its canonical spelling.
 const INFO_SPELLING: &[u8] = &[0x0a, 0x01, 0x73, 0x1a, 0x00];
+
+/// The header of a batch of three rows with one node and two buffers, and two bytes behind it that are passed over.
+const HEADER: &[u8] = &[
+    16, 0, 0, 0, 12, 0, 24, 0, 4, 0, 6, 0, 8, 0, 16, 0, 12, 0, 0, 0, 4, 0, 3, 0, 32, 0, 0, 0, 0, 0,
+    0, 0, 16, 0, 0, 0, 0, 0, 0, 0, 0, 0, 0, 0, 0, 0, 10, 0, 24, 0, 8, 0, 4, 0, 16, 0, 10, 0, 0, 0,
+    24, 0, 0, 0, 3, 0, 0, 0, 0, 0, 0, 0, 36, 0, 0, 0, 0, 0, 0, 0, 0, 0, 0, 0, 1, 0, 0, 0, 3, 0, 0,
+    0, 0, 0, 0, 0, 1, 0, 0, 0, 0, 0, 0, 0, 0, 0, 0, 0, 2, 0, 0, 0, 0, 0, 0, 0, 0, 0, 0, 0, 1, 0, 0,
+    0, 0, 0, 0, 0, 8, 0, 0, 0, 0, 0, 0, 0, 3, 0, 0, 0, 0, 0, 0, 0, 170, 170,
+];
+
+/// How many bytes of it are its canonical spelling.
+const HEADER_LENGTH: usize = 144;
 
 #[test]
 fn repeats_each_work(rt: HostRuntime) {
@@ -45,6 +61,32 @@ fn respells_each_message(rt: HostRuntime) {
             Ok(spelling) => assert_eq!(rt; spelling.as_slice(), want),
             Err(fault) => assert!(rt; false, "{fault}"),
         }
+    }
+}
+
+#[test]
+fn repeats_and_respells_a_header(rt: HostRuntime) {
+    // (1 + 2) * 4 and (144 + 0) * 4
+    for (work, sum) in [(HeaderWork::Decode, 12), (HeaderWork::Encode, 576)] {
+        let tally = repeat_header(rt.alloc(), work, 4, HEADER).ok();
+        assert_eq!(rt; tally, Some(Tally { count: 4, sum }), "at {work:?}");
+    }
+    let fault = repeat_header(rt.alloc(), HeaderWork::Decode, 4, &HEADER[..100]).err();
+    assert_eq!(rt; fault, Some(HeaderFault::Meta(MetaFault::OutOfBounds)));
+    match respell_header(rt.alloc(), HEADER) {
+        Ok(spelling) => assert_eq!(rt; spelling.as_slice(), &HEADER[..HEADER_LENGTH]),
+        Err(fault) => assert!(rt; false, "{fault}"),
+    }
+}
+
+#[test]
+fn calls_each_part(rt: HostRuntime) {
+    for part in [Part::Acceptor, Part::Learner, Part::Log] {
+        // Five slots each time.
+        let tally = call_often(rt.alloc(), part, 3, &DATA[..5]).ok();
+        assert_eq!(rt; tally, Some(Tally { count: 3, sum: 15 }), "at {part:?}");
+        let fault = call_often(rt.alloc(), part, 3, &[]).err();
+        assert_eq!(rt; fault, Some(PartFault::Slots), "at {part:?}");
     }
 }
 
@@ -98,6 +140,12 @@ fn takes_each_task(rt: HostRuntime) -> Result<(), Fail> {
         ("decode-info", Task::Repeat(Work::DecodeInfo)),
         ("encode-info", Task::Repeat(Work::EncodeInfo)),
         ("write-info", Task::Write(MessageKind::Info)),
+        ("decode-header", Task::RepeatHeader(HeaderWork::Decode)),
+        ("encode-header", Task::RepeatHeader(HeaderWork::Encode)),
+        ("write-header", Task::WriteHeader),
+        ("call-acceptor", Task::Call(Part::Acceptor)),
+        ("call-learner", Task::Call(Part::Learner)),
+        ("call-log", Task::Call(Part::Log)),
     ];
     for (word, task) in tasks {
         let call = format!(in rt.alloc(); "flight_bench {word} 100 message.bin")?;

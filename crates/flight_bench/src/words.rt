@@ -7,6 +7,8 @@ ghost use Rattle.clap.specs.declared.error.kind.ErrorKind.TheVariants.{OutOfMemo
 ghost use Rattle.flight_bench.specs.CommandLine.{IsCall, AsksFor, HoldsMatchesOf, IsTaskNames, asked_by, command_line, count_parser, needed, needed_by, with_version};
 ghost use Rattle.flight_bench.specs.Tasks.{task_of};
 
+use crate::headers::HeaderWork;
+use crate::parts::Part;
 use crate::repeat::Work;
 use crate::respell::MessageKind;
 use clap::builder::ValueParser;
@@ -20,6 +22,12 @@ pub enum Task {
     Repeat(Work),
     /// To write the canonical spelling of the file's message of this kind.
     Write(MessageKind),
+    /// To do this to a header over and over, and print the tally.
+    RepeatHeader(HeaderWork),
+    /// To write the one spelling of the file's header.
+    WriteHeader,
+    /// To call this part of a Paxos node over and over, and print the tally.
+    Call(Part),
 }
 
 const TASKS: &[&str] = &[
@@ -29,6 +37,12 @@ const TASKS: &[&str] = &[
     "decode-info",
     "encode-info",
     "write-info",
+    "decode-header",
+    "encode-header",
+    "write-header",
+    "call-acceptor",
+    "call-learner",
+    "call-log",
 ];
 
 /// Reads the words that the program was called with, its own name first: a task, how many times, and a file.
@@ -107,6 +121,12 @@ pub fn task_named(word: &str) -> Option<Task>
         "decode-info" => Some(Task::Repeat(Work::DecodeInfo)),
         "encode-info" => Some(Task::Repeat(Work::EncodeInfo)),
         "write-info" => Some(Task::Write(MessageKind::Info)),
+        "decode-header" => Some(Task::RepeatHeader(HeaderWork::Decode)),
+        "encode-header" => Some(Task::RepeatHeader(HeaderWork::Encode)),
+        "write-header" => Some(Task::WriteHeader),
+        "call-acceptor" => Some(Task::Call(Part::Acceptor)),
+        "call-learner" => Some(Task::Call(Part::Learner)),
+        "call-log" => Some(Task::Call(Part::Log)),
         _ => None,
     }
 }

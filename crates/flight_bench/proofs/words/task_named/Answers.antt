@@ -19,5 +19,23 @@ returns-in-text-5 c = search rules steps 300000
 pub returns-in-text-6 : goal.returns-in-text-6
 returns-in-text-6 c = search rules steps 300000
 
+pub returns-in-text-7 : goal.returns-in-text-7
+returns-in-text-7 c = search rules steps 300000
+
+pub returns-in-text-8 : goal.returns-in-text-8
+returns-in-text-8 c = search rules steps 300000
+
+pub returns-in-text-9 : goal.returns-in-text-9
+returns-in-text-9 c = search rules steps 300000
+
+pub returns-in-text-10 : goal.returns-in-text-10
+returns-in-text-10 c = search rules steps 300000
+
+pub returns-in-text-11 : goal.returns-in-text-11
+returns-in-text-11 c = search rules steps 300000
+
+pub returns-in-text-12 : goal.returns-in-text-12
+returns-in-text-12 c = search rules steps 300000
+
 pub returns-in_default : goal.returns-in_default
 returns-in_default c = search rules steps 300000
