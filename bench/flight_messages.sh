@@ -28,36 +28,23 @@ for message in data info; do
   echo "$message: both write the same $(stat -c %s "$file") bytes, and both tallies agree"
 done
 
-python3 - "$proved" "$work" <<'P'
-import subprocess, sys, time
+PYTHONPATH=bench python3 -B - "$proved" "$work" <<'P'
+import sys
+from timing import one
 
 proved, work = sys.argv[1:]
 plain = f"{work}/plain"
 
-def run(program, task, count, file):  # one run, in seconds
-    start = time.monotonic()
-    subprocess.run([program, task, str(count), file], stdout=subprocess.DEVNULL, check=True)
-    return time.monotonic() - start
-
-def repetitions(program, task, file):  # how many take about a second
-    count = 1
-    while (seconds := run(program, task, count, file)) < 0.2:
-        count *= 4
-    return max(1, round(count / seconds))
-
-def one(program, task, file):  # the time of one operation, in microseconds
-    count = repetitions(program, task, file)
-    empty = min(run(program, task, 0, file) for _ in range(5))
-    best = min(run(program, task, count, file) for _ in range(5))
-    return (best - empty) / count * 1e6
+def microseconds(program, task, file):
+    return one(program, task, file) * 1e6
 
 for message in ("data", "info"):
     file = f"{work}/{message}"
-    copied = one(plain, "copy", file)
+    copied = microseconds(plain, "copy", file)
     print(f"{message}: copy {copied:.3f} us")
     for direction in ("decode", "encode"):
-        ours = one(proved, f"{direction}-{message}", file)
-        theirs = one(plain, f"{direction}-{message}", file)
+        ours = microseconds(proved, f"{direction}-{message}", file)
+        theirs = microseconds(plain, f"{direction}-{message}", file)
         print(
             f"{message}: {direction} flight_bench {ours:.3f} us, plain Rust {theirs:.3f} us,"
             f" ratio {ours / theirs:.2f}; to a copy {ours / copied:.2f}"

@@ -34,38 +34,27 @@ for text in plain-text $hostile; do
   "$work/plain" generate "$text" >"$work/$text"
 done
 
-python3 - "$proved" "$work" $hostile <<'P'
+PYTHONPATH=bench python3 -B - "$proved" "$work" $hostile <<'P'
 import subprocess, sys, time
+from timing import one
 
 proved, work, *hostile = sys.argv[1:]
 plain = f"{work}/plain"
 
-def run(program, task, count, file):  # one run, in seconds, and what it said
-    start = time.monotonic()
-    ran = subprocess.run([program, task, str(count), file], stdout=subprocess.DEVNULL, stderr=subprocess.PIPE)
-    return time.monotonic() - start, ran.stderr.decode().strip()
-
-def repetitions(program, task, file):  # how many take about a second
-    count = 1
-    while (seconds := run(program, task, count, file)[0]) < 0.2:
-        count *= 4
-    return max(1, round(count / seconds))
-
-def rate(program, task, file):  # how many in a second
-    count = repetitions(program, task, file)
-    empty = min(run(program, task, 0, file)[0] for _ in range(5))
-    best = min(run(program, task, count, file)[0] for _ in range(5))
-    return count / (best - empty)
-
 for header in ("flat", "deep"):
     for task in ("decode-header", "encode-header"):
-        ours, theirs = (rate(program, task, f"{work}/{header}") for program in (proved, plain))
+        ours, theirs = (1 / one(program, task, f"{work}/{header}") for program in (proved, plain))
         print(f"{header}: {task} flight_bench {ours:,.0f}/s, plain Rust {theirs:,.0f}/s, ratio {theirs / ours:.2f}")
 
+def reading(count, file):  # a run that may refuse the text, in seconds, and what it said
+    start = time.monotonic()
+    ran = subprocess.run([proved, "decode-header", str(count), file], stdout=subprocess.DEVNULL, stderr=subprocess.PIPE)
+    return time.monotonic() - start, ran.stderr.decode().strip()
+
 def once(file):  # one reading, in milliseconds
-    empty = min(run(proved, "decode-header", 0, file)[0] for _ in range(20))
-    seconds, said = min(run(proved, "decode-header", 1, file) for _ in range(20))
-    return (seconds - empty) * 1e3, said
+    empty = min(reading(0, file) for _ in range(20))[0]
+    seconds, said = min(reading(1, file) for _ in range(20))
+    return max(seconds - empty, 0) * 1e3, said
 
 usual, said = once(f"{work}/plain-text")
 print(f"plain text of 4 MiB: {usual:.2f} ms{said and ', ' + said}")

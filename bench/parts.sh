@@ -23,35 +23,20 @@ for slots in 1000 100000; do
 done
 echo "all tallies agree"
 
-python3 - "$proved" "$work" <<'P'
-import subprocess, sys, time
+PYTHONPATH=bench python3 -B - "$proved" "$work" <<'P'
+import sys
+from timing import one
 
 proved, work = sys.argv[1:]
 plain = f"{work}/plain"
 
-def run(program, task, count, file):  # one run, in seconds
-    start = time.monotonic()
-    subprocess.run([program, task, str(count), file], stdout=subprocess.DEVNULL, check=True)
-    return time.monotonic() - start
-
-def repetitions(program, task, file):  # how many take about a second
-    count = 1
-    while (seconds := run(program, task, count, file)) < 0.2:
-        count *= 4
-    return max(1, round(count / seconds))
-
-def one(program, part, slots):  # the time of one call, in seconds
-    task, file = f"call-{part}", f"{work}/{slots}"
-    count = repetitions(program, task, file)
-    empty = min(run(program, task, 0, file) for _ in range(5))
-    best = min(run(program, task, count, file) for _ in range(5))
-    return (best - empty) / (count * slots * (3 if part == "learner" else 1))
+def call(program, part, slots):  # the time of one call, in seconds
+    return one(program, f"call-{part}", f"{work}/{slots}") / (slots * (3 if part == "learner" else 1))
 
 for part in ("acceptor", "learner", "log"):
     times = {}
     for slots in (1_000, 100_000):
-        ours, theirs = (one(program, part, slots) for program in (proved, plain))
-        times[slots] = ours, theirs
+        ours, theirs = times[slots] = [call(program, part, slots) for program in (proved, plain)]
         print(
             f"{part}, {slots:,} slots: flight_bench {1 / ours:,.0f} calls/s, plain Rust {1 / theirs:,.0f} calls/s,"
             f" ratio {ours / theirs:.2f}"
