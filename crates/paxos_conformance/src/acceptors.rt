@@ -1,4 +1,4 @@
-//! Acceptors: rows of calls with what they give, and every short sequence of requests beside two plain slots.
+//! Acceptors: rows of calls with what they give, and every short sequence of requests beside a plain list of slots.
 
 use crate::rows::{self, Number, upload};
 use acceptor::{Acceptor, Answer};
@@ -289,13 +289,46 @@ fn plain_answer(
     Ok((answer, Plain { promised, accepted }))
 }
 
+// A plain acceptor is a list with an entry for each slot that has promised, searched from the front.
+#[derive(Clone, Copy)]
+struct Entry {
+    slot: u32,
+    plain: Plain,
+}
+
+fn plain_of(entries: &[Entry], slot: u32) -> Plain {
+    for entry in entries {
+        if entry.slot == slot {
+            return entry.plain;
+        }
+    }
+    Plain {
+        promised: None,
+        accepted: None,
+    }
+}
+
+fn put_plain(entries: &mut Vec<Entry>, slot: u32, plain: Plain) -> Result<(), AllocError> {
+    for index in 0..entries.len() {
+        if entries[index].slot == slot {
+            entries[index].plain = plain;
+            return Ok(());
+        }
+    }
+    Ok(entries.push(Entry { slot, plain })?)
+}
+
+fn slot_of(request: Request) -> u32 {
+    if request.is_second { 999_999 } else { 0 }
+}
+
 fn answer(
     alloc: Global,
     acceptor: &mut Acceptor,
     request: Request,
     byte: u8,
 ) -> Result<Answer, Fail> {
-    let slot = slot(if request.is_second { 999_999 } else { 0 })?;
+    let slot = slot(slot_of(request))?;
     let ballot = ballot(request.ballot)?;
     if request.is_accept {
         Ok(acceptor.on_accept(slot, ballot, upload(alloc, byte)?)?)
@@ -306,26 +339,18 @@ fn answer(
 
 // Every sequence of four requests, two slots interleaved.
 #[test]
-fn answers_as_two_plain_slots(rt: HostRuntime) -> Result<(), Fail> {
-    let nothing = Plain {
-        promised: None,
-        accepted: None,
-    };
+fn answers_as_a_plain_list_of_slots(rt: HostRuntime) -> Result<(), Fail> {
     for sequence in 0..REQUESTS * REQUESTS * REQUESTS * REQUESTS {
         let mut acceptor = Acceptor::new(rt.alloc());
-        let mut first = nothing;
-        let mut second = nothing;
+        let mut entries = Vec::new(rt.alloc());
         let mut rest = sequence;
         for byte in 0..4 {
             let request = request_of(rest % REQUESTS);
             rest /= REQUESTS;
-            let plain = if request.is_second { second } else { first };
+            let number = slot_of(request);
+            let plain = plain_of(&entries, number);
             let (want, plain) = plain_answer(rt.alloc(), plain, request, byte)?;
-            if request.is_second {
-                second = plain;
-            } else {
-                first = plain;
-            }
+            put_plain(&mut entries, number, plain)?;
             let got = answer(rt.alloc(), &mut acceptor, request, byte)?;
             assert!(rt; got == want, "request {byte} of {sequence}");
         }
