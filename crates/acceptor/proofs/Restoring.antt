@@ -12,7 +12,8 @@ use Rattle.ballots.specs.declared.record.Record.TheVariants.{Began, Promised, Ac
 use Rattle.acceptor.specs.Standing.{Standing, IsSame}
 use Rattle.acceptor.specs.Raising.{Raises}
 use Rattle.acceptor.specs.Restored.{promise_in, acceptance_in, IsHighest, IsLastHighest, IsRestored, round_in, IsHighestRound}
-use Rattle.acceptor.proofs.Order.{below_or_at_least, not_below_itself, not_below_more, nothing_in, one_in, only_one}
+use Rattle.ballots.proofs.CallerLemmas.{below_or_at_least, not_below_itself, not_below_more}
+use Rattle.acceptor.proofs.Lists.{nothing_in, one_in, only_one}
 
 -- ---- the highest of one ballot more
 

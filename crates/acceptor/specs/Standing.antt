@@ -1,6 +1,7 @@
 -- How an acceptor stands, by what each slot has promised and accepted: Lamport, "Paxos Made Simple", section 2.2.
-use Rattle.std.specs.Prelude.{◌≡◌, ◌≢◌, ℕ, Option, Some, None}
+use Rattle.std.specs.Prelude.{◌≡◌, ℕ, Option, Some, None}
 use Rattle.ballots.specs.Ballot.{Ballot}
+use Rattle.ballots.specs.Slots.{SetsSlot}
 use Rattle.ballots.specs.declared.value.Value.{Value}
 
 pub record Standing : Type 0 where
@@ -19,7 +20,5 @@ pub record IsSame (old new : Standing) : Type 0 where
 
 -- the slot has this promise and this acceptance, and every other slot is as before
 pub record Sets (old new : Standing) (slot : ℕ) (ballot : Ballot) (held : Option (Ballot × Value)) : Type 0 where
-  pub promise : new.promised slot ≡ Some ballot
-  pub acceptance : new.accepted slot ≡ held
-  pub other_promises : (other : ℕ) → other ≢ slot → new.promised other ≡ old.promised other
-  pub other_acceptances : (other : ℕ) → other ≢ slot → new.accepted other ≡ old.accepted other
+  pub promises : SetsSlot old.promised new.promised slot (Some ballot)
+  pub acceptances : SetsSlot old.accepted new.accepted slot held

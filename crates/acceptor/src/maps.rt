@@ -1,9 +1,10 @@
 //! The two maps of an acceptor, by slots: what is promised, and what is accepted.
 
-ghost use Rattle.std.specs.Prelude.{◌≡◌, ◌<◌, ◌≤◌, ◌+◌, option_map, OnOk, OnErr};
+ghost use Rattle.std.specs.Prelude.{◌≡◌, ◌<◌, ◌≤◌, ◌+◌, Some, option_map, OnOk, OnErr};
 ghost use Rattle.indexmap.specs.IndexMap.{spare};
 ghost use Rattle.acceptor.specs.Holding.{at};
-ghost use Rattle.acceptor.specs.Raising.{Puts, Raises};
+ghost use Rattle.ballots.specs.Slots.{SetsSlot};
+ghost use Rattle.acceptor.specs.Raising.{Raises};
 
 use ballots::{Ballot, OutOfMemory, Slot, Value};
 use indexmap::IndexMap;
@@ -32,7 +33,7 @@ pub(crate) fn put_promise(
     slot: Slot,
     ballot: Ballot,
 ) -> Result<(), OutOfMemory>
-    ensures puts { OnOk result (Puts (at promises.old.entries) (at promises.new.entries) slot ballot) }
+    ensures puts { OnOk result (SetsSlot (at promises.old.entries) (at promises.new.entries) slot (Some ballot)) }
     ensures err { OnErr result (promises.new.entries ≡ promises.old.entries) }
     ensures succeeds { 0 < spare promises.old → OnErr result ⊥ }
     ensures room { spare promises.old ≤ spare promises.new + 1 }
@@ -49,7 +50,7 @@ pub(crate) fn put_acceptance(
     value: Value,
 )
     requires { 0 < spare acceptances.old }
-    ensures puts { Puts (at acceptances.old.entries) (at acceptances.new.entries) slot (ballot, value) }
+    ensures puts { SetsSlot (at acceptances.old.entries) (at acceptances.new.entries) slot (Some (ballot, value)) }
     ensures room { spare acceptances.old ≤ spare acceptances.new + 1 }
 {
     let Ok(_) = acceptances.insert(slot, (ballot, value)) else {

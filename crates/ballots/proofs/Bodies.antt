@@ -1,8 +1,8 @@
 -- Messages by their kind: what is read is meant, what is meant is read, and each fault stands.
 use Rattle.std.proofs.Common.{◌≡◌, ◌≢◌, ℕ, true, cond, eqb, Option, Some, None, Result, Ok, Err, refl, sym, ap, subst, ◌∙◌, arith, ◌⊎◌, inl, inr}
 use Rattle.std.proofs.lemmas.Bool.{eqb-true, eqb-false, cases_lt}
-use Rattle.proto_wire.specs.Reading.{◌>>=◌}
-use Rattle.proto_wire.proofs.Steps.{bind_ok, bind_err, chosen, ok_is, err_is, not_ok, not_err}
+use Rattle.proto_fields.specs.Reading.{◌>>=◌}
+use Rattle.proto_fields.proofs.Steps.{bind_ok, bind_err, chosen, ok_is, err_is, not_ok, not_err}
 use Rattle.ballots.specs.declared.node.TheConstants.{MAX_NODE}
 use Rattle.ballots.specs.declared.slot.TheConstants.{MAX_SLOT}
 use Rattle.ballots.specs.declared.message.numbers.TheConstants.{PREPARE, PROMISE, NACK, ACCEPT, ACCEPTED, ASK, DECIDED}

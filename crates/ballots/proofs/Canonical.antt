@@ -3,11 +3,11 @@ use Rattle.std.proofs.Common.{◌≡◌, ℕ, ◌^◌, ◌<◌, ◌≤◌, Bool,
 use Rattle.std.specs.Prelude.{not, filter, ◌&&◌, nat_le}
 use Rattle.std.specs.List.{AllByRecursion}
 use Rattle.std.proofs.lemmas.Bool.{leb-true}
-use Rattle.proto_wire.specs.declared.field.TheConstants.{MAX_FIELD_NUMBER}
-use Rattle.proto_wire.specs.Field.{Held, Field, FitsField, is_default, present}
-use Rattle.proto_wire.specs.Meaning.{number_in, bytes_in, all_hold, things_of, number_meant, bytes_meant}
-use Rattle.proto_wire.proofs.Texts.{fields_text-spells}
-use Rattle.proto_wire.proofs.Meanings.{number_meant-present, bytes_meant-present}
+use Rattle.proto_fields.specs.declared.field.TheConstants.{MAX_FIELD_NUMBER}
+use Rattle.proto_fields.specs.Field.{Held, Field, FitsField, is_default, present}
+use Rattle.proto_fields.specs.Meaning.{number_in, bytes_in, all_hold, things_of, number_meant, bytes_meant}
+use Rattle.proto_fields.proofs.Texts.{fields_text-encodes}
+use Rattle.proto_fields.proofs.Meanings.{number_meant-present, bytes_meant-present}
 use Rattle.ballots.specs.declared.node.TheConstants.{MAX_NODE}
 use Rattle.ballots.specs.declared.slot.TheConstants.{MAX_SLOT}
 use Rattle.ballots.specs.declared.message.numbers.TheConstants.{KIND, SENDER, SLOT, ROUND, NODE, SECOND_ROUND, SECOND_NODE, VALUE, PREPARE, PROMISE, NACK, ACCEPT, ACCEPTED, ASK, DECIDED}
@@ -160,6 +160,6 @@ pub canonical_means : (m : Message) → IsInRange m → IsMessageText (canonical
 unfolding canonical
 canonical_means m h = record {
   fields = present (all_fields m);
-  spells = fields_text-spells (present (all_fields m)) (all_fit-filter (λ (f : Field). not (is_default f.held)) (all_fields m) (all_fits m h));
+  spells = fields_text-encodes (present (all_fields m)) (all_fit-filter (λ (f : Field). not (is_default f.held)) (all_fields m) (all_fits m h));
   means = subst (λ (p : Parts). Means p m) (sym (parts_of-present (all_fields m) (fields_single m))) (all_fields-mean m h);
 }

@@ -1,9 +1,9 @@
 -- What reading a message from its parts gives, in the words of the text.
 use Rattle.std.proofs.Common.{◌≡◌, List, ℕ, Result, Ok, Err, refl, sym, ap, subst, ◌∙◌, ◌⊎◌, inl, inr}
 use Rattle.std.specs.Prelude.{IfOk, IfErr}
-use Rattle.proto_wire.specs.Field.{Field, IsFields}
-use Rattle.proto_wire.proofs.Steps.{ok_is, not_ok}
-use Rattle.proto_wire.proofs.Fronts.{fields_same}
+use Rattle.proto_fields.specs.Field.{Field, IsFields}
+use Rattle.proto_fields.proofs.Steps.{ok_is, not_ok}
+use Rattle.proto_fields.proofs.Fronts.{fields_same}
 use Rattle.ballots.specs.declared.message.Message.{Message}
 use Rattle.ballots.specs.declared.fault.MessageFault.{MessageFault}
 use Rattle.ballots.specs.declared.fault.MessageFault.TheVariants.{Wire, BadKind, OutOfRange, OutOfMemory}

@@ -1,8 +1,8 @@
 -- Gathering what the fields of a text mean, one after the other.
 use Rattle.std.proofs.Common.{◌≡◌, ℕ, List, [], ◌∷◌, ◌++◌, refl, sym, ap, subst, ◌∙◌}
-use Rattle.proto_wire.specs.Field.{Field, FieldsThen, IsFields, BeginsWith}
-use Rattle.proto_wire.proofs.Meanings.{number_meant-push, bytes_meant-push}
-use Rattle.proto_wire.proofs.Fronts.{fields_push, fields_same}
+use Rattle.proto_fields.specs.Field.{Field, FieldsThen, IsFields, BeginsWith}
+use Rattle.proto_fields.proofs.Meanings.{number_meant-push, bytes_meant-push}
+use Rattle.proto_fields.proofs.Fronts.{fields_push, fields_same}
 use Rattle.ballots.specs.Message.{Parts, parts_of}
 use Rattle.ballots.specs.Parts.{parts_after, MeansParts}
 use Rattle.ballots.specs.declared.message.numbers.TheConstants.{KIND, SENDER, SLOT, ROUND, NODE, SECOND_ROUND, SECOND_NODE, VALUE}

@@ -1,3 +1,5 @@
+pub mod CallerLemmas
+pub mod Slots
 pub mod PlainMeanings
 pub mod Gathering
 pub mod Numbers

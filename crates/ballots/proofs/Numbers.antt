@@ -2,9 +2,9 @@
 use Rattle.std.proofs.Common.{◌≡◌, ◌≢◌, ℕ, ◌≤◌, false, cond, ltb, eqb, List, length, Option, Some, None, Result, Ok, Err, refl, sym, ap, subst, ◌∙◌, arith, ◌⊎◌, inl, inr}
 use Rattle.std.proofs.lemmas.Bool.{ltb-true, ltb-false, le-ltb, eqb-true, eqb-false, ne_eqb}
 use Rattle.std.proofs.lemmas.List.{nil_from_length}
-use Rattle.proto_wire.specs.declared.fault.WireFault.TheVariants.{BadVarint, BadKey, BadWireType, CutShort, NotUtf8, OutOfMemory as WireMemory}
-use Rattle.proto_wire.specs.Reading.{◌>>=◌}
-use Rattle.proto_wire.proofs.Steps.{bind_ok, bind_err, chosen, ok_is, err_is, not_ok, not_err}
+use Rattle.proto_fields.specs.declared.fault.WireFault.TheVariants.{BadVarint, BadKey, BadWireType, CutShort, NotUtf8, OutOfMemory as WireMemory}
+use Rattle.proto_fields.specs.Reading.{◌>>=◌}
+use Rattle.proto_fields.proofs.Steps.{bind_ok, bind_err, chosen, ok_is, err_is, not_ok, not_err}
 use Rattle.ballots.specs.declared.node.TheConstants.{MAX_NODE}
 use Rattle.ballots.specs.declared.ballot.TheConstants.{MAX_ROUND}
 use Rattle.ballots.specs.declared.value.TheConstants.{MAX_UPLOAD_BYTES}

@@ -4,26 +4,26 @@ use Rattle.std.specs.Prelude.{◌==◌, ◌≢◌, ◌↔◌, ◌⊎◌}
 use Rattle.ballots.specs.declared.fault.MessageFault.TheVariants.{OutOfRange, BadKind}
 use Rattle.std.proofs.lemmas.Bool.{eq-eqb, ne_eqb}
 use Rattle.std.proofs.lemmas.List.{take_more, map_push, map-append, append_assoc, append-nil, take-append-drop}
-use Rattle.proto_wire.specs.declared.field.Part.{Part}
-use Rattle.proto_wire.specs.declared.field.Part.TheVariants.{Varint, Eight, Bytes, Four}
-use Rattle.proto_wire.specs.Field.{Held, Field, field_at, held_at}
-use Rattle.proto_wire.specs.Meaning.{after, number_in, bytes_in}
+use Rattle.proto_fields.specs.declared.field.ContentRef.{ContentRef}
+use Rattle.proto_fields.specs.declared.field.ContentRef.TheVariants.{Varint, Eight, Bytes, Four}
+use Rattle.proto_fields.specs.Field.{Held, Field, field_at, held_at}
+use Rattle.proto_fields.specs.Meaning.{after, number_in, bytes_in}
 
-abbrev pub at : ℕ × Part → Field
+abbrev pub at : ℕ × ContentRef → Field
 at f = field_at f.0 f.1
 
 -- the first of these fields
-abbrev pub seen : List (ℕ × Part) → ℕ → List Field
+abbrev pub seen : List (ℕ × ContentRef) → ℕ → List Field
 seen fields i = map at (take i fields)
 
 -- what holds another thing than a number, or than bytes
-pub no_number : (held : Part) → ((n : ℕ) → held ≢ Varint n) → number_in (held_at held) ≡ None
+pub no_number : (held : ContentRef) → ((n : ℕ) → held ≢ Varint n) → number_in (held_at held) ≡ None
 no_number (Varint n) isnt = absurd (isnt n refl)
 no_number (Eight bytes) isnt = refl
 no_number (Bytes bytes) isnt = refl
 no_number (Four bytes) isnt = refl
 
-pub no_bytes : (held : Part) → ((bytes : Bor (List ℕ)) → held ≢ Bytes bytes) → bytes_in (held_at held) ≡ None
+pub no_bytes : (held : ContentRef) → ((bytes : Bor (List ℕ)) → held ≢ Bytes bytes) → bytes_in (held_at held) ≡ None
 no_bytes (Varint n) isnt = refl
 no_bytes (Eight bytes) isnt = refl
 no_bytes (Bytes bytes) isnt = absurd (isnt bytes refl)
@@ -36,17 +36,17 @@ still_none false t = refl
 -- a meaning of the fields of one number
 module _ {A : Type 0} (meaning : List Field → Option A) (thing : Held → Option A) (number : ℕ)
     (push : (fields : List Field) (f : Field) → meaning (fields ++ f ∷ []) ≡ cond (f.number == number) (after (meaning fields) (thing f.held)) (meaning fields)) where
-  more : (xs : List (ℕ × Part)) (i : ℕ) (d : ℕ × Part) → i < length xs
+  more : (xs : List (ℕ × ContentRef)) (i : ℕ) (d : ℕ × ContentRef) → i < length xs
       → meaning (seen xs (i + 1)) ≡ cond ((get_or xs i d).0 == number) (after (meaning (seen xs i)) (thing (held_at (get_or xs i d).1))) (meaning (seen xs i))
   more xs i d lt = ap (λ l. meaning (map at l)) (take_more xs i d lt) ∙ ap meaning (map_push at (take i xs) (get_or xs i d)) ∙ push (seen xs i) (at (get_or xs i d))
 
   -- a field of the number means what it holds
-  pub one_more : (xs : List (ℕ × Part)) (i : ℕ) (d : ℕ × Part) (a : A) (t : Option A) → meaning (seen xs i) ≡ Some a → i < length xs
+  pub one_more : (xs : List (ℕ × ContentRef)) (i : ℕ) (d : ℕ × ContentRef) (a : A) (t : Option A) → meaning (seen xs i) ≡ Some a → i < length xs
       → (get_or xs i d).0 ≡ number → thing (held_at (get_or xs i d).1) ≡ t → meaning (seen xs (i + 1)) ≡ t
   one_more xs i d a t so_far lt is holds = more xs i d lt ∙ rw (eq-eqb _ _ is, so_far) holds
 
   -- another field says nothing
-  pub other_more : (xs : List (ℕ × Part)) (i : ℕ) (d : ℕ × Part) (a : A) → meaning (seen xs i) ≡ Some a → i < length xs
+  pub other_more : (xs : List (ℕ × ContentRef)) (i : ℕ) (d : ℕ × ContentRef) (a : A) → meaning (seen xs i) ≡ Some a → i < length xs
       → (get_or xs i d).0 ≢ number → meaning (seen xs (i + 1)) ≡ Some a
   other_more xs i d a so_far lt isnt = more xs i d lt ∙ rw (ne_eqb _ _ isnt) so_far
 
@@ -57,7 +57,7 @@ module _ {A : Type 0} (meaning : List Field → Option A) (thing : Held → Opti
       ∙ never (fields ++ f ∷ []) others (push fields f ∙ rw none (still_none (f.number == number) (thing f.held)))
 
   -- nothing stays nothing
-  pub never_more : (xs : List (ℕ × Part)) (i : ℕ) → meaning (seen xs i) ≡ None → meaning (map at xs) ≡ None
+  pub never_more : (xs : List (ℕ × ContentRef)) (i : ℕ) → meaning (seen xs i) ≡ None → meaning (map at xs) ≡ None
   never_more xs i none =
       ap (λ l. meaning (map at l)) (sym (take-append-drop i xs)) ∙ ap meaning (map-append at (take i xs) (drop i xs))
       ∙ never (seen xs i) (map at (drop i xs)) none

@@ -2,9 +2,9 @@
 use Rattle.std.proofs.Common.{◌≡◌, ℕ, ◌≤◌, Bool, true, List, ◌++◌, refl, sym, subst, arith}
 use Rattle.std.specs.Prelude.{not, ◌&&◌}
 use Rattle.std.specs.List.{AllByRecursion}
-use Rattle.proto_wire.specs.Field.{Field, FitsField, is_default, present}
-use Rattle.proto_wire.specs.Meaning.{number_in, bytes_in, number_meant, bytes_meant}
-use Rattle.proto_wire.proofs.Texts.{fields_text-spells}
+use Rattle.proto_fields.specs.Field.{Field, FitsField, is_default, present}
+use Rattle.proto_fields.specs.Meaning.{number_in, bytes_in, number_meant, bytes_meant}
+use Rattle.proto_fields.proofs.Texts.{fields_text-encodes}
 use Rattle.ballots.specs.declared.slot.TheConstants.{MAX_SLOT}
 use Rattle.ballots.specs.declared.record.numbers.TheConstants.{KIND, SLOT, ROUND, NODE, VALUE, BEGAN, PROMISED, ACCEPTED}
 use Rattle.ballots.specs.declared.value.Value.{Value}
@@ -73,6 +73,6 @@ pub canonical_means : (r : Record) → IsRecordInRange r → IsRecordText (canon
 unfolding canonical_record
 canonical_means r h = record {
   fields = present (record_fields r);
-  spells = fields_text-spells (present (record_fields r)) (all_fit-filter (λ (f : Field). not (is_default f.held)) (record_fields r) (all_fits r h));
+  spells = fields_text-encodes (present (record_fields r)) (all_fit-filter (λ (f : Field). not (is_default f.held)) (record_fields r) (all_fits r h));
   means = subst (λ (p : RecordParts). MeansRecord p r) (sym (parts_of-present (record_fields r) (fields_single r))) (fields_mean r h);
 }

@@ -1,8 +1,8 @@
 -- Gathering what the fields of a record's text mean, one after the other.
 use Rattle.std.proofs.Common.{◌≡◌, ℕ, List, [], ◌∷◌, ◌++◌, refl, sym, ap, subst, ◌∙◌}
-use Rattle.proto_wire.specs.Field.{Field, FieldsThen, IsFields, BeginsWith}
-use Rattle.proto_wire.proofs.Meanings.{number_meant-push, bytes_meant-push}
-use Rattle.proto_wire.proofs.Fronts.{fields_push, fields_same}
+use Rattle.proto_fields.specs.Field.{Field, FieldsThen, IsFields, BeginsWith}
+use Rattle.proto_fields.proofs.Meanings.{number_meant-push, bytes_meant-push}
+use Rattle.proto_fields.proofs.Fronts.{fields_push, fields_same}
 use Rattle.ballots.specs.Record.{RecordParts, record_parts_of}
 use Rattle.ballots.specs.RecordParts.{record_parts_after, MeansRecordParts}
 use Rattle.ballots.specs.declared.record.numbers.TheConstants.{KIND, SLOT, ROUND, NODE, VALUE}

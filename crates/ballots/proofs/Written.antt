@@ -4,7 +4,7 @@ use Rattle.std.specs.Prelude.{not}
 use Rattle.std.specs.List.{flat_map}
 use Rattle.std.proofs.lemmas.List.Elements.{filter-append}
 use Rattle.std.proofs.lemmas.Grind.{flat_map-append}
-use Rattle.proto_wire.specs.Field.{Field, field_text, is_default, present}
+use Rattle.proto_fields.specs.Field.{Field, field_text, is_default, present}
 use Rattle.ballots.specs.Message.{written}
 
 pub written-append : (xs ys : List Field) → written (xs ++ ys) ≡ written xs ++ written ys

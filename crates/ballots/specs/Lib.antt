@@ -1,5 +1,7 @@
+pub mod Limits
 pub mod Ballot
 pub mod Majority
+pub mod Slots
 pub mod Value
 pub mod Message
 pub mod MessageReading

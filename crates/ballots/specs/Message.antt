@@ -2,9 +2,9 @@
 -- of its ballot, 7 round and 8 node of a second ballot, 9 the value. Lamport, "Paxos Made Simple", sections 2.2 and 2.3,
 -- has the messages; the numbers are this service's own. Numbers are whole ones of 64 bits, never cut.
 use Rattle.std.specs.Prelude.{◌≡◌, ◌≢◌, ℕ, ◌<◌, ◌≤◌, ◌⊎◌, List, [], ◌∷◌, ◌++◌, length, Option, Some, None}
-use Rattle.proto_wire.specs.declared.fault.WireFault.TheVariants.{BadWireType}
-use Rattle.proto_wire.specs.Field.{Field, Varint, Bytes, IsFields, FieldsFault, fields_text, present}
-use Rattle.proto_wire.specs.Meaning.{number_meant, bytes_meant}
+use Rattle.proto_fields.specs.declared.fault.WireFault.TheVariants.{BadWireType}
+use Rattle.proto_fields.specs.Field.{Field, Varint, Bytes, IsFields, FieldsFault, fields_text, present}
+use Rattle.proto_fields.specs.Meaning.{number_meant, bytes_meant}
 use Rattle.ballots.specs.declared.node.TheConstants.{MAX_NODE}
 use Rattle.ballots.specs.declared.slot.TheConstants.{MAX_SLOT}
 use Rattle.ballots.specs.declared.ballot.TheConstants.{MAX_ROUND}

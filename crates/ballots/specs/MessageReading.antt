@@ -1,8 +1,8 @@
 -- Reading a message from what its fields mean, with the fault that is met first: a tool of the proofs. What a text means is
 -- defined in `Message`.
 use Rattle.std.specs.Prelude.{◌≡◌, ℕ, List, length, Option, Some, None, Result, Ok, Err, nat_lt, ◌==◌, if◌then◌else◌}
-use Rattle.proto_wire.specs.declared.fault.WireFault.TheVariants.{BadWireType}
-use Rattle.proto_wire.specs.Reading.{◌>>=◌}
+use Rattle.proto_fields.specs.declared.fault.WireFault.TheVariants.{BadWireType}
+use Rattle.proto_fields.specs.Reading.{◌>>=◌}
 use Rattle.ballots.specs.declared.node.TheConstants.{MAX_NODE}
 use Rattle.ballots.specs.declared.slot.TheConstants.{MAX_SLOT}
 use Rattle.ballots.specs.declared.ballot.TheConstants.{MAX_ROUND}

@@ -1,8 +1,8 @@
 -- What the code keeps while it reads a message's fields.
 use Rattle.std.specs.Prelude.{◌≡◌, ℕ, ◌==◌, if◌then◌else◌, List, Option}
 use Rattle.std.specs.Option.{option_map}
-use Rattle.proto_wire.specs.Field.{Field, IsFields}
-use Rattle.proto_wire.specs.Meaning.{number_in, bytes_in, after}
+use Rattle.proto_fields.specs.Field.{Field, IsFields}
+use Rattle.proto_fields.specs.Meaning.{number_in, bytes_in, after}
 use Rattle.ballots.specs.declared.message.numbers.TheConstants.{KIND, SENDER, SLOT, ROUND, NODE, SECOND_ROUND, SECOND_NODE, VALUE}
 use Rattle.ballots.specs.declared.parts.Parts as kept
 use Rattle.ballots.specs.Message.{Parts, parts_of}

@@ -2,9 +2,9 @@
 -- ballot, 5 the value. Lamport, "Paxos Made Simple", sections 2.2 and 2.4, says what is to be kept; the numbers are this
 -- service's own. Numbers are whole ones of 64 bits, never cut.
 use Rattle.std.specs.Prelude.{◌≡◌, ℕ, ◌<◌, ◌≤◌, ◌⊎◌, List, [], ◌∷◌, ◌++◌, Option, Some, None}
-use Rattle.proto_wire.specs.declared.fault.WireFault.TheVariants.{BadWireType}
-use Rattle.proto_wire.specs.Field.{Field, Bytes, IsFields}
-use Rattle.proto_wire.specs.Meaning.{number_meant, bytes_meant}
+use Rattle.proto_fields.specs.declared.fault.WireFault.TheVariants.{BadWireType}
+use Rattle.proto_fields.specs.Field.{Field, Bytes, IsFields}
+use Rattle.proto_fields.specs.Meaning.{number_meant, bytes_meant}
 use Rattle.ballots.specs.declared.slot.TheConstants.{MAX_SLOT}
 use Rattle.ballots.specs.declared.record.numbers.TheConstants.{KIND, SLOT, ROUND, NODE, VALUE, BEGAN, PROMISED, ACCEPTED}
 use Rattle.ballots.specs.declared.value.Value.{Value}

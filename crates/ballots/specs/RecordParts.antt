@@ -1,8 +1,8 @@
 -- What the code keeps while it reads a record's fields.
 use Rattle.std.specs.Prelude.{◌≡◌, ℕ, ◌==◌, if◌then◌else◌, List}
 use Rattle.std.specs.Option.{option_map}
-use Rattle.proto_wire.specs.Field.{Field, IsFields}
-use Rattle.proto_wire.specs.Meaning.{bytes_in, after}
+use Rattle.proto_fields.specs.Field.{Field, IsFields}
+use Rattle.proto_fields.specs.Meaning.{bytes_in, after}
 use Rattle.ballots.specs.declared.record.numbers.TheConstants.{KIND, SLOT, ROUND, NODE, VALUE}
 use Rattle.ballots.specs.declared.record_parts.RecordParts as kept
 use Rattle.ballots.specs.Record.{RecordParts, record_parts_of}

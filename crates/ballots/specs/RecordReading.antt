@@ -1,7 +1,7 @@
 -- Reading a record from what its fields mean, with the fault that is met first: a tool of the proofs. What a text means is
 -- defined in `Record`.
 use Rattle.std.specs.Prelude.{ℕ, Result, Ok, Err, ◌==◌, if◌then◌else◌}
-use Rattle.proto_wire.specs.Reading.{◌>>=◌}
+use Rattle.proto_fields.specs.Reading.{◌>>=◌}
 use Rattle.ballots.specs.declared.slot.TheConstants.{MAX_SLOT}
 use Rattle.ballots.specs.declared.record.numbers.TheConstants.{BEGAN, PROMISED, ACCEPTED}
 use Rattle.ballots.specs.declared.record.Record.{Record}

@@ -1,6 +1,6 @@
 -- A record's text as one row, whatever the kind: all five fields in their order, and 0 or no bytes where a kind has none.
 use Rattle.std.specs.Prelude.{ℕ, List, [], ◌∷◌}
-use Rattle.proto_wire.specs.Field.{Bytes}
+use Rattle.proto_fields.specs.Field.{Bytes}
 use Rattle.ballots.specs.Message.{number_field, written}
 
 -- Those that hold 0 or no bytes are left out. The fields are numbered here once more, so that they stand in no constant alone.

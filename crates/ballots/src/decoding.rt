@@ -16,7 +16,8 @@ use crate::node::{MAX_NODE, NodeId};
 use crate::parts::{Parts, read_parts};
 use crate::slot::{MAX_SLOT, Slot};
 use crate::value::{MAX_UPLOAD_BYTES, UploadBytes, Value};
-use proto_wire::WireFault;
+use bytes::Bytes;
+use proto_fields::WireFault;
 use std::alloc::Global;
 
 #[tactic(auto, unfolding(crate::specs::MessageReading::within, crate::specs::MessageReading::known))]
@@ -78,7 +79,7 @@ pub(crate) fn value_of(alloc: Global, bytes: Option<&[u8]>) -> Result<Value, Mes
     if bytes.len() > MAX_UPLOAD_BYTES {
         return Err(MessageFault::OutOfRange);
     }
-    let Ok(copy) = Vec::from_slice(alloc, bytes) else {
+    let Ok(copy) = Bytes::copy_from_slice(alloc, bytes) else {
         return Err(MessageFault::OutOfMemory);
     };
     match UploadBytes::new(copy) {

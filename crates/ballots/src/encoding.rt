@@ -1,7 +1,7 @@
 //! Messages written as bytes, each in its one canonical spelling.
 
 ghost use Rattle.std.specs.Prelude.{◌≡◌, ◌≤◌, ◌++◌, List, ℕ, OnOk, OnErr};
-ghost use Rattle.proto_wire.specs.Writing.{Grows};
+ghost use Rattle.proto_fields.specs.Writing.{Grows};
 ghost use Rattle.ballots.specs.declared.node.TheConstants.{MAX_NODE};
 ghost use Rattle.ballots.specs.declared.slot.TheConstants.{MAX_SLOT};
 ghost use Rattle.ballots.specs.declared.message.Message.TheVariants.{Promise};
@@ -17,7 +17,7 @@ use crate::message::numbers::{
 use crate::node::NodeId;
 use crate::slot::Slot;
 use crate::value::{OutOfMemory, Value};
-use proto_wire::{write_present_bytes, write_present_varint};
+use proto_fields::{write_nonempty_bytes, write_nonzero_varint};
 
 #[tactic(auto, using(crate::proofs::Written::written_rules))]
 fn append_head(out: &mut Vec<u8>, kind: u64, sender: NodeId, slot: Slot) -> Result<(), OutOfMemory>
@@ -27,9 +27,9 @@ fn append_head(out: &mut Vec<u8>, kind: u64, sender: NodeId, slot: Slot) -> Resu
     ensures slot { slot ≤ MAX_SLOT }
 {
     let (sender, slot) = (sender.number(), slot.number());
-    write_present_varint(out, KIND, kind)?;
-    write_present_varint(out, SENDER, u64::from(sender))?;
-    write_present_varint(out, SLOT, u64::from(slot))?;
+    write_nonzero_varint(out, KIND, kind)?;
+    write_nonzero_varint(out, SENDER, u64::from(sender))?;
+    write_nonzero_varint(out, SLOT, u64::from(slot))?;
     Ok(())
 }
 
@@ -40,8 +40,8 @@ fn append_ballot(out: &mut Vec<u8>, ballot: Ballot) -> Result<(), OutOfMemory>
     ensures within { IsBallot ballot }
 {
     let (round, node) = (ballot.round(), ballot.node().number());
-    write_present_varint(out, ROUND, u64::from(round))?;
-    write_present_varint(out, NODE, u64::from(node))?;
+    write_nonzero_varint(out, ROUND, u64::from(round))?;
+    write_nonzero_varint(out, NODE, u64::from(node))?;
     Ok(())
 }
 
@@ -52,8 +52,8 @@ fn append_second(out: &mut Vec<u8>, ballot: Ballot) -> Result<(), OutOfMemory>
     ensures within { IsBallot ballot }
 {
     let (round, node) = (ballot.round(), ballot.node().number());
-    write_present_varint(out, SECOND_ROUND, u64::from(round))?;
-    write_present_varint(out, SECOND_NODE, u64::from(node))?;
+    write_nonzero_varint(out, SECOND_ROUND, u64::from(round))?;
+    write_nonzero_varint(out, SECOND_NODE, u64::from(node))?;
     Ok(())
 }
 
@@ -75,7 +75,7 @@ fn append_value(out: &mut Vec<u8>, value: &Value) -> Result<(), OutOfMemory>
     ensures err { Grows out.old.items out.new.items }
     ensures within { IsValue value.now }
 {
-    write_present_bytes(out, VALUE, value.as_bytes())?;
+    write_nonempty_bytes(out, VALUE, value.as_bytes())?;
     Ok(())
 }
 

@@ -1,6 +1,7 @@
 //! Why bytes are no message, or no record.
 
-use proto_wire::WireFault;
+use proto_fields::WireFault;
+use std::alloc::AllocError;
 use thiserror::Error;
 
 /// What is wrong with a text that should be a message or a record. Which fault is told where several stand is open.
@@ -18,4 +19,15 @@ pub enum MessageFault {
     /// Memory was refused.
     #[error("OutOfMemory")]
     OutOfMemory,
+}
+
+impl From<AllocError> for MessageFault {
+    ghost use Rattle.std.specs.Prelude.{◌≡◌};
+    ghost use Rattle.ballots.specs.declared.fault.MessageFault.TheVariants.{OutOfMemory};
+
+    ghost from_gives = { λ _ fault. fault ≡ OutOfMemory };
+
+    fn from(_: AllocError) -> MessageFault {
+        MessageFault::OutOfMemory
+    }
 }

@@ -1,17 +1,34 @@
 //! Laws of the definitions that every call here is proved against.
 
-ghost use Rattle.std.specs.Prelude.{◌≡◌, ℕ, ◌⊎◌, ◌↔◌, List, [], Some, None};
+ghost use Rattle.std.specs.Prelude.{◌≡◌, ◌==◌, ◌<◌, ◌≤◌, ◌||◌, ◌⊎◌, ◌↔◌, ℕ, suc, Bool, true, false, IsTrue, List, [], Some, None};
 ghost use Rattle.std.specs.declared.cmp.Ordering.TheVariants.{Less, Equal, Greater};
 ghost use Rattle.ballots.specs.declared.value.Value.{Value};
 ghost use Rattle.ballots.specs.declared.message.Message.{Message as Meant};
 ghost use Rattle.ballots.specs.declared.message.Message.TheVariants.{Prepare, Promise, Nack, Accept, Accepted, Ask, Decided};
-ghost use Rattle.ballots.specs.Ballot.{Ballot as Pair, IsBelow, ballot_cmp};
+ghost use Rattle.ballots.specs.declared.ballot.TheConstants.{MAX_ROUND};
+ghost use Rattle.ballots.specs.declared.node.TheConstants.{MAX_NODE};
+ghost use Rattle.ballots.specs.declared.members.TheConstants.{MAX_MEMBERS};
+ghost use Rattle.ballots.specs.declared.slot.TheConstants.{MAX_SLOT};
+ghost use Rattle.ballots.specs.declared.value.TheConstants.{MAX_UPLOAD_BYTES};
+ghost use Rattle.ballots.specs.Limits.{max_round, max_node, max_members, max_slot, max_upload_bytes};
+ghost use Rattle.ballots.specs.Ballot.{Ballot as Pair, IsBelow, IsAbove, IsAtLeast, ballot_cmp, is_same_ballot};
+ghost use Rattle.ballots.specs.Majority.{tally, IsMajority};
+ghost use Rattle.ballots.specs.Slots.{SetsSlot};
 ghost use Rattle.ballots.specs.Message.{IsMessageText, IsInRange, canonical, value_bytes};
 ghost use Rattle.ballots.specs.Row.{row_text};
 ghost use Rattle.ballots.specs.declared.record.Record.{Record as Kept};
 ghost use Rattle.ballots.specs.declared.record.Record.TheVariants.{Began, Promised, Accepted as HasAccepted};
 ghost use Rattle.ballots.specs.Record.{IsRecordText, IsRecordInRange, canonical_record};
 ghost use Rattle.ballots.specs.RecordRow.{record_row};
+
+/// The limits of the definitions are these numbers, and the program's constants are the same.
+pub fn limits_are_these()
+    ensures round { (max_round ≡ 4000000000) × (MAX_ROUND ≡ max_round) }
+    ensures node { (max_node ≡ 6) × (MAX_NODE ≡ max_node) }
+    ensures members { (max_members ≡ 7) × (MAX_MEMBERS ≡ max_members) }
+    ensures slot { (max_slot ≡ 999999) × (MAX_SLOT ≡ max_slot) }
+    ensures upload_bytes { (max_upload_bytes ≡ 16777216) × (MAX_UPLOAD_BYTES ≡ max_upload_bytes) }
+{}
 
 /// Of two ballots that are not the same, exactly one is below the other, and below is carried along.
 pub fn ballots_are_ordered()
@@ -25,6 +42,48 @@ pub fn comparison_is_the_order()
     ensures less { (a b : Pair) → (ballot_cmp a b ≡ Less) ↔ IsBelow a b }
     ensures equal { (a b : Pair) → (ballot_cmp a b ≡ Equal) ↔ (a ≡ b) }
     ensures greater { (a b : Pair) → (ballot_cmp a b ≡ Greater) ↔ IsBelow b a }
+{}
+
+/// Every ballot is above none, and at least none. It is above a ballot exactly where that is below it, and at least a ballot
+/// exactly where it is not below that.
+#[tactic(auto, using(crate::proofs::CallerLemmas::at_least_where_not_below))]
+pub fn none_is_below_every_ballot()
+    ensures above_none { (b : Pair) → IsAbove b None }
+    ensures at_least_none { (b : Pair) → IsAtLeast b None }
+    ensures above { (a b : Pair) → IsAbove b (Some a) ↔ IsBelow a b }
+    ensures at_least { (a b : Pair) → IsAtLeast b (Some a) ↔ (IsBelow b a → ⊥) }
+{}
+
+/// The test passes of one ballot alone.
+#[tactic(auto, using(crate::proofs::CallerLemmas::same_ballot_is))]
+pub fn same_ballots_are_one()
+    ensures { (a b : Pair) → IsTrue (is_same_ballot a b) ↔ (a ≡ b) }
+{}
+
+/// The size of a set of members counts each member in it once: none is 0, all are all of them, one more is one more, and sets
+/// of the same members have one size.
+pub fn sizes_count_each_member_once()
+    ensures none { (n : ℕ) → tally n (λ a. false) ≡ 0 }
+    ensures all { (n : ℕ) → tally n (λ a. true) ≡ n }
+    ensures one_more { (n a : ℕ) (is_in : ℕ → Bool) → a < n → is_in a ≡ false
+        → tally n (λ b. is_in b || (a == b)) ≡ suc (tally n is_in) }
+    ensures same { (n : ℕ) (p q : ℕ → Bool) → ((a : ℕ) → a < n → p a ≡ q a) → tally n p ≡ tally n q }
+{}
+
+/// Any two majorities have a member in common (Lamport, *Paxos Made Simple*, section 2.1), all members are a majority, and a
+/// majority stays one with more members.
+pub fn majorities_meet()
+    ensures meet { (n : ℕ) (p q : ℕ → Bool) → IsMajority n (tally n p) → IsMajority n (tally n q)
+        → (a : ℕ) × (a < n) × (p a ≡ true) × (q a ≡ true) }
+    ensures all { (n : ℕ) → 0 < n → IsMajority n n }
+    ensures stays { (n size more : ℕ) → IsMajority n size → size ≤ more → IsMajority n more }
+{}
+
+/// Where a slot is set, each slot has one entry afterwards: its own the new one, every other what it had.
+#[tactic(auto, using(crate::proofs::Slots::set_slots))]
+pub fn set_slots_are_one<X>()
+    ensures { (old a b : ℕ → X) (slot : ℕ) (now : X) → SetsSlot old a slot now → SetsSlot old b slot now
+        → (other : ℕ) → a other ≡ b other }
 {}
 
 /// A text means one message at most.

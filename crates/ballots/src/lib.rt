@@ -5,6 +5,11 @@
 //! and ballots are ordered by round, then by node. What a message's bytes mean is defined in `specs/`, as a relation
 //! between a message and a list of protobuf fields; `decode` is `Ok` exactly where the bytes mean a message, memory
 //! apart, and `encode` appends the one canonical spelling. The same holds of a record, what a node keeps before it answers.
+//!
+//! A majority is asked of a set of nodes: `NodeSet` holds them without memory, and `Members::are_majority` counts those of
+//! them that are members. Ballots and values are printed as one line each, and read from it. The limits are numbers in
+//! `specs/Limits.antt`, and `limits_are_these` says that the constants here are the same. A crate above cites `specs/`, the
+//! laws, and of `proofs/` the module `CallerLemmas` alone: the order of ballots, and sizes of sets of members.
 #![tactic(auto)]
 
 mod ballot;
@@ -15,7 +20,9 @@ mod laws;
 mod members;
 mod message;
 mod node;
+mod node_set;
 mod parts;
+mod printed;
 mod record;
 mod record_decoding;
 mod record_encoding;
@@ -31,12 +38,15 @@ pub use ballot::{Ballot, MAX_ROUND};
 pub use fault::MessageFault;
 pub use laws::{
     ballots_are_ordered, canonical_means_its_message, canonical_means_its_record,
-    comparison_is_the_order, messages_are_one, messages_are_rows, records_are_one,
-    records_are_rows,
+    comparison_is_the_order, limits_are_these, majorities_meet, messages_are_one,
+    messages_are_rows, none_is_below_every_ballot, records_are_one, records_are_rows,
+    same_ballots_are_one, set_slots_are_one, sizes_count_each_member_once,
 };
 pub use members::{MAX_MEMBERS, Members};
 pub use message::Message;
 pub use node::{MAX_NODE, NodeId};
+pub use node_set::NodeSet;
+pub use printed::LineFault;
 pub use record::Record;
 pub use slot::{MAX_SLOT, Slot};
 pub use value::{MAX_UPLOAD_BYTES, OutOfMemory, UploadBytes, Value};

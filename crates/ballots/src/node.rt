@@ -1,5 +1,5 @@
 ghost use Rattle.std.specs.Prelude.{◌≡◌, ℕ, ◌≤◌, ◌↔◌, IsSome, IfSome};
-ghost use Rattle.ballots.specs.declared.node.TheConstants.{MAX_NODE};
+ghost use Rattle.ballots.specs.Limits.{max_node};
 
 use std::marker::Model;
 
@@ -17,7 +17,7 @@ impl Model for NodeId {
 
     ghost view = { λ n. n.number };
 
-    ghost invariant = { λ n. n.number ≤ MAX_NODE };
+    ghost invariant = { λ n. n.number ≤ max_node };
 
     ghost inverse = { λ n. record { number = n } };
 }
@@ -25,7 +25,7 @@ impl Model for NodeId {
 impl NodeId {
     /// The node of this number, `None` above [`MAX_NODE`].
     pub fn new(number: u8) -> Option<NodeId>
-        ensures within { IsSome result ↔ (number ≤ MAX_NODE) }
+        ensures within { IsSome result ↔ (number ≤ max_node) }
         ensures value { IfSome result (λ node. node ≡ number) }
     {
         if number <= MAX_NODE {
@@ -38,7 +38,7 @@ impl NodeId {
     /// The node's number.
     pub fn number(self) -> u8
         ensures value { result ≡ self }
-        ensures within { self ≤ MAX_NODE }
+        ensures within { self ≤ max_node }
     {
         self.number
     }

@@ -1,12 +1,12 @@
 //! A message's fields, gathered from its bytes with no memory taken.
 
 ghost use Rattle.std.specs.Prelude.{◌≡◌, List, [], ℕ, IfOk, IfErr, IsOkAnd};
-ghost use Rattle.proto_wire.specs.Field.{Field, IsFields, FieldsFault, field_at};
+ghost use Rattle.proto_fields.specs.Field.{Field, IsFields, FieldsFault, field_at};
 ghost use Rattle.ballots.specs.Message.{parts_of};
 ghost use Rattle.ballots.specs.Parts.{parts_at, parts_after, MeansParts};
 
 use crate::message::numbers::{KIND, NODE, ROUND, SECOND_NODE, SECOND_ROUND, SENDER, SLOT, VALUE};
-use proto_wire::{Part, WireFault, split_field};
+use proto_fields::{ContentRef, WireFault, split_field};
 
 /// What each field of a message means so far: the last one given or its default, `None` after one of another wire type.
 #[derive(Clone, Copy, Debug)]
@@ -39,7 +39,7 @@ impl<'a> Parts<'a> {
     }
 
     /// Takes one field more.
-    fn with(self, number: u32, part: Part<'a>) -> Parts<'a>
+    fn with(self, number: u32, part: ContentRef<'a>) -> Parts<'a>
         ensures { parts_at result ≡ parts_after (parts_at self.entry) (field_at number part.entry) }
     {
         let mut parts = self;

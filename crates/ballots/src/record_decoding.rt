@@ -13,7 +13,7 @@ use crate::fault::MessageFault;
 use crate::record::Record;
 use crate::record::numbers::{ACCEPTED, BEGAN, PROMISED};
 use crate::record_parts::{RecordParts, read_record_parts};
-use proto_wire::WireFault;
+use proto_fields::WireFault;
 use std::alloc::Global;
 
 #[tactic(auto, unfolding(crate::specs::RecordReading::kept_at))]

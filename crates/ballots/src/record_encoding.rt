@@ -1,7 +1,7 @@
 //! Records written as bytes, each in its one canonical spelling.
 
 ghost use Rattle.std.specs.Prelude.{◌≡◌, ◌≤◌, ◌++◌, OnOk, OnErr};
-ghost use Rattle.proto_wire.specs.Writing.{Grows};
+ghost use Rattle.proto_fields.specs.Writing.{Grows};
 ghost use Rattle.ballots.specs.declared.slot.TheConstants.{MAX_SLOT};
 ghost use Rattle.ballots.specs.Ballot.{IsBallot};
 ghost use Rattle.ballots.specs.Message.{IsValue, written};
@@ -12,7 +12,7 @@ use crate::record::Record;
 use crate::record::numbers::{ACCEPTED, BEGAN, KIND, NODE, PROMISED, ROUND, SLOT, VALUE};
 use crate::slot::Slot;
 use crate::value::{OutOfMemory, Value};
-use proto_wire::{write_present_bytes, write_present_varint};
+use proto_fields::{write_nonempty_bytes, write_nonzero_varint};
 
 #[tactic(auto, using(crate::proofs::Written::written_rules))]
 fn append_ballot(out: &mut Vec<u8>, ballot: Ballot) -> Result<(), OutOfMemory>
@@ -21,8 +21,8 @@ fn append_ballot(out: &mut Vec<u8>, ballot: Ballot) -> Result<(), OutOfMemory>
     ensures within { IsBallot ballot }
 {
     let (round, node) = (ballot.round(), ballot.node().number());
-    write_present_varint(out, ROUND, u64::from(round))?;
-    write_present_varint(out, NODE, u64::from(node))?;
+    write_nonzero_varint(out, ROUND, u64::from(round))?;
+    write_nonzero_varint(out, NODE, u64::from(node))?;
     Ok(())
 }
 
@@ -31,7 +31,7 @@ fn append_value(out: &mut Vec<u8>, value: &Value) -> Result<(), OutOfMemory>
     ensures err { Grows out.old.items out.new.items }
     ensures within { IsValue value.now }
 {
-    write_present_bytes(out, VALUE, value.as_bytes())?;
+    write_nonempty_bytes(out, VALUE, value.as_bytes())?;
     Ok(())
 }
 
@@ -41,7 +41,7 @@ fn append_began(out: &mut Vec<u8>, ballot: Ballot) -> Result<(), OutOfMemory>
     ensures err { Grows out.old.items out.new.items }
     ensures within { OnOk result (IsBallot ballot) }
 {
-    write_present_varint(out, KIND, BEGAN)?;
+    write_nonzero_varint(out, KIND, BEGAN)?;
     append_ballot(out, ballot)?;
     Ok(())
 }
@@ -53,8 +53,8 @@ fn append_slot(out: &mut Vec<u8>, kind: u64, slot: Slot) -> Result<(), OutOfMemo
     ensures within { slot ≤ MAX_SLOT }
 {
     let slot = slot.number();
-    write_present_varint(out, KIND, kind)?;
-    write_present_varint(out, SLOT, u64::from(slot))?;
+    write_nonzero_varint(out, KIND, kind)?;
+    write_nonzero_varint(out, SLOT, u64::from(slot))?;
     Ok(())
 }
 

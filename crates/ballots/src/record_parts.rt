@@ -1,12 +1,12 @@
 //! A record's fields, gathered from its bytes with no memory taken.
 
 ghost use Rattle.std.specs.Prelude.{◌≡◌, List, [], IfOk, IfErr, IsOkAnd};
-ghost use Rattle.proto_wire.specs.Field.{Field, IsFields, FieldsFault, field_at};
+ghost use Rattle.proto_fields.specs.Field.{Field, IsFields, FieldsFault, field_at};
 ghost use Rattle.ballots.specs.Record.{record_parts_of};
 ghost use Rattle.ballots.specs.RecordParts.{record_parts_at, record_parts_after, MeansRecordParts};
 
 use crate::record::numbers::{KIND, NODE, ROUND, SLOT, VALUE};
-use proto_wire::{Part, WireFault, split_field};
+use proto_fields::{ContentRef, WireFault, split_field};
 
 /// What each field of a record means so far: the last one given or its default, `None` after one of another wire type.
 #[derive(Clone, Copy, Debug)]
@@ -33,7 +33,7 @@ impl<'a> RecordParts<'a> {
     }
 
     /// Takes one field more.
-    fn with(self, number: u32, part: Part<'a>) -> RecordParts<'a>
+    fn with(self, number: u32, part: ContentRef<'a>) -> RecordParts<'a>
         ensures { record_parts_at result ≡ record_parts_after (record_parts_at self.entry) (field_at number part.entry) }
     {
         let mut parts = self;

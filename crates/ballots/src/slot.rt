@@ -1,5 +1,5 @@
 ghost use Rattle.std.specs.Prelude.{◌≡◌, ℕ, ◌≤◌, ◌↔◌, IsSome, IfSome};
-ghost use Rattle.ballots.specs.declared.slot.TheConstants.{MAX_SLOT};
+ghost use Rattle.ballots.specs.Limits.{max_slot};
 
 use std::marker::Model;
 
@@ -17,7 +17,7 @@ impl Model for Slot {
 
     ghost view = { λ s. s.number };
 
-    ghost invariant = { λ s. s.number ≤ MAX_SLOT };
+    ghost invariant = { λ s. s.number ≤ max_slot };
 
     ghost inverse = { λ n. record { number = n } };
 }
@@ -25,7 +25,7 @@ impl Model for Slot {
 impl Slot {
     /// The slot of this number, `None` above [`MAX_SLOT`].
     pub fn new(number: u32) -> Option<Slot>
-        ensures within { IsSome result ↔ (number ≤ MAX_SLOT) }
+        ensures within { IsSome result ↔ (number ≤ max_slot) }
         ensures value { IfSome result (λ slot. slot ≡ number) }
     {
         if number <= MAX_SLOT {
@@ -38,7 +38,7 @@ impl Slot {
     /// The slot's number.
     pub fn number(self) -> u32
         ensures value { result ≡ self }
-        ensures within { self ≤ MAX_SLOT }
+        ensures within { self ≤ max_slot }
     {
         self.number
     }

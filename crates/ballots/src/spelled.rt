@@ -5,7 +5,7 @@ ghost use Rattle.ballots.specs.Message.{value_bytes, canonical};
 ghost use Rattle.ballots.specs.Row.{row_text};
 
 use crate::{Ballot, Message, NodeId, Slot, Value};
-use proto_wire::{write_present_bytes, write_present_varint};
+use proto_fields::{write_nonempty_bytes, write_nonzero_varint};
 use std::alloc::{AllocError, Global};
 
 /// A message, and its text.
@@ -29,14 +29,14 @@ fn spelled(
         ≡ row_text kind head.0 head.1 first.0 first.1 second.0 second.1 (value_bytes value.now)) }
 {
     let mut text = Vec::new(alloc);
-    write_present_varint(&mut text, 1, kind)?;
-    write_present_varint(&mut text, 2, u64::from(head.0.number()))?;
-    write_present_varint(&mut text, 3, u64::from(head.1.number()))?;
-    write_present_varint(&mut text, 5, u64::from(first.0))?;
-    write_present_varint(&mut text, 6, u64::from(first.1))?;
-    write_present_varint(&mut text, 7, u64::from(second.0))?;
-    write_present_varint(&mut text, 8, u64::from(second.1))?;
-    write_present_bytes(&mut text, 9, value.as_bytes())?;
+    write_nonzero_varint(&mut text, 1, kind)?;
+    write_nonzero_varint(&mut text, 2, u64::from(head.0.number()))?;
+    write_nonzero_varint(&mut text, 3, u64::from(head.1.number()))?;
+    write_nonzero_varint(&mut text, 5, u64::from(first.0))?;
+    write_nonzero_varint(&mut text, 6, u64::from(first.1))?;
+    write_nonzero_varint(&mut text, 7, u64::from(second.0))?;
+    write_nonzero_varint(&mut text, 8, u64::from(second.1))?;
+    write_nonempty_bytes(&mut text, 9, value.as_bytes())?;
     Ok(text)
 }
 

@@ -5,6 +5,7 @@ mod members;
 mod messages;
 mod order;
 mod plain_meaning;
+mod printed;
 mod records;
 mod support;
 mod wire;

@@ -4,6 +4,7 @@ ghost use Rattle.std.specs.Cmp.Rules.{comparing};
 ghost use Rattle.std.proofs.Common.{rules};
 ghost use Rattle.ballots.specs.Value.{IsUploadBytes};
 
+use bytes::Bytes;
 use std::alloc::AllocError;
 use std::marker::Model;
 
@@ -13,25 +14,27 @@ pub type OutOfMemory = AllocError;
 /// The most bytes of an upload's value.
 pub const MAX_UPLOAD_BYTES: usize = 16_777_216;
 
-/// The bytes of an upload's value, 1 to [`MAX_UPLOAD_BYTES`]. What they say is not looked at here.
+/// The bytes of an upload's value, 1 to [`MAX_UPLOAD_BYTES`]. What they say is not looked at here. A clone shares them: it
+/// copies no byte, and takes no memory but what a further owner of a [`Bytes`] may take.
 #[derive(Debug, Drop)]
 pub struct UploadBytes {
-    bytes: Vec<u8>,
+    bytes: Bytes,
 }
 
 impl Model for UploadBytes {
     ghost Value = { List ℕ };
 
-    ghost view = { λ u. u.bytes.items };
+    ghost view = { λ u. u.bytes };
 
-    ghost invariant = { λ u. IsUploadBytes u.bytes.items };
+    ghost invariant = { λ u. IsUploadBytes u.bytes };
 }
 
 impl UploadBytes {
-    /// These bytes, `None` for none or for more than [`MAX_UPLOAD_BYTES`].
-    pub fn new(bytes: Vec<u8>) -> Option<UploadBytes>
-        ensures within { IsSome result ↔ IsUploadBytes bytes.items }
-        ensures value { IfSome result (λ upload. upload ≡ bytes.items) }
+    /// These bytes, `None` for none or for more than [`MAX_UPLOAD_BYTES`]. Who has a `Vec` makes it a [`Bytes`] first, by
+    /// `Bytes::from_vec`, which copies no byte.
+    pub fn new(bytes: Bytes) -> Option<UploadBytes>
+        ensures within { IsSome result ↔ IsUploadBytes bytes }
+        ensures value { IfSome result (λ upload. upload ≡ bytes) }
     {
         if bytes.is_empty() || bytes.len() > MAX_UPLOAD_BYTES {
             return None;
@@ -45,14 +48,6 @@ impl UploadBytes {
         ensures within { IsUploadBytes self.now }
     {
         self.bytes.as_slice()
-    }
-
-    /// The bytes, with no copy made.
-    pub fn into_vec(self) -> Vec<u8>
-        ensures value { result.items ≡ self }
-        ensures within { IsUploadBytes self }
-    {
-        self.bytes
     }
 }
 

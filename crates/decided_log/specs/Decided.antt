@@ -1,14 +1,15 @@
 -- The list of decided values, chosen slot by slot: Lamport, "Paxos Made Simple", section 3, where a server may know the
 -- commands 1 to 134 and 138 and 139, and executes those before the first gap alone. What is known is a look-up by slot.
-use Rattle.std.specs.Prelude.{◌≡◌, ◌≢◌, ℕ, ◌<◌, List, length, Option, Some, None, slice_get, nat_eq}
+use Rattle.std.specs.Prelude.{◌≡◌, ℕ, ◌<◌, List, length, Option, Some, None, slice_get, nat_eq}
 use Rattle.std.specs.Option.{option_or}
 use Rattle.std.specs.Map.{lookup}
+use Rattle.ballots.specs.Slots.{OthersStay}
 use Rattle.ballots.specs.declared.value.Value.{Value}
 
 -- the slot has the value, or what it had before; every other slot is as before
 pub record Inserts (old new : ℕ → Option Value) (slot : ℕ) (value : Value) : Type 0 where
   pub kept : new slot ≡ option_or (old slot) (Some value)
-  pub others : (other : ℕ) → other ≢ slot → new other ≡ old other
+  pub others : OthersStay old new slot
 
 -- what is known after these inserts, one after the other: for each slot the first value that is inserted for it
 abbrev pub Holds : List (ℕ × Value) → (ℕ → Option Value) → Type 0

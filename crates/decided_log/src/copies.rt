@@ -3,7 +3,7 @@
 ghost use Rattle.std.specs.Prelude.{◌≡◌, ℕ, ◌+◌, ◌<◌, ◌≤◌, List, [], ◌∷◌, None, length, nat_eq, IfSome, IfOk, OnErr};
 ghost use Rattle.std.specs.Option.{option_map};
 ghost use Rattle.std.specs.Map.{lookup};
-ghost use Rattle.ballots.specs.declared.slot.TheConstants.{MAX_SLOT};
+ghost use Rattle.ballots.specs.Limits.{max_slot};
 ghost use Rattle.decided_log.specs.Decided.{IsPrefix};
 ghost use Rattle.decided_log.specs.Asked.{decided_messages};
 ghost use Rattle.decided_log.specs.Keeping.{grown_at};
@@ -14,9 +14,9 @@ use std::alloc::Global;
 
 // The value of the slot of this number.
 fn find_behind(later: &IndexMap<Slot, Value>, number: usize) -> Option<&Value>
-    requires { (slot : ℕ) → MAX_SLOT < slot → lookup (nat_eq slot) later.now.entries ≡ None }
+    requires { (slot : ℕ) → max_slot < slot → lookup (nat_eq slot) later.now.entries ≡ None }
     ensures value { option_map (λ value. value.now) result ≡ lookup (nat_eq number) later.now.entries }
-    ensures within { IfSome result (λ value. number ≤ MAX_SLOT) }
+    ensures within { IfSome result (λ value. number ≤ max_slot) }
 {
     let slot = Slot::new(u32::try_from(number).ok()?)?;
     later.get(&slot)
@@ -29,7 +29,7 @@ pub(crate) fn grown_by(
     slot: Slot,
     value: &Value,
 ) -> Result<Vec<Value>, OutOfMemory>
-    requires { (slot : ℕ) → MAX_SLOT < slot → lookup (nat_eq slot) later.now.entries ≡ None }
+    requires { (slot : ℕ) → max_slot < slot → lookup (nat_eq slot) later.now.entries ≡ None }
     ensures { IfOk result (λ values. IsPrefix (grown_at later.now.entries slot value.now) values.items) }
 {
     let mut values = Vec::new(alloc);
@@ -42,7 +42,7 @@ pub(crate) fn grown_by(
 
 // The message that the slot of this number has the value.
 fn decided(node: NodeId, number: u32, value: &Value) -> Result<Message, OutOfMemory>
-    requires { number ≤ MAX_SLOT }
+    requires { number ≤ max_slot }
     ensures { IfOk result (λ message. decided_messages node number (value.now ∷ []) ≡ message ∷ []) }
 {
     let Some(slot) = Slot::new(number) else {
@@ -62,7 +62,7 @@ pub(crate) fn decided_from(
     first: Slot,
     values: &[Value],
 ) -> Result<Vec<Message>, OutOfMemory>
-    requires { first + length values.now ≤ MAX_SLOT + 1 }
+    requires { first + length values.now ≤ max_slot + 1 }
     ensures messages { IfOk result (λ messages. messages.items ≡ decided_messages node first values.now) }
     ensures memory { OnErr result (0 < length values.now) }
 {

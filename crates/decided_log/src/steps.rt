@@ -3,7 +3,7 @@
 ghost use Rattle.std.specs.Prelude.{◌≡◌, ℕ, ◌+◌, ◌<◌, ◌≤◌, Bool, true, false, length, vec_capacity, nat_eq, Option, Some, None, if◌then◌else◌, is_some};
 ghost use Rattle.std.specs.Map.{lookup};
 ghost use Rattle.indexmap.specs.IndexMap.{spare};
-ghost use Rattle.ballots.specs.declared.slot.TheConstants.{MAX_SLOT};
+ghost use Rattle.ballots.specs.Limits.{max_slot};
 ghost use Rattle.decided_log.specs.Decided.{Inserts};
 ghost use Rattle.decided_log.specs.Holding.{found};
 ghost use Rattle.decided_log.specs.Keeping.{IsJoinable, IsKept, Takes, Joins};
@@ -55,7 +55,7 @@ fn keep_behind(later: &mut IndexMap<Slot, Value>, slot: Slot, value: Value)
 
 // Takes out the value of the slot of this number.
 fn take_behind(later: &mut IndexMap<Slot, Value>, number: usize) -> Option<Value>
-    requires { (slot : ℕ) → MAX_SLOT < slot → lookup (nat_eq slot) later.old.entries ≡ None }
+    requires { (slot : ℕ) → max_slot < slot → lookup (nat_eq slot) later.old.entries ≡ None }
     ensures value { result ≡ lookup (nat_eq number) later.old.entries }
     ensures takes { Takes later.old.entries later.new.entries number }
     ensures len { length later.new.entries + (if is_some result then 1 else 0) ≡ length later.old.entries }

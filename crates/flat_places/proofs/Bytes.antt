@@ -22,7 +22,7 @@ holds_within text place bytes h =
     omega (arith, simp length-append at whole, h.stands)
 
 -- what stands at a place is what is cut out there
-holds_is : (text : List ℕ) (place : ℕ) (bytes : List ℕ) → Holds text place bytes → take (length bytes) (drop place text) ≡ bytes
+pub holds_is : (text : List ℕ) (place : ℕ) (bytes : List ℕ) → Holds text place bytes → take (length bytes) (drop place text) ≡ bytes
 holds_is text place bytes h =
     let whole : text ≡ h.before ++ (bytes ++ h.after) = h.parts ∙ append_assoc h.before bytes h.after in
     let rest : drop place text ≡ bytes ++ h.after = ap (drop place) whole ∙ drop_at h.before (bytes ++ h.after) place h.stands in

@@ -1,11 +1,13 @@
 -- Fields of a table.
-use Rattle.std.proofs.Common.{◌≡◌, ℕ, ℤ, pos, ◌+◌, ◌*◌, ◌-ℤ◌, ◌<ℤ◌, ◌≤◌, ◌<◌, inl, inr, List, length, Option, Some, None, arith, refl, sym, ap, ◌∙◌, subst}
+use Rattle.std.proofs.Common.{◌≡◌, ℕ, ℤ, pos, ◌+◌, ◌*◌, ◌-ℤ◌, ◌<ℤ◌, ◌≤◌, ◌<◌, inl, inr, List, length, Option, Some, None, Result, Ok, Err, IfErr, arith, refl, sym, ap, ◌∙◌, subst}
 use Rattle.std.proofs.lemmas.Int.{ints}
 use Rattle.flat_places.specs.declared.fault.PlaceFault.{PlaceFault}
 use Rattle.flat_places.specs.declared.fault.PlaceFault.TheVariants.{OutOfBounds, NotUtf8, SmallVtable}
 use Rattle.flat_places.specs.Number.{ShowsUint}
-use Rattle.flat_places.specs.Table.{ShowsVtable, ShowsTable, ShowsField, SlotSays, slot_place}
-use Rattle.flat_places.specs.Fault.{NumberFault, VtableFault, TableFault, SlotFault}
+use Rattle.flat_places.specs.declared.table.Table.TheInside.{Inside}
+use Rattle.flat_places.specs.Table.{ShowsVtable, ShowsTable, HasTable, ShowsField, SlotSays, Seen, slot_place}
+use Rattle.flat_places.specs.TableView.{seen_of, KnowsItsVtable}
+use Rattle.flat_places.specs.Fault.{NumberFault, VtableFault, TableFault, CutSlotFault, SlotFault}
 use Rattle.flat_places.proofs.Numbers.{uint_same, uint_within, int_same}
 
 pub vtable_same : (text : List ℕ) (table v w : ℕ) → ShowsVtable text table v → ShowsVtable text table w → v ≡ w
@@ -49,17 +51,24 @@ vtable_not_cut text table v (inr (z, read, past)) shown =
     let beyond : pos table <ℤ shown.offset = subst (λ (y : ℤ). pos table <ℤ y) same past in
     omega (arith, ints, shown.subtracted)
 
+-- where something is wrong with a table, there is none
+pub no_table : (text : List ℕ) (table : ℕ) (e : PlaceFault) → TableFault text table e → HasTable text table → ⊥
+no_table text table OutOfBounds (inl cut) (v, m, shown, whole) = vtable_not_cut text table v cut shown.leads
+no_table text table OutOfBounds (inr (w, read, cut)) (v, m, shown, whole) =
+    let same : w ≡ v = vtable_same text table w v read shown.leads in
+    let within : v + 2 ≤ length text = uint_within text v 2 m shown.size in
+    omega arith
+no_table text table NotUtf8 fault has = fault
+no_table text table SmallVtable (w, k, read, few) (v, m, shown, whole) =
+    let same = table_same text table w v k m read shown in
+    omega (arith, same.1)
+
+pub field_table : (text : List ℕ) (table n : ℕ) (x : Option ℕ) → ShowsField text table n x → HasTable text table
+field_table text table n x h = (h.vtable, h.own_size, h.shown, h.whole)
+
 -- where something is wrong with a table, it shows no field
 pub table_not_cut : (text : List ℕ) (table n : ℕ) (e : PlaceFault) (x : Option ℕ) → TableFault text table e → ShowsField text table n x → ⊥
-table_not_cut text table n OutOfBounds x (inl cut) shown = vtable_not_cut text table shown.vtable cut shown.shown.leads
-table_not_cut text table n OutOfBounds x (inr (v, read, cut)) shown =
-    let same : v ≡ shown.vtable = vtable_same text table v shown.vtable read shown.shown.leads in
-    let within : shown.vtable + 2 ≤ length text = uint_within text shown.vtable 2 shown.own_size shown.shown.size in
-    omega arith
-table_not_cut text table n NotUtf8 x fault shown = fault
-table_not_cut text table n SmallVtable x (v, m, read, few) shown =
-    let same = table_same text table v shown.vtable m shown.own_size read shown.shown in
-    omega (arith, same.1, shown.whole)
+table_not_cut text table n e x fault shown = no_table text table e fault (field_table text table n x shown)
 
 -- a vtable that is long enough for a slot says something of it only where the slot lies in the text
 says_within : (text : List ℕ) (table v m n : ℕ) (x : Option ℕ) → SlotSays text table v m n x → 6 + 2 * n ≤ m → slot_place v n + 2 ≤ length text
@@ -98,7 +107,53 @@ size_cut text table v NotUtf8 shown cut = absurd cut
 size_cut text table v SmallVtable shown cut = absurd cut
 
 pub slot_cut : (text : List ℕ) (table n v m : ℕ) (e : PlaceFault) → ShowsTable text table v m → 6 + 2 * n ≤ m
-    → NumberFault text (slot_place v n) 2 e → SlotFault text table n e
-slot_cut text table n v m OutOfBounds shown has cut = inr (v, m, shown, has, cut)
+    → NumberFault text (slot_place v n) 2 e → CutSlotFault text table n e
+slot_cut text table n v m OutOfBounds shown has cut = (v, m, shown, has, cut)
 slot_cut text table n v m NotUtf8 shown has cut = absurd cut
 slot_cut text table n v m SmallVtable shown has cut = absurd cut
+
+-- a slot that is cut, or the table that has it
+pub cut_slot_fault : (text : List ℕ) (table n : ℕ) (e : PlaceFault) → CutSlotFault text table n e → SlotFault text table n e
+cut_slot_fault text table n OutOfBounds cut = inr cut
+cut_slot_fault text table n NotUtf8 cut = absurd cut
+cut_slot_fault text table n SmallVtable cut = absurd cut
+
+pub table_slot_fault : (text : List ℕ) (table n : ℕ) (e : PlaceFault) → TableFault text table e → SlotFault text table n e
+table_slot_fault text table n OutOfBounds fault = inl fault
+table_slot_fault text table n NotUtf8 fault = absurd fault
+table_slot_fault text table n SmallVtable fault = fault
+
+-- the view of a table
+pub seen_shows : (t : Inside) (s : Seen) → seen_of t ≡ s → KnowsItsVtable t → ShowsTable s.buf s.place t.vtable t.own_size
+seen_shows t s is knows = subst (λ (k : Seen). ShowsTable k.buf k.place t.vtable t.own_size) is knows.shown
+
+-- the way to the vtable is cut
+pub vtable_fault : (text : List ℕ) (table : ℕ) (e : PlaceFault) → VtableFault text table e → TableFault text table e
+vtable_fault text table OutOfBounds fault = inl fault
+vtable_fault text table NotUtf8 fault = absurd fault
+vtable_fault text table SmallVtable fault = absurd fault
+
+pub seen_cut : (t : Inside) (s : Seen) (n : ℕ) (e : PlaceFault) → seen_of t ≡ s → KnowsItsVtable t → 6 + 2 * n ≤ t.own_size
+    → NumberFault t.buf.now (slot_place t.vtable n) 2 e → CutSlotFault s.buf s.place n e
+seen_cut t s n e is knows has cut =
+    subst (λ (k : Seen). CutSlotFault k.buf k.place n e) is (slot_cut t.buf.now t.place n t.vtable t.own_size e knows.shown has cut)
+
+pub seen_zero : (t : Inside) (s : Seen) (n x : ℕ) → seen_of t ≡ s → KnowsItsVtable t → ShowsUint t.buf.now (slot_place t.vtable n) 2 x → x ≡ 0
+    → ShowsField s.buf s.place n None
+seen_zero t s n x is knows read zero =
+    subst (λ (k : Seen). ShowsField k.buf k.place n None) is (field_zero t.buf.now t.place n t.vtable t.own_size x knows.shown knows.whole read zero)
+
+pub seen_there : (t : Inside) (s : Seen) (n x : ℕ) → seen_of t ≡ s → KnowsItsVtable t → 6 + 2 * n ≤ t.own_size
+    → ShowsUint t.buf.now (slot_place t.vtable n) 2 x → 0 < x → ShowsField s.buf s.place n (Some (t.place + x))
+seen_there t s n x is knows has read above =
+    subst (λ (k : Seen). ShowsField k.buf k.place n (Some (t.place + x))) is (field_there t.buf.now t.place n t.vtable t.own_size x knows.shown knows.whole has read above)
+
+pub slot_faults : {A : Type 0} (r : Result A PlaceFault) (s : Seen) (text : List ℕ) (table n : ℕ) → s ≡ record { buf = text; place = table }
+    → IfErr r (CutSlotFault s.buf s.place n) → IfErr r (SlotFault text table n)
+slot_faults (Ok x) s text table n is cut = tt
+slot_faults (Err e) s text table n is cut =
+    cut_slot_fault text table n e (subst (λ (k : Seen). CutSlotFault k.buf k.place n e) is cut)
+
+pub table_within : (text : List ℕ) (table v m : ℕ) → ShowsTable text table v m → (table + 4 ≤ length text) × (v + 2 ≤ length text)
+table_within text table v m h =
+    (uint_within text table 4 h.leads.shown.bits h.leads.shown.shown, uint_within text v 2 m h.size)

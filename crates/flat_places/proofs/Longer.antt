@@ -1,5 +1,9 @@
 -- What a text shows, it shows with any bytes behind it.
-use Rattle.std.proofs.Common.{ℕ, ℤ, ◌+◌, length, inl, inr, List, ◌++◌, Option, None, Some, ap, ◌∙◌, append_assoc}
+use Rattle.std.proofs.Common.{◌≡◌, ℕ, ℤ, ◌+◌, ◌≤◌, length, take, drop, inl, inr, List, ◌++◌, Option, None, Some, arith, sym, ap, ◌∙◌, subst, append_assoc}
+use Rattle.std.proofs.lemmas.List.{drop-append-le, take-append-le, length-drop}
+use Rattle.byteorder.specs.Endian.{little_bytes}
+use Rattle.byteorder.specs.Numbers.{length-bytes_low_first}
+use Rattle.flat_places.proofs.Bytes.{holds_taken, holds_is}
 use Rattle.flat_places.specs.Held.{Holds}
 use Rattle.flat_places.specs.Number.{ShowsUint, ShowsInt, ShowsReference}
 use Rattle.flat_places.specs.Table.{ShowsTable, SlotSays, ShowsField, slot_place}
@@ -64,3 +68,17 @@ text_longer text more place bytes h = record {
   held = holds_longer text more (place + 4) bytes h.held;
   utf8 = h.utf8;
 }
+
+-- what stands in the front of a text stands in the front alone
+holds_shorter : (text more : List ℕ) (place : ℕ) (bytes : List ℕ) → Holds (text ++ more) place bytes → place + length bytes ≤ length text → Holds text place bytes
+holds_shorter text more place bytes h within =
+    let enough : length bytes ≤ length (drop place text) = omega (arith, length-drop place text) in
+    let same : take (length bytes) (drop place text) ≡ bytes =
+    sym (take-append-le (length bytes) (drop place text) more enough)
+    ∙ ap (take (length bytes)) (sym (drop-append-le place text more (omega arith)))
+    ∙ holds_is (text ++ more) place bytes h in
+    subst (Holds text place) same (holds_taken text place (length bytes) within)
+
+pub uint_shorter : (text more : List ℕ) (place size x : ℕ) → ShowsUint (text ++ more) place size x → place + size ≤ length text → ShowsUint text place size x
+uint_shorter text more place size x h within =
+    record { held = holds_shorter text more place (little_bytes size x) h.held (omega (arith, length-bytes_low_first 0 size x)); fits = h.fits }

@@ -49,6 +49,10 @@ uint_shown text place size bytes held len fits = record {
   fits = little_from-lt 0 size bytes fits;
 }
 
+pub uint_laid : (before after : List ℕ) (size x : ℕ) → x < 256 ^ size → ShowsUint (before ++ little_bytes size x ++ after) (length before) size x
+uint_laid before after size x fits =
+    record { held = record { before = before; after = after; parts = refl; stands = refl }; fits = fits }
+
 pub uint_within : (text : List ℕ) (place size x : ℕ) → ShowsUint text place size x → place + size ≤ length text
 uint_within text place size x h =
     omega (arith, holds_within text place (little_bytes size x) h.held, length-bytes_low_first 0 size x)

@@ -63,3 +63,12 @@ pub text_not_utf8 : (text : List ℕ) (place first count : ℕ) (bytes : List �
     → length bytes ≡ count → (¬ IsUtf8 bytes) → TextFault text place NotUtf8
 text_not_utf8 text place first count bytes shown held len not =
     (bytes, subst (ShowsUint text place 4) (sym len) shown.shown, subst (λ k. Holds text k bytes) shown.follows held, not)
+
+pub vector_within : (text : List ℕ) (place size first count : ℕ) → ShowsVector text place size first count
+    → (first ≡ place + 4) × (first + count * size ≤ length text)
+vector_within text place size first count h =
+    let within : first + length h.elements ≤ length text = holds_within text first h.elements h.held in
+    (h.follows, omega (arith, h.whole))
+
+pub text_within : (text : List ℕ) (place : ℕ) (bytes : List ℕ) → ShowsText text place bytes → place + 4 + length bytes ≤ length text
+text_within text place bytes h = holds_within text (place + 4) bytes h.held

@@ -56,6 +56,12 @@ abbrev pub IsCutSlot : List ℕ → ℕ → ℕ → Type 0
 IsCutSlot text table n =
     (vtable own_size : ℕ) × ShowsTable text table vtable own_size × HasSlot own_size n × IsCut text (slot_place vtable n) 2
 
+-- field n of a table that is there
+abbrev pub CutSlotFault : List ℕ → ℕ → ℕ → PlaceFault → Type 0
+CutSlotFault text table n OutOfBounds = IsCutSlot text table n
+CutSlotFault text table n NotUtf8 = ⊥
+CutSlotFault text table n SmallVtable = ⊥
+
 -- field n of a table
 abbrev pub SlotFault : List ℕ → ℕ → ℕ → PlaceFault → Type 0
 SlotFault text table n OutOfBounds = TableFault text table OutOfBounds ⊎ IsCutSlot text table n

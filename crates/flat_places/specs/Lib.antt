@@ -3,3 +3,4 @@ pub mod Number
 pub mod Table
 pub mod Vector
 pub mod Fault
+pub mod TableView

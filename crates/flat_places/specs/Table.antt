@@ -39,3 +39,12 @@ pub record ShowsField (text : List ℕ) (table n : ℕ) (field : Option ℕ) : T
   pub shown : ShowsTable text table vtable own_size
   pub whole : sizes_len ≤ own_size
   pub says : SlotSays text table vtable own_size n field
+
+-- at the place stands a table, whose vtable has room for its two sizes
+abbrev pub HasTable : List ℕ → ℕ → Type 0
+HasTable text table = (vtable own_size : ℕ) × ShowsTable text table vtable own_size × (sizes_len ≤ own_size)
+
+-- what a view of a table sees: the bytes, and where in them the table stands
+pub record Seen : Type 0 where
+  pub buf : List ℕ
+  pub place : ℕ

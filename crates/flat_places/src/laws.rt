@@ -1,6 +1,7 @@
 //! Laws of the definitions that every reader here is proved against.
 
-ghost use Rattle.std.specs.Prelude.{◌≡◌, ℕ, ℤ, ◌+◌, List, ◌++◌, length, Option};
+ghost use Rattle.std.specs.Prelude.{◌≡◌, ◌≤◌, ◌<◌, ℕ, ℤ, ◌+◌, ◌*◌, ◌^◌, List, ◌++◌, length, Option, Some};
+ghost use Rattle.byteorder.specs.Endian.{little_bytes};
 ghost use Rattle.flat_places.specs.declared.fault.PlaceFault.{PlaceFault};
 ghost use Rattle.flat_places.specs.Number.{ShowsUint, ShowsInt, ShowsReference};
 ghost use Rattle.flat_places.specs.Table.{ShowsTable, ShowsField};
@@ -55,4 +56,31 @@ pub fn longer_texts_show_the_same()
     ensures field { (text more : List ℕ) (table n : ℕ) (x : Option ℕ) → ShowsField text table n x → ShowsField (text ++ more) table n x }
     ensures vector { (text more : List ℕ) (place size i n : ℕ) → ShowsVector text place size i n → ShowsVector (text ++ more) place size i n }
     ensures string { (text more : List ℕ) (place : ℕ) (bytes : List ℕ) → ShowsText text place bytes → ShowsText (text ++ more) place bytes }
+{}
+
+/// A number stands where its bytes were laid, whatever stands around them.
+pub fn numbers_stand_where_they_were_laid()
+    ensures { (before after : List ℕ) (size x : ℕ) → x < 256 ^ size → ShowsUint (before ++ little_bytes size x ++ after) (length before) size x }
+{}
+
+/// A field stands as many bytes behind its table as its slot says. The slot of field n is the one behind the vtable's two sizes and
+/// the n slots before it.
+pub fn fields_stand_where_their_slots_say()
+    ensures { (text : List ℕ) (table vtable own_size n offset : ℕ) → ShowsTable text table vtable own_size → 6 + 2 * n ≤ own_size
+        → ShowsUint text (vtable + 4 + 2 * n) 2 offset → 0 < offset → ShowsField text table n (Some (table + offset)) }
+{}
+
+/// What is shown lies in the text.
+pub fn what_is_shown_lies_in_the_text()
+    ensures number { (text : List ℕ) (place size x : ℕ) → ShowsUint text place size x → place + size ≤ length text }
+    ensures reference { (text : List ℕ) (place x : ℕ) → ShowsReference text place x → place + 4 ≤ length text }
+    ensures table { (text : List ℕ) (table v m : ℕ) → ShowsTable text table v m → (table + 4 ≤ length text) × (v + 2 ≤ length text) }
+    ensures vector { (text : List ℕ) (place size i n : ℕ) → ShowsVector text place size i n → (i ≡ place + 4) × (i + n * size ≤ length text) }
+    ensures string { (text : List ℕ) (place : ℕ) (bytes : List ℕ) → ShowsText text place bytes → place + 4 + length bytes ≤ length text }
+{}
+
+/// A number is no more than its own bytes: a shorter text in which they lie shows it too.
+pub fn shorter_texts_show_the_same_numbers()
+    ensures { (text more : List ℕ) (place size x : ℕ) → ShowsUint (text ++ more) place size x → place + size ≤ length text
+        → ShowsUint text place size x }
 {}

@@ -1,13 +1,15 @@
 -- Batches: the structs of their vectors, and that these are there without memory for them.
-use Rattle.std.proofs.Common.{◌≡◌, ◌≤◌, ◌<◌, inl, inr, ℕ, zero, suc, ◌+◌, ◌*◌, ℤ, Bool, List, [], ◌∷◌, ◌++◌, length, length-drop, take, drop, slice_index, arith, refl, subst}
+use Rattle.std.proofs.Common.{◌≡◌, ◌≤◌, ◌<◌, inl, inr, ℕ, zero, suc, ◌+◌, ◌*◌, ℤ, Bool, List, [], ◌∷◌, ◌++◌, length, length-drop, take, drop, slice_index, Result, Ok, Err, IfErr, arith, refl, subst}
 use Rattle.std.proofs.lemmas.List.{length-take-le}
 use Rattle.flat_places.specs.Number.{ShowsUint}
 use Rattle.flat_places.specs.Held.{Holds}
+use Rattle.flat_places.specs.Table.{Seen}
 use Rattle.flat_places.proofs.Bytes.{holds_taken, held_fit}
 use Rattle.flat_places.proofs.Numbers.{uint_shown}
 use Rattle.flatbuf_meta.specs.declared.fault.MetaFault.{MetaFault}
 use Rattle.flatbuf_meta.specs.Slots.{Row, RowFault, SlotNumberFault}
 use Rattle.flatbuf_meta.specs.Header.{int64_of, ShowsInt64, ShowsPairs, Head}
+use Rattle.flatbuf_meta.specs.Faults.{BatchFault}
 use Rattle.flatbuf_meta.specs.HeaderViews.{ShowsBatchIn, ShowsRowsIn, BatchFaultIn, IsPairAt}
 use Rattle.flatbuf_meta.proofs.Walking.{row_inside}
 
@@ -85,3 +87,9 @@ batch_there text message table len nodes buffers compressed body rows fits =
     let (ns, all, shown) = pairs_there text nodes.first nodes.count (row_inside text table 1 16 nodes rows.nodes_shown) fits in
     let (bs, all', shown') = pairs_there text buffers.first buffers.count (row_inside text table 2 16 buffers rows.buffers_shown) fits in
     (record { length = len; nodes = ns; buffers = bs; compressed = compressed; body_length = body }, batch_shown text message table len nodes buffers compressed body ns bs rows all shown all' shown')
+
+-- what is wrong with a batch's table, seen once
+pub batch_faults : {A : Type 0} (r : Result A MetaFault) (s : Seen) (text : List ℕ) (message table : ℕ) → s ≡ record { buf = text; place = table }
+    → IfErr r (BatchFault s.buf s.place) → IfErr r (BatchFaultIn text message table)
+batch_faults (Ok x) s text message table is fault = tt
+batch_faults (Err e) s text message table is fault = inl (subst (λ (k : Seen). BatchFault k.buf k.place e) is fault)

@@ -1,21 +1,21 @@
 -- What was built, one part more at a time.
-use Rattle.std.proofs.Common.{◌≡◌, ◌≢◌, ◌⊎◌, inl, inr, ◌-◌, ℕ, zero, suc, ◌+◌, ◌*◌, ◌<◌, String, List, [], ◌∷◌, ◌++◌, map, length, arith, refl, sym, ap, ◌∙◌, subst}
+use Rattle.std.proofs.Common.{◌≡◌, ◌⊎◌, inl, inr, ℕ, suc, ◌+◌, ◌*◌, String, List, [], ◌∷◌, ◌++◌, map, length, arith, refl, sym, ap, ◌∙◌, subst}
 use Rattle.std.proofs.lemmas.List.{map_push, length_push, length-map}
 use Rattle.std.specs.declared.alloc.Global.{Global}
 use Rattle.flat_places.specs.Number.{ShowsReference}
 use Rattle.flatbuf_meta.specs.declared.fault.MetaFault.{MetaFault}
-use Rattle.flatbuf_meta.specs.declared.fault.MetaFault.TheVariants.{OutOfMemory, TooDeep}
+use Rattle.flatbuf_meta.specs.declared.fault.MetaFault.TheVariants.{OutOfMemory}
 use Rattle.flatbuf_meta.specs.declared.schema.Field.{Field}
 use Rattle.flatbuf_meta.specs.Columns.{Entry, Column, Tree, tree, Forest, more, width, Columns}
 use Rattle.flatbuf_meta.specs.Views.{entry_of, tree_of, forest_of}
 use Rattle.flatbuf_meta.specs.Slots.{Row, ShowsNumber, ShowsRow}
-use Rattle.flatbuf_meta.specs.Shown.{ShowsEntry, ShowsEntries, ShowsColumn, ShowsTree, ShowsForest}
+use Rattle.flatbuf_meta.specs.Shown.{ShowsEntry, ShowsEntries, ShowsTree, ShowsForest}
 use Rattle.flatbuf_meta.specs.Header.{ShowsColumns}
 use Rattle.flatbuf_meta.specs.Limits.{Extent, no_extent, add_extents, entries_extent, forest_extent, IsWithin}
 use Rattle.flatbuf_meta.specs.Walking.{PassesForest, ForestEnd, PassesEntries, EntriesEnd}
-use Rattle.flatbuf_meta.specs.Faults.{EntryFault, EntriesFault, ColumnFault, StandsBelow, ForestFault, SchemaFault}
+use Rattle.flatbuf_meta.specs.Faults.{SchemaFault}
 use Rattle.flatbuf_meta.specs.Building.{BuildsColumn, ShowsColumnsOf}
-use Rattle.flatbuf_meta.proofs.Walking.{beyond_more, entries_append, followed_by, forest_more, forest_is_part, level_left}
+use Rattle.flatbuf_meta.proofs.Walking.{beyond_more, entries_append, followed_by, forest_more, forest_is_part}
 use Rattle.flatbuf_meta.proofs.Unique.{row_same, entries_same, forest_same}
 
 abbrev Pair : Type 0
@@ -32,10 +32,10 @@ entries_built text place i table xs new x shown all refers there is =
       ap length is ∙ length_push xs x ∙ ap (λ k. k + 1) all,
     )
 
-pub entries_refused : (text : List ℕ) (row : Row) (i table : ℕ) (e : MetaFault) → i < row.count → ShowsReference text (row.first + 4 * i) table
-    → (e ≡ OutOfMemory) ⊎ EntryFault text table e → (e ≡ OutOfMemory) ⊎ EntriesFault text row e
-entries_refused text row i table e there refers (inl memory) = inl memory
-entries_refused text row i table e there refers (inr fault) = inr (i, table, there, refers, fault)
+-- memory apart, one fault follows from another
+pub or_memory : {P Q : Type 0} (e : MetaFault) → (P → Q) → (e ≡ OutOfMemory) ⊎ P → (e ≡ OutOfMemory) ⊎ Q
+or_memory e follows (inl memory) = inl memory
+or_memory e follows (inr fault) = inr (follows fault)
 
 forest_of_more : (ts : List Tree) (t : Tree) → forest_of (ts ++ t ∷ []) ≡ followed_by (forest_of ts) t
 forest_of_more [] t = refl
@@ -65,41 +65,6 @@ pub tree_built : (text : List ℕ) (table : ℕ) (column : Column) (entries : Li
     → ShowsTree text table (tree column entries (forest_of (map tree_of fields)))
 tree_built text table column entries children fields built shown all =
     (children, built.metadata, built.shown, built.all, built.entries_shown, width_forest_of (map tree_of fields) ∙ length-map fields tree_of ∙ all, shown)
-
-pub column_refused : (text : List ℕ) (row : Row) (i levels table : ℕ) (e : MetaFault) → levels ≢ 0 → i < row.count → ShowsReference text (row.first + 4 * i) table
-    → (e ≡ OutOfMemory) ⊎ ColumnFault text table e → (e ≡ OutOfMemory) ⊎ ForestFault text levels row e
-column_refused text row i zero table e left there refers ends = absurd (left refl)
-column_refused text row i (suc levels) table e left there refers (inl memory) = inl memory
-column_refused text row i (suc levels) table e left there refers (inr fault) = inr (table, 0, (i, there, refers), inl (omega arith, fault))
-
-pub inner_refused : (text : List ℕ) (row : Row) (i levels table : ℕ) (column : Column) (entries : List Entry) (children : Row) (e : MetaFault) → levels ≢ 0 → i < row.count
-    → ShowsReference text (row.first + 4 * i) table → BuildsColumn text table column entries children
-    → (e ≡ OutOfMemory) ⊎ ForestFault text (levels - 1) children e → (e ≡ OutOfMemory) ⊎ ForestFault text levels row e
-inner_refused text row i levels table column entries children e left there refers built (inl memory) = inl memory
-inner_refused text row i levels table column entries children e left there refers built (inr (child, level, element, inl (within, below))) =
-    let some = level_left levels left in
-    inr (table, suc level, (i, there, refers), inl (omega arith, (child, (children, built.shown.children_shown, element), below)))
-inner_refused text row i levels table column entries children e left there refers built (inr (child, level, element, inr (deep, below))) =
-    inr (
-      table,
-      level,
-      (i, there, refers),
-      inr (
-        deep,
-        subst (λ k. StandsBelow text k table (λ column. Unit {0})) (level_left levels left) (child, (children, built.shown.children_shown, element), below),
-      ),
-    )
-
-pub deep_refused : (text : List ℕ) (row : Row) (i levels table : ℕ) → levels ≡ 0 → i < row.count → ShowsReference text (row.first + 4 * i) table
-    → (TooDeep ≡ OutOfMemory) ⊎ ForestFault text levels row TooDeep
-deep_refused text row i zero table none there refers = inr (table, 0, (i, there, refers), inr (refl, tt))
-deep_refused text row i (suc levels) table none there refers = absurd (omega arith)
-
-pub metadata_refused : (text : List ℕ) (table : ℕ) (column : Column) (children metadata : Row) (e : MetaFault) → ShowsColumn text table column children metadata
-    → (e ≡ OutOfMemory) ⊎ EntriesFault text metadata e → (e ≡ OutOfMemory) ⊎ ColumnFault text table e
-metadata_refused text table column children metadata e shown (inl memory) = inl memory
-metadata_refused text table column children metadata e shown (inr fault) =
-    inr (inr (inr (inr (inr (inr (inl (inr (metadata, shown.metadata_shown, fault))))))))
 
 -- ---- the whole schema
 
@@ -165,16 +130,6 @@ schema_shown text table fields metadata seen new little fields_shown metadata_sh
       fields_shown = fields_shown;
       metadata_shown = metadata_shown;
     }
-
-pub fields_refused : (text : List ℕ) (table : ℕ) (fields : Row) (e : MetaFault) → ShowsRow text table 1 4 fields
-    → (e ≡ OutOfMemory) ⊎ ForestFault text 16 fields e → (e ≡ OutOfMemory) ⊎ SchemaFault text table e
-fields_refused text table fields e shown (inl memory) = inl memory
-fields_refused text table fields e shown (inr fault) = inr (inr (inr (inl (fields, shown, fault))))
-
-pub schema_entries_refused : (text : List ℕ) (table : ℕ) (metadata : Row) (e : MetaFault) → ShowsRow text table 2 4 metadata
-    → (e ≡ OutOfMemory) ⊎ EntriesFault text metadata e → (e ≡ OutOfMemory) ⊎ SchemaFault text table e
-schema_entries_refused text table metadata e shown (inl memory) = inl memory
-schema_entries_refused text table metadata e shown (inr fault) = inr (inr (inr (inr (inl (inr (metadata, shown, fault))))))
 
 abbrev columns_with : Forest → List Entry → Columns
 columns_with f m = record { fields = f; metadata = m }

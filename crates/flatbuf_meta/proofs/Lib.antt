@@ -20,3 +20,4 @@ pub mod TypesShown
 pub mod TreesShown
 pub mod BatchesShown
 pub mod WrittenSizes
+pub mod Profiled

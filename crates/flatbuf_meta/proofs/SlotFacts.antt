@@ -1,12 +1,13 @@
 -- Fields of a table.
-use Rattle.std.proofs.Common.{◌≡◌, ℕ, inr, List, Option, Some, Result, Ok, Err, IfErr, sym, subst}
+use Rattle.std.proofs.Common.{◌≡◌, ℕ, inl, inr, List, Option, Some, Result, Ok, Err, IfErr, sym, subst}
 use Rattle.std.specs.Result.{IsErrAnd}
 use Rattle.flat_places.specs.declared.fault.PlaceFault.{PlaceFault}
 use Rattle.flat_places.specs.declared.fault.PlaceFault.TheVariants.{OutOfBounds, NotUtf8, SmallVtable}
-use Rattle.flat_places.specs.Fault.{TextFault}
+use Rattle.flat_places.specs.Fault.{TextFault, TableFault}
 use Rattle.flatbuf_meta.specs.declared.fault.MetaFault.{MetaFault}
+use Rattle.flatbuf_meta.specs.declared.fault.MetaFault.TheVariants as meta
 use Rattle.flatbuf_meta.specs.FaultOf.{fault_of}
-use Rattle.flatbuf_meta.specs.Slots.{ShowsLink, Told, StringFault}
+use Rattle.flatbuf_meta.specs.Slots.{ShowsLink, Told, FieldSlotFault, StringFault}
 
 -- the fault of a place stands as one of a header
 pub told : (Stands : PlaceFault → Type 0) (e : PlaceFault) → Stands e → Told Stands (fault_of e)
@@ -24,3 +25,16 @@ pub string_wrong : (text : List ℕ) (table n target : ℕ) (field : Option ℕ)
     → TextFault text target e → StringFault text table n (fault_of e)
 string_wrong text table n target field e linked is fault =
     inr (target, subst (ShowsLink text table n) is linked, told (TextFault text target) e fault)
+
+-- a fault of a table, as one of each of its slots
+pub table_wrong : (text : List ℕ) (table n : ℕ) (e : MetaFault) → Told (TableFault text table) e → FieldSlotFault text table n e
+table_wrong text table n meta.OutOfBounds fault = inl fault
+table_wrong text table n meta.NotUtf8 fault = absurd fault
+table_wrong text table n meta.BadHeader fault = fault
+table_wrong text table n meta.Version fault = absurd fault
+table_wrong text table n meta.Endianness fault = absurd fault
+table_wrong text table n (meta.Unsupported kind) fault = absurd fault
+table_wrong text table n meta.Dictionary fault = absurd fault
+table_wrong text table n meta.TooDeep fault = absurd fault
+table_wrong text table n meta.TooManyFields fault = absurd fault
+table_wrong text table n meta.OutOfMemory fault = absurd fault

@@ -41,6 +41,10 @@ ShowsLong text table n z = (bits : ℕ) × ShowsNumber text table n 8 0 bits × 
 abbrev pub ShowsBatchIn : List ℕ → ℕ → ℕ → Head → Type 0
 ShowsBatchIn text message table head = ShowsBatch text table head × ShowsLong text message 3 head.body_length
 
+-- the table says whether the buffers are compressed
+abbrev pub ShowsCompression : List ℕ → ℕ → Bool → Type 0
+ShowsCompression text table compressed = (field : Option ℕ) × ShowsField text table 3 field × (compressed ≡ is_some field)
+
 -- the same of a batch, but for the structs of its two vectors
 pub record ShowsRowsIn (text : List ℕ) (message table : ℕ) (length : ℤ) (nodes buffers : Row) (compressed : Bool) (body_length : ℤ) : Type 0 where
   pub length_shown : ShowsLong text table 0 length

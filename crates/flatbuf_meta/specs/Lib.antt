@@ -23,3 +23,4 @@ pub mod Shape
 pub mod ShapeView
 pub mod Fitting
 pub mod Writing
+pub mod Writable

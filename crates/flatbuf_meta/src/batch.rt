@@ -2,17 +2,18 @@
 
 ghost use Rattle.std.specs.Prelude.{◌≡◌, ◌≤◌, ◌<◌, ◌+◌, ◌⊎◌, length, IfOk, IfErr};
 ghost use Rattle.flatbuf_meta.specs.declared.fault.MetaFault.TheVariants.{OutOfMemory};
-ghost use Rattle.flatbuf_meta.specs.Slots.{SlotNumberFault};
+ghost use Rattle.flatbuf_meta.specs.Slots.{ShowsRow, SlotNumberFault};
 ghost use Rattle.flatbuf_meta.specs.Rows.{row_of};
 ghost use Rattle.flatbuf_meta.specs.Walking.{IsInside};
 ghost use Rattle.flatbuf_meta.specs.Header.{ShowsInt64, ShowsPairs, Head};
 ghost use Rattle.flatbuf_meta.specs.Faults.{BatchFault};
-ghost use Rattle.flatbuf_meta.specs.HeaderViews.{head_of, ShowsLong, ShowsBatchIn, ShowsRowsIn, BatchFaultIn, IsPairAt};
+ghost use Rattle.flatbuf_meta.specs.HeaderViews.{head_of, ShowsLong, ShowsBatchIn, ShowsCompression, ShowsRowsIn, BatchFaultIn, IsPairAt};
 
 use crate::fault::MetaFault;
 use crate::header::BatchHead;
-use crate::slots::{Row, number, row_at, slot_at};
-use flat_places::uint;
+use crate::slot;
+use crate::slots::{Row, number, row_at, slot_at, table_at};
+use flat_places::{Table, uint};
 use std::alloc::Global;
 
 /// The bytes of a number.
@@ -37,23 +38,35 @@ struct BatchRef {
 }
 
 /// The signed number of eight bytes at field `n` of the table, and 0 where it is absent.
-fn long(buf: &[u8], table: usize, n: usize) -> Result<i64, MetaFault>
-    ensures read { IfOk result (ShowsLong buf.now table n) }
-    ensures fault { IfErr result (SlotNumberFault buf.now table n 8) }
+fn long(table: &Table<'_>, n: usize) -> Result<i64, MetaFault>
+    ensures read { IfOk result (ShowsLong table.now.buf table.now.place n) }
+    ensures fault { IfErr result (SlotNumberFault table.now.buf table.now.place n 8) }
 {
-    Ok(number(buf, table, n, LONG_LEN, 0)?.cast_signed())
+    Ok(number(table, n, LONG_LEN, 0)?.cast_signed())
 }
 
-/// The batch whose table and message these are, but for the structs of its two vectors.
-fn batch_at(buf: &[u8], message: usize, table: usize) -> Result<BatchRef, MetaFault>
-    ensures read { IfOk result (λ b. ShowsRowsIn buf.now message table b.length (row_of b.nodes) (row_of b.buffers) b.compressed b.body_length) }
-    ensures fault { IfErr result (BatchFaultIn buf.now message table) }
+/// How many bytes the body of the message at the place has (Message.fbs, the table `Message`).
+fn body_length_of(buf: &[u8], message: usize) -> Result<i64, MetaFault>
+    ensures read { IfOk result (ShowsLong buf.now message 3) }
+    ensures fault { IfErr result (SlotNumberFault buf.now message 3 8) }
 {
-    let length = long(buf, table, 0)?;
-    let nodes = row_at(buf, table, 1, PAIR_LEN)?;
-    let buffers = row_at(buf, table, 2, PAIR_LEN)?;
-    let compressed = slot_at(buf, table, 3)?.is_some();
-    let body_length = long(buf, message, 3)?;
+    let message = table_at(buf, message)?;
+    long(&message, slot::MESSAGE_BODY_LENGTH)
+}
+
+/// What the table says of the batch, whose body has so many bytes, but for the structs of its two vectors.
+fn batch_in(table: &Table<'_>, body_length: i64) -> Result<BatchRef, MetaFault>
+    ensures length { IfOk result (λ b. ShowsLong table.now.buf table.now.place 0 b.length) }
+    ensures nodes { IfOk result (λ b. ShowsRow table.now.buf table.now.place 1 16 (row_of b.nodes)) }
+    ensures buffers { IfOk result (λ b. ShowsRow table.now.buf table.now.place 2 16 (row_of b.buffers)) }
+    ensures compressed { IfOk result (λ b. ShowsCompression table.now.buf table.now.place b.compressed) }
+    ensures body { IfOk result (λ b. b.body_length ≡ body_length) }
+    ensures fault { IfErr result (BatchFault table.now.buf table.now.place) }
+{
+    let length = long(table, slot::BATCH_LENGTH)?;
+    let nodes = row_at(table, slot::BATCH_NODES, PAIR_LEN)?;
+    let buffers = row_at(table, slot::BATCH_BUFFERS, PAIR_LEN)?;
+    let compressed = slot_at(table, slot::BATCH_COMPRESSION)?.is_some();
     Ok(BatchRef {
         length,
         nodes,
@@ -61,6 +74,16 @@ fn batch_at(buf: &[u8], message: usize, table: usize) -> Result<BatchRef, MetaFa
         compressed,
         body_length,
     })
+}
+
+/// The batch whose table and message these are, but for the structs of its two vectors.
+fn batch_at(buf: &[u8], message: usize, table: usize) -> Result<BatchRef, MetaFault>
+    ensures read { IfOk result (λ b. ShowsRowsIn buf.now message table b.length (row_of b.nodes) (row_of b.buffers) b.compressed b.body_length) }
+    ensures fault { IfErr result (BatchFaultIn buf.now message table) }
+{
+    let body_length = body_length_of(buf, message)?;
+    let table = table_at(buf, table)?;
+    batch_in(&table, body_length)
 }
 
 /// The signed number of eight bytes at the place.

@@ -1,26 +1,26 @@
-//! Schemas, once it is known that they are shown.
+//! Schemas, built while they are read.
 
 ghost use Rattle.std.specs.Prelude.{◌≡◌, ◌⊎◌, ◌++◌, ◌∷◌, [], Err, map, length, option_map, string_bytes, IfOk, IfErr, OnOk};
 ghost use Rattle.flatbuf_meta.specs.declared.fault.MetaFault.TheVariants.{OutOfMemory};
 ghost use Rattle.flatbuf_meta.specs.Columns.{Columns};
 ghost use Rattle.flatbuf_meta.specs.Views.{shape_of, entry_of, tree_of, forest_of, columns_of};
-ghost use Rattle.flatbuf_meta.specs.Slots.{ShowsNumber, ShowsRow};
 ghost use Rattle.flatbuf_meta.specs.Shown.{ShowsEntry, ShowsEntries, ShowsForest};
 ghost use Rattle.flatbuf_meta.specs.Header.{ShowsColumns};
-ghost use Rattle.flatbuf_meta.specs.Faults.{EntryFault, EntriesFault, ColumnFault, ForestFault, SchemaFault};
+ghost use Rattle.flatbuf_meta.specs.Limits.{IsWithin};
+ghost use Rattle.flatbuf_meta.specs.Faults.{SchemaFault};
+ghost use Rattle.flatbuf_meta.specs.Extents.{extent_of};
 ghost use Rattle.flatbuf_meta.specs.Rows.{row_of};
 ghost use Rattle.flatbuf_meta.specs.ColumnView.{with_timezone};
-ghost use Rattle.flatbuf_meta.specs.Walking.{IsInside};
-ghost use Rattle.flatbuf_meta.specs.Building.{column_built, BuildsColumn, ShowsColumnsOf};
+ghost use Rattle.flatbuf_meta.specs.Walking.{IsInside, PassesEntry, EntryEnd, PassesEntries, EntriesEnd, PassesColumn, ColumnEnd, PassesForest, ForestEnd};
+ghost use Rattle.flatbuf_meta.specs.Building.{column_built, BuildsColumn};
 
-use crate::column::{read_column, read_entry};
 use crate::extent::Extent;
 use crate::fault::MetaFault;
 use crate::field_type::Ty;
 use crate::limits::MAX_DEPTH;
 use crate::schema::{Field, Schema};
-use crate::slots::{Row, number, row_at};
-use crate::verify::{element, verify_columns, verify_entries};
+use crate::slots::Row;
+use crate::verify::{count_column, count_entry, element, schema_at, verify_schema};
 use std::alloc::Global;
 
 /// Appends the item.
@@ -34,30 +34,49 @@ fn push<T: Drop>(items: &mut Vec<T>, item: T) -> Result<(), MetaFault>
     }
 }
 
-/// The entry of metadata whose table this is (Schema.fbs, the table `KeyValue`).
-fn build_entry(alloc: Global, buf: &[u8], table: usize) -> Result<(String, String), MetaFault>
-    ensures read { IfOk result (λ entry. ShowsEntry buf.now table (entry_of entry)) }
-    ensures fault { IfErr result (λ e. (e ≡ OutOfMemory) ⊎ EntryFault buf.now table e) }
+/// The entry of metadata at the place, and what was read with it (Schema.fbs, the table `KeyValue`).
+fn build_entry(
+    alloc: Global,
+    buf: &[u8],
+    table: usize,
+    seen: Extent,
+) -> Result<((String, String), Extent), MetaFault>
+    requires within { IsWithin (extent_of seen) }
+    ensures read { IfOk result (λ built. ShowsEntry buf.now table (entry_of built.0)) }
+    ensures passes { IfOk result (λ built. PassesEntry buf.now table (extent_of seen) (extent_of built.1)) }
+    ensures within { IfOk result (λ built. IsWithin (extent_of built.1)) }
+    ensures ends { IfErr result (λ e. (e ≡ OutOfMemory) ⊎ EntryEnd buf.now table (extent_of seen) e) }
 {
-    let (key, value) = read_entry(buf, table)?;
+    let ((key, value), seen) = count_entry(buf, table, seen)?;
     let key = String::from_str(alloc, key)?;
     let value = String::from_str(alloc, value)?;
-    Ok((key, value))
+    Ok(((key, value), seen))
 }
 
-/// The entries of metadata whose references these are.
-fn build_entries(alloc: Global, buf: &[u8], row: Row) -> Result<Vec<(String, String)>, MetaFault>
+/// The entries of metadata whose references these are, and what was read with them.
+#[tactic(auto, using(crate::proofs::Walking::no_entries))]
+fn build_entries(
+    alloc: Global,
+    buf: &[u8],
+    row: Row,
+    seen: Extent,
+) -> Result<(Vec<(String, String)>, Extent), MetaFault>
     requires inside { IsInside buf.now (row_of row) 4 }
-    ensures read { IfOk result (λ entries. ShowsEntries buf.now row.first (map entry_of entries.items)) }
-    ensures all { IfOk result (λ entries. length entries.items ≡ row.count) }
-    ensures fault { IfErr result (λ e. (e ≡ OutOfMemory) ⊎ EntriesFault buf.now (row_of row) e) }
+    requires within { IsWithin (extent_of seen) }
+    ensures read { IfOk result (λ built. ShowsEntries buf.now row.first (map entry_of built.0.items)) }
+    ensures all { IfOk result (λ built. length built.0.items ≡ row.count) }
+    ensures passes { IfOk result (λ built. PassesEntries buf.now row.first row.count (extent_of seen) (extent_of built.1)) }
+    ensures within { IfOk result (λ built. IsWithin (extent_of built.1)) }
+    ensures ends { IfErr result (λ e. (e ≡ OutOfMemory) ⊎ EntriesEnd buf.now (row_of row) (extent_of seen) e) }
 {
     let mut entries = Vec::new(alloc);
+    let mut seen = seen;
     for index in 0..row.count {
-        let entry = build_entry(alloc, buf, element(buf, row, index))?;
+        let (entry, more) = build_entry(alloc, buf, element(buf, row, index), seen)?;
         push(&mut entries, entry)?;
+        seen = more;
     }
-    Ok(entries)
+    Ok((entries, seen))
 }
 
 /// The text, as one that is owned.
@@ -100,48 +119,62 @@ struct Built {
     metadata: Vec<(String, String)>,
 }
 
-/// The column whose table this is, but for those inside it.
+/// The column at the place, but for those inside it, and what was read with it (Schema.fbs, the table `Field`).
 #[tactic(auto, using(crate::proofs::Walking::row_inside))]
-fn build_column(alloc: Global, buf: &[u8], table: usize) -> Result<Built, MetaFault>
-    ensures read { IfOk result (λ built. BuildsColumn buf.now table (column_built built) (map entry_of built.metadata.items) (row_of built.children)) }
-    ensures inside { IfOk result (λ built. IsInside buf.now (row_of built.children) 4) }
-    ensures fault { IfErr result (λ e. (e ≡ OutOfMemory) ⊎ ColumnFault buf.now table e) }
+fn build_column(
+    alloc: Global,
+    buf: &[u8],
+    table: usize,
+    seen: Extent,
+) -> Result<(Built, Extent), MetaFault>
+    requires within { IsWithin (extent_of seen) }
+    ensures read { IfOk result (λ b. BuildsColumn buf.now table (column_built b.0) (map entry_of b.0.metadata.items) (row_of b.0.children)) }
+    ensures inside { IfOk result (λ b. IsInside buf.now (row_of b.0.children) 4) }
+    ensures passes { IfOk result (λ b. PassesColumn buf.now table (row_of b.0.children) (extent_of seen) (extent_of b.1)) }
+    ensures within { IfOk result (λ b. IsWithin (extent_of b.1)) }
+    ensures ends { IfErr result (λ e. (e ≡ OutOfMemory) ⊎ ColumnEnd buf.now table (extent_of seen) e) }
 {
-    let column = read_column(buf, table)?;
-    let metadata = build_entries(alloc, buf, column.metadata)?;
+    let (column, seen) = count_column(buf, table, seen)?;
+    let (metadata, seen) = build_entries(alloc, buf, column.metadata, seen)?;
     let name = String::from_str(alloc, column.name)?;
     let (nullable, children) = (column.nullable, column.children);
     let ty = zoned(alloc, column.ty, column.timezone)?;
-    Ok(Built {
+    let built = Built {
         name,
         nullable,
         ty,
         children,
         metadata,
-    })
+    };
+    Ok((built, seen))
 }
 
-/// The columns whose references these are, no deeper than so many levels.
-#[tactic(auto, using(crate::proofs::Building::deep_refused))]
+/// The columns whose references these are, no deeper than so many levels, and what was read with them and those inside them.
+#[tactic(auto, using(crate::proofs::Walking::no_columns, crate::proofs::Walking::too_deep))]
 fn build_columns(
     alloc: Global,
     buf: &[u8],
     row: Row,
     levels: usize,
-) -> Result<Vec<Field>, MetaFault>
+    seen: Extent,
+) -> Result<(Vec<Field>, Extent), MetaFault>
     requires inside { IsInside buf.now (row_of row) 4 }
-    ensures read { IfOk result (λ fields. ShowsForest buf.now row.first (forest_of (map tree_of fields.items))) }
-    ensures all { IfOk result (λ fields. length fields.items ≡ row.count) }
-    ensures fault { IfErr result (λ e. (e ≡ OutOfMemory) ⊎ ForestFault buf.now levels (row_of row) e) }
+    requires within { IsWithin (extent_of seen) }
+    ensures read { IfOk result (λ built. ShowsForest buf.now row.first (forest_of (map tree_of built.0.items))) }
+    ensures all { IfOk result (λ built. length built.0.items ≡ row.count) }
+    ensures passes { IfOk result (λ built. PassesForest buf.now row.first row.count levels (extent_of seen) (extent_of built.1)) }
+    ensures within { IfOk result (λ built. IsWithin (extent_of built.1)) }
+    ensures ends { IfErr result (λ e. (e ≡ OutOfMemory) ⊎ ForestEnd buf.now levels (row_of row) (extent_of seen) e) }
 {
     let mut fields = Vec::new(alloc);
+    let mut seen = seen;
     for index in 0..row.count {
         let table = element(buf, row, index);
         if levels == 0 {
             return Err(MetaFault::TooDeep);
         }
-        let built = build_column(alloc, buf, table)?;
-        let children = build_columns(alloc, buf, built.children, levels - 1)?;
+        let (built, after) = build_column(alloc, buf, table, seen)?;
+        let (children, more) = build_columns(alloc, buf, built.children, levels - 1, after)?;
         let field = Field {
             name: built.name,
             nullable: built.nullable,
@@ -150,56 +183,34 @@ fn build_columns(
             metadata: built.metadata,
         };
         push(&mut fields, field)?;
+        seen = more;
     }
-    Ok(fields)
+    Ok((fields, seen))
 }
 
-/// References to the parts of a schema.
-#[derive(Clone, Copy)]
-struct SchemaRef {
-    /// To its top columns.
-    fields: Row,
-    /// To its metadata.
-    metadata: Row,
-}
-
-/// The parts of the schema whose table this is (Schema.fbs, the table `Schema`), where all of them are shown.
-fn verify_schema(buf: &[u8], table: usize) -> Result<SchemaRef, MetaFault>
-    ensures shown { IfOk result (λ parts. ShowsColumnsOf buf.now table (row_of parts.fields) (row_of parts.metadata)) }
-    ensures fault { IfErr result (SchemaFault buf.now table) }
+/// The schema at the place, read and counted in one pass.
+fn build_schema(alloc: Global, buf: &[u8], table: usize) -> Result<Schema, MetaFault>
+    ensures read { IfOk result (λ schema. ShowsColumns buf.now table (columns_of schema)) }
+    ensures fault { IfErr result (λ e. (e ≡ OutOfMemory) ⊎ SchemaFault buf.now table e) }
 {
-    let parts = schema_parts(buf, table)?;
-    let seen = verify_columns(buf, parts.fields, MAX_DEPTH, Extent::NOTHING)?;
-    verify_entries(buf, parts.metadata, seen)?;
-    Ok(parts)
+    let parts = schema_at(buf, table)?;
+    let (fields, seen) = build_columns(alloc, buf, parts.fields, MAX_DEPTH, Extent::NOTHING)?;
+    let (metadata, _all) = build_entries(alloc, buf, parts.metadata, seen)?;
+    Ok(Schema { fields, metadata })
 }
 
-/// The parts of a little-endian schema, whose columns and entries nobody has looked at yet.
-#[tactic(auto, using(crate::proofs::Walking::row_inside))]
-fn schema_parts(buf: &[u8], table: usize) -> Result<SchemaRef, MetaFault>
-    ensures little_endian { IfOk result (λ parts. ShowsNumber buf.now table 0 2 0 0) }
-    ensures fields { IfOk result (λ parts. ShowsRow buf.now table 1 4 (row_of parts.fields)) }
-    ensures fields_inside { IfOk result (λ parts. IsInside buf.now (row_of parts.fields) 4) }
-    ensures metadata { IfOk result (λ parts. ShowsRow buf.now table 2 4 (row_of parts.metadata)) }
-    ensures metadata_inside { IfOk result (λ parts. IsInside buf.now (row_of parts.metadata) 4) }
-    ensures fault { IfErr result (SchemaFault buf.now table) }
-{
-    if number(buf, table, 0, 2, 0)? != 0 {
-        return Err(MetaFault::Endianness);
-    }
-    let fields = row_at(buf, table, 1, 4)?;
-    let metadata = row_at(buf, table, 2, 4)?;
-    Ok(SchemaRef { fields, metadata })
-}
-
-/// The schema whose table this is (Schema.fbs, the table `Schema`).
+/// The schema whose table this is (Schema.fbs, the table `Schema`). Where memory was refused, the text is looked at once more,
+/// without memory: that it shows a schema has to be known.
 pub(crate) fn read_schema(alloc: Global, buf: &[u8], table: usize) -> Result<Schema, MetaFault>
     ensures read { IfOk result (λ schema. ShowsColumns buf.now table (columns_of schema)) }
     ensures fault { IfErr result (λ e. (e ≡ OutOfMemory) ⊎ SchemaFault buf.now table e) }
     ensures memory { result ≡ Err OutOfMemory → (columns : Columns) × ShowsColumns buf.now table columns }
 {
-    let parts = verify_schema(buf, table)?;
-    let fields = build_columns(alloc, buf, parts.fields, MAX_DEPTH)?;
-    let metadata = build_entries(alloc, buf, parts.metadata)?;
-    Ok(Schema { fields, metadata })
+    match build_schema(alloc, buf, table) {
+        Err(MetaFault::OutOfMemory) => {
+            verify_schema(buf, table)?;
+            Err(MetaFault::OutOfMemory)
+        }
+        built => built,
+    }
 }

@@ -2,10 +2,11 @@
 
 ghost use Rattle.std.specs.Prelude.{◌≡◌, ◌<◌, ◌^◌, ◌↔◌, ◌⊎◌, ℕ, List, Option, IsTrue, IfOk, IfErr};
 ghost use Rattle.std.specs.Option.{option_map};
+ghost use Rattle.flat_places.specs.Number.{IsNumberSize};
 ghost use Rattle.flat_places.specs.Table.{ShowsField};
 ghost use Rattle.flatbuf_meta.specs.Columns.{Text};
 ghost use Rattle.flatbuf_meta.specs.Views.{shape_of};
-ghost use Rattle.flatbuf_meta.specs.Slots.{ShowsNumber, ShowsString, FieldSlotFault, StringFault};
+ghost use Rattle.flatbuf_meta.specs.Slots.{ShowsNumber, ShowsString, FieldSlotFault, SlotNumberFault, StringFault};
 ghost use Rattle.flatbuf_meta.specs.Kinds.{AllowsChildren, has_timezone};
 ghost use Rattle.flatbuf_meta.specs.Shown.{or_empty, ShowsEntry, ShowsParameter, ShowsParameters, ShowsTimezone, ShowsShape, ShowsColumn};
 ghost use Rattle.flatbuf_meta.specs.Faults.{EntryFault, ParameterFault, TimezoneFault, ParametersFault, ShapeFault, HasWrongParameters, KindFault, OwnFault, ColumnFault};
@@ -16,7 +17,9 @@ ghost use Rattle.flatbuf_meta.specs.ColumnView.{with_timezone, column_view};
 use crate::fault::MetaFault;
 use crate::field_type::Ty;
 use crate::kinds::{Parameter, is_carried, parameters_of, type_from};
-use crate::slots::{Row, link, number, row_at, slot_at, string};
+use crate::slot;
+use crate::slots::{Row, link, number, row_at, slot_at, string, table_at, table_beside};
+use flat_places::Table;
 
 /// The number of the type `Decimal` in the union `Type`.
 const DECIMAL: u8 = 7;
@@ -54,14 +57,24 @@ struct ShapeRef<'a> {
 
 /// The string that field `n` of the table refers to, and an empty one where it is absent (FlatBuffers, "FlatBuffer
 /// Internals", "Strings and Vectors").
-fn string_or_empty(buf: &[u8], table: usize, n: usize) -> Result<&str, MetaFault>
-    ensures read { IfOk result (λ shown. (bytes : Option Text) × ShowsString buf.now table n bytes × (shown.now ≡ or_empty bytes)) }
-    ensures fault { IfErr result (StringFault buf.now table n) }
+fn string_or_empty<'a>(table: &Table<'a>, n: usize) -> Result<&'a str, MetaFault>
+    ensures read { IfOk result (λ shown. (bytes : Option Text) × ShowsString table.now.buf table.now.place n bytes × (shown.now ≡ or_empty bytes)) }
+    ensures fault { IfErr result (StringFault table.now.buf table.now.place n) }
 {
-    match string(buf, table, n)? {
+    match string(table, n)? {
         Some(shown) => Ok(shown),
         None => Ok(""),
     }
+}
+
+/// The entry of metadata whose table this is (Schema.fbs, the table `KeyValue`).
+fn entry_in<'a>(table: &Table<'a>) -> Result<(&'a str, &'a str), MetaFault>
+    ensures read { IfOk result (λ entry. ShowsEntry table.now.buf table.now.place (entry.0.now, entry.1.now)) }
+    ensures fault { IfErr result (EntryFault table.now.buf table.now.place) }
+{
+    let key = string_or_empty(table, slot::ENTRY_KEY)?;
+    let value = string_or_empty(table, slot::ENTRY_VALUE)?;
+    Ok((key, value))
 }
 
 /// An entry of metadata (Schema.fbs, the table `KeyValue`).
@@ -69,56 +82,78 @@ pub(crate) fn read_entry(buf: &[u8], table: usize) -> Result<(&str, &str), MetaF
     ensures read { IfOk result (λ entry. ShowsEntry buf.now table (entry.0.now, entry.1.now)) }
     ensures fault { IfErr result (EntryFault buf.now table) }
 {
-    let key = string_or_empty(buf, table, 0)?;
-    let value = string_or_empty(buf, table, 1)?;
-    Ok((key, value))
+    let table = table_at(buf, table)?;
+    entry_in(&table)
+}
+
+/// The number at field `n` of the table at a place of the buffer that the table of the column stands in.
+fn number_at(
+    table: &Table<'_>,
+    place: usize,
+    n: usize,
+    parameter: Parameter,
+) -> Result<u64, MetaFault>
+    requires { IsNumberSize parameter.size }
+    ensures read { IfOk result (ShowsNumber table.now.buf place n parameter.size parameter.default) }
+    ensures fault { IfErr result (SlotNumberFault table.now.buf place n parameter.size) }
+{
+    let parameters = table_beside(table, place)?;
+    number(&parameters, n, parameter.size, parameter.default)
+}
+
+/// The string at field `n` of the table at a place of the buffer that the table of the column stands in.
+fn string_at<'a>(table: &Table<'a>, place: usize, n: usize) -> Result<Option<&'a str>, MetaFault>
+    ensures read { IfOk result (λ shown. ShowsString table.now.buf place n (option_map (λ bytes. bytes.now) shown)) }
+    ensures fault { IfErr result (StringFault table.now.buf place n) }
+{
+    let parameters = table_beside(table, place)?;
+    string(&parameters, n)
 }
 
 /// The parameter at field `n` of the table of a column's type, which is field 3 of `Field` (Schema.fbs).
 fn read_parameter(
-    buf: &[u8],
-    table: usize,
+    table: &Table<'_>,
     n: usize,
     parameter: Option<Parameter>,
 ) -> Result<u64, MetaFault>
     requires { IsShort parameter }
-    ensures read { IfOk result (ShowsParameter buf.now table n (option_parameter_view parameter)) }
+    ensures read { IfOk result (ShowsParameter table.now.buf table.now.place n (option_parameter_view parameter)) }
     ensures bound { IfOk result (λ x. x < 2 ^ 32) }
-    ensures fault { IfErr result (ParameterFault buf.now table n (option_parameter_view parameter)) }
+    ensures fault { IfErr result (ParameterFault table.now.buf table.now.place n (option_parameter_view parameter)) }
 {
     let Some(parameter) = parameter else {
         return Ok(0);
     };
-    match link(buf, table, 3)? {
-        Some(place) => number(buf, place, n, parameter.size, parameter.default),
+    match link(table, slot::FIELD_TYPE)? {
+        Some(place) => number_at(table, place, n, parameter),
         None => Ok(parameter.default),
     }
 }
 
 /// The numbers among the parameters of a column's type (Schema.fbs, the tables of the union `Type`).
-fn read_numbers(buf: &[u8], table: usize, kind: u8) -> Result<(u64, u64, u64), MetaFault>
-    ensures read { IfOk result (λ x. ShowsParameters buf.now table kind x.0 x.1 x.2) }
+fn read_numbers(table: &Table<'_>, kind: u8) -> Result<(u64, u64, u64), MetaFault>
+    ensures read { IfOk result (λ x. ShowsParameters table.now.buf table.now.place kind x.0 x.1 x.2) }
     ensures first { IfOk result (λ x. x.0 < 2 ^ 32) }
     ensures second { IfOk result (λ x. x.1 < 2 ^ 32) }
-    ensures fault { IfErr result (ParametersFault buf.now table kind) }
+    ensures fault { IfErr result (ParametersFault table.now.buf table.now.place kind) }
 {
     let parameters = parameters_of(kind);
-    let first = read_parameter(buf, table, 0, parameters.first)?;
-    let second = read_parameter(buf, table, 1, parameters.second)?;
-    let third = read_parameter(buf, table, 2, parameters.third)?;
+    let first = read_parameter(table, 0, parameters.first)?;
+    let second = read_parameter(table, 1, parameters.second)?;
+    let third = read_parameter(table, 2, parameters.third)?;
     Ok((first, second, third))
 }
 
 /// The time zone of a column's type, where the type has one (Schema.fbs, the table `Timestamp`).
-fn read_timezone(buf: &[u8], table: usize, kind: u8) -> Result<Option<&str>, MetaFault>
-    ensures read { IfOk result (λ zone. ShowsTimezone buf.now table (has_timezone kind) (option_map (λ bytes. bytes.now) zone)) }
-    ensures fault { IfErr result (TimezoneFault buf.now table (has_timezone kind)) }
+fn read_timezone<'a>(table: &Table<'a>, kind: u8) -> Result<Option<&'a str>, MetaFault>
+    ensures read { IfOk result (λ zone. ShowsTimezone table.now.buf table.now.place (has_timezone kind) (option_map (λ bytes. bytes.now) zone)) }
+    ensures fault { IfErr result (TimezoneFault table.now.buf table.now.place (has_timezone kind)) }
 {
     if kind != TIMESTAMP {
         return Ok(None);
     }
-    match link(buf, table, 3)? {
-        Some(place) => string(buf, place, 1),
+    match link(table, slot::FIELD_TYPE)? {
+        Some(place) => string_at(table, place, slot::TIMESTAMP_TIMEZONE),
         None => Ok(None),
     }
 }
@@ -135,14 +170,14 @@ fn wrong_type(kind: u8) -> MetaFault
 }
 
 /// The type of the column whose table this is (Schema.fbs, the table `Field`, its union `type`).
-fn read_shape(buf: &[u8], table: usize) -> Result<ShapeRef<'_>, MetaFault>
-    ensures kind { IfOk result (λ shape. ShowsNumber buf.now table 2 1 0 shape.kind) }
-    ensures read { IfOk result (λ shape. ShowsShape buf.now table shape.kind (with_timezone (shape_of shape.ty) (option_map (λ bytes. bytes.now) shape.timezone))) }
-    ensures fault { IfErr result (ShapeFault buf.now table) }
+fn read_shape<'a>(table: &Table<'a>) -> Result<ShapeRef<'a>, MetaFault>
+    ensures kind { IfOk result (λ shape. ShowsNumber table.now.buf table.now.place 2 1 0 shape.kind) }
+    ensures read { IfOk result (λ shape. ShowsShape table.now.buf table.now.place shape.kind (with_timezone (shape_of shape.ty) (option_map (λ bytes. bytes.now) shape.timezone))) }
+    ensures fault { IfErr result (ShapeFault table.now.buf table.now.place) }
 {
-    let kind = number(buf, table, 2, 1, 0)? as u8;
-    let (first, second, third) = read_numbers(buf, table, kind)?;
-    let timezone = read_timezone(buf, table, kind)?;
+    let kind = number(table, slot::FIELD_TYPE_ID, 1, 0)? as u8;
+    let (first, second, third) = read_numbers(table, kind)?;
+    let timezone = read_timezone(table, kind)?;
     match type_from(kind, first, second, third) {
         Some(ty) => Ok(ShapeRef { kind, ty, timezone }),
         None => Err(wrong_type(kind)),
@@ -150,11 +185,11 @@ fn read_shape(buf: &[u8], table: usize) -> Result<ShapeRef<'_>, MetaFault>
 }
 
 /// The column has no dictionary (Schema.fbs, the table `Field`, `dictionary`).
-fn no_dictionary(buf: &[u8], table: usize) -> Result<(), MetaFault>
-    ensures read { IfOk result (λ done. ShowsField buf.now table 4 None) }
-    ensures fault { IfErr result (λ fault. FieldSlotFault buf.now table 4 fault ⊎ OwnFault buf.now table fault) }
+fn no_dictionary(table: &Table<'_>) -> Result<(), MetaFault>
+    ensures read { IfOk result (λ done. ShowsField table.now.buf table.now.place 4 None) }
+    ensures fault { IfErr result (λ fault. FieldSlotFault table.now.buf table.now.place 4 fault ⊎ OwnFault table.now.buf table.now.place fault) }
 {
-    match slot_at(buf, table, 4)? {
+    match slot_at(table, slot::FIELD_DICTIONARY)? {
         Some(_) => Err(MetaFault::Dictionary),
         None => Ok(()),
     }
@@ -167,21 +202,32 @@ pub(crate) fn allows_children(ty: &Ty, count: usize) -> bool
     match ty {
         Ty::List | Ty::FixedSizeList { .. } => count == 1,
         Ty::Struct => true,
-        _ => count == 0,
+        Ty::Null
+        | Ty::Int { .. }
+        | Ty::FloatingPoint { .. }
+        | Ty::Binary
+        | Ty::Utf8
+        | Ty::Bool
+        | Ty::Decimal { .. }
+        | Ty::Date { .. }
+        | Ty::Time { .. }
+        | Ty::Timestamp { .. }
+        | Ty::FixedSizeBinary { .. }
+        | Ty::Duration { .. } => count == 0,
     }
 }
 
 /// The column whose table this is (Schema.fbs, the table `Field`), but for the columns inside it and its metadata.
-pub(crate) fn read_column(buf: &[u8], table: usize) -> Result<ColumnRef<'_>, MetaFault>
-    ensures read { IfOk result (λ column. ShowsColumn buf.now table (column_view column) (row_of column.children) (row_of column.metadata)) }
-    ensures fault { IfErr result (ColumnFault buf.now table) }
+fn column_in<'a>(table: &Table<'a>) -> Result<ColumnRef<'a>, MetaFault>
+    ensures read { IfOk result (λ column. ShowsColumn table.now.buf table.now.place (column_view column) (row_of column.children) (row_of column.metadata)) }
+    ensures fault { IfErr result (ColumnFault table.now.buf table.now.place) }
 {
-    let name = string_or_empty(buf, table, 0)?;
-    let nullable = number(buf, table, 1, 1, 0)? != 0;
-    no_dictionary(buf, table)?;
-    let children = row_at(buf, table, 5, 4)?;
-    let metadata = row_at(buf, table, 6, 4)?;
-    let shape = read_shape(buf, table)?;
+    let name = string_or_empty(table, slot::FIELD_NAME)?;
+    let nullable = number(table, slot::FIELD_NULLABLE, 1, 0)? != 0;
+    no_dictionary(table)?;
+    let children = row_at(table, slot::FIELD_CHILDREN, 4)?;
+    let metadata = row_at(table, slot::FIELD_METADATA, 4)?;
+    let shape = read_shape(table)?;
     if !allows_children(&shape.ty, children.count) {
         return Err(MetaFault::BadHeader);
     }
@@ -193,4 +239,13 @@ pub(crate) fn read_column(buf: &[u8], table: usize) -> Result<ColumnRef<'_>, Met
         children,
         metadata,
     })
+}
+
+/// The column at the place, but for the columns inside it and its metadata (Schema.fbs, the table `Field`).
+pub(crate) fn read_column(buf: &[u8], table: usize) -> Result<ColumnRef<'_>, MetaFault>
+    ensures read { IfOk result (λ column. ShowsColumn buf.now table (column_view column) (row_of column.children) (row_of column.metadata)) }
+    ensures fault { IfErr result (ColumnFault buf.now table) }
+{
+    let table = table_at(buf, table)?;
+    column_in(&table)
 }

@@ -21,7 +21,7 @@ pub enum MetaFault {
     #[error("Endianness")]
     Endianness,
     /// A column has a type of this number, which is not carried, or is a decimal of another width.
-    #[error("Unsupported")]
+    #[error("Unsupported({0})")]
     Unsupported(u8),
     /// The message is a dictionary, or a column refers to one.
     #[error("Dictionary")]

@@ -56,7 +56,7 @@ pub enum TimeUnit {
 }
 
 /// The type of a column, with its parameters by the names of Schema.fbs.
-#[derive(Debug, PartialEq, Eq, Drop)]
+#[derive(Clone, Debug, PartialEq, Eq, Drop)]
 pub enum Ty {
     /// No value at all.
     Null,

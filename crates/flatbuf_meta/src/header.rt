@@ -13,7 +13,7 @@ pub enum Header {
 
 /// Where the parts of a batch stand in its body (the table `RecordBatch` and the struct `FieldNode` of Message.fbs, the
 /// struct `Buffer` of Schema.fbs). None of the numbers is judged here.
-#[derive(Debug, PartialEq, Eq, Drop)]
+#[derive(Clone, Debug, PartialEq, Eq, Drop)]
 pub struct BatchHead {
     /// How many rows there are.
     pub length: i64,

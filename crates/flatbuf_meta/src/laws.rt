@@ -2,8 +2,14 @@
 
 ghost use Rattle.std.specs.Prelude.{◌≡◌, ℕ, List};
 ghost use Rattle.flatbuf_meta.specs.declared.fault.MetaFault.{MetaFault};
-ghost use Rattle.flatbuf_meta.specs.Header.{Header, ShowsHeader};
+ghost use Rattle.flatbuf_meta.specs.Columns.{Columns};
+ghost use Rattle.flatbuf_meta.specs.Header.{Header, schema_header, ShowsHeader};
+ghost use Rattle.flatbuf_meta.specs.Canonical.{header_text};
+ghost use Rattle.flatbuf_meta.specs.Profile.{InProfile};
+ghost use Rattle.flatbuf_meta.specs.Writable.{IsWritable};
 ghost use Rattle.flatbuf_meta.specs.Faults.{HeaderFault};
+
+use crate::limits::{MAX_BUFFERS, MAX_DEPTH, MAX_FIELDS, MAX_METADATA_ENTRIES, MAX_TEXT_BYTES};
 
 /// A text shows at most one header.
 pub fn headers_are_one()
@@ -13,4 +19,29 @@ pub fn headers_are_one()
 /// Where a fault stands, no header is shown.
 pub fn faults_stand_apart()
     ensures { (text : List ℕ) (e : MetaFault) (x : Header) → HeaderFault text e → ¬ ShowsHeader text x }
+{}
+
+/// A schema that a text shows is in profile ([`crate::Schema::in_profile`]), so that it can be written.
+pub fn shown_schemas_are_in_profile()
+    ensures { (text : List ℕ) (columns : Columns) → ShowsHeader text (schema_header columns) → InProfile columns }
+{}
+
+/// The text that is written of a header shows it.
+pub fn written_headers_are_shown()
+    ensures { (x : Header) → IsWritable x → ShowsHeader (header_text x) x }
+{}
+
+/// Headers that are written differ where what they say differs.
+pub fn written_headers_differ()
+    ensures { (x y : Header) → IsWritable x → IsWritable y → header_text x ≡ header_text y → x ≡ y }
+{}
+
+/// The limits of the program are those of the definitions: levels, columns, entries of metadata and bytes of texts of a schema, and
+/// buffers of a batch that is written.
+pub fn limits_are_these()
+    ensures depth { MAX_DEPTH ≡ 16 }
+    ensures fields { MAX_FIELDS ≡ 512 }
+    ensures entries { MAX_METADATA_ENTRIES ≡ 4096 }
+    ensures bytes { MAX_TEXT_BYTES ≡ 1048576 }
+    ensures buffers { MAX_BUFFERS ≡ 1536 }
 {}

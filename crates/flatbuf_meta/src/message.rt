@@ -11,8 +11,9 @@ use crate::batch::read_batch;
 use crate::build::read_schema;
 use crate::fault::MetaFault;
 use crate::header::Header;
-use crate::slots::{link, number};
-use flat_places::follow;
+use crate::slot;
+use crate::slots::{link, number, table_at};
+use flat_places::{Table, follow};
 use std::alloc::Global;
 
 /// The number of version V5 in the enum `MetadataVersion` (Schema.fbs).
@@ -39,17 +40,17 @@ struct MessageRef {
 }
 
 /// The number and the table of the header of the message whose table this is (Message.fbs, the table `Message`).
-fn header_at(buf: &[u8], message: usize) -> Result<(u8, usize), MetaFault>
-    ensures version { IfOk result (λ header. ShowsNumber buf.now message 0 2 0 version_5) }
-    ensures kind { IfOk result (λ header. ShowsNumber buf.now message 1 1 0 header.0) }
-    ensures table { IfOk result (λ header. ShowsLink buf.now message 2 (Some header.1)) }
-    ensures fault { IfErr result (MessageFault buf.now message) }
+fn header_at(message: &Table<'_>) -> Result<(u8, usize), MetaFault>
+    ensures version { IfOk result (λ header. ShowsNumber message.now.buf message.now.place 0 2 0 version_5) }
+    ensures kind { IfOk result (λ header. ShowsNumber message.now.buf message.now.place 1 1 0 header.0) }
+    ensures table { IfOk result (λ header. ShowsLink message.now.buf message.now.place 2 (Some header.1)) }
+    ensures fault { IfErr result (MessageFault message.now.buf message.now.place) }
 {
-    if number(buf, message, 0, 2, 0)? != VERSION_5 {
+    if number(message, slot::MESSAGE_VERSION, 2, 0)? != VERSION_5 {
         return Err(MetaFault::Version);
     }
-    let kind = number(buf, message, 1, 1, 0)? as u8;
-    match link(buf, message, 2)? {
+    let kind = number(message, slot::MESSAGE_HEADER_TYPE, 1, 0)? as u8;
+    match link(message, slot::MESSAGE_HEADER)? {
         Some(table) => Ok((kind, table)),
         None => Err(MetaFault::BadHeader),
     }
@@ -61,7 +62,8 @@ fn message_at(buf: &[u8]) -> Result<MessageRef, MetaFault>
     ensures fault { IfErr result (RootFault buf.now) }
 {
     let place = follow(buf, 0)?;
-    let (kind, table) = header_at(buf, place)?;
+    let message = table_at(buf, place)?;
+    let (kind, table) = header_at(&message)?;
     Ok(MessageRef { place, kind, table })
 }
 
@@ -82,7 +84,7 @@ fn read_header(alloc: Global, buf: &[u8], message: MessageRef) -> Result<Header,
 
 /// The header of a message of version V5: its schema, or what it says of its batch of rows (Apache Arrow, "Message.fbs",
 /// the table `Message`, and "Schema.fbs"). The text begins with the reference to its root: the marker and the length that
-/// stand before a message in a stream are no part of it. A text shows at most one header ([`crate::headers_are_one`]), and
+/// stand before a message in a stream are no part of it. A text shows at most one header ([`crate::laws::headers_are_one`]), and
 /// this is that one.
 ///
 /// A schema has columns no deeper than [`crate::MAX_DEPTH`], and in all no more than [`crate::MAX_FIELDS`] columns,
@@ -90,7 +92,7 @@ fn read_header(alloc: Global, buf: &[u8], message: MessageRef) -> Result<Header,
 /// values. What is shared counts each time that it is reached. The numbers of a batch are not judged: its two vectors lie
 /// in the text, and what they hold may be any numbers, even below zero.
 ///
-/// The faults stand in a text that shows no header ([`crate::faults_stand_apart`]). Where several stand, which one is told
+/// The faults stand in a text that shows no header ([`crate::laws::faults_stand_apart`]). Where several stand, which one is told
 /// is open.
 ///
 /// - [`MetaFault::OutOfBounds`]: a byte that the header needs does not lie in the text, or a vtable would begin before it.

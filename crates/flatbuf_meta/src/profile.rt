@@ -37,7 +37,19 @@ fn is_sized(ty: &Ty) -> bool
         Ty::FixedSizeBinary { byte_width: size } | Ty::FixedSizeList { list_size: size } => {
             *size >= 0
         }
-        _ => true,
+        Ty::Null
+        | Ty::Int { .. }
+        | Ty::FloatingPoint { .. }
+        | Ty::Binary
+        | Ty::Utf8
+        | Ty::Bool
+        | Ty::Decimal { .. }
+        | Ty::Date { .. }
+        | Ty::Time { .. }
+        | Ty::Timestamp { .. }
+        | Ty::List
+        | Ty::Struct
+        | Ty::Duration { .. } => true,
     }
 }
 
@@ -57,7 +69,21 @@ fn timezone_of(ty: &Ty) -> &str
             timezone: Some(timezone),
             ..
         } => timezone,
-        _ => "",
+        Ty::Null
+        | Ty::Int { .. }
+        | Ty::FloatingPoint { .. }
+        | Ty::Binary
+        | Ty::Utf8
+        | Ty::Bool
+        | Ty::Decimal { .. }
+        | Ty::Date { .. }
+        | Ty::Time { .. }
+        | Ty::Timestamp { timezone: None, .. }
+        | Ty::List
+        | Ty::Struct
+        | Ty::FixedSizeBinary { .. }
+        | Ty::FixedSizeList { .. }
+        | Ty::Duration { .. } => "",
     }
 }
 

@@ -3,7 +3,7 @@
 use crate::field_type::Ty;
 
 /// A column, or one inside another column.
-#[derive(Debug, PartialEq, Eq, Drop)]
+#[derive(Clone, Debug, PartialEq, Eq, Drop)]
 pub struct Field {
     /// Its name, which may be empty.
     pub name: String,
@@ -18,7 +18,7 @@ pub struct Field {
 }
 
 /// The columns of a table.
-#[derive(Debug, PartialEq, Eq, Drop)]
+#[derive(Clone, Debug, PartialEq, Eq, Drop)]
 pub struct Schema {
     /// The top columns, in order.
     pub fields: Vec<Field>,

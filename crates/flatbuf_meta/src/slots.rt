@@ -1,14 +1,15 @@
 //! Fields of a table (FlatBuffers, "FlatBuffer Internals", "Tables").
 
-ghost use Rattle.std.specs.Prelude.{IfOk, IfErr};
+ghost use Rattle.std.specs.Prelude.{◌≡◌, IfOk, IfErr};
 ghost use Rattle.std.specs.Option.{option_map};
 ghost use Rattle.flat_places.specs.Number.{IsNumberSize};
 ghost use Rattle.flat_places.specs.Table.{ShowsField};
-ghost use Rattle.flatbuf_meta.specs.Slots.{ShowsNumber, ShowsLink, ShowsString, ShowsRow, FieldSlotFault, SlotNumberFault, LinkFault, StringFault, RowFault};
+ghost use Rattle.flat_places.specs.Fault.{TableFault};
+ghost use Rattle.flatbuf_meta.specs.Slots.{ShowsNumber, ShowsLink, ShowsString, ShowsRow, FieldSlotFault, SlotNumberFault, LinkFault, StringFault, RowFault, Told};
 ghost use Rattle.flatbuf_meta.specs.Rows.{row_of};
 
 use crate::fault::MetaFault;
-use flat_places::{follow, slot, text, uint, vector};
+use flat_places::{Table, follow, text, uint, vector};
 
 /// The elements of a vector.
 #[derive(Clone, Copy)]
@@ -19,66 +20,81 @@ pub(crate) struct Row {
     pub(crate) count: usize,
 }
 
-/// Where field `n` of the table stands, and `None` where it is absent (FlatBuffers, "FlatBuffer Internals", "Tables").
-pub(crate) fn slot_at(buf: &[u8], table: usize, n: usize) -> Result<Option<usize>, MetaFault>
-    ensures read { IfOk result (ShowsField buf.now table n) }
-    ensures fault { IfErr result (FieldSlotFault buf.now table n) }
+/// The table at a place (FlatBuffers, "FlatBuffer Internals", "Tables").
+pub(crate) fn table_at(buf: &[u8], place: usize) -> Result<Table<'_>, MetaFault>
+    ensures seen { IfOk result (λ table. table ≡ record { buf = buf.now; place = place }) }
+    ensures fault { IfErr result (Told (TableFault buf.now place)) }
 {
-    Ok(slot(buf, table, n)?)
+    Ok(Table::at(buf, place)?)
+}
+
+/// The table at a place of the buffer that a table stands in.
+pub(crate) fn table_beside<'a>(table: &Table<'a>, place: usize) -> Result<Table<'a>, MetaFault>
+    ensures seen { IfOk result (λ other. other ≡ record { buf = table.now.buf; place = place }) }
+    ensures fault { IfErr result (Told (TableFault table.now.buf place)) }
+{
+    table_at(table.buf(), place)
+}
+
+/// Where field `n` of the table stands, and `None` where it is absent (FlatBuffers, "FlatBuffer Internals", "Tables").
+pub(crate) fn slot_at(table: &Table<'_>, n: usize) -> Result<Option<usize>, MetaFault>
+    ensures read { IfOk result (ShowsField table.now.buf table.now.place n) }
+    ensures fault { IfErr result (FieldSlotFault table.now.buf table.now.place n) }
+{
+    Ok(table.slot(n)?)
 }
 
 /// The number of `size` bytes at field `n` of the table, and its default where it is absent (FlatBuffers, "Schema",
 /// "Tables": "Default values").
 pub(crate) fn number(
-    buf: &[u8],
-    table: usize,
+    table: &Table<'_>,
     n: usize,
     size: usize,
     default: u64,
 ) -> Result<u64, MetaFault>
     requires { IsNumberSize size }
-    ensures read { IfOk result (ShowsNumber buf.now table n size default) }
-    ensures fault { IfErr result (SlotNumberFault buf.now table n size) }
+    ensures read { IfOk result (ShowsNumber table.now.buf table.now.place n size default) }
+    ensures fault { IfErr result (SlotNumberFault table.now.buf table.now.place n size) }
 {
-    match slot_at(buf, table, n)? {
-        Some(place) => Ok(uint(buf, place, size)?),
+    match slot_at(table, n)? {
+        Some(place) => Ok(uint(table.buf(), place, size)?),
         None => Ok(default),
     }
 }
 
 /// The place that field `n` of the table refers to, and `None` where it is absent (FlatBuffers, "FlatBuffer Internals",
 /// "Offsets").
-pub(crate) fn link(buf: &[u8], table: usize, n: usize) -> Result<Option<usize>, MetaFault>
-    ensures read { IfOk result (ShowsLink buf.now table n) }
-    ensures fault { IfErr result (LinkFault buf.now table n) }
+pub(crate) fn link(table: &Table<'_>, n: usize) -> Result<Option<usize>, MetaFault>
+    ensures read { IfOk result (ShowsLink table.now.buf table.now.place n) }
+    ensures fault { IfErr result (LinkFault table.now.buf table.now.place n) }
 {
-    match slot_at(buf, table, n)? {
-        Some(place) => Ok(Some(follow(buf, place)?)),
+    match slot_at(table, n)? {
+        Some(place) => Ok(Some(follow(table.buf(), place)?)),
         None => Ok(None),
     }
 }
 
 /// The string that field `n` of the table refers to, and `None` where it is absent (FlatBuffers, "FlatBuffer Internals",
 /// "Strings and Vectors").
-pub(crate) fn string(buf: &[u8], table: usize, n: usize) -> Result<Option<&str>, MetaFault>
-    ensures read { IfOk result (λ shown. ShowsString buf.now table n (option_map (λ bytes. bytes.now) shown)) }
-    ensures fault { IfErr result (StringFault buf.now table n) }
+pub(crate) fn string<'a>(table: &Table<'a>, n: usize) -> Result<Option<&'a str>, MetaFault>
+    ensures read { IfOk result (λ shown. ShowsString table.now.buf table.now.place n (option_map (λ bytes. bytes.now) shown)) }
+    ensures fault { IfErr result (StringFault table.now.buf table.now.place n) }
 {
-    match link(buf, table, n)? {
-        Some(target) => Ok(Some(text(buf, target)?)),
+    match link(table, n)? {
+        Some(target) => Ok(Some(text(table.buf(), target)?)),
         None => Ok(None),
     }
 }
 
 /// The vector that field `n` of the table refers to, whose elements have `size` bytes each, and no elements where it is
 /// absent (FlatBuffers, "FlatBuffer Internals", "Strings and Vectors").
-pub(crate) fn row_at(buf: &[u8], table: usize, n: usize, size: usize) -> Result<Row, MetaFault>
-    ensures read { IfOk result (λ shown. ShowsRow buf.now table n size (row_of shown)) }
-    ensures fault { IfErr result (RowFault buf.now table n size) }
+pub(crate) fn row_at(table: &Table<'_>, n: usize, size: usize) -> Result<Row, MetaFault>
+    ensures read { IfOk result (λ shown. ShowsRow table.now.buf table.now.place n size (row_of shown)) }
+    ensures fault { IfErr result (RowFault table.now.buf table.now.place n size) }
 {
-    match link(buf, table, n)? {
+    match link(table, n)? {
         Some(target) => {
-            let (first, count) = vector(buf, target, size)?;
+            let (first, count) = vector(table.buf(), target, size)?;
             Ok(Row { first, count })
         }
         None => Ok(Row { first: 0, count: 0 }),

@@ -1,26 +1,77 @@
-//! Why a run of the program ended.
+//! Why a run of the program ended, and what is wrong with a line.
 
-use crate::headers::HeaderFault;
-use crate::parts::PartFault;
+use flatbuf_meta::MetaFault;
+use hex::FromHexError;
 use proto_wire::WireFault;
+use std::alloc::AllocError;
+use std::io;
 use thiserror::Error;
 
-/// What ended a run.
+/// What ended a run, or stands in a line. A fault of a message or a header is printed by its own name.
 #[derive(Clone, Copy, Debug, PartialEq, Eq, Error)]
-pub enum RunFault {
-    /// The file's bytes are no such message. It is printed by the fault's own name.
+pub(crate) enum RunFault {
+    /// The bytes are no such message.
     #[error("{0}")]
     Message(WireFault),
-    /// The file's bytes show no header, or none that can be written. It is printed by the fault's own name.
+    /// The bytes show no header.
     #[error("{0}")]
-    Header(HeaderFault),
-    /// A part of a Paxos node was not called. It is printed by the fault's own name.
-    #[error("{0}")]
-    Part(PartFault),
+    Header(MetaFault),
+    /// The header is none that can be written: a schema outside the profile, a compressed batch, or one with too many
+    /// nodes or buffers.
+    #[error("Unwritable")]
+    Unwritable,
+    /// A line is not pairs of hexadecimal digits.
+    #[error("NotHexadecimal")]
+    NotHexadecimal,
+    /// There is no slot, or there are more than there can be.
+    #[error("Slots")]
+    Slots,
     /// A read or a write failed.
     #[error("Io")]
     Io,
     /// Memory was refused.
     #[error("OutOfMemory")]
     OutOfMemory,
+}
+
+impl From<WireFault> for RunFault {
+    fn from(fault: WireFault) -> RunFault {
+        match fault {
+            WireFault::OutOfMemory => RunFault::OutOfMemory,
+            _ => RunFault::Message(fault),
+        }
+    }
+}
+
+impl From<MetaFault> for RunFault {
+    fn from(fault: MetaFault) -> RunFault {
+        match fault {
+            MetaFault::OutOfMemory => RunFault::OutOfMemory,
+            _ => RunFault::Header(fault),
+        }
+    }
+}
+
+impl From<FromHexError> for RunFault {
+    fn from(fault: FromHexError) -> RunFault {
+        match fault {
+            FromHexError::OutOfMemory => RunFault::OutOfMemory,
+            _ => RunFault::NotHexadecimal,
+        }
+    }
+}
+
+impl From<io::Error> for RunFault {
+    fn from(error: io::Error) -> RunFault {
+        match error.kind() {
+            io::ErrorKind::OutOfMemory => RunFault::OutOfMemory,
+            _ => RunFault::Io,
+        }
+    }
+}
+
+impl From<AllocError> for RunFault {
+    fn from(_refused: AllocError) -> RunFault {
+        RunFault::OutOfMemory
+    }
 }

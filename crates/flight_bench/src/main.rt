@@ -1,27 +1,32 @@
-//! Times the messages of Arrow Flight and the headers of Arrow's metadata: `flight_bench TASK COUNT FILE` reads the message or the
-//! header that a file holds, or writes it, as many times as it is told, and prints the count and a sum that depends on each repetition. Time is taken from outside.
+//! Reads and writes the messages of Arrow Flight and the headers of Arrow's metadata, and calls the parts of a Paxos
+//! node, to be measured and compared from outside. `flight_bench TASK COUNT FILE` does its task so many times on what
+//! the file holds.
 //!
-//! `repeat` and `headers` do the work, with their contracts; `main` gives it the file and prints the tally.
+//! A task that is timed takes the file's bytes as they are, and prints the count and a sum that depends on each
+//! repetition. A task `reencode-..` takes a line of hexadecimal digits a message, and prints a line for each: the bytes
+//! that the message is written as, in hexadecimal, or the name of the fault that stands in it.
+//!
+//! Nothing is claimed here but that each task is safe and ends: what is read and written is promised by the crates that
+//! do it.
 #![tactic(auto)]
 
 mod fault;
 mod headers;
+mod lines;
+mod messages;
 mod parts;
-mod repeat;
-mod respell;
-#[cfg(test)]
-mod tests;
 mod words;
 
 use fault::RunFault;
-use headers::{repeat_header, respell_header};
-use parts::call_often;
-use repeat::{Tally, repeat};
-use respell::respell;
-use std::io::Write;
+use headers::{decode_header, encode_header};
+use lines::line_made_of;
+use messages::{Format, decode_data, decode_info, encode_data, encode_info};
+use parts::{call_acceptor, call_learner, call_log};
+use std::alloc::Global;
+use std::fs;
+use std::io::{BufWriter, Write};
 use std::process::ExitCode;
-use std::{fs, io};
-use words::Task;
+use words::{Task, Work};
 
 /// The status of a run that met no fault.
 const SUCCESS: u8 = 0;
@@ -35,19 +40,17 @@ const USAGE: u8 = 2;
 fn main(rt: HostRuntime) -> ExitCode {
     let status = match start(&rt) {
         Ok(status) => status,
-        Err(error) => {
-            let fault = match error.kind() {
-                io::ErrorKind::OutOfMemory => RunFault::OutOfMemory,
-                _ => RunFault::Io,
-            };
-            tell(&rt, fault)
+        Err(fault) => {
+            // Where this fails too, the status alone tells.
+            let _ = eprintln!(rt; "flight_bench: {fault}");
+            FAILURE
         }
     };
     ExitCode::from(status)
 }
 
 // Reads the words and runs what they ask for.
-fn start(rt: &HostRuntime) -> io::Result<u8> {
+fn start(rt: &HostRuntime) -> Result<u8, RunFault> {
     let alloc = rt.alloc();
     let words: Vec<String> = std::env::args(rt)?.collect(alloc)?;
     match words::parse(alloc, &words) {
@@ -62,75 +65,55 @@ fn start(rt: &HostRuntime) -> io::Result<u8> {
     }
 }
 
-fn run(rt: &HostRuntime, task: Task, count: u64, path: &str) -> io::Result<u8> {
-    let alloc = rt.alloc();
-    let text = fs::read(rt, path)?;
+fn run(rt: &HostRuntime, task: Task, count: u64, path: &str) -> Result<u8, RunFault> {
     match task {
         Task::Repeat(work) => {
-            print_tally(
-                rt,
-                repeat(alloc, work, count, &text).map_err(RunFault::Message),
-            )
-        }
-        Task::RepeatHeader(work) => {
-            print_tally(
-                rt,
-                repeat_header(alloc, work, count, &text).map_err(RunFault::Header),
-            )
-        }
-        Task::Call(part) => {
-            print_tally(
-                rt,
-                call_often(alloc, part, count, &text).map_err(RunFault::Part),
-            )
-        }
-        Task::Write(kind) => {
-            print_spelling(
-                rt,
-                count,
-                respell(alloc, kind, &text).map_err(RunFault::Message),
-            )
-        }
-        Task::WriteHeader => {
-            print_spelling(
-                rt,
-                count,
-                respell_header(alloc, &text).map_err(RunFault::Header),
-            )
-        }
-    }
-}
-
-fn print_tally(rt: &HostRuntime, tally: Result<Tally, RunFault>) -> io::Result<u8> {
-    match tally {
-        Ok(Tally { count, sum }) => {
+            let bytes = fs::read(rt, path)?;
+            let sum = repeat(rt.alloc(), work, count, &bytes)?;
             println!(rt; "{count} {sum}")?;
-            Ok(SUCCESS)
         }
-        Err(fault) => Ok(tell(rt, fault)),
+        Task::Reencode(format) => {
+            let text = fs::read_to_string(rt, path)?;
+            reencode_often(rt, format, count, text.as_str())?;
+        }
+    }
+    Ok(SUCCESS)
+}
+
+// Does the work so many times, and gives the sum of the weights of all repetitions, modulo 2^64.
+fn repeat(alloc: Global, work: Work, count: u64, bytes: &[u8]) -> Result<u64, RunFault> {
+    match work {
+        Work::DecodeData => decode_data(alloc, count, bytes),
+        Work::EncodeData => encode_data(alloc, count, bytes),
+        Work::DecodeInfo => decode_info(alloc, count, bytes),
+        Work::EncodeInfo => encode_info(alloc, count, bytes),
+        Work::DecodeHeader => decode_header(alloc, count, bytes),
+        Work::EncodeHeader => encode_header(alloc, count, bytes),
+        Work::CallAcceptor => call_acceptor(alloc, count, bytes.len()),
+        Work::CallLearner => call_learner(alloc, count, bytes.len()),
+        Work::CallLog => call_log(alloc, count, bytes.len()),
     }
 }
 
-fn print_spelling(
+fn reencode_often(
     rt: &HostRuntime,
+    format: Format,
     count: u64,
-    spelling: Result<Vec<u8>, RunFault>,
-) -> io::Result<u8> {
-    match spelling {
-        Ok(spelling) => {
-            let mut output = rt.stdout();
-            for _ in 0..count {
-                output.write_all(&spelling)?;
-            }
-            output.flush()?;
-            Ok(SUCCESS)
-        }
-        Err(fault) => Ok(tell(rt, fault)),
+    text: &str,
+) -> Result<(), RunFault> {
+    for _ in 0..count {
+        reencode_lines(rt, format, text)?;
     }
+    Ok(())
 }
 
-// Says why the run ended. Where that fails, the status alone tells.
-fn tell(rt: &HostRuntime, fault: RunFault) -> u8 {
-    let _ = eprintln!(rt; "flight_bench: {fault}");
-    FAILURE
+fn reencode_lines(rt: &HostRuntime, format: Format, text: &str) -> Result<(), RunFault> {
+    let alloc = rt.alloc();
+    let mut output = BufWriter::new(alloc, rt.stdout())?;
+    for line in text.lines() {
+        let made = line_made_of(alloc, format, line)?;
+        writeln!(output, "{made}")?;
+    }
+    output.flush()?;
+    Ok(())
 }

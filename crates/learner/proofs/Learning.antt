@@ -6,11 +6,11 @@ use Rattle.std.proofs.lemmas.Bool.{cases_eq, cases_lt}
 use Rattle.ballots.specs.Ballot.{Ballot}
 use Rattle.ballots.specs.Majority.{tally, IsMajority}
 use Rattle.ballots.specs.declared.value.Value.{Value}
+use Rattle.ballots.proofs.CallerLemmas.{tally_same}
 use Rattle.learner.specs.Calls.{Call, Accepted, Decided, is_vote_of, has_voted, first_counted, IsSettled, IsLearned}
 use Rattle.learner.specs.Holding.{Holding, has_vote, tally_in, decided_at, tally_at, voted_at, first_at}
 use Rattle.learner.specs.Learned.{Learnt, IsSame}
 use Rattle.learner.specs.Changes.{Counts, Puts, IsChosenWith}
-use Rattle.learner.proofs.Sizes.{size_of_same}
 use Rattle.learner.proofs.Settling.{IsApart, slot_of, other_apart, stranger_apart, votes_with, first_with, none_alone, votes_apart, first_apart, unsettled_apart, votes_there, first_there, unsettled_accepted}
 use Rattle.learner.proofs.OneValue.{learned_more, learned_by_decision, learned_by_majority, settled_of_learned, unsettled_at_first}
 
@@ -106,7 +106,7 @@ module _ (n : ℕ) (calls : List Call) (a slot : ℕ) (b : Ballot) (v : Value) (
   same_votes m lt = ap (λ (x : Bool). x || (a == m)) (l.votes slot b m none lt) ∙ sym (votes_there n calls a slot b v m)
 
   same_size : tally n (λ m. voted_at old slot b m || (a == m)) ≡ tally n (has_voted (calls ++ told ∷ []) slot b)
-  same_size = size_of_same n (λ m. voted_at old slot b m || (a == m)) (has_voted (calls ++ told ∷ []) slot b) same_votes
+  same_size = tally_same n (λ m. voted_at old slot b m || (a == m)) (has_voted (calls ++ told ∷ []) slot b) same_votes
 
   pub majority_of_chosen : IsChosenWith old a slot b → IsMajority n (tally n (has_voted (calls ++ told ∷ []) slot b))
   majority_of_chosen chosen =

@@ -1,4 +1,3 @@
-pub mod Sizes
 pub mod Settling
 pub mod OneValue
 pub mod Learning

@@ -1,21 +1,21 @@
 -- What the look-ups see of a map that a key is put into or taken out of.
-use Rattle.std.proofs.Common.{arith, ◌≡◌, ◌≢◌, ℕ, suc, ◌<◌, List, [], ◌∷◌, slice_index_or, ◌||◌, nat_eq, subst, ◌==◌, not, inl, inr, Bool, true, false, IsTrue, Option, Some, None, is_some, unwrap_or, Bor, refl, sym, ap, ◌∙◌, ◌↔◌}
+use Rattle.std.proofs.Common.{arith, ◌≡◌, ◌≢◌, ℕ, suc, ◌<◌, List, [], ◌∷◌, ◌||◌, nat_eq, subst, ◌==◌, not, inl, inr, Bool, true, false, IsTrue, Option, Some, None, is_some, unwrap_or, Bor, refl, sym, ap, ◌∙◌, ◌↔◌}
 use Rattle.std.proofs.lemmas.Bool.Decides.{eqb_tells}
 use Rattle.std.proofs.lemmas.Bool.{cases_eq}
 use Rattle.std.proofs.Math.Bool.{or-false}
 use Rattle.std.specs.Option.{option_map, option_map_or, option_and_then, option_or}
 use Rattle.std.specs.Map.{lookup}
 use Rattle.indexmap.specs.IndexMap.{get}
-use Rattle.ballots.specs.Ballot.{Ballot}
-use Rattle.ballots.specs.Majority.{tally, IsMajority}
+use Rattle.ballots.specs.Ballot.{Ballot, is_same_ballot}
+use Rattle.ballots.specs.Majority.{NodeSet, contains, members_in, tally, IsMajority}
 use Rattle.ballots.specs.declared.value.Value.{Value}
+use Rattle.ballots.proofs.CallerLemmas.{same_ballot_is, tally_same}
 use Rattle.learner.specs.declared.tally.Tally.{Tally}
-use Rattle.learner.specs.Calls.{Call, Accepted, is_same_ballot, is_vote_of, first_counted}
+use Rattle.learner.specs.Calls.{Call, Accepted, is_vote_of, first_counted}
 use Rattle.learner.specs.Holding.{Holding, Tallies, tally_in, has_vote, decided_at, tally_at, voted_at, first_at, HasRoomForTally}
 use Rattle.learner.specs.Learned.{IsSame}
 use Rattle.learner.specs.Changes.{Counts, CountsIn, Drops, Puts, IsChosenWith}
-use Rattle.learner.proofs.Sizes.{size_of_same}
-use Rattle.learner.proofs.Settling.{other_apart, same_ballot, or_none, vote_there, vote_other_ballot, counted_there, counted_other_ballot, first_alone, none_alone}
+use Rattle.learner.proofs.Settling.{other_apart, or_none, vote_there, vote_other_ballot, counted_there, counted_other_ballot, first_alone, none_alone}
 
 pub none_is : {A : Type 0} (o : Option A) → is_some o ≡ false → o ≡ None
 none_is None e = refl
@@ -41,13 +41,12 @@ not_both r t f = let no : true ≡ false = sym t ∙ f in cc
 
 -- ---- whether a majority is counted
 
-pub chosen_where : (h : Holding) (n count : ℕ) (votes after : List Bool) (a slot : ℕ) (b : Ballot) (r : Bool) → n ≡ h.members
-    → ((m : ℕ) → slice_index_or votes m false ≡ voted_at h slot b m)
-    → ((m : ℕ) → slice_index_or after m false ≡ (slice_index_or votes m false || (a == m)))
-    → count ≡ tally n (λ m. slice_index_or after m false) → (IsTrue r ↔ IsMajority n count) → (IsTrue r ↔ IsChosenWith h a slot b)
-chosen_where h n count votes after a slot b r members now then size is =
-    let each : (m : ℕ) → m < n → slice_index_or after m false ≡ (voted_at h slot b m || (a == m)) = λ m lt. then m ∙ ap (λ (x : Bool). x || (a == m)) (now m) in
-    let same : count ≡ tally n (λ m. voted_at h slot b m || (a == m)) = size ∙ size_of_same n (λ m. slice_index_or after m false) (λ m. voted_at h slot b m || (a == m)) each in
+pub chosen_where : (h : Holding) (n : ℕ) (votes after : NodeSet) (a slot : ℕ) (b : Ballot) (r : Bool) → n ≡ h.members
+    → ((m : ℕ) → contains votes m ≡ voted_at h slot b m) → ((m : ℕ) → contains after m ≡ (contains votes m || (a == m)))
+    → (IsTrue r ↔ IsMajority n (members_in n after)) → (IsTrue r ↔ IsChosenWith h a slot b)
+chosen_where h n votes after a slot b r members now then is =
+    let each : (m : ℕ) → m < n → contains after m ≡ (voted_at h slot b m || (a == m)) = λ m lt. then m ∙ ap (λ (x : Bool). x || (a == m)) (now m) in
+    let same : members_in n after ≡ tally n (λ m. voted_at h slot b m || (a == m)) = tally_same n (contains after) (λ m. voted_at h slot b m || (a == m)) each in
     subst (λ (k : ℕ). IsTrue r ↔ IsMajority k (tally k (λ m. voted_at h slot b m || (a == m)))) members (subst (λ (k : ℕ). IsTrue r ↔ IsMajority n k) same is)
 
 -- ---- look-ups that answer as before
@@ -138,7 +137,7 @@ module _ (old new : Holding) (a slot : ℕ) (b : Ballot) (v : Value) (was now : 
 
   vote_at : (c : Ballot) (m : ℕ) (x : Bool) → is_same_ballot b c ≡ x → Vote slot c m
   vote_at c m true same =
-      subst (λ (d : Ballot). Vote slot d m) (same_ballot b c same)
+      subst (λ (d : Ballot). Vote slot d m) ((same_ballot_is b c).0 same)
       (ap (vote_in m) (at_new b) ∙ here.votes m ∙ ap (λ (o : Option Tally). vote_in m o || (a == m)) (sym (at_old b)) ∙ ap (λ (x : Bool). voted_at old slot b m || x) (sym (vote_there a slot b v m)))
   vote_at c m false differs =
       ap (vote_in m) (at_new c ∙ apart c differs ∙ sym (at_old c)) ∙ sym (or-false (voted_at old slot c m)) ∙ ap (λ (x : Bool). voted_at old slot c m || x) (sym (vote_other_ballot a slot b v m slot c differs))
@@ -155,7 +154,7 @@ module _ (old new : Holding) (a slot : ℕ) (b : Ballot) (v : Value) (was now : 
 
   first_of : (c : Ballot) (x : Bool) → a < old.members → is_same_ballot b c ≡ x → First slot c
   first_of c true lt same =
-      subst (First slot) (same_ballot b c same)
+      subst (First slot) ((same_ballot_is b c).0 same)
       (ap first_in (at_new b) ∙ here.first ∙ ap (λ (o : Option Tally). option_or (first_in o) (Some v)) (sym (at_old b))
       ∙ ap (option_or (first_at old slot b)) (sym (first_alone old.members slot b told (counted_there a slot b v old.members lt))))
   first_of c false lt differs =

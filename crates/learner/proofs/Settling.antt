@@ -7,22 +7,11 @@ use Rattle.std.proofs.lemmas.Bool.{eq-eqb}
 use Rattle.std.proofs.lemmas.Bool.Decides.{eqb_tells, nat_tests}
 use Rattle.std.proofs.lemmas.Grind.{common_steps}
 use Rattle.std.proofs.lemmas.List.Folds.{list_any-append, find-append}
-use Rattle.ballots.specs.Ballot.{Ballot}
+use Rattle.ballots.specs.Ballot.{Ballot, is_same_ballot}
 use Rattle.ballots.specs.Majority.{tally, IsMajority}
 use Rattle.ballots.specs.declared.value.Value.{Value}
-use Rattle.learner.specs.Calls.{Call, Accepted, Decided, is_same_ballot, value_in, is_decision_for, is_vote_of, is_counted, has_voted, first_counted, IsSettled}
-use Rattle.learner.proofs.Sizes.{size_of_more, size_of_same, some_member}
-
--- ---- ballots
-
-pub same_ballot : (a b : Ballot) → is_same_ballot a b ≡ true → a ≡ b
-same_ballot a b e =
-    let rounds : a.round ≡ b.round = grind (arith, common_steps, nat_tests) in
-    let nodes : a.node ≡ b.node = grind (arith, common_steps, nat_tests) in
-    ap (λ (r : ℕ). let x : Ballot = record { round = r; node = a.node } in x) rounds ∙ ap (λ (k : ℕ). let x : Ballot = record { round = b.round; node = k } in x) nodes
-
-pub itself : (a : Ballot) → is_same_ballot a a ≡ true
-itself a = grind (arith, common_steps, nat_tests)
+use Rattle.ballots.proofs.CallerLemmas.{same_ballot_is, tally_more, tally_same, some_member}
+use Rattle.learner.specs.Calls.{Call, Accepted, Decided, value_in, is_decision_for, is_vote_of, is_counted, has_voted, first_counted, IsSettled}
 
 -- ---- one more call
 
@@ -57,7 +46,7 @@ settled_more n calls more slot (inl told) =
     inl (list_any-append (is_decision_for slot) calls more ∙ ap (λ (x : Bool). x || list_any (is_decision_for slot) more) told)
 settled_more n calls more slot (inr chosen) =
     let votes : (a : ℕ) → a < n → has_voted calls slot chosen.0 a ≡ true → has_voted (calls ++ more) slot chosen.0 a ≡ true = λ a lt e. list_any-append (is_vote_of a slot chosen.0) calls more ∙ ap (λ (x : Bool). x || list_any (is_vote_of a slot chosen.0) more) e in
-    inr (chosen.0, omega (arith, chosen.1, size_of_more n (has_voted calls slot chosen.0) (has_voted (calls ++ more) slot chosen.0) votes))
+    inr (chosen.0, omega (arith, chosen.1, tally_more n (has_voted calls slot chosen.0) (has_voted (calls ++ more) slot chosen.0) votes))
 
 -- what is told of it by one more call settles it
 pub settled_by_decision : (n : ℕ) (calls : List Call) (slot : ℕ) (v : Value) → IsSettled n (calls ++ Decided slot v ∷ []) slot
@@ -120,7 +109,7 @@ module _ (n : ℕ) (calls : List Call) (c : Call) (slot : ℕ) (apart : IsApart 
 
   pub unsettled_apart : (IsSettled n calls slot → ⊥) → IsSettled n (calls ++ c ∷ []) slot → ⊥
   unsettled_apart not =
-      still_unsettled n calls c slot not apart.decision (λ b majority. subst (IsMajority n) (size_of_same n (has_voted (calls ++ c ∷ []) slot b) (has_voted calls slot b) (votes_apart b)) majority)
+      still_unsettled n calls c slot not apart.decision (λ b majority. subst (IsMajority n) (tally_same n (has_voted (calls ++ c ∷ []) slot b) (has_voted calls slot b) (votes_apart b)) majority)
 
 -- ---- an acceptance at one slot and ballot
 
@@ -128,7 +117,7 @@ module _ (a slot : ℕ) (b : Ballot) (v : Value) where
   pub vote_there : (m : ℕ) → is_vote_of m slot b (Accepted a slot b v) ≡ (a == m)
   vote_there m =
       let same_slot : (slot == slot) ≡ true = eq-eqb slot slot refl in
-      let same : is_same_ballot b b ≡ true = itself b in
+      let same : is_same_ballot b b ≡ true = (same_ballot_is b b).1 refl in
       grind (arith, common_steps)
 
   pub vote_other_ballot : (m s : ℕ) (c : Ballot) → is_same_ballot b c ≡ false → is_vote_of m s c (Accepted a slot b v) ≡ false
@@ -141,7 +130,7 @@ module _ (a slot : ℕ) (b : Ballot) (v : Value) where
   counted_there n lt =
       let member : nat_lt a n ≡ true = grind (arith, nat_tests) in
       let same_slot : (slot == slot) ≡ true = eq-eqb slot slot refl in
-      let same : is_same_ballot b b ≡ true = itself b in
+      let same : is_same_ballot b b ≡ true = (same_ballot_is b b).1 refl in
       grind (arith, common_steps)
 
 -- ---- an acceptance of the slot
@@ -154,10 +143,10 @@ module _ (n : ℕ) (calls : List Call) (a slot : ℕ) (b : Ballot) (v : Value) w
   by_ballot : (c : Ballot) (x : Bool) → is_same_ballot b c ≡ x → (IsMajority n (tally n (has_voted (calls ++ told ∷ []) slot b)) → ⊥)
       → IsMajority n (tally n (has_voted (calls ++ told ∷ []) slot c)) → IsMajority n (tally n (has_voted calls slot c))
   by_ballot c true same not majority =
-      absurd (not (subst (λ (d : Ballot). IsMajority n (tally n (has_voted (calls ++ told ∷ []) slot d))) (sym (same_ballot b c same)) majority))
+      absurd (not (subst (λ (d : Ballot). IsMajority n (tally n (has_voted (calls ++ told ∷ []) slot d))) (sym ((same_ballot_is b c).0 same)) majority))
   by_ballot c false differs not majority =
       let votes : (m : ℕ) → m < n → has_voted (calls ++ told ∷ []) slot c m ≡ has_voted calls slot c m = λ m lt. votes_with calls told slot c m ∙ ap (λ (x : Bool). has_voted calls slot c m || x) (vote_other_ballot a slot b v m slot c differs) ∙ or-false (has_voted calls slot c m) in
-      subst (IsMajority n) (size_of_same n (has_voted (calls ++ told ∷ []) slot c) (has_voted calls slot c) votes) majority
+      subst (IsMajority n) (tally_same n (has_voted (calls ++ told ∷ []) slot c) (has_voted calls slot c) votes) majority
 
   pub unsettled_accepted : (IsSettled n calls slot → ⊥) → (IsMajority n (tally n (has_voted (calls ++ told ∷ []) slot b)) → ⊥)
       → IsSettled n (calls ++ told ∷ []) slot → ⊥
@@ -203,4 +192,4 @@ any_counted n slot m b (c ∷ calls) lt e =
 pub first_of_majority : (n slot : ℕ) (b : Ballot) (calls : List Call) → IsMajority n (tally n (has_voted calls slot b)) → (v : Value) × (first_counted n calls slot b ≡ Some v)
 first_of_majority n slot b calls majority =
     let some = some_member n (has_voted calls slot b) (omega (arith, majority)) in
-    any_counted n slot some.member b calls some.within some.passes
+    any_counted n slot some.member b calls some.within some.is_in

@@ -2,7 +2,7 @@
 use Rattle.std.specs.Prelude.{◌≡◌, ℕ, ◌==◌, ◌⊎◌, Bool, false, ◌&&◌, IsTrue, nat_lt, List, [], ◌∷◌, ◌++◌, find, Option, Some, None}
 use Rattle.std.specs.List.{list_any}
 use Rattle.std.specs.Option.{option_map}
-use Rattle.ballots.specs.Ballot.{Ballot}
+use Rattle.ballots.specs.Ballot.{Ballot, is_same_ballot}
 use Rattle.ballots.specs.Majority.{tally, IsMajority}
 use Rattle.ballots.specs.declared.value.Value.{Value}
 
@@ -10,9 +10,6 @@ use Rattle.ballots.specs.declared.value.Value.{Value}
 pub data Call : Type 0 where
   Accepted : ℕ → ℕ → Ballot → Value → Call
   Decided : ℕ → Value → Call
-
-abbrev pub is_same_ballot : Ballot → Ballot → Bool
-is_same_ballot a b = (a.round == b.round) && (a.node == b.node)
 
 -- the value that it tells of
 abbrev pub value_in : Call → Value

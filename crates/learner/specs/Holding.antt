@@ -1,15 +1,15 @@
 -- What a learner holds, and the look-ups by which contracts see it.
-use Rattle.std.specs.Prelude.{◌≡◌, refl, ℕ, ◌<◌, Bool, false, nat_eq, slice_index_or, Option, Some, None}
+use Rattle.std.specs.Prelude.{◌≡◌, refl, ℕ, ◌<◌, Bool, false, nat_eq, Option, Some, None}
 use Rattle.std.specs.Option.{option_map, option_map_or, option_and_then}
 use Rattle.std.specs.Coded.{Coded, code_by, coded×, coded_ℕ}
 use Rattle.std.specs.declared.hash.FoldHasher.{FoldHasher}
 use Rattle.std.specs.declared.hash.BuildHasherDefault.{BuildHasherDefault}
 use Rattle.indexmap.specs.IndexMap.{IndexMap, get, spare}
 use Rattle.indexmap.specs.Layout.{hash_map_code}
-use Rattle.ballots.specs.Ballot.{Ballot}
+use Rattle.ballots.specs.Ballot.{Ballot, is_same_ballot}
+use Rattle.ballots.specs.Majority.{contains}
 use Rattle.ballots.specs.declared.value.Value.{Value}
 use Rattle.learner.specs.declared.tally.Tally.{Tally}
-use Rattle.learner.specs.Calls.{is_same_ballot}
 
 abbrev pub Hashing : Type 0
 Hashing = BuildHasherDefault FoldHasher
@@ -43,7 +43,7 @@ abbrev pub tally_at : Holding → ℕ → Ballot → Option Tally
 tally_at holding slot ballot = option_and_then (λ tallies. tally_in tallies ballot) (get nat_eq holding.tallies slot)
 
 abbrev pub has_vote : Tally → ℕ → Bool
-has_vote tally member = slice_index_or tally.voted member false
+has_vote tally member = contains tally.voted member
 
 -- whether the member was counted at the slot and ballot
 abbrev pub voted_at : Holding → ℕ → Ballot → ℕ → Bool

@@ -1,14 +1,15 @@
-ghost use Rattle.std.specs.Prelude.{slice_index_or, false, IsSome, ◌≡◌, ℕ, ◌<◌, ◌↔◌, [], ◌∷◌, ◌++◌, List, None, Some, IsTrue, IfOk, OnOk, OnErr, nat_eq};
+ghost use Rattle.std.specs.Prelude.{false, IsSome, ◌≡◌, ℕ, ◌<◌, ◌↔◌, [], ◌∷◌, ◌++◌, List, None, Some, IsTrue, IfOk, OnOk, OnErr, nat_eq};
 ghost use Rattle.std.specs.Option.{option_map};
 ghost use Rattle.indexmap.specs.IndexMap.{get, spare, IsUnchanged};
-ghost use Rattle.ballots.specs.Ballot.{Ballot as Pair};
-ghost use Rattle.learner.specs.Calls.{Call, Accepted, Decided, Teaches, is_same_ballot};
+ghost use Rattle.ballots.specs.Ballot.{Ballot as Pair, is_same_ballot};
+ghost use Rattle.ballots.specs.Majority.{contains};
+ghost use Rattle.learner.specs.Calls.{Call, Accepted, Decided, Teaches};
 ghost use Rattle.learner.specs.Holding.{decided_at, first_at, tally_in, tally_at, voted_at, HasRoomToLearn, HasRoomToCount, HasRoomForTally, HasRoomForVote};
 ghost use Rattle.learner.specs.Learned.{Learnt, IsSame};
 ghost use Rattle.learner.specs.Changes.{Counts, CountsIn, Drops, Puts, IsChosenWith};
 
-use crate::tally::{NO_VOTES, Tally, Votes, count_votes, with_vote};
-use ballots::{Ballot, Members, NodeId, OutOfMemory, Slot, Value};
+use crate::tally::Tally;
+use ballots::{Ballot, Members, NodeId, NodeSet, OutOfMemory, Slot, Value};
 use indexmap::IndexMap;
 use std::alloc::Global;
 use std::marker::Model;
@@ -133,7 +134,7 @@ impl Learner {
     fn is_open_to(&self, acceptor: NodeId, slot: Slot) -> bool
         ensures { IsTrue result ↔ ((acceptor < self.now.members) × (decided_at self.now slot ≡ None)) }
     {
-        acceptor.number() < self.members.count() && self.is_open(slot)
+        self.members.have(acceptor) && self.is_open(slot)
     }
 
     // Whether the slot has learned no value.
@@ -156,12 +157,13 @@ impl Learner {
         Some(&self.tally(slot, ballot)?.value)
     }
 
-    fn votes(&self, slot: Slot, ballot: Ballot) -> Votes
-        ensures { (member : ℕ) → slice_index_or result member false ≡ voted_at self.now slot ballot member }
+    // Who was counted at the slot and ballot.
+    fn votes(&self, slot: Slot, ballot: Ballot) -> NodeSet
+        ensures { (member : ℕ) → contains result member ≡ voted_at self.now slot ballot member }
     {
         match self.tally(slot, ballot) {
             Some(tally) => tally.voted,
-            None => NO_VOTES,
+            None => NodeSet::new(),
         }
     }
 
@@ -169,8 +171,8 @@ impl Learner {
     fn is_chosen_with(&self, acceptor: NodeId, slot: Slot, ballot: Ballot) -> bool
         ensures { IsTrue result ↔ IsChosenWith self.now acceptor slot ballot }
     {
-        let votes = with_vote(self.votes(slot, ballot), acceptor);
-        self.members.is_majority(count_votes(&votes, self.members))
+        let votes = self.votes(slot, ballot).with(acceptor);
+        self.members.are_majority(votes)
     }
 
     // Makes room for a value at the slot, and for a tally at the slot and ballot.
@@ -271,10 +273,10 @@ fn count_in(tallies: &mut Tallies, acceptor: NodeId, ballot: Ballot, value: Valu
     ensures others { (b : Pair) → is_same_ballot ballot b ≡ false → tally_in tallies.new b ≡ tally_in tallies.old b }
 {
     if let Some(tally) = tallies.get_mut(&ballot) {
-        tally.voted = with_vote(tally.voted, acceptor);
+        tally.voted = tally.voted.with(acceptor);
         return;
     }
-    let voted = with_vote(NO_VOTES, acceptor);
+    let voted = NodeSet::new().with(acceptor);
     let Ok(_) = tallies.insert(ballot, Tally { voted, value }) else {
         unreachable!()
     };

@@ -3,6 +3,7 @@
 use crate::rows::{self, Number};
 use acceptor::{Acceptor, highest_begun_round};
 use ballots::{Ballot, MessageFault, Record, Slot, UploadBytes, Value};
+use bytes::Bytes;
 use std::alloc::Global;
 use std::test::Fail;
 
@@ -62,7 +63,7 @@ fn record_of(alloc: Global, told: Told) -> Option<Record> {
     };
     let slot = Slot::new(number)?;
     if told.is_acceptance {
-        let bytes = UploadBytes::new(vec![in alloc; told.byte].ok()?)?;
+        let bytes = UploadBytes::new(Bytes::copy_from_slice(alloc, &[told.byte]).ok()?)?;
         return Some(Record::Accepted(slot, ballot, Value::Upload(bytes)));
     }
     Some(Record::Promised(slot, ballot))

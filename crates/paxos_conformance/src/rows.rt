@@ -1,6 +1,7 @@
 //! Rows of tables: the numbers in them, and the ballots and values that these name.
 
 use ballots::{Ballot, NodeId, UploadBytes, Value};
+use bytes::Bytes;
 use std::alloc::Global;
 use std::test::Fail;
 
@@ -28,6 +29,6 @@ pub(crate) fn ballot(numbers: Number) -> Option<Ballot> {
 
 /// The upload of this one byte.
 pub(crate) fn upload(alloc: Global, byte: u8) -> Result<Value, Fail> {
-    let bytes = UploadBytes::new(vec![in alloc; byte]?).ok_or("no upload")?;
+    let bytes = UploadBytes::new(Bytes::copy_from_slice(alloc, &[byte])?).ok_or("no upload")?;
     Ok(Value::Upload(bytes))
 }

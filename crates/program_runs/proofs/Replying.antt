@@ -1,8 +1,8 @@
 -- One frame answered, or the end of a run.
 use Rattle.std.proofs.Common.{◌≡◌, ℕ, true, false, List, [], ◌++◌, Option, Some, None, Result, Ok, Err, refl, sym, subst, append-nil, inl, inr}
-use Rattle.proto_wire.specs.Frame.{Frame, IsFlag, frame_text}
-use Rattle.proto_wire.specs.FrameFaults.{WhereKnown, ReadsFrame}
-use Rattle.proto_wire.specs.declared.fault.FrameFault.{FrameFault}
+use Rattle.grpc_frames.specs.Frame.{Frame, IsFlag, frame_text}
+use Rattle.grpc_frames.specs.FrameFaults.{WhereKnown, ReadsFrame}
+use Rattle.grpc_frames.specs.declared.fault.FrameFault.{FrameFault}
 use Rattle.ballots.specs.declared.message.Message.{Message}
 use Rattle.ballots.specs.Message.{IsMessageText}
 use Rattle.acceptor.specs.Standing.{Standing}

@@ -2,8 +2,8 @@
 use Rattle.std.proofs.Common.{◌≡◌, ℕ, ◌+◌, ◌<◌, Bool, true, false, List, [], ◌∷◌, ◌++◌, Option, Some, None, Result, Ok, Err, refl, sym, ap, subst, ◌∙◌, append-nil, append_assoc, arith, inl, inr}
 use Rattle.std.specs.List.{flat_map}
 use Rattle.std.proofs.lemmas.List.{length_push, flat_map_more}
-use Rattle.proto_wire.specs.Frame.{Frame, frame_text}
-use Rattle.proto_wire.specs.FrameFaults.{WhereKnown}
+use Rattle.grpc_frames.specs.Frame.{Frame, frame_text}
+use Rattle.grpc_frames.specs.FrameFaults.{WhereKnown}
 use Rattle.acceptor.specs.Standing.{Standing, IsFresh}
 use Rattle.program_runs.specs.declared.fault.RunFault.{RunFault}
 use Rattle.program_runs.specs.declared.fault.RunFault.TheVariants as faults

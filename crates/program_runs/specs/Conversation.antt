@@ -1,7 +1,7 @@
 -- What node 0 answers as an acceptor, over a whole list of frames: Lamport, "Paxos Made Simple", section 2.2. A standing
 -- says what each slot has promised and accepted; this is about no code's lists.
 use Rattle.std.specs.Prelude.{◌≡◌, ℕ, List, [], ◌∷◌, Option, Some, None}
-use Rattle.proto_wire.specs.Frame.{Frame, frame_text}
+use Rattle.grpc_frames.specs.Frame.{Frame, frame_text}
 use Rattle.ballots.specs.declared.value.Value.{Value}
 use Rattle.ballots.specs.declared.message.Message.{Message}
 use Rattle.ballots.specs.declared.message.Message.TheVariants as says

@@ -1,8 +1,8 @@
 -- What a run of the acceptor over a whole input gives.
 use Rattle.std.specs.Prelude.{◌≡◌, ℕ, ◌<◌, ◌⊎◌, Bool, true, false, List, [], ◌++◌, length, Some, Result, Ok, Err}
 use Rattle.std.specs.List.{flat_map}
-use Rattle.proto_wire.specs.Frame.{Frame, frame_text, payload_limit}
-use Rattle.proto_wire.specs.FrameFaults.{FrameFaultStands, IsBeginning}
+use Rattle.grpc_frames.specs.Frame.{Frame, frame_text, payload_limit}
+use Rattle.grpc_frames.specs.FrameFaults.{FrameFaultStands, IsBeginning}
 use Rattle.ballots.specs.declared.message.Message.{Message}
 use Rattle.ballots.specs.Message.{IsMessageText, IsFaultOf, canonical}
 use Rattle.acceptor.specs.Standing.{Standing, IsFresh}

@@ -2,7 +2,7 @@
 
 ghost use Rattle.std.specs.Prelude.{◌≡◌, ◌⊎◌, ℕ, true, Ok, Err};
 ghost use Rattle.std.specs.Io.KnownBytes.{Appends, Keeps};
-ghost use Rattle.proto_wire.specs.FrameFaults.{WhereKnown};
+ghost use Rattle.grpc_frames.specs.FrameFaults.{WhereKnown};
 ghost use Rattle.program_runs.specs.Serving.{RunsToTheEnd, RunsIntoSome};
 ghost use Rattle.program_runs.specs.TraceFile.{MeansLawful, AuditFails, judgement_line};
 

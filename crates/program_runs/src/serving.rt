@@ -1,8 +1,8 @@
 //! The acceptor over any reader and writer: frames come in, and the frames of its answers go out.
 
 ghost use Rattle.std.specs.Prelude.{◌≡◌, IfErr};
-ghost use Rattle.proto_wire.specs.Frame.{IsFlag};
-ghost use Rattle.proto_wire.specs.FrameFaults.{WhereKnown};
+ghost use Rattle.grpc_frames.specs.Frame.{IsFlag};
+ghost use Rattle.grpc_frames.specs.FrameFaults.{WhereKnown};
 ghost use Rattle.acceptor.specs.Holding.{standing};
 ghost use Rattle.program_runs.specs.Serving.{Sends, AnswersFrame, Steps, Runs};
 

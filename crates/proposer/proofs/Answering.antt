@@ -1,17 +1,19 @@
 -- What a promise and a Nack do to the attempt that is held.
-use Rattle.std.proofs.Common.{◌≡◌, ℕ, ◌<◌, ◌==◌, ◌&&◌, nat_lt, Bool, true, false, List, [], ◌∷◌, ◌++◌, filter_map, append-nil, Option, Some, None, refl, sym, subst, ◌∙◌, arith, eq-eqb, lt-ltb, slice_index_or}
+use Rattle.std.proofs.Common.{◌≡◌, ℕ, ◌<◌, ◌==◌, ◌&&◌, nat_lt, Bool, true, false, List, [], ◌∷◌, ◌++◌, filter_map, append-nil, Option, Some, None, refl, sym, subst, ◌∙◌, arith, eq-eqb, lt-ltb}
 use Rattle.std.proofs.lemmas.Bool.Decides.{nat_tests}
 use Rattle.std.proofs.lemmas.List.Elements.{filter-append, filter_map-append}
-use Rattle.ballots.specs.Ballot.{Ballot}
+use Rattle.ballots.specs.Ballot.{Ballot, is_same_ballot}
+use Rattle.ballots.specs.Majority.{contains}
 use Rattle.ballots.specs.declared.value.Value.{Value}
+use Rattle.ballots.proofs.CallerLemmas.{same_ballot_is}
 use Rattle.proposer.specs.declared.attempt.Attempt.{Attempt}
 use Rattle.proposer.specs.Call.{Begun, Promise, Call, Promises, Nacks}
 use Rattle.proposer.specs.Choosing.{is_sender, HasMajority}
-use Rattle.proposer.specs.Attempting.{is_same_ballot, ends, answering, is_for, promise_in, Completes, Answers}
+use Rattle.proposer.specs.Attempting.{ends, answering, is_for, promise_in, Completes, Answers}
 use Rattle.proposer.specs.Counting.{Counts, Gives, Takes, IsAt}
 use Rattle.proposer.specs.Holding.{Holds, HoldsOpen}
 use Rattle.proposer.proofs.Counting.{counts_again, majority_again}
-use Rattle.proposer.proofs.Opening.{still_open, one_open, was_open, WasOpen, is_same, same_is, both_true}
+use Rattle.proposer.proofs.Opening.{still_open, one_open, was_open, WasOpen, both_true}
 
 -- ---- the promises that answer
 
@@ -35,11 +37,11 @@ pub is_for_parts : (members : ℕ) (begun : Begun) (promise : Promise) → is_fo
 is_for_parts members begun promise is =
     let outer : (nat_lt promise.sender members ≡ true) × ((promise.slot == begun.slot && is_same_ballot promise.ballot begun.ballot) ≡ true) = both_true _ _ is in
     let inner : ((promise.slot == begun.slot) ≡ true) × (is_same_ballot promise.ballot begun.ballot ≡ true) = both_true _ _ outer.1 in
-    (grind (arith, nat_tests, outer.0), grind (arith, nat_tests, inner.0), same_is promise.ballot begun.ballot inner.1)
+    (grind (arith, nat_tests, outer.0), grind (arith, nat_tests, inner.0), (same_ballot_is promise.ballot begun.ballot).0 inner.1)
 
 pub is_for_these : (members : ℕ) (begun : Begun) (promise : Promise) → promise.sender < members → promise.slot ≡ begun.slot → promise.ballot ≡ begun.ballot → is_for members begun promise ≡ true
 is_for_these members begun promise lt slot_is ballot_is =
-    rw (lt-ltb promise.sender members lt, eq-eqb promise.slot begun.slot slot_is, is_same promise.ballot begun.ballot ballot_is) refl
+    rw (lt-ltb promise.sender members lt, eq-eqb promise.slot begun.slot slot_is, (same_ballot_is promise.ballot begun.ballot).1 ballot_is) refl
 
 -- ---- a promise that is not counted
 
@@ -50,7 +52,7 @@ pub data Idle (members : ℕ) (begun : Begun) (since : List Call) (promise : Pro
 
 module _ (members : ℕ) (calls : List Call) (promise : Promise) (attempt : Attempt) (holds : Holds members calls attempt)
     (not_taken : Takes members promise.sender promise.slot promise.ballot attempt → ⊥) where
-  idle_by_sender : (is_counted : Bool) → slice_index_or attempt.counted promise.sender false ≡ is_counted → is_for members holds.begun promise ≡ true → Idle members holds.begun holds.since promise
+  idle_by_sender : (is_counted : Bool) → contains attempt.counted promise.sender ≡ is_counted → is_for members holds.begun promise ≡ true → Idle members holds.begun holds.since promise
   idle_by_sender true counted is =
       twice (answering-push members holds.begun holds.since promise is) (sym (holds.counts.senders promise.sender (is_for_parts members holds.begun promise is).0) ∙ counted)
   idle_by_sender false counted is =
@@ -62,7 +64,7 @@ module _ (members : ℕ) (calls : List Call) (promise : Promise) (attempt : Atte
       }))
 
   idle_by_answer : (answers : Bool) → is_for members holds.begun promise ≡ answers → Idle members holds.begun holds.since promise
-  idle_by_answer true is = idle_by_sender (slice_index_or attempt.counted promise.sender false) refl is
+  idle_by_answer true is = idle_by_sender (contains attempt.counted promise.sender) refl is
   idle_by_answer false is = elsewhere (answering-other members holds.begun holds.since promise is)
 
   idle : Idle members holds.begun holds.since promise
@@ -159,7 +161,7 @@ closed_answers members calls promise closed begun since is_open completes = clos
 -- ---- a Nack
 
 ended_by : (begun : Begun) (slot : ℕ) (ballot : Ballot) → begun.slot ≡ slot → begun.ballot ≡ ballot → ends begun (Nacks slot ballot) ≡ true
-ended_by begun slot ballot slot_is ballot_is = rw (eq-eqb slot begun.slot (sym slot_is), is_same ballot begun.ballot (sym ballot_is)) refl
+ended_by begun slot ballot slot_is ballot_is = rw (eq-eqb slot begun.slot (sym slot_is), (same_ballot_is ballot begun.ballot).1 (sym ballot_is)) refl
 
 pub closed_by : (members : ℕ) (calls : List Call) (held : Option Attempt) (slot : ℕ) (ballot : Ballot) → IsAt held slot ballot → HoldsOpen members calls held → HoldsOpen members (calls ++ Nacks slot ballot ∷ []) None
 closed_by members calls None slot ballot at holds = absurd at
@@ -174,7 +176,7 @@ not_ended_by : (answer : Bool) (begun : Begun) (slot : ℕ) (ballot : Ballot) �
 not_ended_by false begun slot ballot is not = is
 not_ended_by true begun slot ballot is not =
     let both : ((slot == begun.slot) ≡ true) × (is_same_ballot ballot begun.ballot ≡ true) = both_true _ _ is in
-    absurd (not (grind (arith, nat_tests, both.0), sym (same_is ballot begun.ballot both.1)))
+    absurd (not (grind (arith, nat_tests, both.0), sym ((same_ballot_is ballot begun.ballot).0 both.1)))
 
 pub held_on : (members : ℕ) (calls : List Call) (held : Option Attempt) (slot : ℕ) (ballot : Ballot) → (IsAt held slot ballot → ⊥) → HoldsOpen members calls held → HoldsOpen members (calls ++ Nacks slot ballot ∷ []) held
 held_on members calls None slot ballot not closed = λ begun since is_open.

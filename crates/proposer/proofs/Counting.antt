@@ -1,20 +1,19 @@
 -- What is counted of one more promise.
-use Rattle.std.proofs.Common.{inl, inr, replicate, zero, suc, ◌≡◌, ◌≢◌, ℕ, ◌<◌, ◌||◌, Bool, true, false, not, List, [], ◌∷◌, ◌++◌, length, get_or, set, filter, Option, Some, None, refl, sym, subst, ◌∙◌, arith, option_to_list, append-nil, eq-eqb, ne_eqb, slice_index_or}
+use Rattle.std.proofs.Common.{inl, inr, ◌≡◌, ◌≢◌, ℕ, ◌<◌, ◌==◌, ◌||◌, Bool, true, false, not, List, [], ◌∷◌, ◌++◌, filter, Option, Some, None, refl, sym, ap, subst, ◌∙◌, arith, option_to_list, append-nil, eq-eqb, ne_eqb}
 use Rattle.std.specs.List.{cons_option}
 use Rattle.std.proofs.lemmas.Bool.{cases_eq}
 use Rattle.std.proofs.lemmas.Grind.{common_steps}
-use Rattle.std.proofs.lemmas.List.{get_or-set_same, get_or-set_other}
 use Rattle.std.proofs.lemmas.List.Folds.{list_any-append}
 use Rattle.std.proofs.lemmas.List.Elements.{filter-append, filter_map-append}
 use Rattle.ballots.specs.declared.value.Value.{Value}
 use Rattle.ballots.specs.Ballot.{Ballot}
-use Rattle.ballots.specs.Majority.{tally, IsMajority}
+use Rattle.ballots.specs.Majority.{NodeSet, contains, members_in, IsMajority}
+use Rattle.ballots.proofs.CallerLemmas.{majority_stays, majority_same, none_is_no_majority}
 use Rattle.proposer.specs.declared.attempt.Attempt.{Attempt}
 use Rattle.proposer.specs.declared.attempt.Choice.{Choice}
 use Rattle.proposer.specs.Call.{Promise}
 use Rattle.proposer.specs.Choosing.{is_from, is_sender, HasMajority, first_of_each, reports_of, Chooses}
 use Rattle.proposer.specs.Counting.{IsBest, Keeps, Counts, Gives, IsNew}
-use Rattle.proposer.proofs.Tallies.{majority_stays, majority_same, none_is_no_majority}
 
 -- ---- senders
 
@@ -27,7 +26,7 @@ pub still_sender : (promises more : List Promise) (node : ℕ) → is_sender pro
 still_sender promises more node is = rw (list_any-append (is_from node) promises more, is)
 
 pub majority_grows : (members : ℕ) (promises more : List Promise) → HasMajority members promises → HasMajority members (promises ++ more)
-majority_grows members promises more majority = majority_stays members (is_sender promises) (is_sender (promises ++ more)) (still_sender promises more) majority
+majority_grows members promises more majority = majority_stays members (is_sender promises) (is_sender (promises ++ more)) (λ node lt. still_sender promises more node) majority
 
 -- ---- each sender's first
 
@@ -88,29 +87,18 @@ reports-new promises promise is =
 
 -- ---- an attempt
 
-nobody : (n node : ℕ) → get_or (replicate n false) node false ≡ false
-nobody zero node = refl
-nobody (suc n) zero = refl
-nobody (suc n) (suc node) = nobody n node
-
 -- nothing is counted at the begin
-pub counts_nothing : (members slot : ℕ) (ballot : Ballot) (candidate : Value) → Counts members candidate [] (record { slot = slot; ballot = ballot; counted = replicate 7 false; choice = Some (record { reported_at = None; value = candidate }) })
-counts_nothing members slot ballot candidate = record {
-  senders = λ node lt. nobody 7 node;
+pub counts_nothing : (members slot : ℕ) (ballot : Ballot) (candidate : Value) (nobody : NodeSet) → ((node : ℕ) → contains nobody node ≡ false)
+    → Counts members candidate [] (record { slot = slot; ballot = ballot; counted = nobody; choice = Some (record { reported_at = None; value = candidate }) })
+counts_nothing members slot ballot candidate nobody empty = record {
+  senders = λ node lt. empty node;
   choice = (none_is_no_majority members, (refl, refl));
 }
 
 module _ (members : ℕ) (candidate : Value) (promises : List Promise) (promise : Promise) (attempt : Attempt)
-    (was : Counts members candidate promises attempt) (is_new : IsNew members promise.sender attempt) (room : promise.sender < length attempt.counted) where
+    (was : Counts members candidate promises attempt) (is_new : IsNew members promise.sender attempt) where
   not_sent : is_sender promises promise.sender ≡ false
   not_sent = sym (was.senders promise.sender is_new.member) ∙ is_new.not_counted
-
-  -- the senders are counted with this one
-  pub senders_with : (node : ℕ) → node < members → slice_index_or (set attempt.counted promise.sender true) node false ≡ is_sender (promises ++ promise ∷ []) node
-  senders_with node lt = elim (cases_eq node promise.sender) as (λ _. slice_index_or (set attempt.counted promise.sender true) node false ≡ is_sender (promises ++ promise ∷ []) node) [
-    | inl own ↦ rw (own, get_or-set_same attempt.counted promise.sender true false room, is_sender-push promises promise promise.sender, eq-eqb promise.sender promise.sender refl) (sym (or_true (is_sender promises promise.sender)))
-    | inr differs ↦ rw (get_or-set_other attempt.counted promise.sender node true false differs, is_sender-push promises promise node, ne_eqb promise.sender node (λ own. differs (sym own))) (was.senders node lt ∙ sym (or_false (is_sender promises node)))
-  ]
 
   -- the report comes after those that are counted
   pub reports_with : reports_of (first_of_each (promises ++ promise ∷ [])) ≡ reports_of (first_of_each promises) ++ option_to_list promise.report
@@ -141,69 +129,60 @@ module _ (members : ℕ) (candidate : Value) (promises : List Promise) (promise 
 
 -- ---- one more promise, by what the code has in hand
 
-module _ (members : ℕ) (candidate : Value) (promises : List Promise) (promise : Promise) (attempt : Attempt) (sender at : ℕ)
-    (by_sender : promise.sender ≡ sender) (there : at ≡ sender) (requires : IsNew members sender attempt) (room : sender < length attempt.counted)
-    (was : Counts members candidate promises attempt) where
+module _ (members : ℕ) (candidate : Value) (promises : List Promise) (promise : Promise) (attempt : Attempt) (sender : ℕ) (next : NodeSet)
+    (by_sender : promise.sender ≡ sender) (with_sender : (node : ℕ) → contains next node ≡ (contains attempt.counted node || (sender == node)))
+    (requires : IsNew members sender attempt) (was : Counts members candidate promises attempt) where
   by_new : IsNew members promise.sender attempt
   by_new = subst (λ (s : ℕ). IsNew members s attempt) (sym by_sender) requires
 
-  by_room : promise.sender < length attempt.counted
-  by_room = omega (arith, by_sender, room)
+  -- the senders are counted with this one
+  senders_after : (node : ℕ) → node < members → contains next node ≡ is_sender (promises ++ promise ∷ []) node
+  senders_after node lt =
+      with_sender node ∙ ap (λ (b : Bool). b || (sender == node)) (was.senders node lt)
+      ∙ ap (λ (s : ℕ). is_sender promises node || (s == node)) (sym by_sender) ∙ sym (is_sender-push promises promise node)
 
-  at_sender : at ≡ promise.sender
-  at_sender = there ∙ sym by_sender
+  majority_after : IsMajority members (members_in members next) → HasMajority members (promises ++ promise ∷ [])
+  majority_after = majority_same members (contains next) (is_sender (promises ++ promise ∷ [])) senders_after
 
-  senders_after : (node : ℕ) → node < members → slice_index_or (set attempt.counted at true) node false ≡ is_sender (promises ++ promise ∷ []) node
-  senders_after node lt = rw at_sender (senders_with members candidate promises promise attempt was by_new by_room node lt)
-
-  majority_after : (size : ℕ) → size ≡ tally members (λ node. slice_index_or (set attempt.counted at true) node false) → IsMajority members size → HasMajority members (promises ++ promise ∷ [])
-  majority_after size size_is majority =
-      majority_same members (λ node. slice_index_or (set attempt.counted at true) node false) (is_sender (promises ++ promise ∷ [])) senders_after (rw size_is at majority)
-
-  after_majority : (size : ℕ) → size ≡ tally members (λ node. slice_index_or (set attempt.counted at true) node false) → HasMajority members (promises ++ promise ∷ []) → IsMajority members size
-  after_majority size size_is majority =
-      rw size_is (majority_same members (is_sender (promises ++ promise ∷ [])) (λ node. slice_index_or (set attempt.counted at true) node false) (λ node lt. sym (senders_after node lt)) majority)
+  after_majority : HasMajority members (promises ++ promise ∷ []) → IsMajority members (members_in members next)
+  after_majority = majority_same members (is_sender (promises ++ promise ∷ [])) (contains next) (λ node lt. sym (senders_after node lt))
 
   -- the Accept was answered before
   kept_none : attempt.choice ≡ None → HasMajority members promises
   kept_none none = subst (λ (o : Option Choice). Keeps members candidate promises o) none was.choice
 
-  pub counts_gone : (choice : Option Choice) → attempt.choice ≡ None → choice ≡ None → Counts members candidate (promises ++ promise ∷ []) (record attempt { counted = set attempt.counted at true; choice = choice })
+  pub counts_gone : (choice : Option Choice) → attempt.choice ≡ None → choice ≡ None → Counts members candidate (promises ++ promise ∷ []) (record attempt { counted = next; choice = choice })
   counts_gone choice none none_now = record {
     senders = senders_after;
     choice = rw none_now (majority_grows members promises (promise ∷ []) (kept_none none));
   }
 
-  module _ (old new : Choice) (was_old : attempt.choice ≡ Some old)
-      (weighs : IsBest candidate (reports_of (first_of_each promises)) old.reported_at old.value → IsBest candidate (reports_of (first_of_each promises) ++ option_to_list promise.report) new.reported_at new.value)
-      (size : ℕ) (size_is : size ≡ tally members (λ node. slice_index_or (set attempt.counted at true) node false)) where
-    kept_old : Keeps members candidate promises (Some old)
-    kept_old = subst (λ (o : Option Choice). Keeps members candidate promises o) was_old was.choice
+  kept_some : (old : Choice) → attempt.choice ≡ Some old → Keeps members candidate promises (Some old)
+  kept_some old was_old = subst (λ (o : Option Choice). Keeps members candidate promises o) was_old was.choice
 
+  module _ (old new : Choice) (was_old : attempt.choice ≡ Some old)
+      (weighs : IsBest candidate (reports_of (first_of_each promises)) old.reported_at old.value → IsBest candidate (reports_of (first_of_each promises) ++ option_to_list promise.report) new.reported_at new.value) where
     best_now : IsBest candidate (reports_of (first_of_each (promises ++ promise ∷ []))) new.reported_at new.value
-    best_now = rw (reports_with members candidate promises promise attempt was by_new by_room) (weighs kept_old.1)
+    best_now = rw (reports_with members candidate promises promise attempt was by_new) (weighs (kept_some old was_old).1)
 
     -- the majority comes with this promise
-    pub counts_majority : (choice : Option Choice) → choice ≡ None → IsMajority members size → Counts members candidate (promises ++ promise ∷ []) (record attempt { counted = set attempt.counted at true; choice = choice })
-    counts_majority choice none_now majority = record { senders = senders_after; choice = rw none_now (majority_after size size_is majority) }
+    pub counts_majority : (choice : Option Choice) → choice ≡ None → IsMajority members (members_in members next) → Counts members candidate (promises ++ promise ∷ []) (record attempt { counted = next; choice = choice })
+    counts_majority choice none_now majority = record { senders = senders_after; choice = rw none_now (majority_after majority) }
 
     -- there is no majority yet
-    pub counts_on : (IsMajority members size → ⊥) → Counts members candidate (promises ++ promise ∷ []) (record attempt { counted = set attempt.counted at true; choice = Some new })
-    counts_on not = record { senders = senders_after; choice = (λ majority. not (after_majority size size_is majority), best_now) }
+    pub counts_on : (IsMajority members (members_in members next) → ⊥) → Counts members candidate (promises ++ promise ∷ []) (record attempt { counted = next; choice = Some new })
+    counts_on not = record { senders = senders_after; choice = (λ majority. not (after_majority majority), best_now) }
 
-  module _ (size : ℕ) (size_is : size ≡ tally members (λ node. slice_index_or (set attempt.counted at true) node false)) where
-    pub gives_none_yet : (IsMajority members size → ⊥) → Gives members candidate promises promise None
-    gives_none_yet not = λ before now. not (after_majority size size_is now)
+  pub gives_none_yet : (IsMajority members (members_in members next) → ⊥) → Gives members candidate promises promise None
+  gives_none_yet not = λ before now. not (after_majority now)
 
-    pub gives_value : (old : Choice) (value : Value) → attempt.choice ≡ Some old
-        → (IsBest candidate (reports_of (first_of_each promises)) old.reported_at old.value → Chooses candidate (reports_of (first_of_each promises) ++ option_to_list promise.report) value)
-        → IsMajority members size → Gives members candidate promises promise (Some value)
-    gives_value old value was_old chooses majority =
-        let kept : Keeps members candidate promises (Some old) = subst (λ (o : Option Choice). Keeps members candidate promises o) was_old was.choice in
-        (kept.0, majority_after size size_is majority, rw (reports_with members candidate promises promise attempt was by_new by_room) (chooses kept.1))
+  pub gives_value : (old : Choice) (value : Value) → attempt.choice ≡ Some old
+      → (IsBest candidate (reports_of (first_of_each promises)) old.reported_at old.value → Chooses candidate (reports_of (first_of_each promises) ++ option_to_list promise.report) value)
+      → IsMajority members (members_in members next) → Gives members candidate promises promise (Some value)
+  gives_value old value was_old chooses majority =
+      let kept = kept_some old was_old in
+      (kept.0, majority_after majority, rw (reports_with members candidate promises promise attempt was by_new) (chooses kept.1))
 
-    -- something is given, so that it is refused only where it would be
-    pub not_none : (old : Choice) → attempt.choice ≡ Some old → IsMajority members size → Gives members candidate promises promise None → ⊥
-    not_none old was_old majority none =
-        let kept : Keeps members candidate promises (Some old) = subst (λ (o : Option Choice). Keeps members candidate promises o) was_old was.choice in
-        none kept.0 (majority_after size size_is majority)
+  -- something is given, so that it is refused only where it would be
+  pub not_none : (old : Choice) → attempt.choice ≡ Some old → IsMajority members (members_in members next) → Gives members candidate promises promise None → ⊥
+  not_none old was_old majority none = none (kept_some old was_old).0 (majority_after majority)

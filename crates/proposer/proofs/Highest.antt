@@ -1,9 +1,9 @@
 -- The highest report of a list is one, and stays or changes with one more.
-use Rattle.std.proofs.Common.{◌≡◌, inl, inr, List, [], ◌∷◌, ◌++◌, Option, Some, None, refl, sym, ap, ◌∙◌, append_assoc, arith}
+use Rattle.std.proofs.Common.{◌≡◌, inl, inr, List, [], ◌∷◌, ◌++◌, Option, Some, None, refl, sym, ap, ◌∙◌, append_assoc}
 use Rattle.std.specs.List.{AllByRecursion}
-use Rattle.std.proofs.lemmas.Bool.{cases_lt}
 use Rattle.ballots.specs.Ballot.{Ballot, IsBelow, IsAbove}
 use Rattle.ballots.specs.declared.value.Value.{Value}
+use Rattle.ballots.proofs.CallerLemmas.{below_carried, below_above}
 use Rattle.proposer.specs.Choosing.{Report, IsHighest, Chooses}
 use Rattle.proposer.specs.Counting.{IsBest}
 use Rattle.proposer.proofs.Lists.{all-append, all_there, all_weaker, Meet, same, earlier, later, splits, nothing_there}
@@ -34,31 +34,6 @@ chooses_one candidate reports v w (inr own) (inr other) = ap (λ (r : Report). r
 
 -- ---- one more report
 
-below_carried : (a b c : Ballot) → IsBelow a b → IsBelow b c → IsBelow a c
-below_carried a b c (inl lt) (inl less) = inl (omega (arith, lt, less))
-below_carried a b c (inl lt) (inr e) = inl (omega (arith, lt, e.0))
-below_carried a b c (inr e) (inl less) = inl (omega (arith, e.0, less))
-below_carried a b c (inr e) (inr f) = inr (omega (arith, e.0, f.0), omega (arith, e.1, f.1))
-
--- a ballot that is not above another is below all that are above that other
-below_both : (a b c : Ballot) → (IsBelow b a → ⊥) → IsBelow b c → IsBelow a c
-below_both a b c not_above (inl lt) =
-    elim (cases_lt a.round c.round) as (λ _. IsBelow a c) [
-      | inl less ↦ inl less
-      | inr ge ↦ absurd (not_above (inl (omega (arith, lt, ge))))
-    ]
-below_both a b c not_above (inr e) =
-    elim (cases_lt a.round c.round) as (λ _. IsBelow a c) [
-      | inl less ↦ inl less
-      | inr ge ↦ elim (cases_lt b.round a.round) as (λ _. IsBelow a c) [
-        | inl above ↦ absurd (not_above (inl above))
-        | inr not ↦ elim (cases_lt b.node a.node) as (λ _. IsBelow a c) [
-          | inl above ↦ absurd (not_above (inr (omega (arith, e.0, ge, not), above)))
-          | inr le ↦ inr (omega (arith, e.0, ge, not), omega (arith, e.1, le))
-        ]
-      ]
-    ]
-
 -- a report that is not above the highest leaves it
 highest_stays : (reports : List Report) (h r : Report) → (IsBelow h.0 r.0 → ⊥) → IsHighest reports h → IsHighest (reports ++ r ∷ []) h
 highest_stays reports h r not_above is_h = record {
@@ -75,7 +50,7 @@ all_below reports h r above is_h =
     rw is_h.split
     (all-append (λ other. IsBelow other.0 r.0) is_h.before (h ∷ is_h.after)
     (all_weaker (λ other. IsBelow other.0 h.0) (λ other. IsBelow other.0 r.0) is_h.before (λ other below. below_carried other.0 h.0 r.0 below above) is_h.above_those_before)
-    (above, all_weaker (λ other. IsBelow h.0 other.0 → ⊥) (λ other. IsBelow other.0 r.0) is_h.after (λ other not. below_both other.0 h.0 r.0 not above) is_h.not_below_those_after))
+    (above, all_weaker (λ other. IsBelow h.0 other.0 → ⊥) (λ other. IsBelow other.0 r.0) is_h.after (λ other not. below_above other.0 h.0 r.0 not above) is_h.not_below_those_after))
 
 highest_above_all : (reports : List Report) (r : Report) → AllByRecursion (λ other. IsBelow other.0 r.0) reports → IsHighest (reports ++ r ∷ []) r
 highest_above_all reports r of_all = record {

@@ -1,5 +1,4 @@
 pub mod Lists
-pub mod Tallies
 pub mod Highest
 pub mod Counting
 pub mod Results

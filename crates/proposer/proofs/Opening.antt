@@ -4,16 +4,10 @@ use Rattle.std.proofs.lemmas.Grind.{common_steps}
 use Rattle.std.proofs.lemmas.Bool.Decides.{nat_tests}
 use Rattle.ballots.specs.Ballot.{Ballot}
 use Rattle.proposer.specs.Call.{Begun, Call, Begins, Promises, Nacks}
-use Rattle.proposer.specs.Attempting.{highest_begun, next_ballot, Rises, is_same_ballot, ends, IsOpen}
+use Rattle.proposer.specs.Attempting.{highest_begun, next_ballot, Rises, ends, IsOpen}
 use Rattle.proposer.proofs.Lists.{all-append, all_there, all_front, Meet, same, earlier, later, splits, nothing_there}
 
 -- ---- ballots
-
-pub is_same : (a b : Ballot) → a ≡ b → is_same_ballot a b ≡ true
-is_same a b e = rw (e, eq-eqb b.round b.round refl, eq-eqb b.node b.node refl) refl
-
-pub same_is : (a b : Ballot) → is_same_ballot a b ≡ true → a ≡ b
-same_is a b is = grind (arith, common_steps, nat_tests)
 
 pub both_true : (x y : Bool) → (x && y) ≡ true → (x ≡ true) × (y ≡ true)
 both_true true true e = (refl, refl)

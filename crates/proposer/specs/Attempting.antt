@@ -2,7 +2,7 @@
 -- sections 2.2 and 2.4, phases 1a and 2a.
 use Rattle.std.specs.Prelude.{◌≡◌, ℕ, suc, max, ◌==◌, nat_lt, ◌&&◌, Bool, true, false, List, [], ◌∷◌, ◌++◌, filter, filter_map, Option, Some, None}
 use Rattle.std.specs.List.{AllByRecursion}
-use Rattle.ballots.specs.Ballot.{Ballot}
+use Rattle.ballots.specs.Ballot.{Ballot, is_same_ballot}
 use Rattle.ballots.specs.declared.value.Value.{Value}
 use Rattle.proposer.specs.Call.{Begun, Promise, Call, Begins, Promises, Nacks}
 use Rattle.proposer.specs.Choosing.{HasMajority, Chooses, first_of_each, reports_of}
@@ -26,9 +26,6 @@ pub record Rises (me highest : ℕ) (calls : List Call) : Type 0 where
       → begun.ballot ≡ next_ballot me (highest_begun highest before) begun.seen_round
 
 -- ---- the open attempt
-
-abbrev pub is_same_ballot : Ballot → Ballot → Bool
-is_same_ballot a b = a.round == b.round && a.node == b.node
 
 -- another attempt begins, or a Nack of this one's slot and ballot comes
 abbrev pub ends : Begun → Call → Bool

@@ -1,7 +1,8 @@
 -- What an attempt keeps of the promises that answered it: a tool of the proofs. What is proposed is defined in `Choosing`
 -- and `Attempting`.
-use Rattle.std.specs.Prelude.{◌≡◌, ℕ, ◌<◌, ◌++◌, ◌∷◌, false, List, [], Option, Some, None, slice_index_or}
+use Rattle.std.specs.Prelude.{◌≡◌, ℕ, ◌<◌, ◌++◌, ◌∷◌, false, List, [], Option, Some, None}
 use Rattle.ballots.specs.Ballot.{Ballot}
+use Rattle.ballots.specs.Majority.{contains}
 use Rattle.ballots.specs.declared.value.Value.{Value}
 use Rattle.proposer.specs.declared.attempt.Attempt.{Attempt}
 use Rattle.proposer.specs.declared.attempt.Choice.{Choice}
@@ -21,7 +22,7 @@ Keeps members candidate promises (Some choice) =
 
 -- who is counted, and what is chosen so far, by the promises that answered the attempt
 pub record Counts (members : ℕ) (candidate : Value) (promises : List Promise) (attempt : Attempt) : Type 0 where
-  pub senders : (node : ℕ) → node < members → slice_index_or attempt.counted node false ≡ is_sender promises node
+  pub senders : (node : ℕ) → node < members → contains attempt.counted node ≡ is_sender promises node
   pub choice : Keeps members candidate promises attempt.choice
 
 -- what one more promise gives: the chosen value exactly where the majority comes with it
@@ -35,7 +36,7 @@ Gives members candidate promises promise None =
 -- it is the first of its sender, who is a member
 pub record IsNew (members : ℕ) (sender : ℕ) (attempt : Attempt) : Type 0 where
   pub member : sender < members
-  pub not_counted : slice_index_or attempt.counted sender false ≡ false
+  pub not_counted : contains attempt.counted sender ≡ false
 
 -- the attempt counts a promise of this sender for this slot and ballot
 pub record Takes (members sender slot : ℕ) (ballot : Ballot) (attempt : Attempt) : Type 0 where

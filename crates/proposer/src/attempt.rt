@@ -1,12 +1,11 @@
-ghost use Rattle.std.specs.Prelude.{◌≡◌, ℕ, ◌<◌, ◌++◌, ◌∷◌, [], List, Some, None, true, false, IsTrue, IfOk, OnErr, IsSome, ◌↔◌, slice_index_or, slice_set, option_to_list};
+ghost use Rattle.std.specs.Prelude.{◌≡◌, ℕ, ◌++◌, ◌∷◌, [], List, Some, None, IsTrue, IfOk, OnErr, ◌↔◌, option_to_list};
 ghost use Rattle.ballots.specs.Ballot.{IsAbove};
-ghost use Rattle.ballots.specs.Majority.{tally};
 ghost use Rattle.ballots.specs.declared.value.Value.{Value as Held};
 ghost use Rattle.proposer.specs.Call.{Promise};
 ghost use Rattle.proposer.specs.Choosing.{Report, Chooses};
 ghost use Rattle.proposer.specs.Counting.{IsBest, Counts, Gives, IsNew, Takes};
 
-use ballots::{Ballot, Members, NodeId, OutOfMemory, Slot, Value};
+use ballots::{Ballot, Members, NodeId, NodeSet, OutOfMemory, Slot, Value};
 
 /// The best value so far: the candidate, or that of the highest report, which has a ballot.
 #[derive(Debug, Drop)]
@@ -20,8 +19,8 @@ pub(crate) struct Choice {
 pub(crate) struct Attempt {
     pub(crate) slot: Slot,
     pub(crate) ballot: Ballot,
-    // Whose promises are counted, by their numbers.
-    pub(crate) counted: [bool; 7],
+    // Whose promises are counted.
+    pub(crate) counted: NodeSet,
     // What would be proposed now. It is gone once the Accept was answered.
     pub(crate) choice: Option<Choice>,
 }
@@ -36,7 +35,7 @@ impl Attempt {
         Attempt {
             slot,
             ballot,
-            counted: [false; 7],
+            counted: NodeSet::new(),
             choice: Some(Choice {
                 reported_at: None,
                 value: candidate,
@@ -55,7 +54,7 @@ impl Attempt {
     pub(crate) fn is_new(&self, members: Members, sender: NodeId) -> bool
         ensures { IsTrue result ↔ IsNew members sender self.now }
     {
-        sender.number() < members.count() && !self.counted[usize::from(sender.number())]
+        members.have(sender) && !self.counted.contains(sender)
     }
 
     /// Whether a promise of this node for this slot and ballot would be counted.
@@ -80,9 +79,9 @@ impl Attempt {
         ensures gives { (candidate : Held) (promises : List Promise) (promise : Promise) → promise.sender ≡ sender → promise.report ≡ report
             → Counts members candidate promises self.old → Gives members candidate promises promise result }
     {
-        self.counted[usize::from(sender.number())] = true;
+        self.counted = self.counted.with(sender);
         let choice = weigh(self.choice.take()?, report);
-        if members.is_majority(size(members, &self.counted)) {
+        if members.are_majority(self.counted) {
             return Some(choice.value);
         }
         self.choice = Some(choice);
@@ -105,9 +104,7 @@ impl Attempt {
         let Some(choice) = &self.choice else {
             return Ok(None);
         };
-        let mut counted = self.counted;
-        counted[usize::from(sender.number())] = true;
-        if !members.is_majority(size(members, &counted)) {
+        if !members.are_majority(self.counted.with(sender)) {
             return Ok(None);
         }
         copied(weighed(choice, report))
@@ -164,17 +161,4 @@ fn is_better(reported_at: Option<Ballot>, ballot: Ballot) -> bool
         Some(highest) => highest.is_below(ballot),
         None => true,
     }
-}
-
-// How many of the members are counted.
-fn size(members: Members, counted: &[bool; 7]) -> usize
-    ensures { result ≡ tally members (λ node. slice_index_or counted.now node false) }
-{
-    let mut size: usize = 0;
-    for node in 0..members.count() {
-        if counted[usize::from(node)] {
-            size += 1;
-        }
-    }
-    size
 }

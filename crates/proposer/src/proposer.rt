@@ -1,5 +1,5 @@
 ghost use Rattle.std.specs.Prelude.{◌≡◌, ℕ, ◌≤◌, ◌++◌, ◌∷◌, [], List, max, Option, Some, None, IfOk, OnErr, IsErr, IsTrue, ◌↔◌};
-ghost use Rattle.ballots.specs.declared.ballot.TheConstants.{MAX_ROUND};
+ghost use Rattle.ballots.specs.Limits.{max_round};
 ghost use Rattle.proposer.specs.Call.{Start, Begins, Promises, Nacks, Call};
 ghost use Rattle.proposer.specs.Attempting.{highest_begun, next_ballot, IsAttempt, Answers};
 ghost use Rattle.proposer.specs.Counting.{IsAt};
@@ -71,7 +71,7 @@ impl Proposer {
         candidate: Value,
     ) -> Result<Ballot, RoundsSpent>
         ensures spent { (start : Start) (calls : List Call) → Stands start calls self.old
-            → IsErr result ↔ (MAX_ROUND ≤ max seen_round (highest_begun start.highest_round calls)) }
+            → IsErr result ↔ (max_round ≤ max seen_round (highest_begun start.highest_round calls)) }
         ensures ballot { IfOk result (λ ballot. (start : Start) (calls : List Call) → Stands start calls self.old
             → ballot ≡ next_ballot start.me (highest_begun start.highest_round calls) seen_round) }
         ensures stands { IfOk result (λ ballot. (start : Start) (calls : List Call) → Stands start calls self.old
@@ -92,7 +92,7 @@ impl Proposer {
         _candidate: &Value,
     ) -> Result<Ballot, RoundsSpent>
         ensures spent { (start : Start) (calls : List Call) → Stands start calls self.now
-            → IsErr result ↔ (MAX_ROUND ≤ max seen_round (highest_begun start.highest_round calls)) }
+            → IsErr result ↔ (max_round ≤ max seen_round (highest_begun start.highest_round calls)) }
         ensures ballot { IfOk result (λ ballot. (start : Start) (calls : List Call) → Stands start calls self.now
             → ballot ≡ next_ballot start.me (highest_begun start.highest_round calls) seen_round) }
     {
@@ -151,7 +151,7 @@ impl Proposer {
 
     // The node's next ballot.
     fn next(&self, seen_round: u32) -> Result<Ballot, RoundsSpent>
-        ensures spent { IsErr result ↔ (MAX_ROUND ≤ max seen_round self.now.highest_round) }
+        ensures spent { IsErr result ↔ (max_round ≤ max seen_round self.now.highest_round) }
         ensures ballot { IfOk result (λ ballot. ballot ≡ next_ballot self.now.me self.now.highest_round seen_round) }
     {
         match Ballot::above(seen_round.max(self.highest_round), self.me) {

@@ -1,14 +1,2 @@
-pub mod Varint
-pub mod Field
-pub mod Meaning
-pub mod Reading
-pub mod Writing
-pub mod Frame
-pub mod FrameFaults
-pub mod FrameSteps
-pub mod FrameLaws
-pub mod Table
-pub mod Canonical
-pub mod Taking
 pub mod Flight
 pub mod FlightValues

@@ -3,47 +3,11 @@
 use Rattle.std.proofs.Common.{◌≡◌, ℕ, zero, suc, ◌<◌, ◌⊎◌, inl, inr, IsTrue, List, length, Some, None, refl, sym, ap, subst, ◌∙◌, arith}
 use Rattle.std.proofs.lemmas.Bool.{cases_lt}
 use Rattle.ballots.specs.Ballot.{Ballot, IsBelow}
+use Rattle.ballots.proofs.CallerLemmas.{either_below, not_below_carried}
 use Rattle.ballots.specs.declared.value.Value.{Value}
 use Rattle.schedule_runner.specs.Saying.{Report, Saying, Promise, Accept, Accepted, told}
-use Rattle.schedule_runner.specs.Lawful.{Said, SaidBefore, Most, IsLawfulSlot, IsUpTo, PromisedUpTo, IsOfHighestReport, IsChosenBefore, OneValue, ChosenValueStays}
+use Rattle.schedule_runner.specs.Lawful.{Said, SaidBefore, MajorityOf, IsLawfulSlot, IsUpTo, PromisedUpTo, IsOfHighestReport, IsChosenBefore, OneValue, ChosenValueStays}
 use Rattle.schedule_runner.proofs.Majorities.{majorities_meet}
-
--- ---- the order of ballots
-
-same_ballot : (a b : Ballot) → a.round ≡ b.round → a.node ≡ b.node → a ≡ b
-same_ballot a b e f = ap (λ (r : ℕ). let x : Ballot = record { round = r; node = a.node } in x) e ∙ ap (λ (k : ℕ). let x : Ballot = record { round = b.round; node = k } in x) f
-
-pub either_below : (a b : Ballot) → (a ≡ b) ⊎ (IsBelow a b ⊎ IsBelow b a)
-either_below a b =
-    elim (cases_lt a.round b.round) as (λ _. (a ≡ b) ⊎ (IsBelow a b ⊎ IsBelow b a)) [
-      | inl lt ↦ inr (inl (inl lt))
-      | inr ge ↦ elim (cases_lt b.round a.round) as (λ _. (a ≡ b) ⊎ (IsBelow a b ⊎ IsBelow b a)) [
-        | inl gt ↦ inr (inr (inl gt))
-        | inr le ↦
-            let same : a.round ≡ b.round = omega (arith, ge, le) in
-            elim (cases_lt a.node b.node) as (λ _. (a ≡ b) ⊎ (IsBelow a b ⊎ IsBelow b a)) [
-              | inl less ↦ inr (inl (inr (same, less)))
-              | inr more ↦ elim (cases_lt b.node a.node) as (λ _. (a ≡ b) ⊎ (IsBelow a b ⊎ IsBelow b a)) [
-                | inl greater ↦ inr (inr (inr (sym same, greater)))
-                | inr less ↦ inl (same_ballot a b same (omega (arith, more, less)))
-              ]
-            ]
-      ]
-    ]
-
-below_carried : (a b c : Ballot) → IsBelow a b → IsBelow b c → IsBelow a c
-below_carried a b c (inl lt) (inl less) = inl (omega (arith, lt, less))
-below_carried a b c (inl lt) (inr e) = inl (omega (arith, lt, e.0))
-below_carried a b c (inr e) (inl less) = inl (omega (arith, e.0, less))
-below_carried a b c (inr e) (inr f) = inr (omega (arith, e.0, f.0), omega (arith, e.1, f.1))
-
--- not below what is not below
-below_neither : (a b c : Ballot) → (IsBelow c b → ⊥) → (IsBelow b a → ⊥) → IsBelow c a → ⊥
-below_neither a b c not_cb not_ba below =
-    elim (either_below c b) as (λ _. ⊥) [
-      | inl same ↦ not_ba (subst (λ (x : Ballot). IsBelow x a) same below)
-      | inr other ↦ elim other as (λ _. ⊥) [ inl lt ↦ not_cb lt | inr gt ↦ not_ba (below_carried b c a gt below) ]
-    ]
 
 -- ---- one slot
 
@@ -88,7 +52,7 @@ module _ (n : ℕ) (xs : List Saying) (lawful : IsLawfulSlot n xs) where
         reports_its_vote vote.0 promise.0 a b c v r vote.2 promise.2 below
 
     -- So where none reports, there is no majority of promises at a higher ballot.
-    some_reports : (k : ℕ) (c : Ballot) → IsBelow b c → Most n (λ a. SaidBefore xs k (Promise a c None)) → ⊥
+    some_reports : (k : ℕ) (c : Ballot) → IsBelow b c → MajorityOf n (λ a. SaidBefore xs k (Promise a c None)) → ⊥
     some_reports k c below free =
         let s = majorities_meet n (λ a. SaidBefore xs end (Accepted a b v)) (λ a. SaidBefore xs k (Promise a c None)) chosen free in
         let told_it = reports_it s.member k c None s.within s.in_first below (free.each s.member s.within s.in_second) in
@@ -102,7 +66,7 @@ module _ (n : ℕ) (xs : List Saying) (lawful : IsLawfulSlot n xs) where
         let s = majorities_meet n (λ a. SaidBefore xs end (Accepted a b v)) (PromisedUpTo xs k c h.highest) chosen h.promised in
         let promise = h.promised.each s.member s.within s.in_second in
         let told_it = reports_it s.member k c promise.0 s.within s.in_first below promise.1 in
-        below_neither b told_it.0 h.highest (subst (λ (r : Report). IsUpTo r h.highest) told_it.2 promise.2) told_it.3
+        not_below_carried b told_it.0 h.highest (subst (λ (r : Report). IsUpTo r h.highest) told_it.2 promise.2) told_it.3
 
     any_vote : (a : ℕ) × SaidBefore xs end (Accepted a b v)
     any_vote =

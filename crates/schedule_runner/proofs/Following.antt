@@ -7,7 +7,7 @@ use Rattle.ballots.specs.declared.value.Value.{Value}
 use Rattle.ballots.specs.declared.message.Message.{Message}
 use Rattle.schedule_runner.specs.Saying.{Report, Saying, Silent, Prepare, Promise, Accept, Accepted, Decided, says, told}
 use Rattle.schedule_runner.specs.Lawful.{Said, SaidBefore, AcceptsWhatWasProposed, BindsAt, ReportsItsHighest, OneValueABallot, PromisedUpTo, IsOfHighestReport, IsSafe, ProposesWhatIsSafe, IsChosenBefore, DecidesWhatWasChosen, IsLawfulSlot, IsLawful}
-use Rattle.schedule_runner.specs.Judging.{BindsUpTo, BindsBelow, IsReported, HasValueAt, IsWithin, PromisesWithin, HasPromised, LetsPropose, MayPropose, HasAccepted, ShowsChosen, MayDecide, MayReport, FollowsAt, AllFollow}
+use Rattle.schedule_runner.specs.Judging.{PromisedAtMost, PromisedBelow, IsReported, HasValueAt, IsWithin, PromisesWithin, HasPromised, LetsPropose, MayPropose, HasAccepted, ShowsChosen, MayDecide, MayReport, FollowsAt, AllFollow}
 use Rattle.schedule_runner.proofs.Majorities.{most_weaker, most_with, majorities_meet}
 use Rattle.schedule_runner.proofs.Places.{blank, within_sent, said_by, said_there, any_before, before_any, all_before, before_all, any_said, said_any}
 use Rattle.schedule_runner.proofs.Slots.{follows_at, at_follows}
@@ -50,15 +50,15 @@ module _ (n : ℕ) (sent : List Message) (s : ℕ) where
 
     keeps_accepting : (j k a : ℕ) (b c : Ballot) (v : Value) → j < k → BindsAt xs j a b → Said xs k (Accepted a c v) → IsBelow c b → ⊥
     keeps_accepting j k a b c v lt (inl binds) said =
-        bound_here a b (λ e. IsBelow c e → ⊥) (all_before sent s k (place k (Accepted a c v) said) (BindsUpTo a c) (each k (Accepted a c v) said).1 (Promise a b binds.0) (j, lt, binds.1))
+        bound_here a b (λ e. IsBelow c e → ⊥) (all_before sent s k (place k (Accepted a c v) said) (PromisedAtMost a c) (each k (Accepted a c v) said).1 (Promise a b binds.0) (j, lt, binds.1))
     keeps_accepting j k a b c v lt (inr binds) said =
-        bound_here a b (λ e. IsBelow c e → ⊥) (all_before sent s k (place k (Accepted a c v) said) (BindsUpTo a c) (each k (Accepted a c v) said).1 (Accepted a b binds.0) (j, lt, binds.1))
+        bound_here a b (λ e. IsBelow c e → ⊥) (all_before sent s k (place k (Accepted a c v) said) (PromisedAtMost a c) (each k (Accepted a c v) said).1 (Accepted a b binds.0) (j, lt, binds.1))
 
     keeps_promising : (j k a : ℕ) (b c : Ballot) (r : Report) → j < k → BindsAt xs j a b → Said xs k (Promise a c r) → IsBelow b c
     keeps_promising j k a b c r lt (inl binds) said =
-        bound_here a b (λ e. IsBelow e c) (all_before sent s k (place k (Promise a c r) said) (BindsBelow a c) (each k (Promise a c r) said).0 (Promise a b binds.0) (j, lt, binds.1))
+        bound_here a b (λ e. IsBelow e c) (all_before sent s k (place k (Promise a c r) said) (PromisedBelow a c) (each k (Promise a c r) said).0 (Promise a b binds.0) (j, lt, binds.1))
     keeps_promising j k a b c r lt (inr binds) said =
-        bound_here a b (λ e. IsBelow e c) (all_before sent s k (place k (Promise a c r) said) (BindsBelow a c) (each k (Promise a c r) said).0 (Accepted a b binds.0) (j, lt, binds.1))
+        bound_here a b (λ e. IsBelow e c) (all_before sent s k (place k (Promise a c r) said) (PromisedBelow a c) (each k (Promise a c r) said).0 (Accepted a b binds.0) (j, lt, binds.1))
 
     reports_its_highest : ReportsItsHighest xs
     reports_its_highest = record {
@@ -177,25 +177,25 @@ module _ (n : ℕ) (sent : List Message) (s : ℕ) where
   -- ---- from the clauses to each place
 
   module _ (lawful : IsLawfulSlot n xs) where
-    binds_below : (k a : ℕ) (c : Ballot) (r : Report) → Said xs k (Promise a c r) → (x : Saying) → SaidBefore xs k x → BindsBelow a c x
-    binds_below k a c r said Silent b = tt
-    binds_below k a c r said (Prepare e) b = tt
-    binds_below k a c r said (Promise d e q) b = bound_where d a e (λ o. IsBelow o c) (λ same.
+    promised_below : (k a : ℕ) (c : Ballot) (r : Report) → Said xs k (Promise a c r) → (x : Saying) → SaidBefore xs k x → PromisedBelow a c x
+    promised_below k a c r said Silent b = tt
+    promised_below k a c r said (Prepare e) b = tt
+    promised_below k a c r said (Promise d e q) b = bound_where d a e (λ o. IsBelow o c) (λ same.
         lawful.keeps_its_promise.promises b.0 k a e c r b.1 (inl (q, subst (λ (o : ℕ). Said xs b.0 (Promise o e q)) same b.2)) said)
-    binds_below k a c r said (Accept e v) b = tt
-    binds_below k a c r said (Accepted d e v) b = bound_where d a e (λ o. IsBelow o c) (λ same.
+    promised_below k a c r said (Accept e v) b = tt
+    promised_below k a c r said (Accepted d e v) b = bound_where d a e (λ o. IsBelow o c) (λ same.
         lawful.keeps_its_promise.promises b.0 k a e c r b.1 (inr (v, subst (λ (o : ℕ). Said xs b.0 (Accepted o e v)) same b.2)) said)
-    binds_below k a c r said (Decided v) b = tt
+    promised_below k a c r said (Decided v) b = tt
 
-    binds_up_to : (k a : ℕ) (c : Ballot) (w : Value) → Said xs k (Accepted a c w) → (x : Saying) → SaidBefore xs k x → BindsUpTo a c x
-    binds_up_to k a c w said Silent b = tt
-    binds_up_to k a c w said (Prepare e) b = tt
-    binds_up_to k a c w said (Promise d e q) b = bound_where d a e (λ o. IsBelow c o → ⊥) (λ same.
+    promised_at_most : (k a : ℕ) (c : Ballot) (w : Value) → Said xs k (Accepted a c w) → (x : Saying) → SaidBefore xs k x → PromisedAtMost a c x
+    promised_at_most k a c w said Silent b = tt
+    promised_at_most k a c w said (Prepare e) b = tt
+    promised_at_most k a c w said (Promise d e q) b = bound_where d a e (λ o. IsBelow c o → ⊥) (λ same.
         lawful.keeps_its_promise.accepts b.0 k a e c w b.1 (inl (q, subst (λ (o : ℕ). Said xs b.0 (Promise o e q)) same b.2)) said)
-    binds_up_to k a c w said (Accept e v) b = tt
-    binds_up_to k a c w said (Accepted d e v) b = bound_where d a e (λ o. IsBelow c o → ⊥) (λ same.
+    promised_at_most k a c w said (Accept e v) b = tt
+    promised_at_most k a c w said (Accepted d e v) b = bound_where d a e (λ o. IsBelow c o → ⊥) (λ same.
         lawful.keeps_its_promise.accepts b.0 k a e c w b.1 (inr (v, subst (λ (o : ℕ). Said xs b.0 (Accepted o e v)) same b.2)) said)
-    binds_up_to k a c w said (Decided v) b = tt
+    promised_at_most k a c w said (Decided v) b = tt
 
     is_reported : (k a : ℕ) (c : Ballot) (r : Report) → Said xs k (Promise a c r) → (x : Saying) → SaidBefore xs k x → IsReported a r x
     is_reported k a c r said Silent b = tt
@@ -244,13 +244,13 @@ module _ (n : ℕ) (sent : List Message) (s : ℕ) where
     each_from_slot k (Prepare b) said = tt
     each_from_slot k (Promise a b r) said =
         let le = place k (Promise a b r) said in
-        (before_all sent s k le (BindsBelow a b) (binds_below k a b r said), may_report k le a b r said, before_all sent s k le (IsReported a r) (is_reported k a b r said))
+        (before_all sent s k le (PromisedBelow a b) (promised_below k a b r said), may_report k le a b r said, before_all sent s k le (IsReported a r) (is_reported k a b r said))
     each_from_slot k (Accept b v) said =
         let le = place k (Accept b v) said in
         (before_all sent s k le (HasValueAt b v) (has_value_at k b v said), may_propose k le b v (lawful.proposes_what_is_safe k b v said))
     each_from_slot k (Accepted a b v) said =
         let le = place k (Accepted a b v) said in
-        (said_any sent s k le (Accept b v) (lawful.accepts_what_was_proposed k a b v said), before_all sent s k le (BindsUpTo a b) (binds_up_to k a b v said))
+        (said_any sent s k le (Accept b v) (lawful.accepts_what_was_proposed k a b v said), before_all sent s k le (PromisedAtMost a b) (promised_at_most k a b v said))
     each_from_slot k (Decided v) said = may_decide k (place k (Decided v) said) v (lawful.decides_what_was_chosen k v said)
 
 -- ---- whole histories

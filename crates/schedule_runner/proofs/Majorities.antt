@@ -3,52 +3,16 @@ use Rattle.std.proofs.Common.{◌≡◌, ◌≢◌, ℕ, zero, suc, ◌+◌, ◌
 use Rattle.std.proofs.lemmas.Bool.{cases_lt, cases_eq}
 use Rattle.std.proofs.lemmas.Bool.Decides.{nat_tests}
 use Rattle.ballots.specs.Majority.{tally, IsMajority}
-use Rattle.schedule_runner.specs.Lawful.{Most}
+use Rattle.ballots.proofs.CallerLemmas.{Shared, with_one, tallies_meet, tally_same, tally_more}
+use Rattle.schedule_runner.specs.Lawful.{MajorityOf}
 use Rattle.schedule_runner.specs.Judging.{Counted}
 
--- a member that passes both tests
-pub record Shared (n : ℕ) (p q : ℕ → Bool) : Type 0 where
-  pub member : ℕ
-  pub within : member < n
-  pub in_first : IsTrue (p member)
-  pub in_second : IsTrue (q member)
-
-one_further : (n : ℕ) (p q : ℕ → Bool) → Shared n p q → Shared (suc n) p q
-one_further n p q s = record { member = s.member; within = omega (arith, s.within); in_first = s.in_first; in_second = s.in_second }
-
--- the size with the member n, who passes or not
-abbrev pub with_one : Bool → ℕ → ℕ
-with_one passes size = cond passes (suc size) size
-
-meet_step : (n : ℕ) (p q : ℕ → Bool) (x y : Bool) → p n ≡ x → q n ≡ y → suc n < with_one x (tally n p) + with_one y (tally n q)
-    → (n < tally n p + tally n q → Shared n p q) → Shared (suc n) p q
-meet_step n p q true true e f lt rest = record { member = n; within = omega arith; in_first = e; in_second = f }
-meet_step n p q true false e f lt rest = one_further n p q (rest (omega (arith, lt)))
-meet_step n p q false true e f lt rest = one_further n p q (rest (omega (arith, lt)))
-meet_step n p q false false e f lt rest = one_further n p q (rest (omega (arith, lt)))
-
-pub tallies_meet : (n : ℕ) (p q : ℕ → Bool) → n < tally n p + tally n q → Shared n p q
-tallies_meet zero p q lt = absurd (omega (arith, lt))
-tallies_meet (suc n) p q lt = meet_step n p q (p n) (q n) refl refl lt (tallies_meet n p q)
-
 -- two majorities have a member in common
-pub majorities_meet : (n : ℕ) (P Q : ℕ → Type 0) (p : Most n P) (q : Most n Q) → Shared n p.is_in q.is_in
+pub majorities_meet : (n : ℕ) (P Q : ℕ → Type 0) (p : MajorityOf n P) (q : MajorityOf n Q) → Shared n p.is_in q.is_in
 majorities_meet n P Q p q = tallies_meet n p.is_in q.is_in (omega (arith, p.majority, q.majority))
 
-more_step : (n : ℕ) (p q : ℕ → Bool) (x y : Bool) → (x ≡ true → y ≡ true) → tally n p ≤ tally n q → with_one x (tally n p) ≤ with_one y (tally n q)
-more_step n p q true true implies le = omega (arith, le)
-more_step n p q true false implies le = absurd (let no : false ≡ true = implies refl in cc)
-more_step n p q false true implies le = omega (arith, le)
-more_step n p q false false implies le = le
-
--- a set with more members is no smaller
-pub more_members : (n : ℕ) (p q : ℕ → Bool) → ((a : ℕ) → a < n → IsTrue (p a) → IsTrue (q a)) → tally n p ≤ tally n q
-more_members zero p q implies = omega arith
-more_members (suc n) p q implies =
-    more_step n p q (p n) (q n) (implies n (omega arith)) (more_members n p q (λ a lt. implies a (omega (arith, lt))))
-
 -- what holds of each of a majority holds of a majority
-pub most_weaker : (n : ℕ) (P Q : ℕ → Type 0) → ((a : ℕ) → a < n → P a → Q a) → Most n P → Most n Q
+pub most_weaker : (n : ℕ) (P Q : ℕ → Type 0) → ((a : ℕ) → a < n → P a → Q a) → MajorityOf n P → MajorityOf n Q
 most_weaker n P Q weaker m = record { is_in = m.is_in; majority = m.majority; each = λ a lt in'. weaker a lt (m.each a lt in') }
 
 -- ---- counting
@@ -58,10 +22,6 @@ counted_none P = record { test = λ a. false; exact = λ a lt. absurd (omega (ar
 
 same_step : (n : ℕ) (p q : ℕ → Bool) (x y : Bool) → x ≡ y → tally n p ≡ tally n q → with_one x (tally n p) ≡ with_one y (tally n q)
 same_step n p q x y e f = ap (λ (b : Bool). with_one b (tally n p)) e ∙ ap (with_one y) f
-
-same_members : (n : ℕ) (p q : ℕ → Bool) → ((a : ℕ) → a < n → p a ≡ q a) → tally n p ≡ tally n q
-same_members zero p q same = refl
-same_members (suc n) p q same = same_step n p q (p n) (q n) (same n (omega arith)) (same_members n p q (λ a lt. same a (omega (arith, lt))))
 
 -- the test, with this answer for the member n
 abbrev with_answer : ℕ → Bool → (ℕ → Bool) → ℕ → Bool
@@ -79,7 +39,7 @@ counted_more n count P r c is_exact = record {
   test = with_answer n r c.test;
   exact = exact;
   size =
-      same_step n (with_answer n r c.test) c.test (with_answer n r c.test n) r (answer_there n r c.test) (same_members n (with_answer n r c.test) c.test (answer_below n r c.test))
+      same_step n (with_answer n r c.test) c.test (with_answer n r c.test n) r (answer_there n r c.test) (tally_same n (with_answer n r c.test) c.test (answer_below n r c.test))
       ∙ ap (with_one r) c.size;
   within = within r c.within;
 }
@@ -97,15 +57,15 @@ counted_more n count P r c is_exact = record {
     within false le = omega (arith, le)
 
 -- What was counted is a majority exactly where so it is of a majority.
-pub majority_counted : (n count : ℕ) (P : ℕ → Type 0) → Counted n count P → (IsMajority n count ↔ Most n P)
+pub majority_counted : (n count : ℕ) (P : ℕ → Type 0) → Counted n count P → (IsMajority n count ↔ MajorityOf n P)
 majority_counted n count P c = (there, back)
   where
-    there : IsMajority n count → Most n P
+    there : IsMajority n count → MajorityOf n P
     there majority = record { is_in = c.test; majority = omega (arith, majority, c.size); each = λ a lt in'. (c.exact a lt).0 in' }
 
-    back : Most n P → IsMajority n count
+    back : MajorityOf n P → IsMajority n count
     back m =
-        let no_less : tally n m.is_in ≤ tally n c.test = more_members n m.is_in c.test (λ a lt in'. (c.exact a lt).1 (m.each a lt in')) in
+        let no_less : tally n m.is_in ≤ tally n c.test = tally_more n m.is_in c.test (λ a lt in'. (c.exact a lt).1 (m.each a lt in')) in
         omega (arith, m.majority, no_less, c.size)
 
 -- the same, as the loops count
@@ -127,17 +87,17 @@ pub counted_off : (n count : ℕ) (P : ℕ → Type 0) (r : Bool) → Counted n 
 counted_off n count P r c is_exact e = counted_no n count P c (λ p. absurd (let no : false ≡ true = sym e ∙ is_exact.1 p in cc))
 
 -- At the end of the members, the answer about the count is the one about the members.
-pub majority_at_end : (n end count : ℕ) (P : ℕ → Type 0) (r : Bool) → Counted end count P → end ≡ n → (IsTrue r ↔ IsMajority n count) → (IsTrue r ↔ Most n P)
+pub majority_at_end : (n end count : ℕ) (P : ℕ → Type 0) (r : Bool) → Counted end count P → end ≡ n → (IsTrue r ↔ IsMajority n count) → (IsTrue r ↔ MajorityOf n P)
 majority_at_end n end count P r c same is_exact =
     let counted = majority_counted n count P (subst (λ (m : ℕ). Counted m count P) same c) in
     ((λ e. counted.0 (is_exact.0 e)), (λ m. is_exact.1 (counted.1 m)))
 
 -- A majority, and with it one more member of whom the same holds.
 pub record MostWith (n : ℕ) (P : ℕ → Type 0) (a : ℕ) : Type 0 where
-  pub most : Most n P
+  pub most : MajorityOf n P
   pub is_in : IsTrue (most.is_in a)
 
-pub most_with : (n : ℕ) (P : ℕ → Type 0) (a : ℕ) → P a → Most n P → MostWith n P a
+pub most_with : (n : ℕ) (P : ℕ → Type 0) (a : ℕ) → P a → MajorityOf n P → MostWith n P a
 most_with n P a h m = record {
   most = record {
     is_in = larger;
@@ -157,7 +117,7 @@ most_with n P a h m = record {
     kept b other = grind (arith, nat_tests)
 
     no_less : tally n m.is_in ≤ tally n larger
-    no_less = more_members n m.is_in larger (λ b lt in'. elim (cases_eq b a) as (λ _. IsTrue (larger b)) [
+    no_less = tally_more n m.is_in larger (λ b lt in'. elim (cases_eq b a) as (λ _. IsTrue (larger b)) [
       | inl same ↦ subst (λ (c : ℕ). IsTrue (larger c)) (sym same) (answer_there a true m.is_in)
       | inr other ↦ kept b other ∙ in'
     ])

@@ -8,7 +8,7 @@ use Rattle.ballots.specs.declared.value.Value.{Value}
 use Rattle.ballots.specs.declared.message.Message.{Message}
 use Rattle.ballots.specs.declared.message.Message.TheVariants as message
 use Rattle.schedule_runner.specs.Saying.{Report, Saying, Silent, Prepare, Promise, Accept, Accepted, Decided, says}
-use Rattle.schedule_runner.specs.Lawful.{Most, IsUpTo}
+use Rattle.schedule_runner.specs.Lawful.{MajorityOf, IsUpTo}
 
 -- one of these messages says this of the slot
 abbrev pub AnySaid : ℕ → List Message → Saying → Type 0
@@ -28,17 +28,17 @@ bound_in a (Accepted d c v) = if d == a then Some c else None
 bound_in a (Decided v) = None
 
 -- where it binds this acceptor to a ballot, that is at most this one
-abbrev pub BindsUpTo : ℕ → Ballot → Saying → Type 0
-BindsUpTo a b x = IfSome (bound_in a x) (λ c. IsBelow b c → ⊥)
+abbrev pub PromisedAtMost : ℕ → Ballot → Saying → Type 0
+PromisedAtMost a b x = IfSome (bound_in a x) (λ c. IsBelow b c → ⊥)
 
 -- and below this one
-abbrev pub BindsBelow : ℕ → Ballot → Saying → Type 0
-BindsBelow a b x = IfSome (bound_in a x) (λ c. IsBelow c b)
+abbrev pub PromisedBelow : ℕ → Ballot → Saying → Type 0
+PromisedBelow a b x = IfSome (bound_in a x) (λ c. IsBelow c b)
 
 -- a report tells enough of an acceptance at this ballot: it is of that ballot or a higher one
-abbrev pub Covers : Report → Ballot → Type 0
-Covers None c = ⊥
-Covers (Some report) c = IsBelow report.0 c → ⊥
+abbrev pub ReportCovers : Report → Ballot → Type 0
+ReportCovers None c = ⊥
+ReportCovers (Some report) c = IsBelow report.0 c → ⊥
 
 -- where it is this acceptor's Accepted, the report covers it
 abbrev pub IsReported : ℕ → Report → Saying → Type 0
@@ -46,7 +46,7 @@ IsReported a r Silent = Unit {0}
 IsReported a r (Prepare c) = Unit {0}
 IsReported a r (Promise d c q) = Unit {0}
 IsReported a r (Accept c v) = Unit {0}
-IsReported a r (Accepted d c v) = d ≡ a → Covers r c
+IsReported a r (Accepted d c v) = d ≡ a → ReportCovers r c
 IsReported a r (Decided v) = Unit {0}
 
 -- where it is an Accept at this ballot, it has this value
@@ -78,7 +78,7 @@ abbrev pub HasPromised : ℕ → List Message → Ballot → Report → ℕ → 
 HasPromised s before b bound a = Any (λ m. PromisesWithin a b bound (says m s)) before
 
 abbrev pub MostPromise : ℕ → ℕ → List Message → Ballot → Report → Type 0
-MostPromise n s before b bound = Most n (HasPromised s before b bound)
+MostPromise n s before b bound = MajorityOf n (HasPromised s before b bound)
 
 -- it is a member's Promise of the ballot that reports this value, and a majority promised with no higher report
 abbrev pub LetsPropose : ℕ → ℕ → List Message → Ballot → Value → Saying → Type 0
@@ -93,7 +93,7 @@ abbrev pub HasAccepted : ℕ → List Message → Ballot → Value → ℕ → T
 HasAccepted s before b v a = AnySaid s before (Accepted a b v)
 
 abbrev pub MostAccepted : ℕ → ℕ → List Message → Ballot → Value → Type 0
-MostAccepted n s before b v = Most n (HasAccepted s before b v)
+MostAccepted n s before b v = MajorityOf n (HasAccepted s before b v)
 
 -- it is an Accepted of this value, at a ballot at which a majority accepted it
 abbrev pub ShowsChosen : ℕ → ℕ → List Message → Value → Saying → Type 0
@@ -112,9 +112,9 @@ MayReport s before b (Some report) = IsBelow report.0 b × AnySaid s before (Acc
 abbrev pub FollowsAt : ℕ → ℕ → List Message → Saying → Type 0
 FollowsAt n s before Silent = Unit {0}
 FollowsAt n s before (Prepare b) = Unit {0}
-FollowsAt n s before (Promise a b r) = AllSaid s before (BindsBelow a b) × MayReport s before b r × AllSaid s before (IsReported a r)
+FollowsAt n s before (Promise a b r) = AllSaid s before (PromisedBelow a b) × MayReport s before b r × AllSaid s before (IsReported a r)
 FollowsAt n s before (Accept b v) = AllSaid s before (HasValueAt b v) × MayPropose n s before b v
-FollowsAt n s before (Accepted a b v) = AnySaid s before (Accept b v) × AllSaid s before (BindsUpTo a b)
+FollowsAt n s before (Accepted a b v) = AnySaid s before (Accept b v) × AllSaid s before (PromisedAtMost a b)
 FollowsAt n s before (Decided v) = MayDecide n s before v
 
 -- the messages before let this one follow

@@ -17,7 +17,7 @@ abbrev pub SaidBefore : List Saying → ℕ → Saying → Type 0
 SaidBefore xs k x = (j : ℕ) × (j < k) × Said xs j x
 
 -- so it is of each member of some majority
-pub record Most (n : ℕ) (P : ℕ → Type 0) : Type 0 where
+pub record MajorityOf (n : ℕ) (P : ℕ → Type 0) : Type 0 where
   pub is_in : ℕ → Bool
   pub majority : IsMajority n (tally n is_in)
   pub each : (a : ℕ) → a < n → IsTrue (is_in a) → P a
@@ -68,7 +68,7 @@ PromisedUpTo xs k b c a = (r : Report) × SaidBefore xs k (Promise a b r) × IsU
 -- a majority promised the ballot, and the highest of their reports has this value
 pub record IsOfHighestReport (n : ℕ) (xs : List Saying) (k : ℕ) (b : Ballot) (v : Value) : Type 0 where
   pub highest : Ballot
-  pub promised : Most n (PromisedUpTo xs k b highest)
+  pub promised : MajorityOf n (PromisedUpTo xs k b highest)
   pub reporter : ℕ
   pub is_member : reporter < n
   pub is_in : IsTrue (promised.is_in reporter)
@@ -77,7 +77,7 @@ pub record IsOfHighestReport (n : ℕ) (xs : List Saying) (k : ℕ) (b : Ballot)
 -- The value may be proposed at the ballot: a majority promised it, and none of them reported anything, or the highest
 -- report among them has this value.
 abbrev pub IsSafe : ℕ → List Saying → ℕ → Ballot → Value → Type 0
-IsSafe n xs k b v = Most n (λ a. SaidBefore xs k (Promise a b None)) ⊎ IsOfHighestReport n xs k b v
+IsSafe n xs k b v = MajorityOf n (λ a. SaidBefore xs k (Promise a b None)) ⊎ IsOfHighestReport n xs k b v
 
 -- What is proposed is safe (section 2.2, phase 2a; P2c).
 abbrev pub ProposesWhatIsSafe : ℕ → List Saying → Type 0
@@ -85,7 +85,7 @@ ProposesWhatIsSafe n xs = (k : ℕ) (b : Ballot) (v : Value) → Said xs k (Acce
 
 -- before that place a majority has accepted the value at this ballot
 abbrev pub IsChosenBefore : ℕ → List Saying → ℕ → Ballot → Value → Type 0
-IsChosenBefore n xs k b v = Most n (λ a. SaidBefore xs k (Accepted a b v))
+IsChosenBefore n xs k b v = MajorityOf n (λ a. SaidBefore xs k (Accepted a b v))
 
 -- What is told as decided was chosen (section 2.3).
 abbrev pub DecidesWhatWasChosen : ℕ → List Saying → Type 0

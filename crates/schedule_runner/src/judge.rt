@@ -3,10 +3,10 @@
 ghost use Rattle.std.specs.Prelude.{◌↔◌, ℕ, IsTrue};
 ghost use Rattle.std.specs.List.{Any};
 ghost use Rattle.schedule_runner.specs.Saying.{says, Accept, Accepted, Decided};
-ghost use Rattle.schedule_runner.specs.Judging.{AnySaid, AllSaid, BindsUpTo, BindsBelow, IsReported, HasValueAt, PromisesWithin, MostPromise, LetsPropose, MayPropose, MostAccepted, ShowsChosen, MayDecide, MayReport, Follows};
+ghost use Rattle.schedule_runner.specs.Judging.{AnySaid, AllSaid, PromisedAtMost, PromisedBelow, IsReported, HasValueAt, PromisesWithin, MostPromise, LetsPropose, MayPropose, MostAccepted, ShowsChosen, MayDecide, MayReport, Follows};
 
 use crate::sayings::{
-    accepts, binds_below, binds_up_to, decides, has_value_at, is_reported, promises_within,
+    accepts, decides, has_value_at, is_reported, promised_at_most, promised_below, promises_within,
     proposes, reports,
 };
 use ballots::{Ballot, Members, Message, NodeId, Slot, Value};
@@ -53,7 +53,7 @@ fn may_promise(
     ballot: Ballot,
     report: &Option<(Ballot, Value)>,
 ) -> bool
-    ensures { IsTrue result ↔ (AllSaid slot before.now (BindsBelow acceptor ballot)
+    ensures { IsTrue result ↔ (AllSaid slot before.now (PromisedBelow acceptor ballot)
         × MayReport slot before.now ballot report.now × AllSaid slot before.now (IsReported acceptor report.now)) }
 {
     all_bind_below(before, slot, acceptor, ballot)
@@ -93,19 +93,17 @@ fn is_highest(
 }
 
 fn all_bind_below(before: &[Message], slot: Slot, acceptor: NodeId, ballot: Ballot) -> bool
-    ensures { IsTrue result ↔ AllSaid slot before.now (BindsBelow acceptor ballot) }
+    ensures { IsTrue result ↔ AllSaid slot before.now (PromisedBelow acceptor ballot) }
 {
     before
         .iter()
-        .all(|message| binds_below(message, slot, acceptor, ballot))
+        .all(|message| promised_below(message, slot, acceptor, ballot))
 }
 
 fn all_bind_up_to(before: &[Message], slot: Slot, acceptor: NodeId, ballot: Ballot) -> bool
-    ensures { IsTrue result ↔ AllSaid slot before.now (BindsUpTo acceptor ballot) }
+    ensures { IsTrue result ↔ AllSaid slot before.now (PromisedAtMost acceptor ballot) }
 {
-    before
-        .iter()
-        .all(|message| binds_up_to(message, slot, acceptor, ballot))
+    before.iter().all(|message| promised_at_most(message, slot, acceptor, ballot))
 }
 
 fn all_have_value_at(before: &[Message], slot: Slot, ballot: Ballot, value: &Value) -> bool

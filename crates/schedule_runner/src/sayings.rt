@@ -3,7 +3,7 @@
 ghost use Rattle.std.specs.Prelude.{◌≡◌, ◌↔◌, ℕ, IsTrue, Some};
 ghost use Rattle.std.specs.Option.{option_map};
 ghost use Rattle.schedule_runner.specs.Saying.{says, Accept, Accepted, Decided};
-ghost use Rattle.schedule_runner.specs.Judging.{bound_in, BindsUpTo, BindsBelow, Covers, IsReported, HasValueAt, IsWithin, IsReportOf, PromisesWithin};
+ghost use Rattle.schedule_runner.specs.Judging.{bound_in, PromisedAtMost, PromisedBelow, ReportCovers, IsReported, HasValueAt, IsWithin, IsReportOf, PromisesWithin};
 
 use ballots::{Ballot, Message, NodeId, Slot, Value};
 
@@ -92,8 +92,8 @@ fn bound_of(message: &Message, at: Slot, acceptor: NodeId) -> Option<Ballot>
 }
 
 /// Whether it binds the acceptor to no ballot above this one.
-pub(crate) fn binds_up_to(message: &Message, at: Slot, acceptor: NodeId, limit: Ballot) -> bool
-    ensures { IsTrue result ↔ BindsUpTo acceptor limit (says message.now at) }
+pub(crate) fn promised_at_most(message: &Message, at: Slot, acceptor: NodeId, limit: Ballot) -> bool
+    ensures { IsTrue result ↔ PromisedAtMost acceptor limit (says message.now at) }
 {
     match bound_of(message, at, acceptor) {
         Some(bound) => !limit.is_below(bound),
@@ -102,8 +102,8 @@ pub(crate) fn binds_up_to(message: &Message, at: Slot, acceptor: NodeId, limit: 
 }
 
 /// Whether it binds the acceptor to ballots below this one alone.
-pub(crate) fn binds_below(message: &Message, at: Slot, acceptor: NodeId, limit: Ballot) -> bool
-    ensures { IsTrue result ↔ BindsBelow acceptor limit (says message.now at) }
+pub(crate) fn promised_below(message: &Message, at: Slot, acceptor: NodeId, limit: Ballot) -> bool
+    ensures { IsTrue result ↔ PromisedBelow acceptor limit (says message.now at) }
 {
     match bound_of(message, at, acceptor) {
         Some(bound) => bound.is_below(limit),
@@ -126,14 +126,14 @@ pub(crate) fn is_reported(
             slot,
             ballot,
             ..
-        } => *slot != at || *sender != acceptor || covers(report, *ballot),
+        } => *slot != at || *sender != acceptor || report_covers(report, *ballot),
         _ => true,
     }
 }
 
 /// Whether the report is of this ballot or a higher one.
-fn covers(report: &Option<(Ballot, Value)>, ballot: Ballot) -> bool
-    ensures { IsTrue result ↔ Covers report.now ballot }
+fn report_covers(report: &Option<(Ballot, Value)>, ballot: Ballot) -> bool
+    ensures { IsTrue result ↔ ReportCovers report.now ballot }
 {
     match report {
         Some((reported, _)) => !reported.is_below(ballot),

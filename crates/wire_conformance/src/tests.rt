@@ -1,4 +1,5 @@
-//! The calls of `proto_wire` against bytes from outside, and against plain programs for the definitions.
+//! The calls of `proto_fields` and `proto_wire` against bytes from outside, and against plain programs for the
+//! definitions.
 
 mod all_fields;
 mod all_frames;
@@ -8,6 +9,7 @@ mod fields;
 mod flight;
 mod flight_faults;
 mod flight_merging;
+mod frame_streams;
 mod frames;
 mod plain_fields;
 mod plain_frames;
@@ -15,6 +17,7 @@ mod plain_message_faults;
 mod plain_messages;
 mod plain_spelling;
 mod plain_values;
+mod samples;
 mod shown;
 mod texts;
 mod told_fields;

@@ -3,7 +3,7 @@
 use super::plain_meaning::{Faults, Field, faults_meant, message_meant, parts_meant};
 use super::support::{number, read, refusal, write};
 use crate::spelled::Made;
-use proto_wire::Part;
+use proto_fields::ContentRef;
 use std::alloc::{AllocError, Global};
 use std::process::Abort;
 use std::test::Fail;
@@ -68,22 +68,22 @@ const FIELDS: &str = "\
 10|2|a";
 
 /// What a field of this wire type holds that is no bytes.
-fn number_held(wire_type: u64, given: u64) -> Part<'static> {
+fn number_held(wire_type: u64, given: u64) -> ContentRef<'static> {
     if wire_type == 0 {
-        return Part::Varint(given);
+        return ContentRef::Varint(given);
     }
     let first = (given % 256) as u8;
     if wire_type == 1 {
-        Part::Eight([first, 0, 0, 0, 0, 0, 0, 0])
+        ContentRef::Eight([first, 0, 0, 0, 0, 0, 0, 0])
     } else {
-        Part::Four([first, 0, 0, 0])
+        ContentRef::Four([first, 0, 0, 0])
     }
 }
 
 /// What a field of this wire type holds.
-fn held_of(wire_type: u64, held: &'static str) -> Result<Part<'static>, Fail> {
+fn held_of(wire_type: u64, held: &'static str) -> Result<ContentRef<'static>, Fail> {
     if wire_type == 2 {
-        Ok(Part::Bytes(held.as_bytes()))
+        Ok(ContentRef::Bytes(held.as_bytes()))
     } else {
         Ok(number_held(wire_type, number(held)?))
     }
@@ -112,7 +112,7 @@ fn beginning_of(alloc: Global, row: &str) -> Result<Vec<Field<'static>>, Fail> {
     let mut fields = Vec::new(alloc);
     for (cell, of) in row.split('|').zip([1, 5, 7]) {
         if cell != "-" {
-            fields.push((of, Part::Varint(number(cell)?)))?;
+            fields.push((of, ContentRef::Varint(number(cell)?)))?;
         }
     }
     Ok(fields)
@@ -139,20 +139,20 @@ fn spell_field(text: &mut Vec<u8>, field: Field<'_>) -> Result<(), AllocError> {
     let (number, held) = field;
     let key = u64::from(number) * 8;
     match held {
-        Part::Varint(given) => {
+        ContentRef::Varint(given) => {
             spell_number(text, key)?;
             spell_number(text, given)
         }
-        Part::Eight(bytes) => {
+        ContentRef::Eight(bytes) => {
             spell_number(text, key + 1)?;
             text.extend_from_slice(&bytes)
         }
-        Part::Bytes(bytes) => {
+        ContentRef::Bytes(bytes) => {
             spell_number(text, key + 2)?;
             spell_number(text, bytes.len() as u64)?;
             text.extend_from_slice(bytes)
         }
-        Part::Four(bytes) => {
+        ContentRef::Four(bytes) => {
             spell_number(text, key + 5)?;
             text.extend_from_slice(&bytes)
         }

@@ -5,6 +5,7 @@ use super::support::{
 };
 use crate::spelled::Made;
 use crate::{Message, UploadBytes, Value};
+use bytes::Bytes;
 use std::alloc::{AllocError, Global};
 use std::process::Abort;
 use std::test::Fail;
@@ -306,7 +307,7 @@ fn the_longest_value(rt: HostRuntime) -> Result<(), Fail> {
 
 /// An upload of these letters.
 fn upload(alloc: Global, letters: &str) -> Result<UploadBytes, Fail> {
-    let bytes = Vec::from_slice(alloc, letters.as_bytes())?;
+    let bytes = Bytes::copy_from_slice(alloc, letters.as_bytes())?;
     Ok(UploadBytes::new(bytes).ok_or("no upload")?)
 }
 
@@ -315,16 +316,17 @@ fn are_letters(bytes: &[u8], letters: &str) -> bool {
     bytes == letters.as_bytes()
 }
 
-/// The bytes of an upload are those that it was made of, also of a copy, and as they are taken out of it.
+/// The bytes of an upload are those that it was made of, also of a clone, and of what was a `Vec`.
 #[test]
 fn upload_bytes(rt: HostRuntime) -> Result<(), Fail> {
-    assert!(rt; UploadBytes::new(Vec::new(rt.alloc())).is_none());
+    assert!(rt; UploadBytes::new(Bytes::new()).is_none());
     let upload = upload(rt.alloc(), "abc")?;
     let copy = upload.clone()?;
     assert!(rt; are_letters(upload.as_slice(), "abc"));
     assert!(rt; are_letters(copy.as_slice(), "abc"));
-    let taken = upload.into_vec();
-    assert!(rt; are_letters(taken.as_slice(), "abc"));
+    let letters = Vec::from_slice(rt.alloc(), b"def")?;
+    let made = UploadBytes::new(Bytes::from_vec(letters)?).ok_or("no upload")?;
+    assert!(rt; are_letters(made.as_slice(), "def"));
     Ok(())
 }
 

@@ -88,7 +88,7 @@ fn is_same_by_operators(a: Ballot, b: Ballot, ranks: Ordering) -> bool {
 
 /// Whether the comparisons say it.
 fn is_so_by_comparing(a: Ballot, b: Ballot, ranks: Ordering) -> bool {
-    a.cmp(&b) == ranks && a.partial_cmp(&b) == Some(ranks)
+    a.compare(b) == ranks && a.cmp(&b) == ranks && a.partial_cmp(&b) == Some(ranks)
 }
 
 /// Two ballots compare as their ranks do.

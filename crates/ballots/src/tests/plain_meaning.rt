@@ -5,12 +5,12 @@
 
 ghost use Rattle.std.specs.Prelude.{◌≡◌, ℕ, ◌≤◌, ◌<◌, ◌⊎◌, ◌↔◌, map, Some, None, IfSome, IfOk, IsTrue, IsFalse};
 ghost use Rattle.std.specs.Option.{option_map};
-ghost use Rattle.proto_wire.specs.Field.{field_at};
-ghost use Rattle.proto_wire.specs.Meaning.{number_meant, bytes_meant};
+ghost use Rattle.proto_fields.specs.Field.{field_at};
+ghost use Rattle.proto_fields.specs.Meaning.{number_meant, bytes_meant};
 ghost use Rattle.ballots.specs.declared.node.TheConstants.{MAX_NODE};
 ghost use Rattle.ballots.specs.declared.slot.TheConstants.{MAX_SLOT};
 ghost use Rattle.ballots.specs.Ballot.{Ballot as Pair};
-ghost use Rattle.proto_wire.specs.declared.fault.WireFault.TheVariants.{BadWireType};
+ghost use Rattle.proto_fields.specs.declared.fault.WireFault.TheVariants.{BadWireType};
 ghost use Rattle.ballots.specs.declared.fault.MessageFault.TheVariants.{Wire, BadKind, OutOfRange};
 ghost use Rattle.ballots.specs.declared.value.Value.{Value as Chosen};
 ghost use Rattle.ballots.specs.Message.{parts_of, MeansBallot, MeansValue, HeadFault, BallotFault, ValueFault, BodyFault, IsUnknownKind, PartsFault};
@@ -21,11 +21,12 @@ use crate::spelled::{
     Made, accept, accepted, ask, decided, nack, prepare, promise, reporting_promise,
 };
 use crate::{Ballot, MessageFault, NodeId, Slot, UploadBytes, Value};
-use proto_wire::{Part, WireFault};
+use bytes::Bytes;
+use proto_fields::{ContentRef, WireFault};
 use std::alloc::{AllocError, Global};
 
 /// A field: its number, and what it holds.
-pub(crate) type Field<'a> = (u32, Part<'a>);
+pub(crate) type Field<'a> = (u32, ContentRef<'a>);
 
 /// The last of the numbers that fields of this number hold, 0 where there is none, and nothing where one holds
 /// something else.
@@ -35,7 +36,7 @@ fn last_number(number: u32, fields: &[Field<'_>]) -> Option<u64>
     let mut last = 0;
     for (of, held) in fields {
         if *of == number {
-            let Part::Varint(given) = held else {
+            let ContentRef::Varint(given) = held else {
                 return None;
             };
             last = *given;
@@ -51,7 +52,7 @@ fn last_bytes<'a>(number: u32, fields: &[Field<'a>]) -> Option<&'a [u8]>
     let mut last: &[u8] = &[];
     for (of, held) in fields {
         if *of == number {
-            let Part::Bytes(given) = held else {
+            let ContentRef::Bytes(given) = held else {
                 return None;
             };
             last = *given;
@@ -109,7 +110,7 @@ fn value_meant(alloc: Global, bytes: Option<&[u8]>) -> Result<Option<Value>, All
     if bytes.is_empty() {
         return Ok(Some(Value::Noop));
     }
-    let upload = UploadBytes::new(Vec::from_slice(alloc, bytes)?);
+    let upload = UploadBytes::new(Bytes::copy_from_slice(alloc, bytes)?);
     Ok(upload.map(|bytes| Value::Upload(bytes)))
 }
 

@@ -2,6 +2,7 @@
 
 use super::support::{ballot, bytes_of, cell, cells, number};
 use crate::{Ballot, MessageFault, Record, Slot, UploadBytes, Value};
+use bytes::Bytes;
 use std::alloc::{AllocError, Global};
 use std::test::Fail;
 
@@ -128,7 +129,7 @@ fn value_of(alloc: Global, letters: &str) -> Result<Value, Fail> {
     if letters.is_empty() {
         return Ok(Value::Noop);
     }
-    let bytes = Vec::from_slice(alloc, letters.as_bytes())?;
+    let bytes = Bytes::copy_from_slice(alloc, letters.as_bytes())?;
     Ok(Value::Upload(UploadBytes::new(bytes).ok_or("no upload")?))
 }
 

@@ -4,7 +4,7 @@ use super::meaning::is_read_as_meant;
 use super::plain_meaning::Field;
 use super::support::refusal;
 use crate::MessageFault;
-use proto_wire::{Content, Part, read_fields};
+use proto_fields::{Content, ContentRef, read_fields};
 use std::alloc::{AllocError, Global};
 use std::test::Fail;
 
@@ -27,10 +27,10 @@ fn lent(alloc: Global, fields: &[(u32, Content)]) -> Result<Vec<Field<'_>>, Allo
     let mut lent = Vec::new(alloc);
     for (number, content) in fields {
         let held = match content {
-            Content::Varint(given) => Part::Varint(*given),
-            Content::Eight(bytes) => Part::Eight(*bytes),
-            Content::Bytes(bytes) => Part::Bytes(bytes.as_slice()),
-            Content::Four(bytes) => Part::Four(*bytes),
+            Content::Varint(given) => ContentRef::Varint(*given),
+            Content::Eight(bytes) => ContentRef::Eight(*bytes),
+            Content::Bytes(bytes) => ContentRef::Bytes(bytes.as_slice()),
+            Content::Four(bytes) => ContentRef::Four(*bytes),
         };
         lent.push((*number, held))?;
     }

@@ -234,7 +234,9 @@ fn prints_a_fault_as_its_name(rt: HostRuntime) -> Result<(), Fail> {
         MetaFault::Dictionary,
     ];
     let printed_first = printed(rt.alloc(), &of_texts)?;
-    assert!(rt; printed_first.as_str() == "OutOfBounds Version Endianness Unsupported Dictionary ");
+    assert!(rt;
+        printed_first.as_str() == "OutOfBounds Version Endianness Unsupported(7) Dictionary "
+    );
     let of_sizes = [
         MetaFault::TooDeep,
         MetaFault::TooManyFields,

@@ -1,12 +1,11 @@
 //! What streams of batches are made of, and the answer to an upload.
 
-use crate::appending::{append_one, append_present};
-use crate::fault::WireFault;
-use crate::field::Part;
 use crate::flight::descriptor::FlightDescriptor;
-use crate::message::{Message, read, write};
-use crate::rows::{check_piece, merge_one};
-use crate::scalar::{bytes_of, check_bytes};
+use proto_fields::laws::canonical_messages_are_messages;
+use proto_fields::{
+    ContentRef, ProtoMessage, WireFault, append_bytes, append_lent, bytes_of, check_bytes,
+    check_embedded, merge_one,
+};
 use std::alloc::{AllocError, Global};
 
 /// A schema or a batch on its way.
@@ -22,6 +21,19 @@ pub struct FlightData {
     pub data_body: Vec<u8>,
 }
 
+/// A schema or a batch on its way whose bytes are lent, so that writing it copies them once.
+#[derive(Clone, Copy, Debug)]
+pub struct FlightDataRef<'a> {
+    /// What names the flight, in the first message of an upload, field 1.
+    pub flight_descriptor: Option<&'a FlightDescriptor>,
+    /// The header, a Message of Arrow's metadata, field 2.
+    pub data_header: &'a [u8],
+    /// What the service adds, field 3.
+    pub app_metadata: &'a [u8],
+    /// The body of a batch, field 1000.
+    pub data_body: &'a [u8],
+}
+
 /// The answer to an upload.
 #[derive(Debug, PartialEq, Eq, Drop)]
 pub struct PutResult {
@@ -29,12 +41,12 @@ pub struct PutResult {
     pub app_metadata: Vec<u8>,
 }
 
-impl Message for FlightData {
+impl ProtoMessage for FlightData {
     ghost use Rattle.std.proofs.Common.{rules};
-    ghost use Rattle.proto_wire.specs.Flight.{data_table};
+    ghost use Rattle.proto_wire.specs.Flight.{data_descriptor};
     ghost use Rattle.proto_wire.specs.FlightValues.{data_values};
 
-    ghost table = { data_table };
+    ghost descriptor = { data_descriptor };
 
     ghost values = { data_values };
 
@@ -47,43 +59,106 @@ impl Message for FlightData {
         }
     }
 
-    fn check_field(number: u32, part: Part<'_>) -> Result<(), WireFault> {
+    fn check_field(number: u32, content: ContentRef<'_>) -> Result<(), WireFault> {
         match number {
-            1 => check_piece::<FlightDescriptor>(part),
-            2 | 3 | 1000 => check_bytes(part),
+            1 => check_embedded::<FlightDescriptor>(content),
+            2 | 3 | 1000 => check_bytes(content),
             _ => Ok(()),
         }
     }
 
-    fn take(&mut self, alloc: Global, number: u32, part: Part<'_>) -> Result<(), WireFault> {
+    fn take(
+        &mut self,
+        alloc: Global,
+        number: u32,
+        content: ContentRef<'_>,
+    ) -> Result<(), WireFault> {
         match number {
-            1 => merge_one(alloc, &mut self.flight_descriptor, part)?,
-            2 => self.data_header = bytes_of(alloc, part)?,
-            3 => self.app_metadata = bytes_of(alloc, part)?,
-            1000 => self.data_body = bytes_of(alloc, part)?,
+            1 => merge_one(alloc, &mut self.flight_descriptor, content)?,
+            2 => self.data_header = bytes_of(alloc, content)?,
+            3 => self.app_metadata = bytes_of(alloc, content)?,
+            1000 => self.data_body = bytes_of(alloc, content)?,
             _ => {}
         }
         Ok(())
     }
 
-    #[tactic(auto, using(crate::proofs::Chains::chains))]
     fn append(&self, out: &mut Vec<u8>) -> Result<(), AllocError> {
-        append_one(out, 1, &self.flight_descriptor)?;
-        append_present(out, 2, &self.data_header)?;
-        append_present(out, 3, &self.app_metadata)?;
-        append_present(out, 1000, &self.data_body)?;
-        Ok(())
+        self.lent().append(out)
     }
 
     ghost rises = { Prim.search rules };
 }
 
-impl Message for PutResult {
+impl FlightData {
+    ghost use Rattle.std.specs.Prelude.{◌≡◌};
+    ghost use Rattle.proto_wire.specs.FlightValues.{data_values, data_ref_values};
+
+    /// The same message with its bytes lent.
+    pub fn lent(&self) -> FlightDataRef<'_>
+        ensures { data_ref_values result ≡ data_values self.now }
+    {
+        FlightDataRef {
+            flight_descriptor: self.flight_descriptor.as_ref(),
+            data_header: &self.data_header,
+            app_metadata: &self.app_metadata,
+            data_body: &self.data_body,
+        }
+    }
+}
+
+impl FlightDataRef<'_> {
+    ghost use Rattle.std.specs.Prelude.{◌≡◌, ◌++◌, IfErr, OnOk, OnErr};
+    ghost use Rattle.proto_fields.specs.declared.fault.WireFault.TheVariants.{OutOfMemory};
+    ghost use Rattle.proto_fields.specs.Canonical.{Fits, canonical};
+    ghost use Rattle.proto_fields.specs.Descriptor.{IsMessage};
+    ghost use Rattle.proto_fields.specs.Writing.{Grows};
+    ghost use Rattle.proto_wire.specs.Flight.{data_descriptor};
+    ghost use Rattle.proto_wire.specs.FlightValues.{data_ref_values};
+
+    /// Appends the canonical encoding of the [`FlightData`] that holds the same, and is read back as it. The only fault
+    /// is [`WireFault::OutOfMemory`], and the vector then holds what it did before.
+    pub fn encode(&self, out: &mut Vec<u8>) -> Result<(), WireFault>
+        ensures ok { OnOk result
+            (out.new.items ≡ out.old.items ++ canonical data_descriptor (data_ref_values self.now)) }
+        ensures means { OnOk result (IsMessage data_descriptor
+            (canonical data_descriptor (data_ref_values self.now)) (data_ref_values self.now)) }
+        ensures err { OnErr result (out.new.items ≡ out.old.items) }
+        ensures fault { IfErr result (λ fault. fault ≡ OutOfMemory) }
+    {
+        canonical_messages_are_messages();
+        let start = out.len();
+        match self.append(out) {
+            Ok(()) => Ok(()),
+            Err(_) => {
+                out.truncate(start);
+                Err(WireFault::OutOfMemory)
+            }
+        }
+    }
+
+    /// Appends its canonical encoding. Where memory is refused, a beginning of it may stay.
+    #[tactic(auto, using(proto_fields::proofs::CallerLemmas::chains))]
+    fn append(&self, out: &mut Vec<u8>) -> Result<(), AllocError>
+        ensures ok { OnOk result
+            (out.new.items ≡ out.old.items ++ canonical data_descriptor (data_ref_values self.now)) }
+        ensures err { OnErr result (Grows out.old.items out.new.items) }
+        ensures fits { OnOk result (Fits data_descriptor (data_ref_values self.now)) }
+    {
+        append_lent(out, 1, self.flight_descriptor)?;
+        append_bytes(out, 2, self.data_header)?;
+        append_bytes(out, 3, self.app_metadata)?;
+        append_bytes(out, 1000, self.data_body)?;
+        Ok(())
+    }
+}
+
+impl ProtoMessage for PutResult {
     ghost use Rattle.std.proofs.Common.{rules};
-    ghost use Rattle.proto_wire.specs.Flight.{put_result_table};
+    ghost use Rattle.proto_wire.specs.Flight.{put_result_descriptor};
     ghost use Rattle.proto_wire.specs.FlightValues.{put_result_values};
 
-    ghost table = { put_result_table };
+    ghost descriptor = { put_result_descriptor };
 
     ghost values = { put_result_values };
 
@@ -93,96 +168,29 @@ impl Message for PutResult {
         }
     }
 
-    fn check_field(number: u32, part: Part<'_>) -> Result<(), WireFault> {
+    fn check_field(number: u32, content: ContentRef<'_>) -> Result<(), WireFault> {
         if number == 1 {
-            return check_bytes(part);
+            return check_bytes(content);
         }
         Ok(())
     }
 
-    fn take(&mut self, alloc: Global, number: u32, part: Part<'_>) -> Result<(), WireFault> {
+    fn take(
+        &mut self,
+        alloc: Global,
+        number: u32,
+        content: ContentRef<'_>,
+    ) -> Result<(), WireFault> {
         if number == 1 {
-            self.app_metadata = bytes_of(alloc, part)?;
+            self.app_metadata = bytes_of(alloc, content)?;
         }
         Ok(())
     }
 
-    #[tactic(auto, using(crate::proofs::Chains::chains))]
+    #[tactic(auto, using(proto_fields::proofs::CallerLemmas::chains))]
     fn append(&self, out: &mut Vec<u8>) -> Result<(), AllocError> {
-        append_present(out, 1, &self.app_metadata)
+        append_bytes(out, 1, &self.app_metadata)
     }
 
     ghost rises = { Prim.search rules };
-}
-
-impl FlightData {
-    ghost use Rattle.std.specs.Prelude.{◌≡◌, ◌++◌, Err, IfOk, IfErr, OnOk, OnErr};
-    ghost use Rattle.proto_wire.specs.declared.fault.WireFault.TheVariants.{OutOfMemory};
-    ghost use Rattle.proto_wire.specs.Field.{IsUnlessRefused};
-    ghost use Rattle.proto_wire.specs.Table.{Values, IsMessage, IsMessageFault, IsFaultless};
-    ghost use Rattle.proto_wire.specs.Canonical.{canonical};
-    ghost use Rattle.proto_wire.specs.Flight.{data_table};
-    ghost use Rattle.proto_wire.specs.FlightValues.{data_values};
-
-    /// The message that a text means, with its bytes copied out of the text.
-    ///
-    /// A text that means none is refused with a fault that stands in it: those of
-    /// [`crate::read_fields`], [`WireFault::BadWireType`] for a field of this message with another wire type, and
-    /// [`WireFault::NotUtf8`] for a string that is not UTF-8. Fields that it does not have are passed over. The only other
-    /// refusal is [`WireFault::OutOfMemory`], and only of a text without a fault.
-    pub fn decode(alloc: Global, text: &[u8]) -> Result<FlightData, WireFault>
-        ensures read { IfOk result (λ m. IsMessage data_table text.now (data_values m)) }
-        ensures only { (v : Values data_table) → IsMessage data_table text.now v → IsUnlessRefused data_values result v }
-        ensures fault { IfErr result (IsMessageFault data_table text.now) }
-        ensures memory { result ≡ Err OutOfMemory → IsFaultless data_table text.now }
-    {
-        read(alloc, text)
-    }
-
-    /// Appends the canonical spelling: fields by rising numbers, the shortest varints, defaults left out. It is read back as
-    /// this message. The only fault is [`WireFault::OutOfMemory`], and the vector then holds what it did before.
-    pub fn encode(&self, out: &mut Vec<u8>) -> Result<(), WireFault>
-        ensures ok { OnOk result (out.new.items ≡ out.old.items ++ canonical data_table (data_values self.now)) }
-        ensures means { OnOk result (IsMessage data_table (canonical data_table (data_values self.now)) (data_values self.now)) }
-        ensures err { OnErr result (out.new.items ≡ out.old.items) }
-        ensures fault { IfErr result (λ fault. fault ≡ OutOfMemory) }
-    {
-        write(self, out)
-    }
-}
-
-impl PutResult {
-    ghost use Rattle.std.specs.Prelude.{◌≡◌, ◌++◌, Err, IfOk, IfErr, OnOk, OnErr};
-    ghost use Rattle.proto_wire.specs.declared.fault.WireFault.TheVariants.{OutOfMemory};
-    ghost use Rattle.proto_wire.specs.Field.{IsUnlessRefused};
-    ghost use Rattle.proto_wire.specs.Table.{Values, IsMessage, IsMessageFault, IsFaultless};
-    ghost use Rattle.proto_wire.specs.Canonical.{canonical};
-    ghost use Rattle.proto_wire.specs.Flight.{put_result_table};
-    ghost use Rattle.proto_wire.specs.FlightValues.{put_result_values};
-
-    /// The message that a text means, with its bytes copied out of the text.
-    ///
-    /// A text that means none is refused with a fault that stands in it: those of
-    /// [`crate::read_fields`], and [`WireFault::BadWireType`] for a field of this message with another wire type. Fields that
-    /// it does not have are passed over. The only other refusal is [`WireFault::OutOfMemory`], and only of a text
-    /// without a fault.
-    pub fn decode(alloc: Global, text: &[u8]) -> Result<PutResult, WireFault>
-        ensures read { IfOk result (λ m. IsMessage put_result_table text.now (put_result_values m)) }
-        ensures only { (v : Values put_result_table) → IsMessage put_result_table text.now v → IsUnlessRefused put_result_values result v }
-        ensures fault { IfErr result (IsMessageFault put_result_table text.now) }
-        ensures memory { result ≡ Err OutOfMemory → IsFaultless put_result_table text.now }
-    {
-        read(alloc, text)
-    }
-
-    /// Appends the canonical spelling: fields by rising numbers, the shortest varints, defaults left out. It is read back as
-    /// this message. The only fault is [`WireFault::OutOfMemory`], and the vector then holds what it did before.
-    pub fn encode(&self, out: &mut Vec<u8>) -> Result<(), WireFault>
-        ensures ok { OnOk result (out.new.items ≡ out.old.items ++ canonical put_result_table (put_result_values self.now)) }
-        ensures means { OnOk result (IsMessage put_result_table (canonical put_result_table (put_result_values self.now)) (put_result_values self.now)) }
-        ensures err { OnErr result (out.new.items ≡ out.old.items) }
-        ensures fault { IfErr result (λ fault. fault ≡ OutOfMemory) }
-    {
-        write(self, out)
-    }
 }

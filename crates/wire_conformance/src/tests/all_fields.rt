@@ -2,7 +2,7 @@
 
 use super::plain_fields::{Held, Span, is_field_fault, is_fields_fault, is_reached, spans_of};
 use super::texts::{are_both, are_equal, pieces_of, push_choice, text_of};
-use proto_wire::{Content, Part, WireFault, read_fields, split_field};
+use proto_wire::{Content, ContentRef, WireFault, read_fields, split_field};
 use std::alloc::{AllocError, Global};
 use std::process::Abort;
 use std::test::Fail;
@@ -65,12 +65,12 @@ pub fn held_in(content: &Content) -> Held<'_> {
 }
 
 /// The same of what is lent.
-fn held_at<'a>(part: &'a Part<'_>) -> Held<'a> {
+fn held_at<'a>(part: &'a ContentRef<'_>) -> Held<'a> {
     match part {
-        Part::Varint(number) => Held::Varint(*number),
-        Part::Eight(bytes) => Held::Eight(bytes.as_slice()),
-        Part::Bytes(bytes) => Held::Bytes(*bytes),
-        Part::Four(bytes) => Held::Four(bytes.as_slice()),
+        ContentRef::Varint(number) => Held::Varint(*number),
+        ContentRef::Eight(bytes) => Held::Eight(bytes.as_slice()),
+        ContentRef::Bytes(bytes) => Held::Bytes(*bytes),
+        ContentRef::Four(bytes) => Held::Four(bytes.as_slice()),
     }
 }
 
@@ -107,7 +107,7 @@ fn is_field(span: &Span<'_>, number: u32, held: Held<'_>) -> bool {
 }
 
 /// Whether what is lent is what the field holds.
-fn is_lent(part: &Part<'_>, held: Held<'_>) -> bool {
+fn is_lent(part: &ContentRef<'_>, held: Held<'_>) -> bool {
     part.number() == number_in(held) && are_both(part.bytes(), bytes_in(held))
 }
 
@@ -143,7 +143,7 @@ fn fronts(spans: &[Span<'_>]) -> usize {
 }
 
 /// Whether the field that was split off the text is the one of the span, and the rest what stands behind it.
-fn is_split(text: &[u8], span: &Span<'_>, number: u32, part: &Part<'_>, rest: &[u8]) -> bool {
+fn is_split(text: &[u8], span: &Span<'_>, number: u32, part: &ContentRef<'_>, rest: &[u8]) -> bool {
     is_field(span, number, held_at(part))
         && is_lent(part, span.held)
         && are_both(text.get(span.end..), Some(rest))

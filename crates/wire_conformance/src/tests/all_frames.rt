@@ -3,7 +3,7 @@
 use super::frames::read;
 use super::plain_frames::{Outcome, outcomes_of};
 use super::texts::{are_equal, pieces_of, push_choice, spelled, text_of};
-use proto_wire::{Frame, FrameFault};
+use grpc_frames::{Frame, FrameFault};
 use std::alloc::{AllocError, Global};
 use std::process::Abort;
 use std::test::Fail;
@@ -37,7 +37,7 @@ fn is_outcome(
     outcome: &Outcome<'_>,
 ) -> bool {
     match (read, outcome) {
-        (Ok(None), Outcome::End) => true,
+        (Ok(None), Outcome::End) => left.is_empty(),
         (
             Ok(Some(frame)),
             Outcome::Frame {
@@ -50,16 +50,16 @@ fn is_outcome(
                 && are_equal(frame.payload.as_slice(), payload)
                 && are_equal(left, rest)
         }
-        (Err(found), Outcome::Fault(fault)) => *found == *fault,
+        (Err(found), Outcome::Fault { fault, rest }) => *found == *fault && are_equal(left, rest),
         _ => false,
     }
 }
 
-/// Whether the outcome is read, and the reader then stands behind a beginning of the text.
+/// Whether the outcome is read, and the text that is left then is the outcome's.
 fn is_read(alloc: Global, text: &[u8], outcome: &Outcome<'_>) -> bool {
     let mut rest = text;
     let read = read(alloc, &mut rest);
-    is_outcome(&read, rest, outcome) && text.ends_with(rest)
+    is_outcome(&read, rest, outcome)
 }
 
 /// The same of the first of the outcomes.
@@ -70,7 +70,8 @@ fn is_first_read(alloc: Global, text: &[u8], outcomes: &[Outcome<'_>]) -> bool {
     }
 }
 
-/// What is read, and where the reader then stands, which has to be the one outcome that stands in the text of this number.
+/// What is read, and where the reader then stands, which has to be the one outcome that stands in the text of this
+/// number.
 fn compare(rt: &impl Abort, alloc: Global, text: &[u8], number: usize) -> Result<(), AllocError> {
     let outcomes = outcomes_of(alloc, text)?;
     let is_read = is_first_read(alloc, text, outcomes.as_slice());

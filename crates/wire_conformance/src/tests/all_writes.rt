@@ -1,9 +1,9 @@
-//! What a write leaves, by a plain program beside the frame that is written, over short frames, old contents and writers of
-//! every room (gRPC over HTTP/2, "Length-Prefixed-Message").
+//! What a write leaves, by a plain program beside the frame that is written, over short frames, old contents and writers
+//! of every room (gRPC over HTTP/2, "Length-Prefixed-Message").
 
 use super::frames::{spelled, write};
 use super::texts::{are_both, spelled as bytes_of};
-use proto_wire::{END_FLAG, FrameFault, MESSAGE_FLAG};
+use grpc_frames::{END_FLAG, FrameFault, MESSAGE_FLAG};
 use std::alloc::{AllocError, Global};
 use std::io;
 use std::io::Write;

@@ -1,13 +1,14 @@
 //! Fields against bytes from outside (Protocol Buffers, "Encoding"), and against a plain program for their spelling.
 
 ghost use Rattle.std.specs.Prelude.{◌≡◌, ◌++◌, OnOk, IfOk};
-ghost use Rattle.proto_wire.specs.Varint.{varint_text};
-ghost use Rattle.proto_wire.specs.Field.{field_at, field_text};
+ghost use Rattle.proto_fields.specs.Varint.{varint_text};
+ghost use Rattle.proto_fields.specs.Field.{field_at, field_text};
 
 use super::texts::{are_both, are_equal, cells, is_told, number, spelled as bytes_of, two_cells};
 use super::told_fields::{behind_front, told_fields, told_front};
 use proto_wire::{
-    MAX_FIELD_NUMBER, Part, write_bytes, write_present_bytes, write_present_varint, write_varint,
+    ContentRef, MAX_FIELD_NUMBER, write_bytes, write_nonempty_bytes, write_nonzero_varint,
+    write_varint,
 };
 use std::alloc::{AllocError, Global};
 use std::process::Abort;
@@ -80,7 +81,7 @@ const LENGTHS: &str = "0|1|127|128|16383|16384";
 const NUMBERS: &str = "15|16|2047|2048|262143|262144|33554431|33554432|536870911";
 
 /// Appends the seven lowest bits of the number, marked where more follow, and then those of what is above them.
-#[tactic(auto, using(proto_wire::proofs::Texts::texts))]
+#[tactic(auto, using(proto_fields::proofs::Texts::texts))]
 fn push_number(text: &mut Vec<u8>, number: u64) -> Result<(), AllocError>
     ensures { OnOk result (text.new.items ≡ text.old.items ++ varint_text number) }
 {
@@ -94,26 +95,26 @@ fn push_number(text: &mut Vec<u8>, number: u64) -> Result<(), AllocError>
 }
 
 /// The text of a field: its key, and then what it holds.
-fn spelled(alloc: Global, number: u32, part: Part<'_>) -> Result<Vec<u8>, AllocError>
+fn spelled(alloc: Global, number: u32, part: ContentRef<'_>) -> Result<Vec<u8>, AllocError>
     ensures { IfOk result (λ text. text.items ≡ field_text (field_at number part.entry)) }
 {
     let key = 8 * u64::from(number);
     let mut text = Vec::new(alloc);
     match part {
-        Part::Varint(value) => {
+        ContentRef::Varint(value) => {
             push_number(&mut text, key)?;
             push_number(&mut text, value)?;
         }
-        Part::Eight(bytes) => {
+        ContentRef::Eight(bytes) => {
             push_number(&mut text, key + 1)?;
             text.extend_from_slice(&bytes)?;
         }
-        Part::Bytes(bytes) => {
+        ContentRef::Bytes(bytes) => {
             push_number(&mut text, key + 2)?;
             push_number(&mut text, bytes.len() as u64)?;
             text.extend_from_slice(bytes)?;
         }
-        Part::Four(bytes) => {
+        ContentRef::Four(bytes) => {
             push_number(&mut text, key + 5)?;
             text.extend_from_slice(&bytes)?;
         }
@@ -224,8 +225,8 @@ fn write(out: &mut Vec<u8>, call: &str, number: u32, value: u64, bytes: &[u8]) -
     match call {
         "varint" => write_varint(out, number, value)?,
         "bytes" => write_bytes(out, number, bytes)?,
-        "present varint" => write_present_varint(out, number, value)?,
-        "present bytes" => write_present_bytes(out, number, bytes)?,
+        "present varint" => write_nonzero_varint(out, number, value)?,
+        "present bytes" => write_nonempty_bytes(out, number, bytes)?,
         _ => return Err(Fail::from("no call")),
     }
     Ok(())
@@ -303,7 +304,7 @@ fn is_spelled(
     number: u32,
     value: u64,
     bytes: &[u8],
-    part: Part<'_>,
+    part: ContentRef<'_>,
 ) -> Result<bool, Fail> {
     let mut written = Vec::new(alloc);
     write(&mut written, call, number, value, bytes)?;
@@ -313,7 +314,14 @@ fn is_spelled(
 
 /// Writes the number, which has to give the plain program's text.
 fn expect_varint(rt: &impl Abort, alloc: Global, number: u32, value: u64) -> Result<(), Fail> {
-    let same = is_spelled(alloc, "varint", number, value, &[], Part::Varint(value))?;
+    let same = is_spelled(
+        alloc,
+        "varint",
+        number,
+        value,
+        &[],
+        ContentRef::Varint(value),
+    )?;
     assert!(rt; same, "field {number}, value {value}");
     Ok(())
 }
@@ -323,7 +331,7 @@ fn are_spelled(alloc: Global, number: u32, len: u64) -> Result<bool, Fail> {
     let mut bytes = Vec::new(alloc);
     bytes.resize(len as usize, 7)?;
     let bytes = bytes.as_slice();
-    is_spelled(alloc, "bytes", number, 0, bytes, Part::Bytes(bytes))
+    is_spelled(alloc, "bytes", number, 0, bytes, ContentRef::Bytes(bytes))
 }
 
 /// Writes this many bytes, which has to give the plain program's text.
@@ -338,7 +346,7 @@ fn is_text_of(
     alloc: Global,
     bytes: Option<&[u8]>,
     number: u32,
-    part: Part<'_>,
+    part: ContentRef<'_>,
 ) -> Result<bool, AllocError> {
     let text = spelled(alloc, number, part)?;
     Ok(are_both(bytes, Some(text.as_slice())))
@@ -347,8 +355,8 @@ fn is_text_of(
 #[test]
 fn spells_each_type(rt: HostRuntime) -> Result<(), Fail> {
     let text = bytes_of(rt.alloc(), EACH_TYPE)?;
-    let eight = Part::Eight([0, 0, 0, 0, 0, 0, 0xf0, 0x3f]);
-    let four = Part::Four([0, 0, 0x80, 0x3f]);
+    let eight = ContentRef::Eight([0, 0, 0, 0, 0, 0, 0xf0, 0x3f]);
+    let four = ContentRef::Four([0, 0, 0x80, 0x3f]);
     assert!(rt; is_text_of(rt.alloc(), text.get(12..21), 3, eight)?);
     assert!(rt; is_text_of(rt.alloc(), text.get(21..), 4, four)?);
     Ok(())

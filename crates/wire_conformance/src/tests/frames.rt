@@ -1,10 +1,10 @@
 //! Frames against bytes from outside, and readers and writers that fail.
 
 ghost use Rattle.std.specs.Prelude.{◌≡◌, IfOk};
-ghost use Rattle.proto_wire.specs.Frame.{frame_text};
+ghost use Rattle.grpc_frames.specs.Frame.{frame_text};
 
 use super::texts::{are_both, are_equal, digits_of, is_told, spelled as bytes_of, two_cells};
-use proto_wire::{
+use grpc_frames::{
     END_FLAG, Frame, FrameFault, MAX_FRAME_PAYLOAD, MESSAGE_FLAG, read_frame, write_frame,
 };
 use std::alloc::{AllocError, Global};
@@ -16,25 +16,31 @@ use std::test::Fail;
 /// A message frame that carries the bytes 08 01 28 01.
 const FRAME: &str = "00 00000004 08012801";
 
-/// Texts, and what is read: the flag, the payload and the text behind it, that the input has ended, or the fault. Every
-/// beginning of a frame is cut short; then come a payload above 4 MiB and one of a byte more than that, another flag, and
-/// that of a compressed message.
+/// Texts, and what is read: the flag, the payload and the text behind it, that the input has ended, or the fault and
+/// what is left of the text. Every beginning of a frame is cut short; then come a payload above 4 MiB and one of a byte
+/// more than that, other flags, and that of a compressed message, each with bytes behind it too.
 const READ: &str = "\
 00 00000004 08012801 80 00000000|0; 08012801; 8000000000.
 80 00000000|128; ; .
 |end
-00|Truncated
-0000|Truncated
-000000|Truncated
-00000000|Truncated
-00 00000004|Truncated
-00 00000004 08|Truncated
-00 00000004 0801|Truncated
-00 00000004 080128|Truncated
-00 ffffffff|TooLong
-00 00400001|TooLong
-02 00000000|BadFlag
-01 00000000|Compressed";
+00|Truncated; .
+0000|Truncated; .
+000000|Truncated; .
+00000000|Truncated; .
+02000000|Truncated; .
+00 00000004|Truncated; .
+00 00000004 08|Truncated; .
+00 00000004 0801|Truncated; .
+00 00000004 080128|Truncated; .
+00 ffffffff|TooLong; .
+00 00400001|TooLong; .
+80 00400001 00 00000000|TooLong; 0000000000.
+02 00000000|BadFlag; .
+02 ffffffff 00 00000000|BadFlag; 0000000000.
+ff 00000002 0801|BadFlag; 0801.
+01 ffffffff 0801|Compressed; 0801.
+01 00000002 0801|Compressed; 0801.
+01 00000000|Compressed; .";
 
 /// Gives its bytes, and fails at every read but the first.
 #[derive(Drop)]
@@ -112,18 +118,6 @@ pub fn write<W: Write>(
     Ok(write_frame(writer, flag, payload))
 }
 
-/// The name of the fault.
-fn name_of(fault: FrameFault) -> &'static str {
-    match fault {
-        FrameFault::Truncated => "Truncated",
-        FrameFault::BadFlag => "BadFlag",
-        FrameFault::Compressed => "Compressed",
-        FrameFault::TooLong => "TooLong",
-        FrameFault::Io => "Io",
-        FrameFault::OutOfMemory => "OutOfMemory",
-    }
-}
-
 /// The frame and the text behind it, as they stand in the table.
 fn shown(alloc: Global, frame: &Frame, rest: &[u8]) -> Result<String, AllocError> {
     let payload = digits_of(alloc, frame.payload.as_slice())?;
@@ -132,13 +126,19 @@ fn shown(alloc: Global, frame: &Frame, rest: &[u8]) -> Result<String, AllocError
     format!(in alloc; "{flag}; {payload}; {rest}.")
 }
 
+/// The fault and what is left of the text, as they stand in the table.
+fn shown_fault(alloc: Global, fault: FrameFault, rest: &[u8]) -> Result<String, AllocError> {
+    let rest = digits_of(alloc, rest)?;
+    format!(in alloc; "{fault}; {rest}.")
+}
+
 /// What is read at the front of the text.
 fn told(alloc: Global, text: &[u8]) -> Result<String, AllocError> {
     let mut rest = text;
     match read(alloc, &mut rest) {
         Ok(Some(frame)) => shown(alloc, &frame, rest),
         Ok(None) => String::from_str(alloc, "end"),
-        Err(fault) => String::from_str(alloc, name_of(fault)),
+        Err(fault) => shown_fault(alloc, fault, rest),
     }
 }
 
@@ -153,6 +153,29 @@ fn expect_read(rt: &impl Abort, alloc: Global, row: &str) -> Result<(), Fail> {
     let (text, want) = two_cells(row)?;
     let is_read = is_read(alloc, text, want)?;
     assert!(rt; is_read, "{row}");
+    Ok(())
+}
+
+/// The faults' names as they are printed.
+fn names(alloc: Global) -> Result<String, AllocError> {
+    let text = (
+        FrameFault::Truncated,
+        FrameFault::BadFlag,
+        FrameFault::Compressed,
+        FrameFault::TooLong,
+    );
+    let other = (FrameFault::Io, FrameFault::OutOfMemory);
+    format!(in alloc;
+        "{} {} {} {} {} {}",
+        text.0, text.1, text.2, text.3, other.0, other.1
+    )
+}
+
+#[test]
+fn faults_print_their_names(rt: HostRuntime) -> Result<(), Fail> {
+    let names = names(rt.alloc())?;
+    let want = "Truncated BadFlag Compressed TooLong Io OutOfMemory";
+    assert!(rt; is_told(names.as_str(), want));
     Ok(())
 }
 

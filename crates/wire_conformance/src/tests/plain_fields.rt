@@ -2,8 +2,8 @@
 //! relations, by trying each way to split the text (Protocol Buffers, "Encoding").
 
 ghost use Rattle.std.specs.Prelude.{◌↔◌, IsTrue};
-ghost use Rattle.proto_wire.specs.Varint.{AllGoOn, IsCutVarint};
-ghost use Rattle.proto_wire.specs.Field.{IsFieldNumber};
+ghost use Rattle.proto_fields.specs.Varint.{AllGoOn, IsCutVarint};
+ghost use Rattle.proto_fields.specs.Field.{IsFieldNumber};
 
 use proto_wire::WireFault;
 use std::alloc::{AllocError, Global};
@@ -54,7 +54,7 @@ fn with_digit(number: u128, byte: u8) -> Option<u128> {
     number.checked_mul(128)?.checked_add(u128::from(byte % 128))
 }
 
-/// The number that at most ten bytes spell, `SpellsNumber` ("Base 128 Varints"): their lowest seven bits are the digits to
+/// The number that at most ten bytes spell, `EncodesNumber` ("Base 128 Varints"): their lowest seven bits are the digits to
 /// the base 128, the highest last. It has at most 70 bits.
 fn number_of(bytes: &[u8]) -> Option<u128> {
     if !is_number(bytes) {
@@ -156,7 +156,7 @@ fn bytes_held(content: &[u8]) -> Option<Held<'_>> {
     Some(Held::Bytes(counted_bytes(content)?))
 }
 
-/// What the content of a field of this wire type spells, `SpellsHeld`.
+/// What the content of a field of this wire type spells, `EncodesHeld`.
 fn held_of(kind: u64, content: &[u8]) -> Option<Held<'_>> {
     match kind {
         0 => varint_held(content),
@@ -248,7 +248,7 @@ fn span_of(key: Key<'_>, start: usize, len: usize, size: usize) -> Option<Span<'
     })
 }
 
-/// Appends the fields, `SpellsField`, whose spelling begins at this place with a key of `len` bytes.
+/// Appends the fields, `EncodesField`, whose spelling begins at this place with a key of `len` bytes.
 fn push_behind_key<'a>(
     spans: &mut Vec<Span<'a>>,
     text: &'a [u8],

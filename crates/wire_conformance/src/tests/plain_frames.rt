@@ -2,11 +2,11 @@
 //! specs/FrameFaults.antt, by trying each way to split the text (gRPC over HTTP/2, "Length-Prefixed-Message").
 
 ghost use Rattle.std.specs.Prelude.{◌≡◌, ◌≢◌, ◌≤◌, ◌<◌, ◌↔◌, ◌++◌, ℕ, List, IsTrue, IsSome, IfSome, IfNone, length};
-ghost use Rattle.proto_wire.specs.Frame.{Frame as FrameModel, IsFlag, IsFrame, frame_text, payload_limit};
-ghost use Rattle.proto_wire.specs.FrameFaults.{BeginsFrame, FrameFaultStands};
-ghost use Rattle.proto_wire.specs.declared.fault.FrameFault.TheVariants.{Io, OutOfMemory};
+ghost use Rattle.grpc_frames.specs.Frame.{Frame as FrameModel, IsFlag, IsFrame, frame_text, payload_limit};
+ghost use Rattle.grpc_frames.specs.FrameFaults.{BeginsFrame, FrameFaultStands, LeavesAfter};
+ghost use Rattle.grpc_frames.specs.declared.fault.FrameFault.TheVariants.{Io, OutOfMemory};
 
-use proto_wire::FrameFault;
+use grpc_frames::FrameFault;
 use std::alloc::{AllocError, Global};
 
 /// The first five bytes of a text and what follows them, `BeginsFrame`.
@@ -28,8 +28,11 @@ pub enum Outcome<'a> {
         payload: &'a [u8],
         rest: &'a [u8],
     },
-    /// What is wrong there.
-    Fault(FrameFault),
+    /// What is wrong there, and what is left of the text.
+    Fault {
+        fault: FrameFault,
+        rest: &'a [u8],
+    },
 }
 
 const FAULTS: [FrameFault; 6] = [
@@ -97,7 +100,8 @@ fn stands(fault: FrameFault, text: &[u8]) -> bool
 fn frame_of(text: &[u8], len: usize) -> Option<(u8, &[u8], &[u8])>
     ensures frame { IfSome result (λ f. IsFrame (record { flag = f.0; payload = f.1.now })) }
     ensures parts { IfSome result (λ f. text.now ≡ frame_text (record { flag = f.0; payload = f.1.now }) ++ f.2.now) }
-    ensures each { (f : FrameModel) (rest : List ℕ) → IsFrame f → length f.payload ≡ len → text.now ≡ frame_text f ++ rest → IsSome result }
+    ensures each { (f : FrameModel) (rest : List ℕ) → IsFrame f → length f.payload ≡ len
+        → text.now ≡ frame_text f ++ rest → IsSome result }
 {
     let header = header_of(text)?;
     let (payload, rest) = header.rest.split_at_checked(len)?;
@@ -122,17 +126,31 @@ fn push_frames<'a>(outcomes: &mut Vec<Outcome<'a>>, text: &'a [u8]) -> Result<()
     Ok(())
 }
 
+/// `LeavesAfter`: what is left after a fault of a text in memory. After a text that is too short it is nothing.
+fn left_after(fault: FrameFault, text: &[u8]) -> &[u8]
+    ensures { fault ≢ Io → fault ≢ OutOfMemory → LeavesAfter fault text.now result.now }
+{
+    if fault == FrameFault::Truncated {
+        return &[];
+    }
+    text.get(5..).unwrap_or(&[])
+}
+
 /// Appends the faults that may be told.
-fn push_faults(outcomes: &mut Vec<Outcome<'_>>, text: &[u8]) -> Result<(), AllocError> {
+fn push_faults<'a>(outcomes: &mut Vec<Outcome<'a>>, text: &'a [u8]) -> Result<(), AllocError> {
     for fault in &FAULTS {
         if stands(*fault, text) {
-            outcomes.push(Outcome::Fault(*fault))?;
+            let rest = left_after(*fault, text);
+            outcomes.push(Outcome::Fault {
+                fault: *fault,
+                rest,
+            })?;
         }
     }
     Ok(())
 }
 
-/// Everything that reading a frame may give at this text.
+/// Everything that reading a frame may give at this text, and what is left of it.
 pub fn outcomes_of(alloc: Global, text: &[u8]) -> Result<Vec<Outcome<'_>>, AllocError> {
     let mut outcomes = Vec::new(alloc);
     if text.is_empty() {

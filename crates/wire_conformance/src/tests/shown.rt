@@ -4,8 +4,8 @@ use super::plain_messages::{Entry, Table, Value, below};
 use super::texts::{digits_of, is_told};
 use super::told_fields::name_of;
 use proto_wire::{
-    Criteria, FlightData, FlightDescriptor, FlightEndpoint, FlightInfo, Location, PutResult,
-    SchemaResult, Ticket, WireFault,
+    Criteria, FlightData, FlightDescriptor, FlightEndpoint, FlightInfo, Location, ProtoMessage,
+    PutResult, SchemaResult, Ticket, WireFault,
 };
 use std::alloc::{AllocError, Global};
 use std::test::Fail;

@@ -3,7 +3,7 @@
 use super::all_fields::held_in;
 use super::plain_fields::Held;
 use super::texts::digits_of;
-use proto_wire::{Content, Part, WireFault, read_fields, split_field};
+use proto_wire::{Content, ContentRef, WireFault, read_fields, split_field};
 use std::alloc::{AllocError, Global};
 
 /// The name of the fault.
@@ -65,7 +65,7 @@ pub fn told_fields(alloc: Global, text: &[u8]) -> Result<String, AllocError> {
 }
 
 /// The number that is lent, as it stands in the tables.
-fn told_number(alloc: Global, part: &Part<'_>) -> Result<String, AllocError> {
+fn told_number(alloc: Global, part: &ContentRef<'_>) -> Result<String, AllocError> {
     match part.number() {
         Some(number) => format!(in alloc; "{number}"),
         None => String::from_str(alloc, "-"),
@@ -73,7 +73,7 @@ fn told_number(alloc: Global, part: &Part<'_>) -> Result<String, AllocError> {
 }
 
 /// The bytes that are lent, as they stand in the tables.
-fn told_bytes(alloc: Global, part: &Part<'_>) -> Result<String, AllocError> {
+fn told_bytes(alloc: Global, part: &ContentRef<'_>) -> Result<String, AllocError> {
     match part.bytes() {
         Some(bytes) => digits_of(alloc, bytes),
         None => String::from_str(alloc, "-"),
@@ -81,14 +81,14 @@ fn told_bytes(alloc: Global, part: &Part<'_>) -> Result<String, AllocError> {
 }
 
 /// The number and the bytes that are lent, as they stand in the tables.
-fn told_lent(alloc: Global, part: &Part<'_>) -> Result<String, AllocError> {
+fn told_lent(alloc: Global, part: &ContentRef<'_>) -> Result<String, AllocError> {
     let number = told_number(alloc, part)?;
     let bytes = told_bytes(alloc, part)?;
     format!(in alloc; "{number}; {bytes}")
 }
 
 /// What the part holds once it is copied, as it stands in the tables.
-fn told_content(alloc: Global, part: &Part<'_>) -> Result<String, AllocError> {
+fn told_content(alloc: Global, part: &ContentRef<'_>) -> Result<String, AllocError> {
     let content = part.to_content(alloc)?;
     shown(alloc, held_in(&content))
 }
@@ -97,7 +97,7 @@ fn told_content(alloc: Global, part: &Part<'_>) -> Result<String, AllocError> {
 fn told_part(
     alloc: Global,
     number: u32,
-    part: &Part<'_>,
+    part: &ContentRef<'_>,
     left: usize,
 ) -> Result<String, AllocError> {
     let lent = told_lent(alloc, part)?;

@@ -1,5 +1,5 @@
 use Rattle.std.proofs.Common.{◌≡◌, List, length}
-use Rattle.proto_wire.specs.Field.{Field, FieldsThen}
+use Rattle.proto_fields.specs.Field.{Field, FieldsThen}
 use Rattle.ballots.specs.Message.{parts_of}
 use Rattle.ballots.specs.Parts.{parts_at}
 use Rattle.ballots.proofs.parts.read_parts.Given as goal

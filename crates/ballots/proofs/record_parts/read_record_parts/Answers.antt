@@ -1,8 +1,8 @@
 use Rattle.std.proofs.Common.{[], refl}
 use Rattle.std.proofs.lemmas.Result.{err_from_is_err_and}
-use Rattle.proto_wire.specs.Field.{field_at}
+use Rattle.proto_fields.specs.Field.{field_at}
 use Rattle.ballots.specs.RecordParts.{record_parts_at}
-use Rattle.proto_wire.proofs.Fronts.{not_fields, is_more, is_over}
+use Rattle.proto_fields.proofs.Fronts.{not_fields, is_more, is_over}
 use Rattle.ballots.proofs.RecordGathering.{gathered_more, gathered_all, gathered_only}
 use Rattle.ballots.proofs.record_parts.read_record_parts.Goals as goal
 

@@ -1,5 +1,5 @@
 use Rattle.std.proofs.Common.{◌≡◌, List, length}
-use Rattle.proto_wire.specs.Field.{Field, FieldsThen}
+use Rattle.proto_fields.specs.Field.{Field, FieldsThen}
 use Rattle.ballots.specs.Record.{record_parts_of}
 use Rattle.ballots.specs.RecordParts.{record_parts_at}
 use Rattle.ballots.proofs.record_parts.read_record_parts.Given as goal

@@ -1,5 +1,5 @@
 use Rattle.std.proofs.Common.{◌≡◌, ℕ, ◌+◌, ◌-◌, ◌<◌, length, slice_get}
-use Rattle.ballots.specs.declared.slot.TheConstants.{MAX_SLOT}
+use Rattle.ballots.specs.Limits.{max_slot}
 use Rattle.decided_log.specs.Keeping.{grown_at}
 use Rattle.decided_log.proofs.copies.grown_by.Given as goal
 
@@ -10,4 +10,4 @@ invariant-loop-next l = record {
 }
 
 abbrev pub decreases-loop-next : goal.decreases-loop-next
-decreases-loop-next l = MAX_SLOT + 1 - (l.slot + length l.values.items)
+decreases-loop-next l = max_slot + 1 - (l.slot + length l.values.items)

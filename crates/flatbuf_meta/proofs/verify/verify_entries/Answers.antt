@@ -15,7 +15,7 @@ returns-in_err-seen-clause-ends c =
 
 pub loop-index-preserved : goal.loop-index-preserved
 loop-index-preserved c = (
-  entries_pass c.args.buf.now c.args.row.first c.loop-index.index c.element.result (extent_of c.args.seen) (extent_of c.loop-index.seen) (extent_of c.in_ok-seen.seen)
+  entries_pass c.args.buf.now c.args.row.first c.loop-index.index c.element.result (extent_of c.args.seen) (extent_of c.loop-index.seen) (extent_of c.in_ok-seen.field-0-1)
       c.loop-index.invariant.0 c.element.ensures c.in_ok-seen.ensures.passes,
   c.in_ok-seen.ensures.within,
 )

@@ -1,5 +1,5 @@
 use Rattle.std.proofs.Common.{ap, ◌∙◌, rules}
-use Rattle.proto_wire.specs.Frame.{Frame}
+use Rattle.grpc_frames.specs.Frame.{Frame}
 use Rattle.acceptor.specs.Holding.{standing}
 use Rattle.program_runs.proofs.Replying.{message_flag, answered_none, answered_some}
 use Rattle.program_runs.proofs.serving.answer_frame.Goals as goal

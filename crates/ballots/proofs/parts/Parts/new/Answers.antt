@@ -1,5 +1,5 @@
 use Rattle.std.proofs.Common.{refl}
-use Rattle.proto_wire.specs.Meaning.{number_meant, bytes_meant}
+use Rattle.proto_fields.specs.Meaning.{number_meant, bytes_meant}
 use Rattle.ballots.proofs.parts.Parts.new.Goals as goal
 
 pub returns : goal.returns

@@ -1,5 +1,5 @@
 use Rattle.std.proofs.Common.{◌≡◌, Some}
-use Rattle.proto_wire.specs.Meaning.{bytes_meant}
+use Rattle.proto_fields.specs.Meaning.{bytes_meant}
 use Rattle.ballots.proofs.PlainMeanings.{seen}
 use Rattle.ballots.proofs.tests.plain_meaning.last_bytes.Given as goal
 

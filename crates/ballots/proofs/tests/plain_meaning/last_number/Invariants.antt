@@ -1,5 +1,5 @@
 use Rattle.std.proofs.Common.{◌≡◌, Some}
-use Rattle.proto_wire.specs.Meaning.{number_meant}
+use Rattle.proto_fields.specs.Meaning.{number_meant}
 use Rattle.ballots.proofs.PlainMeanings.{seen}
 use Rattle.ballots.proofs.tests.plain_meaning.last_number.Given as goal
 

@@ -4,5 +4,5 @@ use Rattle.learner.proofs.learner.Learner.is_chosen_with.Goals as goal
 
 pub returns : goal.returns
 returns c =
-    chosen_where c.args.self.now c.self.inside.members c.count_votes.result c.votes.result c.with_vote-votes.result c.args.acceptor c.args.slot c.args.ballot c.is_majority.result
-    (ap (λ h. h.members) c.self.view_is) c.votes.ensures c.with_vote-votes.ensures c.count_votes.ensures c.is_majority.ensures
+    chosen_where c.args.self.now c.self.inside.members c.votes.result c.with-votes.result c.args.acceptor c.args.slot c.args.ballot c.are_majority.result
+    (ap (λ h. h.members) c.self.view_is) c.votes.ensures c.with-votes.ensures c.are_majority.ensures

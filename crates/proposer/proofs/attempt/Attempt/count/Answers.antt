@@ -1,4 +1,4 @@
-use Rattle.std.proofs.Common.{◌<◌, length, sym, ◌∙◌, arith}
+use Rattle.std.proofs.Common.{sym, ◌∙◌, arith}
 use Rattle.std.proofs.lemmas.Grind.{common_steps}
 use Rattle.proposer.proofs.Highest.{best_is_chosen}
 use Rattle.proposer.proofs.Counting.{counts_gone, counts_majority, counts_on, gives_value, gives_none_yet}
@@ -6,38 +6,29 @@ use Rattle.proposer.proofs.attempt.Attempt.count.Goals as goal
 
 pub returns-in_err-take-clause-counts : goal.returns-in_err-take-clause-counts
 returns-in_err-take-clause-counts c = λ candidate promises promise by_sender reports was.
-    let room : c.args.sender < length c.args.self.now.counted = grind (arith, common_steps) in
-    counts_gone c.args.members candidate promises promise c.args.self.now c.args.sender c.from.result by_sender (c.from.ensures ∙ c.number.ensures.value) c.requires room was
+    counts_gone c.args.members candidate promises promise c.args.self.now c.args.sender c.with-self.result by_sender c.with-self.ensures c.requires was
     c.take.new.self (sym c.take.ensures.value ∙ c.in_err-take.was) c.take.ensures.after
 
-pub returns-then-is_majority-clause-counts : goal.returns-then-is_majority-clause-counts
-returns-then-is_majority-clause-counts c = λ candidate promises promise by_sender reports was.
-    let room : c.args.sender < length c.args.self.now.counted = grind (arith, common_steps) in
-    counts_majority c.args.members candidate promises promise c.args.self.now c.args.sender c.from.result by_sender (c.from.ensures ∙ c.number.ensures.value) c.requires room was
+pub returns-then-are_majority-clause-counts : goal.returns-then-are_majority-clause-counts
+returns-then-are_majority-clause-counts c = λ candidate promises promise by_sender reports was.
+    counts_majority c.args.members candidate promises promise c.args.self.now c.args.sender c.with-self.result by_sender c.with-self.ensures c.requires was
     c.in_ok-take.field-0 c.weigh-choice.result (sym c.take.ensures.value ∙ c.in_ok-take.was) (rw reports (c.weigh-choice.ensures candidate _))
-    c.size.result c.size.ensures
-    c.take.new.self c.take.ensures.after (c.is_majority.ensures.0 c.if-is_majority.true)
+    c.take.new.self c.take.ensures.after (c.are_majority.ensures.0 c.if-are_majority.true)
 
-pub returns-then-is_majority-clause-gives : goal.returns-then-is_majority-clause-gives
-returns-then-is_majority-clause-gives c = λ candidate promises promise by_sender reports was.
-    let room : c.args.sender < length c.args.self.now.counted = grind (arith, common_steps) in
-    gives_value c.args.members candidate promises promise c.args.self.now c.args.sender c.from.result by_sender (c.from.ensures ∙ c.number.ensures.value) c.requires room was
-    c.size.result c.size.ensures
+pub returns-then-are_majority-clause-gives : goal.returns-then-are_majority-clause-gives
+returns-then-are_majority-clause-gives c = λ candidate promises promise by_sender reports was.
+    gives_value c.args.members candidate promises promise c.args.self.now c.args.sender c.with-self.result by_sender c.with-self.ensures c.requires was
     c.in_ok-take.field-0 c.weigh-choice.result.value (sym c.take.ensures.value ∙ c.in_ok-take.was)
     (rw reports (λ is_best. best_is_chosen candidate _ c.weigh-choice.result.reported_at c.weigh-choice.result.value (c.weigh-choice.ensures candidate _ is_best)))
-    (c.is_majority.ensures.0 c.if-is_majority.true)
+    (c.are_majority.ensures.0 c.if-are_majority.true)
 
 pub returns-clause-counts : goal.returns-clause-counts
 returns-clause-counts c = λ candidate promises promise by_sender reports was.
-    let room : c.args.sender < length c.args.self.now.counted = grind (arith, common_steps) in
-    counts_on c.args.members candidate promises promise c.args.self.now c.args.sender c.from.result by_sender (c.from.ensures ∙ c.number.ensures.value) c.requires room was
+    counts_on c.args.members candidate promises promise c.args.self.now c.args.sender c.with-self.result by_sender c.with-self.ensures c.requires was
     c.in_ok-take.field-0 c.weigh-choice.result (sym c.take.ensures.value ∙ c.in_ok-take.was) (rw reports (c.weigh-choice.ensures candidate _))
-    c.size.result c.size.ensures
     (grind (arith, common_steps))
 
 pub returns-clause-gives : goal.returns-clause-gives
 returns-clause-gives c = λ candidate promises promise by_sender reports was.
-    let room : c.args.sender < length c.args.self.now.counted = grind (arith, common_steps) in
-    gives_none_yet c.args.members candidate promises promise c.args.self.now c.args.sender c.from.result by_sender (c.from.ensures ∙ c.number.ensures.value) c.requires room was
-    c.size.result c.size.ensures
+    gives_none_yet c.args.members candidate promises promise c.args.self.now c.args.sender c.with-self.result by_sender c.with-self.ensures c.requires was
     (grind (arith, common_steps))

@@ -1,6 +1,6 @@
 use Rattle.std.proofs.Common.{◌++◌, ◌/◌, List, ℕ, refl, ap, ◌∙◌, arith}
-use Rattle.proto_wire.specs.Varint.{varint_text}
-use Rattle.proto_wire.proofs.Texts.{number_goes_on}
+use Rattle.proto_fields.specs.Varint.{varint_text}
+use Rattle.proto_fields.proofs.Texts.{number_goes_on}
 use Rattle.wire_conformance.proofs.tests.fields.+push_number.Goals as goal
 
 pub returns : goal.returns

@@ -1,0 +1,5 @@
+use Rattle.flatbuf_meta.proofs.Profiled.{written_differ}
+use Rattle.flatbuf_meta.proofs.laws.written_headers_differ.Goals as goal
+
+pub returns : goal.returns
+returns c = written_differ

@@ -1,0 +1,13 @@
+use Rattle.std.proofs.Common.{inr, subst}
+use Rattle.flatbuf_meta.specs.declared.fault.MetaFault.{MetaFault}
+use Rattle.flat_places.specs.Table.{Seen}
+use Rattle.flatbuf_meta.specs.Faults.{MessageFault}
+use Rattle.flatbuf_meta.specs.HeaderViews.{RootFault}
+use Rattle.flatbuf_meta.proofs.SlotFacts.{handed_on}
+use Rattle.flatbuf_meta.proofs.message.message_at.Goals as goal
+
+pub returns-in_err-kind-clause-fault : goal.returns-in_err-kind-clause-fault
+returns-in_err-kind-clause-fault c =
+    let e : MetaFault = c.in_err-kind.field-0.0 in
+    handed_on (RootFault c.args.buf.now) c.from_residual-in_err-kind.result e c.from_residual-in_err-kind.ensures.1
+    (inr (c.in_ok-place.place, c.in_ok-place.ensures.read, subst (λ (k : Seen). MessageFault k.buf k.place e) c.in_ok-message.ensures.seen c.in_err-kind.ensures.fault))

@@ -1,6 +1,0 @@
-pub mod CommandLine
-pub mod Headers
-pub mod Parts
-pub mod PartSteps
-pub mod Repeating
-pub mod Tasks

@@ -1,0 +1,4 @@
+pub mod Transfers
+pub mod FrameTexts
+pub mod FrameParts
+pub mod FrameJudgement

@@ -1,0 +1,4 @@
+pub mod Frame
+pub mod FrameFaults
+pub mod FrameSteps
+pub mod FrameLaws

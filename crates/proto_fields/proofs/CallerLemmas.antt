@@ -1,0 +1,28 @@
+-- Fields appended one after the other.
+use Rattle.std.proofs.Common.{◌≡◌, ℕ, List, [], ◌++◌, map, Result, Ok, Err, OnErr, sym, ap, ◌∙◌, append_assoc}
+use Rattle.std.specs.List.{AllByRecursion}
+use Rattle.std.proofs.lemmas.Grind.{flat_map-append}
+use Rattle.std.proofs.lemmas.List.{append-nil}
+use Rattle.proto_fields.specs.Field.{Field, field_text, fields_text}
+use Rattle.proto_fields.specs.Writing.{Grows}
+
+pub last_fields : (old new : List ℕ) (xs : List Field) → new ≡ old ++ fields_text xs → new ≡ old ++ fields_text (xs ++ [])
+last_fields old new xs e = rw (append-nil xs) e
+
+pub then_fields : (old mid new : List ℕ) (xs ys : List Field) → mid ≡ old ++ fields_text xs → new ≡ mid ++ fields_text ys → new ≡ old ++ fields_text (xs ++ ys)
+then_fields old mid new xs ys first second =
+    second ∙ ap (λ (l : List ℕ). l ++ fields_text ys) first ∙ append_assoc old (fields_text xs) (fields_text ys) ∙ ap (λ (l : List ℕ). old ++ l) (sym (flat_map-append field_text xs ys))
+
+pub then_grows : (old mid new : List ℕ) (xs : List Field) → mid ≡ old ++ fields_text xs → Grows mid new → Grows old new
+then_grows old mid new xs first second =
+    (fields_text xs ++ second.0, second.1 ∙ ap (λ (l : List ℕ). l ++ second.0) first ∙ append_assoc old (fields_text xs) second.0)
+
+pub on_err : {E P : Type 0} (r : Result (Unit {0}) E) → P → OnErr r P
+on_err (Ok done) is = tt
+on_err (Err fault) is = is
+
+-- a field for each of these was appended, and each fits
+abbrev pub Appended : {X V : Type 0} → (X → V) → (V → Field) → (V → Type 0) → List ℕ → List X → List ℕ → Type 0
+Appended view field IsFit old xs new = (new ≡ old ++ fields_text (map field (map view xs))) × AllByRecursion IsFit (map view xs)
+
+pub ruleset chains = (then_grows, then_fields, last_fields)

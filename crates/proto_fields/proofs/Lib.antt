@@ -1,0 +1,14 @@
+pub mod Steps
+pub mod Numbers
+pub mod Fields
+pub mod Fronts
+pub mod FaultsApart
+pub mod Texts
+pub mod Meanings
+pub mod MessageFaults
+pub mod Merging
+pub mod MessageTaking
+pub mod MessageWriting
+pub mod Embedding
+pub mod CallerLemmas
+pub mod Sound

@@ -1,0 +1,39 @@
+//! Messages of numbered fields (Protocol Buffers, "Encoding"), read from bytes that nobody has checked and written in
+//! one encoding each.
+//!
+//! What bytes encode is defined in `specs/`, apart from how they are read: `Varint` and `Field` for numbers and fields,
+//! and `Descriptor` for what a list of fields means as a message, one definition for all messages, each of which is the
+//! list of its fields. A call that reads is `Ok` exactly where such bytes stand, memory apart, and a fault is told only
+//! where it stands. A call that writes appends exactly the one canonical encoding, and leaves its vector as it was
+//! where memory is refused.
+//!
+//! A message of a caller's own is a struct with an `impl` of [`ProtoMessage`]: its fields as a descriptor, and a line a
+//! field in `check_field`, `take` and `append`, each of them a call of one of the functions below. It then has `decode`
+//! and `encode`. Proofs of such an `impl` need nothing but these contracts and the lemmas of `proofs/CallerLemmas`,
+//! where `#[tactic(auto, using(proto_fields::proofs::CallerLemmas::chains))]` stands on `append`.
+#![tactic(auto)]
+
+mod appending;
+mod fault;
+mod field;
+pub mod laws;
+mod message;
+mod repeated;
+mod scalar;
+mod varint;
+mod writing;
+
+pub use appending::{
+    append_bool, append_bytes, append_enum, append_int64, append_lent, append_messages, append_one,
+    append_string, append_strings, append_uint64,
+};
+pub use fault::WireFault;
+pub use field::{Content, ContentRef, MAX_FIELD_NUMBER, read_fields, split_field};
+pub use message::ProtoMessage;
+pub use repeated::{check_embedded, merge_one, push_message, push_string};
+pub use scalar::{
+    bool_of, bytes_of, check_bytes, check_number, check_string, enum_of, int64_of, string_of,
+    uint64_of,
+};
+pub use varint::MAX_VARINT_BYTES;
+pub use writing::{write_bytes, write_nonempty_bytes, write_nonzero_varint, write_varint};

@@ -1,9 +1,0 @@
-use Rattle.std.proofs.Common.{length}
-use Rattle.proto_wire.specs.Field.{FieldsThen, fields_of}
-use Rattle.proto_wire.proofs.field.read_fields.Given as goal
-
-abbrev pub invariant-loop-rest : goal.invariant-loop-rest
-invariant-loop-rest l = FieldsThen l.text (fields_of l.fields.items) l.rest
-
-abbrev pub decreases-loop-rest : goal.decreases-loop-rest
-decreases-loop-rest l = length l.rest

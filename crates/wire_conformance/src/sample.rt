@@ -1,0 +1,194 @@
+//! A message of our own that has a field of every kind, read and written by the public calls of `proto_fields` alone: a
+//! sample, which has numbers and words.
+
+use proto_fields::{
+    ContentRef, ProtoMessage, WireFault, append_bool, append_bytes, append_enum, append_int64,
+    append_messages, append_one, append_string, append_strings, append_uint64, bool_of, bytes_of,
+    check_bytes, check_embedded, check_number, check_string, enum_of, int64_of, merge_one,
+    push_message, push_string, string_of, uint64_of,
+};
+use std::alloc::{AllocError, Global};
+
+/// A field of each kind of number.
+#[derive(Debug, PartialEq, Eq, Drop)]
+pub struct Numbers {
+    /// An enumeration, field 1.
+    pub kind: i32,
+    /// An int64, field 2.
+    pub change: i64,
+    /// A uint64, field 3.
+    pub count: u64,
+    /// A bool, field 4.
+    pub is_last: bool,
+}
+
+/// A field of each kind of bytes.
+#[derive(Debug, PartialEq, Eq, Drop)]
+pub struct Words {
+    /// Bytes, field 1.
+    pub payload: Vec<u8>,
+    /// A string, field 2.
+    pub name: String,
+    /// Repeated strings, field 3.
+    pub tags: Vec<String>,
+}
+
+/// A field of each kind of embedded message.
+#[derive(Debug, PartialEq, Eq, Drop)]
+pub struct Sample {
+    /// An embedded message, field 1.
+    pub numbers: Option<Numbers>,
+    /// Repeated embedded messages, field 2047.
+    pub words: Vec<Words>,
+}
+
+impl ProtoMessage for Numbers {
+    ghost use Rattle.std.proofs.Common.{rules};
+    ghost use Rattle.wire_conformance.specs.Sample.{numbers_descriptor};
+    ghost use Rattle.wire_conformance.specs.SampleValues.{numbers_values};
+
+    ghost descriptor = { numbers_descriptor };
+
+    ghost values = { numbers_values };
+
+    fn empty(_alloc: Global) -> Numbers {
+        Numbers {
+            kind: 0,
+            change: 0,
+            count: 0,
+            is_last: false,
+        }
+    }
+
+    fn check_field(number: u32, content: ContentRef<'_>) -> Result<(), WireFault> {
+        match number {
+            1 | 2 | 3 | 4 => check_number(content),
+            _ => Ok(()),
+        }
+    }
+
+    fn take(
+        &mut self,
+        _alloc: Global,
+        number: u32,
+        content: ContentRef<'_>,
+    ) -> Result<(), WireFault> {
+        match number {
+            1 => self.kind = enum_of(content)?,
+            2 => self.change = int64_of(content)?,
+            3 => self.count = uint64_of(content)?,
+            4 => self.is_last = bool_of(content)?,
+            _ => {}
+        }
+        Ok(())
+    }
+
+    #[tactic(auto, using(proto_fields::proofs::CallerLemmas::chains))]
+    fn append(&self, out: &mut Vec<u8>) -> Result<(), AllocError> {
+        append_enum(out, 1, self.kind)?;
+        append_int64(out, 2, self.change)?;
+        append_uint64(out, 3, self.count)?;
+        append_bool(out, 4, self.is_last)?;
+        Ok(())
+    }
+
+    ghost rises = { Prim.search rules };
+}
+
+impl ProtoMessage for Words {
+    ghost use Rattle.std.proofs.Common.{rules};
+    ghost use Rattle.wire_conformance.specs.Sample.{words_descriptor};
+    ghost use Rattle.wire_conformance.specs.SampleValues.{words_values};
+
+    ghost descriptor = { words_descriptor };
+
+    ghost values = { words_values };
+
+    fn empty(alloc: Global) -> Words {
+        Words {
+            payload: Vec::new(alloc),
+            name: String::new(alloc),
+            tags: Vec::new(alloc),
+        }
+    }
+
+    fn check_field(number: u32, content: ContentRef<'_>) -> Result<(), WireFault> {
+        match number {
+            1 => check_bytes(content),
+            2 | 3 => check_string(content),
+            _ => Ok(()),
+        }
+    }
+
+    fn take(
+        &mut self,
+        alloc: Global,
+        number: u32,
+        content: ContentRef<'_>,
+    ) -> Result<(), WireFault> {
+        match number {
+            1 => self.payload = bytes_of(alloc, content)?,
+            2 => self.name = string_of(alloc, content)?,
+            3 => push_string(alloc, &mut self.tags, content)?,
+            _ => {}
+        }
+        Ok(())
+    }
+
+    #[tactic(auto, using(proto_fields::proofs::CallerLemmas::chains))]
+    fn append(&self, out: &mut Vec<u8>) -> Result<(), AllocError> {
+        append_bytes(out, 1, &self.payload)?;
+        append_string(out, 2, &self.name)?;
+        append_strings(out, 3, &self.tags)?;
+        Ok(())
+    }
+
+    ghost rises = { Prim.search rules };
+}
+
+impl ProtoMessage for Sample {
+    ghost use Rattle.std.proofs.Common.{rules};
+    ghost use Rattle.wire_conformance.specs.Sample.{sample_descriptor};
+    ghost use Rattle.wire_conformance.specs.SampleValues.{sample_values};
+
+    ghost descriptor = { sample_descriptor };
+
+    ghost values = { sample_values };
+
+    fn empty(alloc: Global) -> Sample {
+        Sample {
+            numbers: None,
+            words: Vec::new(alloc),
+        }
+    }
+
+    fn check_field(number: u32, content: ContentRef<'_>) -> Result<(), WireFault> {
+        match number {
+            1 => check_embedded::<Numbers>(content),
+            2047 => check_embedded::<Words>(content),
+            _ => Ok(()),
+        }
+    }
+
+    fn take(
+        &mut self,
+        alloc: Global,
+        number: u32,
+        content: ContentRef<'_>,
+    ) -> Result<(), WireFault> {
+        match number {
+            1 => merge_one(alloc, &mut self.numbers, content),
+            2047 => push_message(alloc, &mut self.words, content),
+            _ => Ok(()),
+        }
+    }
+
+    #[tactic(auto, using(proto_fields::proofs::CallerLemmas::chains))]
+    fn append(&self, out: &mut Vec<u8>) -> Result<(), AllocError> {
+        append_one(out, 1, &self.numbers)?;
+        append_messages(out, 2047, &self.words)?;
+        Ok(())
+    }
+
+    ghost rises = { Prim.search rules };
+}
