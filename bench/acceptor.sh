@@ -1,7 +1,8 @@
 #!/usr/bin/env bash
-# Times `flightd acceptor` on 200,000 frames over 1,000 slots beside the same job in plain Rust (bench/plain_acceptor.rs,
-# rustc -O) on the same file, and prints frames a second of both and their ratio. Then it shows that memory grows with the
-# slots and not with the frames: peak resident size for 1,000 and for 999,999 frames on ten slots.
+# Times `flightd acceptor` on 200,000 frames over 1,000 slots beside the same job in plain Rust
+# (bench/plain_acceptor.rs, rustc -O) on the same file, and prints the time of one frame by both, the best of five runs,
+# its instructions where valgrind is there, and the ratios. Then it shows that memory grows with the slots and not with
+# the frames: peak resident size for 1,000 and for 999,999 frames on ten slots.
 set -euo pipefail
 cd "$(dirname "${BASH_SOURCE[0]}")/.."
 work=$(mktemp -d)
@@ -9,27 +10,22 @@ trap 'rm -rf "$work"' EXIT
 rustc -O --edition 2021 -o "$work/plain" bench/plain_acceptor.rs
 ./flightd --version >"$work/version"
 
-best() { # the best of five runs of a command on a file, in seconds
-  python3 - "$@" <<'P'
-import subprocess, sys, time
-file, words = sys.argv[1], sys.argv[2:]
-times = []
-for _ in range(5):
-    with open(file, "rb") as frames:
-        start = time.monotonic()
-        subprocess.run(words, stdin=frames, stdout=subprocess.DEVNULL, check=True)
-        times.append(time.monotonic() - start)
-print(f"{min(times):.3f}")
-P
-}
-
 "$work/plain" generate 200000 1000 >"$work/frames"
 "$work/plain" <"$work/frames" >"$work/plain.answers"
 crates/flightd/out/flightd acceptor <"$work/frames" >"$work/flightd.answers"
 cmp "$work/plain.answers" "$work/flightd.answers" && echo "both give the same $(stat -c %s "$work/plain.answers") bytes"
-proved=$(best "$work/frames" crates/flightd/out/flightd acceptor)
-plain=$(best "$work/frames" "$work/plain")
-python3 -c "print(f'flightd {200000/$proved:,.0f} frames/s, plain Rust {200000/$plain:,.0f} frames/s, ratio {$proved/$plain:.2f}')"
+PYTHONPATH=bench python3 -B - "$work" <<'P'
+import sys
+from timing import Cost, compared, cost, less
+
+work = sys.argv[1]
+
+def frame(words):
+    whole, empty = cost(words, f"{work}/frames"), cost(words)
+    return less(whole, Cost(0, empty.instructions), 200_000)
+
+print(compared("a frame", frame(["crates/flightd/out/flightd", "acceptor"]), frame([f"{work}/plain"]), "flightd"))
+P
 
 peak() { # peak resident size in KiB, once every frame of the file is answered and before the input ends
   mkfifo "$work/input"

@@ -1,64 +1,50 @@
 #!/usr/bin/env bash
-# Times the reading and the writing of headers of Arrow's metadata by `flight_bench`: a schema of 500 columns side by side, and one
-# of structs in structs, 16 levels deep. Beside it stands the same work in plain Rust (bench/plain_headers.rs, rustc -O). Each line
-# gives headers a second of both, from the best of five runs of about a second without the time that an empty run takes, and the
-# ratio of their times. First it shows that both programs write the same bytes, which are those of the file, and add up to the same
-# sums. Then it times one reading of hostile texts of 4 MiB, the best of twenty, beside that of a plain text of that size: a schema
-# with as much as one may have, and zero bytes behind it.
-set -euo pipefail
+# Times the reading and the writing of headers of Arrow's metadata by `flight_bench`: a schema of 500 fields side by
+# side, and one of structs in structs, 16 levels deep. Beside it stands the same work in plain Rust
+# (bench/plain_headers.rs, rustc -O). Each line gives the time of one header by both, the best of five runs of about a
+# second without the time that an empty run takes, its instructions where valgrind is there, and the ratios. First it
+# shows that both programs write the same bytes, which are those of the file, and add up to the same sums. Then it times
+# one reading of hostile texts of 4 MiB, the best of twenty, beside that of a plain text of that size: a schema with as
+# much as one may have, and zero bytes behind it.
 cd "$(dirname "${BASH_SOURCE[0]}")/.."
-work=$(mktemp -d)
-trap 'rm -rf "$work"' EXIT
-rustc -O --edition 2021 -o "$work/plain" bench/plain_headers.rs
-if ! (cd crates/flight_bench && rt run -- --version) </dev/null >"$work/log" 2>&1; then
-  cat "$work/log" >&2
-  exit 1
-fi
-proved=$PWD/crates/flight_bench/out/flight_bench
+source bench/programs.sh plain_headers
 
 for header in flat deep; do
   file=$work/$header
-  "$work/plain" generate "$header" >"$file"
-  "$work/plain" write-header 1 "$file" >"$work/plain.written"
-  "$proved" write-header 1 "$file" >"$work/proved.written"
-  cmp "$file" "$work/plain.written"
-  cmp "$file" "$work/proved.written"
-  for task in decode-header encode-header; do
-    cmp <("$work/plain" "$task" 100 "$file") <("$proved" "$task" 100 "$file")
-  done
+  "$plain" generate "$header" >"$file"
+  agree_on_lines reencode-header "$file"
+  agree decode-header 100 "$file"
+  agree encode-header 100 "$file"
   echo "$header: both write the same $(stat -c %s "$file") bytes, and both tallies agree"
 done
 
-hostile="tables-within-the-limits a-million-tables a-million-entries a-shared-megabyte levels-that-double a-count-of-32-ones"
+hostile="tables-within-the-limits a-million-tables a-million-entries a-shared-megabyte levels-that-double"
+hostile="$hostile a-count-of-32-ones"
 for text in plain-text $hostile; do
-  "$work/plain" generate "$text" >"$work/$text"
+  "$plain" generate "$text" >"$work/$text"
 done
 
-PYTHONPATH=bench python3 -B - "$proved" "$work" $hostile <<'P'
-import subprocess, sys, time
-from timing import one
+PYTHONPATH=bench python3 -B - "$proved" "$plain" "$work" $hostile <<'P'
+import sys
+from timing import compared, cost, less, one, run
 
-proved, work, *hostile = sys.argv[1:]
-plain = f"{work}/plain"
-
+proved, plain, work, *hostile = sys.argv[1:]
 for header in ("flat", "deep"):
     for task in ("decode-header", "encode-header"):
-        ours, theirs = (1 / one(program, task, f"{work}/{header}") for program in (proved, plain))
-        print(f"{header}: {task} flight_bench {ours:,.0f}/s, plain Rust {theirs:,.0f}/s, ratio {theirs / ours:.2f}")
+        ours, theirs = (one(program, task, f"{work}/{header}") for program in (proved, plain))
+        print(compared(f"{header}, {task}", ours, theirs))
 
-def reading(count, file):  # a run that may refuse the text, in seconds, and what it said
-    start = time.monotonic()
-    ran = subprocess.run([proved, "decode-header", str(count), file], stdout=subprocess.DEVNULL, stderr=subprocess.PIPE)
-    return time.monotonic() - start, ran.stderr.decode().strip()
+def reading(text):  # what one reading costs, which may refuse the text, and what it said
+    words = lambda count: [proved, "decode-header", str(count), f"{work}/{text}"]
+    whole, empty = (cost(words(count), runs=20, check=False) for count in (1, 0))
+    return less(whole, empty, 1), run(words(1), check=False).strip()
 
-def once(file):  # one reading, in milliseconds
-    empty = min(reading(0, file) for _ in range(20))[0]
-    seconds, said = min(reading(1, file) for _ in range(20))
-    return max(seconds - empty, 0) * 1e3, said
-
-usual, said = once(f"{work}/plain-text")
-print(f"plain text of 4 MiB: {usual:.2f} ms{said and ', ' + said}")
-for text in hostile:
-    taken, said = once(f"{work}/{text}")
-    print(f"{text}: {taken:.2f} ms, {taken / usual:.2f} times the plain text{said and ', ' + said}")
+usual = None
+for text in ("plain-text", *hostile):
+    taken, said = reading(text)
+    usual = usual or taken
+    line = f"{text}: {taken.seconds * 1e3:.2f} ms, {taken.seconds / usual.seconds:.2f} times the plain text"
+    if taken.instructions is not None:
+        line += f"; instructions {taken.instructions:,.0f}, {taken.instructions / usual.instructions:.2f} times"
+    print(line + (said and f"; {said}"))
 P

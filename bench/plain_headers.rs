@@ -1,5 +1,5 @@
-//! Headers of Arrow's metadata in plain Rust, with nothing proved: what `flight_bench` is timed against. `generate NAME` writes a
-//! header, or a hostile text of 4 MiB; `TASK COUNT FILE` does what `flight_bench` does at these words.
+//! Headers of Arrow's metadata in plain Rust, with nothing proved: what `flight_bench` is timed against. `generate
+//! NAME` writes a header, or a hostile text of 4 MiB; `TASK COUNT FILE` does what `flight_bench` does at these words.
 use std::hint::black_box;
 use std::io::{self, Write};
 
@@ -482,7 +482,7 @@ fn field(name: String, ty: Type, children: Vec<Field>) -> Field {
     Field { name, nullable: true, ty, children, metadata: Vec::new() }
 }
 
-/// 500 columns side by side.
+/// 500 fields side by side.
 fn flat() -> Header {
     let column = |n: usize| {
         let ty = match n % 4 {
@@ -516,14 +516,14 @@ fn full() -> Header {
     Header::Schema(Schema { fields: (0..MAX_FIELDS).map(column).collect(), metadata: Vec::new() })
 }
 
-fn spelled(header: &Header) -> Vec<u8> {
+fn encoded(header: &Header) -> Vec<u8> {
     let mut text = Vec::new();
     write(header, &mut text);
     text
 }
 
-/// A schema whose columns are one table, named so many times, with so many entries that are one table too, whose key has so many
-/// bytes.
+/// A schema whose columns are one table, named so many times, with so many entries that are one table too, whose key
+/// has so many bytes.
 fn shared(fields: usize, entries: usize, key: usize) -> Vec<u8> {
     let mut writer = Writer { text: vec![0; 4] };
     let message = writer.message(1, 0);
@@ -577,9 +577,9 @@ fn claimed() -> Vec<u8> {
 
 fn generated(name: &str) -> Option<Vec<u8>> {
     let mut text = match name {
-        "flat" => return Some(spelled(&flat())),
-        "deep" => return Some(spelled(&deep())),
-        "plain-text" => spelled(&full()),
+        "flat" => return Some(encoded(&flat())),
+        "deep" => return Some(encoded(&deep())),
+        "plain-text" => encoded(&full()),
         "tables-within-the-limits" => shared(MAX_FIELDS, 8, 256),
         "a-million-tables" => shared(1_000_000, 0, 0),
         "a-million-entries" => shared(1, 1_000_000, 0),
@@ -634,14 +634,33 @@ fn encode_often(count: u64, text: &[u8]) -> Result<u64, Fault> {
     Ok(sum)
 }
 
-fn write_often(count: u64, text: &[u8]) -> io::Result<()> {
-    let header = read_writable(text).map_err(|fault| io::Error::other(format!("{fault:?}")))?;
-    let out = spelled(&header);
-    let mut output = io::stdout().lock();
-    for _ in 0..count {
-        output.write_all(&out)?;
+/// The bytes of a line of hexadecimal digits.
+fn bytes_of(line: &str) -> Option<Vec<u8>> {
+    let digit = |byte: u8| char::from(byte).to_digit(16);
+    let pair = |pair: &[u8]| match pair {
+        [high, low] => Some((digit(*high)? * 16 + digit(*low)?) as u8),
+        _ => None,
+    };
+    line.as_bytes().chunks(2).map(pair).collect()
+}
+
+/// The bytes that the line's header is written as, in hexadecimal, or the name of the fault that stands in the line.
+fn reencoded(line: &str) -> String {
+    let Some(bytes) = bytes_of(line) else {
+        return "NotHexadecimal".to_owned();
+    };
+    match read_writable(&bytes) {
+        Ok(header) => encoded(&header).iter().map(|byte| format!("{byte:02x}")).collect(),
+        Err(fault) => format!("{fault:?}"),
     }
-    output.flush()
+}
+
+fn reencode_often(count: u64, text: &[u8]) -> io::Result<()> {
+    let text = std::str::from_utf8(text).map_err(io::Error::other)?;
+    for _ in 0..count {
+        text.lines().try_for_each(|line| writeln!(io::stdout().lock(), "{}", reencoded(line)))?;
+    }
+    Ok(())
 }
 
 fn tally(count: u64, sum: Result<u64, Fault>) -> io::Result<()> {
@@ -665,7 +684,7 @@ fn main() -> io::Result<()> {
     match task.as_str() {
         "decode-header" => tally(count, decode_often(count, &text)),
         "encode-header" => tally(count, encode_often(count, &text)),
-        "write-header" => write_often(count, &text),
+        "reencode-header" => reencode_often(count, &text),
         _ => Err(wrong()),
     }
 }

@@ -1,6 +1,6 @@
 //! The same work in plain Rust, with nothing proved: what `flight_bench` is timed against. `generate-data` and
-//! `generate-info` write the messages that both read; `TASK COUNT FILE` does what `flight_bench` does at these words, and the
-//! task `copy` copies the file's bytes so many times.
+//! `generate-info` write the messages that both read; `TASK COUNT FILE` does what `flight_bench` does at these words,
+//! and the task `copy` copies the file's bytes so many times.
 use std::hint::black_box;
 use std::io::{self, Write};
 
@@ -343,15 +343,37 @@ fn copy_often(count: u64, text: &[u8]) -> u64 {
     sum
 }
 
-fn write_often<M: Message>(count: u64, text: &[u8]) -> io::Result<()> {
-    let message = M::decode(text).map_err(|_| io::ErrorKind::InvalidData)?;
-    let mut out = Vec::new();
-    message.encode(&mut out);
-    let mut output = io::stdout().lock();
-    for _ in 0..count {
-        output.write_all(&out)?;
+/// The bytes of a line of hexadecimal digits.
+fn bytes_of(line: &str) -> Option<Vec<u8>> {
+    let digit = |byte: u8| char::from(byte).to_digit(16);
+    let pair = |pair: &[u8]| match pair {
+        [high, low] => Some((digit(*high)? * 16 + digit(*low)?) as u8),
+        _ => None,
+    };
+    line.as_bytes().chunks(2).map(pair).collect()
+}
+
+/// The bytes that the line's message is written as, in hexadecimal, or the name of the fault that stands in the line.
+fn reencoded<M: Message>(line: &str) -> String {
+    let Some(bytes) = bytes_of(line) else {
+        return "NotHexadecimal".to_owned();
+    };
+    match M::decode(&bytes) {
+        Ok(message) => {
+            let mut out = Vec::new();
+            message.encode(&mut out);
+            out.iter().map(|byte| format!("{byte:02x}")).collect()
+        }
+        Err(fault) => format!("{fault:?}"),
     }
-    output.flush()
+}
+
+fn reencode_often<M: Message>(count: u64, text: &[u8]) -> io::Result<()> {
+    let text = std::str::from_utf8(text).map_err(io::Error::other)?;
+    for _ in 0..count {
+        text.lines().try_for_each(|line| writeln!(io::stdout().lock(), "{}", reencoded::<M>(line)))?;
+    }
+    Ok(())
 }
 
 fn pattern(length: usize) -> Vec<u8> {
@@ -413,10 +435,10 @@ fn main() -> io::Result<()> {
     match task.as_str() {
         "decode-data" => tally(count, decode_often(count, &text, data_weight)),
         "encode-data" => tally(count, encode_often::<FlightData>(count, &text)),
-        "write-data" => write_often::<FlightData>(count, &text),
+        "reencode-data" => reencode_often::<FlightData>(count, &text),
         "decode-info" => tally(count, decode_often(count, &text, info_weight)),
         "encode-info" => tally(count, encode_often::<FlightInfo>(count, &text)),
-        "write-info" => write_often::<FlightInfo>(count, &text),
+        "reencode-info" => reencode_often::<FlightInfo>(count, &text),
         "copy" => tally(count, Ok(copy_often(count, &text))),
         _ => Err(io::ErrorKind::InvalidInput.into()),
     }

@@ -1,5 +1,6 @@
-//! The parts of a Paxos node in plain Rust, over the maps of std, with nothing proved: what `flight_bench` is timed against.
-//! `TASK COUNT FILE` does what `flight_bench` does at these words, but that no call is told beforehand what it will give.
+//! The parts of a Paxos node in plain Rust, over the maps of std, with nothing proved: what `flight_bench` is timed
+//! against. `TASK COUNT FILE` does what `flight_bench` does at these words, but that no call is told beforehand what it
+//! will give.
 use std::collections::HashMap;
 use std::hint::black_box;
 use std::io;

@@ -1,8 +1,9 @@
 """Writes a lawful recorded run of MESSAGES messages to standard output, as `flightd audit` reads it.
 
-Three nodes and several slots. Each round of a slot is nine messages: a Prepare by one of the nodes at the next ballot, the
-promises of all three, its Accept, the three Accepteds, and a Decided. What was accepted in one round is reported and
-proposed again in the next, so every promise from the second round on has a report. Slots take turns, round by round.
+Three nodes and several slots. Each round of a slot is nine messages: a Prepare by one of the nodes at the next ballot,
+the promises of all three, its Accept, the three Accepteds, and a Decided. What was accepted in one round is reported
+and proposed again in the next, so every promise from the second round on has a report. Slots take turns, round by
+round.
 """
 
 import json

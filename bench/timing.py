@@ -1,26 +1,68 @@
-"""Times a program that is called as `PROGRAM TASK COUNT FILE`, from outside."""
+"""Times programs from outside, and counts their instructions where valgrind is there."""
+import collections
+import re
+import shutil
 import subprocess
 import time
 
+COUNTING = ["valgrind", "--tool=callgrind", "--callgrind-out-file=/dev/null"]
 
-def run(program, task, count, file):
-    """One run, in seconds."""
+# What something costs: seconds, and instructions or None.
+Cost = collections.namedtuple("Cost", "seconds instructions")
+
+
+def run(words, file="/dev/null", check=True):
+    """Runs a program on a file as its standard input, and gives what it said on standard error."""
+    with open(file, "rb") as source:
+        done = subprocess.run(words, stdin=source, stdout=subprocess.DEVNULL, stderr=subprocess.PIPE, check=check)
+    return done.stderr.decode()
+
+
+def seconds(words, file="/dev/null", check=True):
+    """The time of one run."""
     start = time.monotonic()
-    subprocess.run([program, task, str(count), file], stdout=subprocess.DEVNULL, check=True)
+    run(words, file, check)
     return time.monotonic() - start
 
 
-def repetitions(program, task, file):
-    """How many take about a second."""
-    count = 1
-    while (seconds := run(program, task, count, file)) < 0.2:
-        count *= 4
-    return max(1, round(count / seconds))
+def instructions(words, file="/dev/null", check=True):
+    """The instructions of one run."""
+    if not shutil.which("valgrind"):
+        return None
+    return int(re.search(r"Collected : (\d+)", run(COUNTING + words, file, check))[1])
+
+
+def less(whole, empty, count):
+    """What one repetition costs, where so many and none of them cost so much."""
+    counted = None if whole.instructions is None else (whole.instructions - empty.instructions) / count
+    return Cost(max(whole.seconds - empty.seconds, 1e-9) / count, counted)
+
+
+def cost(words, file="/dev/null", runs=5, check=True):
+    """What one run costs: the best time of some, and its instructions."""
+    best = min(seconds(words, file, check) for _ in range(runs))
+    return Cost(best, instructions(words, file, check))
 
 
 def one(program, task, file):
-    """The time of one repetition, in seconds: the best of five runs, less an empty run."""
-    count = repetitions(program, task, file)
-    empty = min(run(program, task, 0, file) for _ in range(5))
-    best = min(run(program, task, count, file) for _ in range(5))
-    return (best - empty) / count
+    """What one repetition of `PROGRAM TASK COUNT FILE` costs: the best time of five runs of about a second, less an
+    empty run, and the instructions of fewer repetitions, less those of none."""
+    words = lambda count: [program, task, str(count), file]
+    count = 1
+    while (taken := seconds(words(count))) < 0.2:
+        count *= 4
+    many, few = max(1, round(count / taken)), max(1, round(count / taken / 50))
+    best = lambda count: min(seconds(words(count)) for _ in range(5))
+    timed = less(Cost(best(many), None), Cost(best(0), None), many)
+    counted = less(*(Cost(0, instructions(words(count))) for count in (few, 0)), few)
+    return Cost(timed.seconds, counted.instructions)
+
+
+def compared(name, ours, theirs, program="flight_bench"):
+    """A line of what one operation costs a program of ours, and plain Rust."""
+    both = [f"{cost.seconds * 1e6:,.3f} us ({1 / cost.seconds:,.0f}/s)" for cost in (ours, theirs)]
+    line = f"{name}: {program} {both[0]}, plain Rust {both[1]}, ratio {ours.seconds / theirs.seconds:.2f}"
+    if ours.instructions is None:
+        return line
+    counts = f"{ours.instructions:,.0f}, plain Rust {theirs.instructions:,.0f}"
+    return f"{line}; instructions {counts}, ratio {ours.instructions / theirs.instructions:.2f}"
