@@ -1,0 +1,92 @@
+#!/usr/bin/env python3
+"""Makes docs/DEFINITIONS.md, the index of all specs/: each module with what its head says, and each name that it defines with
+the comment above it. With --check it changes nothing, and says whether the page is what it would make."""
+import re
+import sys
+from pathlib import Path
+
+TOP = Path(__file__).resolve().parent.parent
+PAGE = TOP / "docs" / "DEFINITIONS.md"
+HEAD = """# Definitions
+
+The index of all `specs/`, made by `tools/definitions.py` from the comments there. Contracts cite these names; nothing in them is
+taken from the code's loops. What tests alone tie to a public standard is in [TESTS.md](TESTS.md).
+"""
+DEFINED = re.compile(r"^\s*(?:(?:abbrev|unfoldable)\s+)?pub (?:record |data )?([^\s:(]+)")
+OWN_LINE = re.compile(r"^(?:(?:abbrev|unfoldable) )?pub |^(?:abbrev )?mutual$")
+
+
+def names_of(lines, at):
+    """The names that the line at this place defines: one, or those inside a `mutual`."""
+    if not lines[at].rstrip().endswith("mutual"):
+        found = DEFINED.match(lines[at])
+        return [found.group(1)] if found else []
+    names = []
+    for line in lines[at + 1 :]:
+        if line and not line.startswith(" "):
+            break
+        found = re.match(r"^  (?:abbrev |unfoldable )?pub (?:record |data )?([^\s:(]+)", line)
+        if found:
+            names.append(found.group(1))
+    return names
+
+
+def module(path):
+    """What the head of a module says, and its rows: names, and the comment that stands above them."""
+    lines = path.read_text(encoding="utf-8").splitlines()
+    head, at = [], 0
+    while at < len(lines) and lines[at].startswith("--"):
+        head.append(lines[at].removeprefix("--").strip())
+        at += 1
+    rows, comment = [], []
+    while at < len(lines):
+        line = lines[at]
+        if line.startswith("-- ----"):
+            comment = []
+        elif line.startswith("--"):
+            comment.append(line.removeprefix("--").strip())
+        elif OWN_LINE.match(line):
+            names = names_of(lines, at)
+            if comment or not rows:
+                rows.append([names, " ".join(comment)])
+            else:
+                rows[-1][0].extend(names)
+            comment = []
+        elif not line.strip():
+            comment = comment if at + 1 < len(lines) and OWN_LINE.match(lines[at + 1]) else []
+        at += 1
+    return " ".join(head), [row for row in rows if row[0]]
+
+
+def page():
+    parts = [HEAD]
+    crates = [line.split(":")[0] for line in (TOP / "crates.txt").read_text().splitlines() if ":" in line and line[0] != "#"]
+    for crate in crates:
+        specs = TOP / "crates" / crate / "specs"
+        if not specs.is_dir():
+            continue
+        parts.append(f"\n## `{crate}`\n")
+        for line in (specs / "Lib.antt").read_text(encoding="utf-8").splitlines():
+            name = line.removeprefix("pub mod ").strip()
+            path = specs / f"{name}.antt"
+            if not line.startswith("pub mod ") or not path.is_file():
+                continue
+            head, rows = module(path)
+            parts.append(f"\n**`{name}`**: {head}\n")
+            for names, said in rows:
+                listed = ", ".join(f"`{word}`" for word in names)
+                parts.append(f"- {listed}{': ' + said if said else ''}\n")
+    return "".join(parts)
+
+
+def main():
+    made = page()
+    if sys.argv[1:] == ["--check"]:
+        if PAGE.read_text(encoding="utf-8") != made:
+            sys.exit("docs/DEFINITIONS.md is not what tools/definitions.py makes")
+        return
+    PAGE.write_text(made, encoding="utf-8")
+
+
+if __name__ == "__main__":
+    main()
