@@ -12,12 +12,11 @@ use Rattle.flatbuf_meta.specs.declared.fault.MetaFault.{MetaFault}
 use Rattle.flatbuf_meta.specs.declared.fault.MetaFault.TheVariants as meta
 use Rattle.std.specs.Option.{option_map}
 use Rattle.flatbuf_meta.specs.declared.field_type.TimeUnit.{TimeUnit}
-use Rattle.flatbuf_meta.specs.declared.limits.TheConstants.{MAX_DEPTH}
 use Rattle.flatbuf_meta.specs.Columns.{Text, Entry, Shape, timestamp_shape, Column, Tree, tree, Forest, no_more, more, width, Columns}
 use Rattle.flatbuf_meta.specs.Slots.{NumberAt, ShowsNumber, LinkAt, ShowsLink, StringAt, ShowsString, Row, RowAt, ShowsRow, Told, SlotNumberFault, LinkFault, StringFault, RowFault}
 use Rattle.flatbuf_meta.specs.Kinds.{Parameter, parameters_of, has_timezone, time_unit_of, shape_from, is_carried, AllowsChildren}
 use Rattle.flatbuf_meta.specs.Shown.{ShowsEntry, ShowsEntries, ParameterAt, ShowsParameter, TimezoneAt, ShowsTimezone, ShowsShape, ShowsColumn, ShowsTree, ShowsForest, ShowsForestPart}
-use Rattle.flatbuf_meta.specs.Limits.{tree_depth, forest_depth, IsBeyond, IsWithin, add_extents, forest_extent, entries_extent, columns_extent, Extent}
+use Rattle.flatbuf_meta.specs.Limits.{depth_limit, tree_depth, forest_depth, IsBeyond, IsWithin, add_extents, forest_extent, entries_extent, columns_extent, Extent}
 use Rattle.flatbuf_meta.specs.Header.{ShowsColumns, ShowsBatch, Head, Header, schema_header, batch_header, schema_type, dictionary_type, batch_type, version_5, ShowsMessage, ShowsHeader}
 use Rattle.flatbuf_meta.specs.Faults.{EntryFault, EntriesFault, MetadataFault, ParameterFault, TimezoneFault, ParametersFault, HasWrongParameters, KindFault, ShapeFault, OwnFault, ColumnFault, IsChild, StandsBelow, ForestFault, SaysTooMuch, SchemaOwnFault, SchemaFault, BatchFault, MessageOwnFault, MessageFault, HeaderFault}
 use Rattle.flatbuf_meta.proofs.Unique.{number_same, link_same, row_same, parameters_same, kind_shape_same, message_same}
@@ -351,8 +350,8 @@ schema_apart text table columns e (inl fault) q = slot_number_apart text table 0
 schema_apart text table columns e (inr (inl fault)) q = row_apart text table 1 4 q.fields e fault q.fields_shown
 schema_apart text table columns e (inr (inr (inl (row, there, fault)))) q =
     let same : row ≡ q.fields = row_same text table 1 4 row q.fields there q.fields_shown in
-    let moved : ForestFault text MAX_DEPTH q.fields e = subst (λ (k : Row). ForestFault text MAX_DEPTH k e) same fault in
-    forest_apart text MAX_DEPTH q.fields columns.fields e moved q.all q.shown q.not_deep
+    let moved : ForestFault text depth_limit q.fields e = subst (λ (k : Row). ForestFault text depth_limit k e) same fault in
+    forest_apart text depth_limit q.fields columns.fields e moved q.all q.shown q.not_deep
 schema_apart text table columns e (inr (inr (inr (inl fault)))) q =
     let m = q.metadata_shown in metadata_apart text table 2 m.row columns.metadata e fault m.row_shown m.all m.shown
 schema_apart text table columns e (inr (inr (inr (inr fault)))) q = schema_own_apart text table columns e fault q

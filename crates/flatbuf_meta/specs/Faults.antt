@@ -6,12 +6,11 @@ use Rattle.flat_places.specs.Table.{ShowsField}
 use Rattle.flat_places.specs.Fault.{NumberFault}
 use Rattle.flatbuf_meta.specs.declared.fault.MetaFault.{MetaFault}
 use Rattle.flatbuf_meta.specs.declared.fault.MetaFault.TheVariants.{Version, Endianness, Unsupported, Dictionary, TooDeep, TooManyFields, BadHeader}
-use Rattle.flatbuf_meta.specs.declared.limits.TheConstants.{MAX_DEPTH}
 use Rattle.flatbuf_meta.specs.Columns.{Entry, Shape, Forest, width}
 use Rattle.flatbuf_meta.specs.Slots.{ShowsNumber, ShowsLink, Row, ShowsRow, Told, FieldSlotFault, SlotNumberFault, LinkFault, StringFault, RowFault}
 use Rattle.flatbuf_meta.specs.Kinds.{Parameter, parameters_of, has_timezone, shape_from, is_carried, is_decimal, AllowsChildren}
 use Rattle.flatbuf_meta.specs.Shown.{ShowsEntries, ShowsParameters, ShowsShape, ShowsForestPart}
-use Rattle.flatbuf_meta.specs.Limits.{add_extents, entries_extent, forest_extent, IsBeyond}
+use Rattle.flatbuf_meta.specs.Limits.{depth_limit, add_extents, entries_extent, forest_extent, IsBeyond}
 use Rattle.flatbuf_meta.specs.Header.{version_5, schema_type, dictionary_type, batch_type, ShowsMessage}
 
 -- ---- metadata
@@ -157,7 +156,7 @@ abbrev pub SchemaFault : List ℕ → ℕ → MetaFault → Type 0
 SchemaFault text table fault =
     SlotNumberFault text table 0 2 fault
     ⊎ RowFault text table 1 4 fault
-    ⊎ ((row : Row) × ShowsRow text table 1 4 row × ForestFault text MAX_DEPTH row fault)
+    ⊎ ((row : Row) × ShowsRow text table 1 4 row × ForestFault text depth_limit row fault)
     ⊎ MetadataFault text table 2 fault
     ⊎ SchemaOwnFault text table fault
 

@@ -7,8 +7,7 @@ use Rattle.flat_places.specs.Table.{ShowsField}
 use Rattle.flatbuf_meta.specs.Columns.{Entry, width, Columns}
 use Rattle.flatbuf_meta.specs.Slots.{ShowsNumber, ShowsLink, Row, ShowsRow}
 use Rattle.flatbuf_meta.specs.Shown.{ShowsEntries, ShowsForest}
-use Rattle.flatbuf_meta.specs.Limits.{forest_depth, columns_extent, IsWithin}
-use Rattle.flatbuf_meta.specs.declared.limits.TheConstants.{MAX_DEPTH}
+use Rattle.flatbuf_meta.specs.Limits.{depth_limit, forest_depth, columns_extent, IsWithin}
 
 -- ---- schemas
 
@@ -27,7 +26,7 @@ pub record ShowsColumns (text : List ℕ) (table : ℕ) (columns : Columns) : Ty
   pub all : width columns.fields ≡ fields.count
   pub shown : ShowsForest text fields.first columns.fields
   pub metadata_shown : ShowsMetadata text table 2 columns.metadata
-  pub not_deep : forest_depth columns.fields ≤ MAX_DEPTH
+  pub not_deep : forest_depth columns.fields ≤ depth_limit
   pub within : IsWithin (columns_extent columns)
 
 -- ---- batches

@@ -119,7 +119,18 @@ is_decimal kind = kind == 7
 
 -- so many columns may stand inside one of this type
 abbrev pub AllowsChildren : Shape → ℕ → Type 0
+AllowsChildren null_shape count = count ≡ 0
+AllowsChildren (int_shape width signed) count = count ≡ 0
+AllowsChildren (floating_point_shape precision) count = count ≡ 0
+AllowsChildren binary_shape count = count ≡ 0
+AllowsChildren utf8_shape count = count ≡ 0
+AllowsChildren bool_shape count = count ≡ 0
+AllowsChildren (decimal_shape precision scale width) count = count ≡ 0
+AllowsChildren (date_shape unit) count = count ≡ 0
+AllowsChildren (time_shape unit) count = count ≡ 0
+AllowsChildren (timestamp_shape unit timezone) count = count ≡ 0
 AllowsChildren list_shape count = count ≡ 1
-AllowsChildren (fixed_size_list_shape size) count = count ≡ 1
 AllowsChildren struct_shape count = Unit {0}
-AllowsChildren _ count = count ≡ 0
+AllowsChildren (fixed_size_binary_shape byte_width) count = count ≡ 0
+AllowsChildren (fixed_size_list_shape list_size) count = count ≡ 1
+AllowsChildren (duration_shape unit) count = count ≡ 0

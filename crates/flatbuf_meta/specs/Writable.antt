@@ -1,6 +1,7 @@
 -- Which headers are written.
 use Rattle.std.specs.Prelude.{◌≡◌, ◌≤◌, false, length}
 use Rattle.flatbuf_meta.specs.Header.{Header, schema_header, batch_header}
+use Rattle.flatbuf_meta.specs.Limits.{nodes_limit, buffers_limit}
 use Rattle.flatbuf_meta.specs.Profile.{InProfile}
 use Rattle.flatbuf_meta.specs.Written.{FitsColumns, FitsHead}
 
@@ -9,4 +10,4 @@ use Rattle.flatbuf_meta.specs.Written.{FitsColumns, FitsHead}
 abbrev pub IsWritable : Header → Type 0
 IsWritable (schema_header columns) = InProfile columns × FitsColumns columns
 IsWritable (batch_header head) =
-    (head.compressed ≡ false) × (length head.nodes ≤ 512) × (length head.buffers ≤ 1536) × FitsHead head
+    (head.compressed ≡ false) × (length head.nodes ≤ nodes_limit) × (length head.buffers ≤ buffers_limit) × FitsHead head

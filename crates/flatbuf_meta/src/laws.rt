@@ -5,6 +5,7 @@ ghost use Rattle.flatbuf_meta.specs.declared.fault.MetaFault.{MetaFault};
 ghost use Rattle.flatbuf_meta.specs.Columns.{Columns};
 ghost use Rattle.flatbuf_meta.specs.Header.{Header, schema_header, ShowsHeader};
 ghost use Rattle.flatbuf_meta.specs.Canonical.{header_text};
+ghost use Rattle.flatbuf_meta.specs.Limits.{depth_limit, fields_limit, entries_limit, bytes_limit, nodes_limit, buffers_limit};
 ghost use Rattle.flatbuf_meta.specs.Profile.{InProfile};
 ghost use Rattle.flatbuf_meta.specs.Writable.{IsWritable};
 ghost use Rattle.flatbuf_meta.specs.Faults.{HeaderFault};
@@ -36,12 +37,13 @@ pub fn written_headers_differ()
     ensures { (x y : Header) → IsWritable x → IsWritable y → header_text x ≡ header_text y → x ≡ y }
 {}
 
-/// The limits of the program are those of the definitions: levels, columns, entries of metadata and bytes of texts of a schema, and
-/// buffers of a batch that is written.
+/// The limits of the program are those of the definitions, and these numbers: levels, columns, entries of metadata and bytes of
+/// texts of a schema, and nodes and buffers of a batch that is written.
 pub fn limits_are_these()
-    ensures depth { MAX_DEPTH ≡ 16 }
-    ensures fields { MAX_FIELDS ≡ 512 }
-    ensures entries { MAX_METADATA_ENTRIES ≡ 4096 }
-    ensures bytes { MAX_TEXT_BYTES ≡ 1048576 }
-    ensures buffers { MAX_BUFFERS ≡ 1536 }
+    ensures depth { (depth_limit ≡ 16) × (MAX_DEPTH ≡ depth_limit) }
+    ensures fields { (fields_limit ≡ 512) × (MAX_FIELDS ≡ fields_limit) }
+    ensures entries { (entries_limit ≡ 4096) × (MAX_METADATA_ENTRIES ≡ entries_limit) }
+    ensures bytes { (bytes_limit ≡ 1048576) × (MAX_TEXT_BYTES ≡ bytes_limit) }
+    ensures nodes { (nodes_limit ≡ 512) × (MAX_FIELDS ≡ nodes_limit) }
+    ensures buffers { (buffers_limit ≡ 1536) × (MAX_BUFFERS ≡ buffers_limit) }
 {}

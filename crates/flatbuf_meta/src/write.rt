@@ -9,6 +9,7 @@ ghost use Rattle.flatbuf_meta.specs.Objects.{string_object, references_object, t
 ghost use Rattle.flatbuf_meta.specs.Canonical.{column_numbers, int64_number, metadata_place, metadata_cell, entry_object, type_object, field_cells, schema_object, batch_object, header_text};
 ghost use Rattle.flatbuf_meta.specs.Filling.{linked, filled, column_begun, message_begun};
 ghost use Rattle.flatbuf_meta.specs.Header.{schema_header, batch_header, ShowsHeader};
+ghost use Rattle.flatbuf_meta.specs.Limits.{nodes_limit, buffers_limit};
 ghost use Rattle.flatbuf_meta.specs.Profile.{InProfile};
 ghost use Rattle.flatbuf_meta.specs.HeaderViews.{head_of};
 ghost use Rattle.flatbuf_meta.specs.ShapeView.{column_of, entries_in};
@@ -19,7 +20,6 @@ use crate::header::BatchHead;
 use crate::layout::{
     Cell, REFERENCE, pad, put_pairs, put_references, put_string, put_table, put_word,
 };
-use crate::limits::{MAX_BUFFERS, MAX_FIELDS};
 use crate::schema::{Field, Schema};
 use crate::type_table::{kind_number, put_type};
 use std::alloc::{AllocError, Global};
@@ -223,13 +223,13 @@ pub fn write_schema(schema: &Schema, out: &mut Vec<u8>) -> Result<(), AllocError
 /// Appends the message that has this batch as its header, in the one layout of docs/FORMATS.md (Apache Arrow, "Message.fbs",
 /// version V5).
 ///
-/// The batch is not compressed and has at most [`MAX_FIELDS`] nodes and [`MAX_BUFFERS`] buffers. The text is a multiple of 8 bytes
+/// The batch is not compressed and has at most [`crate::MAX_FIELDS`] nodes and [`crate::MAX_BUFFERS`] buffers. The text is a multiple of 8 bytes
 /// long, and [`crate::read_message`] reads the batch's head back from it. [`AllocError`] says that memory was refused, and the
 /// vector then holds what it did before the call.
 pub fn write_batch(head: &BatchHead, out: &mut Vec<u8>) -> Result<(), AllocError>
     requires plain { head.now.compressed ≡ false }
-    requires nodes { length head.now.nodes.items ≤ MAX_FIELDS }
-    requires buffers { length head.now.buffers.items ≤ MAX_BUFFERS }
+    requires nodes { length head.now.nodes.items ≤ nodes_limit }
+    requires buffers { length head.now.buffers.items ≤ buffers_limit }
     ensures written { OnOk result (out.new.items ≡ out.old.items ++ header_text (batch_header (head_of head.now))) }
     ensures shown { OnOk result (ShowsHeader (header_text (batch_header (head_of head.now))) (batch_header (head_of head.now))) }
     ensures small { OnOk result (length (header_text (batch_header (head_of head.now))) < 2 ^ 31) }
