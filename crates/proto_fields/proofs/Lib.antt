@@ -5,6 +5,7 @@ pub mod Fronts
 pub mod FaultsApart
 pub mod Texts
 pub mod Meanings
+pub mod Lookups
 pub mod MessageFaults
 pub mod Merging
 pub mod MessageTaking

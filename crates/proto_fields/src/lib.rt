@@ -17,6 +17,7 @@ mod appending;
 mod fault;
 mod field;
 pub mod laws;
+mod lookup;
 mod message;
 mod repeated;
 mod scalar;
@@ -29,6 +30,7 @@ pub use appending::{
 };
 pub use fault::WireFault;
 pub use field::{Content, ContentRef, MAX_FIELD_NUMBER, read_fields, split_field};
+pub use lookup::{bytes_at, number_at};
 pub use message::ProtoMessage;
 pub use repeated::{check_embedded, merge_one, push_message, push_string};
 pub use scalar::{

@@ -1,0 +1,12 @@
+use Rattle.std.proofs.Common.{ℕ, List, Bor, length}
+use Rattle.std.specs.Option.{option_map}
+use Rattle.proto_fields.specs.Meaning.{bytes_meant}
+use Rattle.proto_fields.proofs.Lookups.{MeantSoFar}
+use Rattle.proto_fields.proofs.lookup.bytes_at.Given as goal
+
+-- what the fields so far mean
+abbrev pub invariant-loop-rest : goal.invariant-loop-rest
+invariant-loop-rest l = MeantSoFar (bytes_meant l.number) l.bytes l.rest (option_map (λ (b : Bor (List ℕ)). b.now) l.meant)
+
+abbrev pub decreases-loop-rest : goal.decreases-loop-rest
+decreases-loop-rest l = length l.rest
