@@ -7,7 +7,7 @@ use Rattle.std.proofs.lemmas.Bool.{cases_lt}
 use Rattle.std.proofs.lemmas.Bool.Decides.{eqb_tells}
 use Rattle.ballots.specs.declared.value.Value.{Value}
 use Rattle.decided_log.specs.Decided.{Inserts, IsPrefix}
-use Rattle.decided_log.specs.Holding.{found}
+use Rattle.decided_log.specs.LogState.{found}
 use Rattle.decided_log.specs.Keeping.{IsKept, grown_at}
 use Rattle.decided_log.proofs.Lookups.{one_prefix}
 

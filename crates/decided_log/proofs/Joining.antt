@@ -4,7 +4,7 @@ use Rattle.std.specs.Map.{lookup}
 use Rattle.std.proofs.lemmas.Option.{slice_get_past, slice_get_cases}
 use Rattle.ballots.specs.declared.value.Value.{Value}
 use Rattle.decided_log.specs.Decided.{Inserts, IsSame}
-use Rattle.decided_log.specs.Holding.{found}
+use Rattle.decided_log.specs.LogState.{found}
 use Rattle.decided_log.specs.Keeping.{Joins}
 
 -- a list with one more value, at its end and before it

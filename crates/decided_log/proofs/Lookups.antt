@@ -1,5 +1,5 @@
 -- Look-ups by slot: prefixes, and the look-up in the two parts of a log.
-use Rattle.std.proofs.Common.{◌≡◌, ◌≢◌, ℕ, ◌<◌, ◌≤◌, nat_eq, true, false, List, [], ◌∷◌, ◌++◌, length, Option, Some, None, Result, Ok, Err, IsOk, OnOk, IfOk, OnErr, cond, eq-eqb, refl, sym, ◌∙◌, arith, inl, inr}
+use Rattle.std.proofs.Common.{◌≡◌, ◌≢◌, ℕ, suc, ap, ◌<◌, ◌≤◌, nat_eq, true, false, List, [], ◌∷◌, ◌++◌, length, Option, Some, None, Result, Ok, Err, IsOk, OnOk, IfOk, OnErr, cond, eq-eqb, refl, sym, ◌∙◌, arith, inl, inr}
 use Rattle.std.specs.Option.{option_or, is_some}
 use Rattle.std.specs.Map.{lookup}
 use Rattle.std.proofs.lemmas.Option.{slice_get_cases, slice_get-get_or, same_Some}
@@ -30,6 +30,19 @@ one_prefix at xs ys x y =
     let there : k < length ys = omega arith in
     same_Some _ _ (sym (slice_get-get_or xs k d within) ∙ sym (x.held k within) ∙ y.held k there ∙ slice_get-get_or ys k d there))
 
+-- where all that had a value keep it, the prefix only grows
+shorter : (at : ℕ → Option Value) (x : Value) (xs : List Value) → IsPrefix at (x ∷ xs) → IsPrefix (λ slot. at (suc slot)) xs
+shorter at x xs is = record { held = λ slot within. is.held (suc slot) (omega (arith, within)); gap = is.gap }
+
+pub grown : (old new : ℕ → Option Value) (xs ys : List Value) → ((slot : ℕ) (value : Value) → old slot ≡ Some value → new slot ≡ Some value)
+    → IsPrefix old xs → IsPrefix new ys → (more : List Value) × (ys ≡ xs ++ more)
+grown old new [] ys keeps x y = (ys, refl)
+grown old new (v ∷ xs) [] keeps x y = absurd (let some = keeps 0 v (x.held 0 (omega arith)) in let none = y.gap in cc (some, none))
+grown old new (v ∷ xs) (w ∷ ys) keeps x y =
+    let first : Some w ≡ Some v = sym (y.held 0 (omega arith)) ∙ keeps 0 v (x.held 0 (omega arith)) in
+    let rest = grown (λ slot. old (suc slot)) (λ slot. new (suc slot)) xs ys (λ slot value had. keeps (suc slot) value had) (shorter old v xs x) (shorter new w ys y) in
+    (rest.0, ap (λ (u : Value). u ∷ ys) (same_Some w v first) ∙ ap (λ (l : List Value). v ∷ l) rest.1)
+
 -- ---- inserts
 
 -- a slot that has a value keeps it
@@ -49,6 +62,22 @@ push_first (e ∷ es) slot value = elim (nat_eq slot e.0) as (λ b. cond b (Some
 push_apart : (inserts : List (ℕ × Value)) (slot other : ℕ) (value : Value) → other ≢ slot → lookup (nat_eq other) (inserts ++ (slot, value) ∷ []) ≡ lookup (nat_eq other) inserts
 push_apart [] slot other value apart = rw (apart_is_false other slot (λ same. apart (sym same))) refl
 push_apart (e ∷ es) slot other value apart = elim (nat_eq other e.0) as (λ b. cond b (Some e.1) (lookup (nat_eq other) (es ++ (slot, value) ∷ [])) ≡ cond b (Some e.1) (lookup (nat_eq other) es)) [ true ↦ refl | false ↦ push_apart es slot other value apart ]
+
+-- a slot that has a value keeps it, whatever is inserted
+pub keeps_value : (old new : ℕ → Option Value) (slot : ℕ) (value : Value) → Inserts old new slot value → (other : ℕ) (held : Value) → old other ≡ Some held → new other ≡ Some held
+keeps_value old new slot value step other held is = elim (eqb_tells other slot) as (λ _. new other ≡ Some held) [
+  | inl here ↦ (let was : old slot ≡ Some held = ap old (sym here.1) ∙ is in ap new here.1 ∙ step.kept ∙ ap (λ (o : Option Value). option_or o (Some value)) was)
+  | inr apart ↦ step.others other apart.1 ∙ is
+]
+
+-- what a list of inserts gives with one more, for that one's slot and for another
+pub one_insert : (inserts : List (ℕ × Value)) (before after : Option Value) (slot : ℕ) (value : Value) → before ≡ lookup (nat_eq slot) inserts
+    → after ≡ lookup (nat_eq slot) (inserts ++ (slot, value) ∷ []) → after ≡ option_or before (Some value)
+one_insert inserts before after slot value was is = is ∙ push_first inserts slot value ∙ ap (λ (o : Option Value). option_or o (Some value)) (sym was)
+
+pub no_insert : (inserts : List (ℕ × Value)) (before after : Option Value) (slot other : ℕ) (value : Value) → other ≢ slot → before ≡ lookup (nat_eq other) inserts
+    → after ≡ lookup (nat_eq other) (inserts ++ (slot, value) ∷ []) → after ≡ before
+no_insert inserts before after slot other value apart was is = is ∙ push_apart inserts slot other value apart ∙ sym was
 
 -- one insert more after a list of them
 pub one_more : (old new : ℕ → Option Value) (slot : ℕ) (value : Value) → Inserts old new slot value → (inserts : List (ℕ × Value)) → Holds inserts old → Holds (inserts ++ (slot, value) ∷ []) new

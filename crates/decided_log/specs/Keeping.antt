@@ -5,12 +5,13 @@ use Rattle.std.specs.Map.{lookup}
 use Rattle.ballots.specs.Limits.{max_slot}
 use Rattle.ballots.specs.declared.value.Value.{Value}
 use Rattle.decided_log.specs.Decided.{IsSame}
-use Rattle.decided_log.specs.Holding.{found}
+use Rattle.decided_log.specs.LogState.{found}
 
 -- the later values stand at the prefix's end or behind it, and have their places in the prefix's capacity
 pub record IsJoinable (prefix : List Value) (later : List (ℕ × Value)) (capacity : ℕ) : Type 0 where
   pub small : length prefix ≤ suc max_slot
-  pub behind : (slot : ℕ) (value : Value) → lookup (nat_eq slot) later ≡ Some value → (length prefix ≤ slot) × (slot ≤ max_slot)
+  pub behind : (slot : ℕ) (value : Value) → lookup (nat_eq slot) later ≡ Some value
+      → (length prefix ≤ slot) × (slot ≤ max_slot)
   pub room : length prefix + length later ≤ capacity
 
 -- and none of them stands at the prefix's end

@@ -1,4 +1,4 @@
 pub mod Decided
 pub mod Asked
-pub mod Holding
+pub mod LogState
 pub mod Keeping

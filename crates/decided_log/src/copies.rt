@@ -13,7 +13,7 @@ use indexmap::IndexMap;
 use std::alloc::Global;
 
 // The value of the slot of this number.
-fn find_behind(later: &IndexMap<Slot, Value>, number: usize) -> Option<&Value>
+fn later_value(later: &IndexMap<Slot, Value>, number: usize) -> Option<&Value>
     requires { (slot : ℕ) → max_slot < slot → lookup (nat_eq slot) later.now.entries ≡ None }
     ensures value { option_map (λ value. value.now) result ≡ lookup (nat_eq number) later.now.entries }
     ensures within { IfSome result (λ value. number ≤ max_slot) }
@@ -23,7 +23,7 @@ fn find_behind(later: &IndexMap<Slot, Value>, number: usize) -> Option<&Value>
 }
 
 // The value for the slot, and the values of the slots behind it up to the first gap: copies, in the order of the slots.
-pub(crate) fn grown_by(
+pub(crate) fn prefix_growth(
     alloc: Global,
     later: &IndexMap<Slot, Value>,
     slot: Slot,
@@ -34,7 +34,7 @@ pub(crate) fn grown_by(
 {
     let mut values = Vec::new(alloc);
     values.push(value.clone()?)?;
-    while let Some(next) = find_behind(later, slot.number() as usize + values.len()) {
+    while let Some(next) = later_value(later, slot.number() as usize + values.len()) {
         values.push(next.clone()?)?;
     }
     Ok(values)

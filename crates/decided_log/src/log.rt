@@ -1,10 +1,11 @@
-ghost use Rattle.std.specs.Prelude.{◌≡◌, ℕ, ◌+◌, ◌-◌, ◌<◌, ◌≤◌, ◌⊎◌, List, [], ◌∷◌, ◌++◌, Option, length, min, IfOk, OnOk, OnErr};
+ghost use Rattle.std.specs.Prelude.{◌≡◌, ℕ, ◌+◌, ◌-◌, ◌<◌, ◌≤◌, ◌⊎◌, List, [], ◌∷◌, ◌++◌, Option, length, min};
+ghost use Rattle.std.specs.Prelude.{IfOk, OnOk, OnErr};
 ghost use Rattle.ballots.specs.declared.value.Value.{Value as Decision};
 ghost use Rattle.decided_log.specs.Decided.{Inserts, Holds, IsSame, IsPrefix};
 ghost use Rattle.decided_log.specs.Asked.{asked_of};
-ghost use Rattle.decided_log.specs.Holding.{decided_at};
+ghost use Rattle.decided_log.specs.LogState.{decided_at};
 
-use crate::copies::{decided_from, grown_by};
+use crate::copies::{decided_from, prefix_growth};
 use crate::steps::put;
 use ballots::{Message, NodeId, OutOfMemory, Slot, Value};
 use indexmap::IndexMap;
@@ -24,13 +25,13 @@ pub struct DecidedLog {
 }
 
 impl Model for DecidedLog {
-    ghost use Rattle.decided_log.specs.Holding.{Holding};
+    ghost use Rattle.decided_log.specs.LogState.{LogState};
 
-    ghost Value = { Holding };
+    ghost Value = { LogState };
 
     ghost use Rattle.std.specs.Prelude.{vec_capacity};
     ghost use Rattle.indexmap.specs.IndexMap.{spare};
-    ghost use Rattle.decided_log.specs.Holding.{room_of};
+    ghost use Rattle.decided_log.specs.LogState.{room_of};
     ghost use Rattle.decided_log.specs.Keeping.{IsKept};
 
     ghost view = { λ l. record {
@@ -77,9 +78,9 @@ impl DecidedLog {
         put(&mut self.prefix, &mut self.later, slot, value);
     }
 
-    /// The values by which the prefix would grow by `insert` with this slot and this value, copied, in the order of their
-    /// slots: none where the slot is not the prefix's end. Nothing changes, but there is room for that insert then. Memory
-    /// can be refused only where there was no room yet, or where there are such values.
+    /// The values by which the prefix would grow by `insert` with this slot and this value, copied, in the order of
+    /// their slots: none where the slot is not the prefix's end. Nothing changes, but there is room for that insert
+    /// then. Memory can be refused only where there was no room yet, or where there are such values.
     pub fn gain(&mut self, slot: Slot, value: &Value) -> Result<Vec<Value>, OutOfMemory>
         ensures gain { IfOk result (λ values. (prefix : List Decision) → IsPrefix (decided_at self.old) prefix
             → (after : ℕ → Option Decision) → Inserts (decided_at self.old) after slot value.now
@@ -98,12 +99,12 @@ impl DecidedLog {
         if slot.number() as usize != self.prefix.len() {
             return Ok(Vec::new(self.alloc));
         }
-        grown_by(self.alloc, &self.later, slot, value)
+        prefix_growth(self.alloc, &self.later, slot, value)
     }
 
     /// What this node answers to one that asks for what is decided from the slot on: a `Decided` for each slot of the
-    /// prefix from there on, the first [`MAX_ASKED`] of them (section 2.3). Memory can be refused only where the prefix has
-    /// such a slot.
+    /// prefix from there on, the first [`MAX_ASKED`] of them (section 2.3). Memory can be refused only where the prefix
+    /// has such a slot.
     pub fn asked(&self, from: Slot) -> Result<Vec<Message>, OutOfMemory>
         ensures messages { IfOk result (λ messages. (prefix : List Decision) → IsPrefix (decided_at self.now) prefix
             → messages.items ≡ asked_of self.now.node prefix from) }

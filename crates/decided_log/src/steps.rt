@@ -1,18 +1,19 @@
 //! Steps on the two parts of a log: the values up to the first gap, and those behind it by their slots.
 
-ghost use Rattle.std.specs.Prelude.{◌≡◌, ℕ, ◌+◌, ◌<◌, ◌≤◌, Bool, true, false, length, vec_capacity, nat_eq, Option, Some, None, if◌then◌else◌, is_some};
+ghost use Rattle.std.specs.Prelude.{◌≡◌, ℕ, ◌+◌, ◌<◌, ◌≤◌, Bool, true, false, length, vec_capacity, nat_eq, is_some};
+ghost use Rattle.std.specs.Prelude.{Option, Some, None, if◌then◌else◌};
 ghost use Rattle.std.specs.Map.{lookup};
 ghost use Rattle.indexmap.specs.IndexMap.{spare};
 ghost use Rattle.ballots.specs.Limits.{max_slot};
 ghost use Rattle.decided_log.specs.Decided.{Inserts};
-ghost use Rattle.decided_log.specs.Holding.{found};
+ghost use Rattle.decided_log.specs.LogState.{found};
 ghost use Rattle.decided_log.specs.Keeping.{IsJoinable, IsKept, Takes, Joins};
 
 use ballots::{Slot, Value};
 use indexmap::IndexMap;
 
-// Puts the value where its slot has its place: in the prefix, with those that then follow it, or behind the gap. Where the
-// slot has a value, that one stays.
+// Puts the value where its slot has its place: in the prefix, with those that then follow it, or behind the gap. Where
+// the slot has a value, that one stays.
 pub(crate) fn put(
     prefix: &mut Vec<Value>,
     later: &mut IndexMap<Slot, Value>,
@@ -23,7 +24,9 @@ pub(crate) fn put(
     requires reserved { length prefix.old.items + length later.old.entries < vec_capacity prefix.old }
     requires room { 0 < spare later.old }
     ensures kept { IsKept prefix.new.items later.new.entries (vec_capacity prefix.new) }
-    ensures inserts { Inserts (found prefix.old.items later.old.entries) (found prefix.new.items later.new.entries) slot value }
+    ensures inserts { Inserts
+        (found prefix.old.items later.old.entries) (found prefix.new.items later.new.entries)
+        slot value }
     ensures count { length prefix.new.items + length later.new.entries
         ≤ length prefix.old.items + length later.old.entries + 1 }
     ensures capacity { vec_capacity prefix.new ≡ vec_capacity prefix.old }
@@ -31,15 +34,15 @@ pub(crate) fn put(
 {
     let number = slot.number() as usize;
     if number > prefix.len() {
-        keep_behind(later, slot, value);
+        keep_later(later, slot, value);
     } else if number == prefix.len() {
         prefix.push_reserved(value);
-        join(prefix, later);
+        advance_prefix(prefix, later);
     }
 }
 
 // Keeps the value behind the gap, where its slot has none yet.
-fn keep_behind(later: &mut IndexMap<Slot, Value>, slot: Slot, value: Value)
+fn keep_later(later: &mut IndexMap<Slot, Value>, slot: Slot, value: Value)
     requires { 0 < spare later.old }
     ensures inserts { Inserts
         (λ other. lookup (nat_eq other) later.old.entries) (λ other. lookup (nat_eq other) later.new.entries)
@@ -54,7 +57,7 @@ fn keep_behind(later: &mut IndexMap<Slot, Value>, slot: Slot, value: Value)
 }
 
 // Takes out the value of the slot of this number.
-fn take_behind(later: &mut IndexMap<Slot, Value>, number: usize) -> Option<Value>
+fn take_later(later: &mut IndexMap<Slot, Value>, number: usize) -> Option<Value>
     requires { (slot : ℕ) → max_slot < slot → lookup (nat_eq slot) later.old.entries ≡ None }
     ensures value { result ≡ lookup (nat_eq number) later.old.entries }
     ensures takes { Takes later.old.entries later.new.entries number }
@@ -66,7 +69,7 @@ fn take_behind(later: &mut IndexMap<Slot, Value>, number: usize) -> Option<Value
 }
 
 // Moves the value at the prefix's end into the prefix, and says whether there was one.
-fn join_one(prefix: &mut Vec<Value>, later: &mut IndexMap<Slot, Value>) -> bool
+fn advance_one(prefix: &mut Vec<Value>, later: &mut IndexMap<Slot, Value>) -> bool
     requires { IsJoinable prefix.old.items later.old.entries (vec_capacity prefix.old) }
     ensures joinable { IsJoinable prefix.new.items later.new.entries (vec_capacity prefix.new) }
     ensures joins { Joins prefix.old.items prefix.new.items later.old.entries later.new.entries }
@@ -75,7 +78,7 @@ fn join_one(prefix: &mut Vec<Value>, later: &mut IndexMap<Slot, Value>) -> bool
     ensures fewer { result ≡ true → length later.new.entries < length later.old.entries }
     ensures gap { result ≡ false → lookup (nat_eq (length prefix.new.items)) later.new.entries ≡ None }
 {
-    match take_behind(later, prefix.len()) {
+    match take_later(later, prefix.len()) {
         Some(value) => {
             prefix.push_reserved(value);
             true
@@ -85,12 +88,12 @@ fn join_one(prefix: &mut Vec<Value>, later: &mut IndexMap<Slot, Value>) -> bool
 }
 
 // Moves the values that stand at the prefix's end into it, one after the other, up to the first gap.
-fn join(prefix: &mut Vec<Value>, later: &mut IndexMap<Slot, Value>)
+fn advance_prefix(prefix: &mut Vec<Value>, later: &mut IndexMap<Slot, Value>)
     requires { IsJoinable prefix.old.items later.old.entries (vec_capacity prefix.old) }
     ensures kept { IsKept prefix.new.items later.new.entries (vec_capacity prefix.new) }
     ensures joins { Joins prefix.old.items prefix.new.items later.old.entries later.new.entries }
     ensures capacity { vec_capacity prefix.new ≡ vec_capacity prefix.old }
     ensures room { spare later.old ≤ spare later.new }
 {
-    while join_one(prefix, later) {}
+    while advance_one(prefix, later) {}
 }

@@ -45,7 +45,7 @@ returns-else-number-len-2-clause-room c = search rules steps 300000
 pub returns-then-number-len-2-clause-inserts : goal.returns-then-number-len-2-clause-inserts
 returns-then-number-len-2-clause-inserts c =
     let at_end : c.args.slot ≡ length c.args.prefix.now.items = grind (arith, common_steps) steps 600000 in
-    joined c.args.prefix.now.items c.push_reserved.new.self.items c.join.new.prefix.items c.args.later.now.entries c.join.new.later.entries c.args.slot c.args.value c.push_reserved.ensures.items at_end c.requires.kept.gap c.join.ensures.joins
+    joined c.args.prefix.now.items c.push_reserved.new.self.items c.advance_prefix.new.prefix.items c.args.later.now.entries c.advance_prefix.new.later.entries c.args.slot c.args.value c.push_reserved.ensures.items at_end c.requires.kept.gap c.advance_prefix.ensures.joins
 
 pub returns-else-number-len-2-clause-inserts : goal.returns-else-number-len-2-clause-inserts
 returns-else-number-len-2-clause-inserts c =

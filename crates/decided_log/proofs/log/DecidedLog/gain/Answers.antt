@@ -8,13 +8,13 @@ pub returns-clause-gain : goal.returns-clause-gain
 returns-clause-gain c =
     let at_end : c.args.slot ≡ length c.self.inside.prefix.items = grind (arith, common_steps) steps 600000 in
     rw (← c.self.view_is)
-    (if_ok c.grown_by.result (λ values is. gained c.self.inside.prefix.items c.self.inside.later.entries c.reserve-2.new.self.entries _ c.args.slot c.args.value.now c.self.invariant c.in_ok-reserve-2.ensures.entries at_end values.items is) c.grown_by.ensures)
+    (if_ok c.prefix_growth.result (λ values is. gained c.self.inside.prefix.items c.self.inside.later.entries c.reserve-2.new.self.entries _ c.args.slot c.args.value.now c.self.invariant c.in_ok-reserve-2.ensures.entries at_end values.items is) c.prefix_growth.ensures)
 
 pub returns-clause-memory : goal.returns-clause-memory
 returns-clause-memory c =
     let at_end : c.args.slot ≡ length c.self.inside.prefix.items = grind (arith, common_steps) steps 600000 in
     rw (← c.self.view_is)
-    (on_any_err c.grown_by.result (λ before is_before. inr (ends_there c.self.inside.prefix.items c.self.inside.later.entries _ c.args.slot c.self.invariant at_end before is_before)))
+    (on_any_err c.prefix_growth.result (λ before is_before. inr (ends_there c.self.inside.prefix.items c.self.inside.later.entries _ c.args.slot c.self.invariant at_end before is_before)))
 
 pub invariant_of-self : goal.invariant_of-self
 invariant_of-self c = search rules steps 300000

@@ -1,6 +1,6 @@
 use Rattle.std.proofs.Common.{arith, rules}
 use Rattle.std.proofs.lemmas.Grind.{common_steps}
-use Rattle.decided_log.proofs.copies.grown_by.Goals as goal
+use Rattle.decided_log.proofs.copies.prefix_growth.Goals as goal
 
 pub returns-in_err-clone : goal.returns-in_err-clone
 returns-in_err-clone c = search rules steps 300000

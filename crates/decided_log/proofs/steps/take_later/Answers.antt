@@ -1,7 +1,7 @@
 use Rattle.std.proofs.Common.{◌≡◌, subst, rules}
 use Rattle.decided_log.specs.Keeping.{Takes}
 use Rattle.decided_log.proofs.Lookups.{apart_is_false}
-use Rattle.decided_log.proofs.steps.take_behind.Goals as goal
+use Rattle.decided_log.proofs.steps.take_later.Goals as goal
 
 pub returns-clause-takes : goal.returns-clause-takes
 returns-clause-takes c =

@@ -1,7 +1,7 @@
 use Rattle.std.proofs.Common.{◌≡◌, ℕ, ◌+◌, ◌-◌, ◌<◌, length, slice_get}
 use Rattle.ballots.specs.Limits.{max_slot}
 use Rattle.decided_log.specs.Keeping.{grown_at}
-use Rattle.decided_log.proofs.copies.grown_by.Given as goal
+use Rattle.decided_log.proofs.copies.prefix_growth.Given as goal
 
 abbrev pub invariant-loop-next : goal.invariant-loop-next
 invariant-loop-next l = record {

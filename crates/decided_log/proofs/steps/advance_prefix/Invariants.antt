@@ -1,7 +1,7 @@
 use Rattle.std.proofs.Common.{◌≡◌, ◌≤◌, length, vec_capacity}
 use Rattle.indexmap.specs.IndexMap.{spare}
 use Rattle.decided_log.specs.Keeping.{IsJoinable, Joins}
-use Rattle.decided_log.proofs.steps.join.Given as goal
+use Rattle.decided_log.proofs.steps.advance_prefix.Given as goal
 
 abbrev pub invariant-loop : goal.invariant-loop
 invariant-loop l = record {

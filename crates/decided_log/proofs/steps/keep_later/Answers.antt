@@ -2,7 +2,7 @@ use Rattle.std.proofs.Common.{◌≡◌, nat_eq, true, false, sym, refl, ◌∙�
 use Rattle.std.specs.Option.{is_some}
 use Rattle.std.specs.Map.{lookup}
 use Rattle.decided_log.proofs.Lookups.{apart_is_false, had, had_none, on_ok}
-use Rattle.decided_log.proofs.steps.keep_behind.Goals as goal
+use Rattle.decided_log.proofs.steps.keep_later.Goals as goal
 
 pub returns-then-contains_key-clause-inserts : goal.returns-then-contains_key-clause-inserts
 returns-then-contains_key-clause-inserts c =
