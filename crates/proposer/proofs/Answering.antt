@@ -10,8 +10,8 @@ use Rattle.proposer.specs.declared.attempt.Attempt.{Attempt}
 use Rattle.proposer.specs.Call.{Begun, Promise, Call, Promises, Nacks}
 use Rattle.proposer.specs.Choosing.{is_sender, HasMajority}
 use Rattle.proposer.specs.Attempting.{ends, answering, is_for, promise_in, Completes, Answers}
-use Rattle.proposer.specs.Counting.{Counts, Gives, Takes, IsAt}
-use Rattle.proposer.specs.Holding.{Holds, HoldsOpen}
+use Rattle.proposer.specs.Counting.{Counts, AnswersAtMajority, WouldCount, IsAt}
+use Rattle.proposer.specs.State.{Holds, HoldsOpen}
 use Rattle.proposer.proofs.Counting.{counts_again, majority_again}
 use Rattle.proposer.proofs.Opening.{still_open, one_open, was_open, WasOpen, both_true}
 
@@ -51,7 +51,7 @@ pub data Idle (members : ℕ) (begun : Begun) (since : List Call) (promise : Pro
   twice : answering members begun (since ++ Promises promise ∷ []) ≡ answering members begun since ++ promise ∷ [] → is_sender (answering members begun since) promise.sender ≡ true → Idle members begun since promise
 
 module _ (members : ℕ) (calls : List Call) (promise : Promise) (attempt : Attempt) (holds : Holds members calls attempt)
-    (not_taken : Takes members promise.sender promise.slot promise.ballot attempt → ⊥) where
+    (not_taken : WouldCount members promise.sender promise.slot promise.ballot attempt → ⊥) where
   idle_by_sender : (is_counted : Bool) → contains attempt.counted promise.sender ≡ is_counted → is_for members holds.begun promise ≡ true → Idle members holds.begun holds.since promise
   idle_by_sender true counted is =
       twice (answering-push members holds.begun holds.since promise is) (sym (holds.counts.senders promise.sender (is_for_parts members holds.begun promise is).0) ∙ counted)
@@ -99,7 +99,7 @@ module _ (members : ℕ) (calls : List Call) (promise : Promise) (attempt : Atte
 -- ---- a promise that is counted
 
 module _ (members : ℕ) (calls : List Call) (promise : Promise) (old : Attempt) (holds : Holds members calls old)
-    (taken : Takes members promise.sender promise.slot promise.ballot old) where
+    (taken : WouldCount members promise.sender promise.slot promise.ballot old) where
   is_pushed : answering members holds.begun (holds.since ++ Promises promise ∷ []) ≡ answering members holds.begun holds.since ++ promise ∷ []
   is_pushed = answering-push members holds.begun holds.since promise
       (is_for_these members holds.begun promise taken.is_new.member (sym taken.slot_is ∙ holds.slot_is) (sym taken.ballot_is ∙ holds.ballot_is))
@@ -117,10 +117,10 @@ module _ (members : ℕ) (calls : List Call) (promise : Promise) (old : Attempt)
   }
 
   pub answers_value : (value : Value)
-      → ((candidate : Value) (promises : List Promise) → Counts members candidate promises old → Gives members candidate promises promise (Some value))
+      → ((candidate : Value) (promises : List Promise) → Counts members candidate promises old → AnswersAtMajority members candidate promises promise (Some value))
       → Answers members calls promise (Some (promise.slot, promise.ballot, value))
   answers_value value gives =
-      let given : Gives members holds.begun.candidate (answering members holds.begun holds.since) promise (Some value) = gives holds.begun.candidate (answering members holds.begun holds.since) holds.counts in
+      let given : AnswersAtMajority members holds.begun.candidate (answering members holds.begun holds.since) promise (Some value) = gives holds.begun.candidate (answering members holds.begun holds.since) holds.counts in
       record {
         begun = holds.begun;
         since = holds.since;
@@ -134,7 +134,7 @@ module _ (members : ℕ) (calls : List Call) (promise : Promise) (old : Attempt)
   completes_given : Completes members holds.begun holds.since promise → (HasMajority members (answering members holds.begun holds.since) → ⊥) × HasMajority members (answering members holds.begun holds.since ++ promise ∷ [])
   completes_given completes = (completes.before, rw is_pushed at completes.now)
 
-  pub answers_nothing : ((candidate : Value) (promises : List Promise) → Counts members candidate promises old → Gives members candidate promises promise None)
+  pub answers_nothing : ((candidate : Value) (promises : List Promise) → Counts members candidate promises old → AnswersAtMajority members candidate promises promise None)
       → Answers members calls promise None
   answers_nothing gives begun since is_open completes =
       let one : (begun ≡ holds.begun) × (since ≡ holds.since) = one_open calls begun holds.begun since holds.since is_open holds.open_is in
@@ -142,7 +142,7 @@ module _ (members : ℕ) (calls : List Call) (promise : Promise) (old : Attempt)
       gives holds.begun.candidate (answering members holds.begun holds.since) holds.counts (completes_given here).0 (completes_given here).1
 
   -- where memory was refused, something would have been answered
-  pub refused_value : ((candidate : Value) (promises : List Promise) → Counts members candidate promises old → Gives members candidate promises promise None → ⊥)
+  pub refused_value : ((candidate : Value) (promises : List Promise) → Counts members candidate promises old → AnswersAtMajority members candidate promises promise None → ⊥)
       → Answers members calls promise None → ⊥
   refused_value refused answers =
       refused holds.begun.candidate (answering members holds.begun holds.since) holds.counts

@@ -13,7 +13,7 @@ use Rattle.proposer.specs.declared.attempt.Attempt.{Attempt}
 use Rattle.proposer.specs.declared.attempt.Choice.{Choice}
 use Rattle.proposer.specs.Call.{Promise}
 use Rattle.proposer.specs.Choosing.{is_from, is_sender, HasMajority, first_of_each, reports_of, Chooses}
-use Rattle.proposer.specs.Counting.{IsBest, Keeps, Counts, Gives, IsNew}
+use Rattle.proposer.specs.Counting.{IsBest, ChoiceAfter, Counts, AnswersAtMajority, IsNew}
 
 -- ---- senders
 
@@ -116,7 +116,7 @@ module _ (members : ℕ) (candidate : Value) (promises : List Promise) (promise 
   pub majority_again : HasMajority members (promises ++ promise ∷ []) → HasMajority members promises
   majority_again = majority_same members (is_sender (promises ++ promise ∷ [])) (is_sender promises) (λ node lt. senders_again node)
 
-  keeps_again : (choice : Option Choice) → Keeps members candidate promises choice → Keeps members candidate (promises ++ promise ∷ []) choice
+  keeps_again : (choice : Option Choice) → ChoiceAfter members candidate promises choice → ChoiceAfter members candidate (promises ++ promise ∷ []) choice
   keeps_again None kept = majority_grows members promises (promise ∷ []) kept
   keeps_again (Some choice) kept =
       (λ majority. kept.0 (majority_again majority), rw (first_of_each-again promises promise sent) kept.1)
@@ -149,7 +149,7 @@ module _ (members : ℕ) (candidate : Value) (promises : List Promise) (promise 
 
   -- the Accept was answered before
   kept_none : attempt.choice ≡ None → HasMajority members promises
-  kept_none none = subst (λ (o : Option Choice). Keeps members candidate promises o) none was.choice
+  kept_none none = subst (λ (o : Option Choice). ChoiceAfter members candidate promises o) none was.choice
 
   pub counts_gone : (choice : Option Choice) → attempt.choice ≡ None → choice ≡ None → Counts members candidate (promises ++ promise ∷ []) (record attempt { counted = next; choice = choice })
   counts_gone choice none none_now = record {
@@ -157,8 +157,8 @@ module _ (members : ℕ) (candidate : Value) (promises : List Promise) (promise 
     choice = rw none_now (majority_grows members promises (promise ∷ []) (kept_none none));
   }
 
-  kept_some : (old : Choice) → attempt.choice ≡ Some old → Keeps members candidate promises (Some old)
-  kept_some old was_old = subst (λ (o : Option Choice). Keeps members candidate promises o) was_old was.choice
+  kept_some : (old : Choice) → attempt.choice ≡ Some old → ChoiceAfter members candidate promises (Some old)
+  kept_some old was_old = subst (λ (o : Option Choice). ChoiceAfter members candidate promises o) was_old was.choice
 
   module _ (old new : Choice) (was_old : attempt.choice ≡ Some old)
       (weighs : IsBest candidate (reports_of (first_of_each promises)) old.reported_at old.value → IsBest candidate (reports_of (first_of_each promises) ++ option_to_list promise.report) new.reported_at new.value) where
@@ -173,16 +173,16 @@ module _ (members : ℕ) (candidate : Value) (promises : List Promise) (promise 
     pub counts_on : (IsMajority members (members_in members next) → ⊥) → Counts members candidate (promises ++ promise ∷ []) (record attempt { counted = next; choice = Some new })
     counts_on not = record { senders = senders_after; choice = (λ majority. not (after_majority majority), best_now) }
 
-  pub gives_none_yet : (IsMajority members (members_in members next) → ⊥) → Gives members candidate promises promise None
+  pub gives_none_yet : (IsMajority members (members_in members next) → ⊥) → AnswersAtMajority members candidate promises promise None
   gives_none_yet not = λ before now. not (after_majority now)
 
   pub gives_value : (old : Choice) (value : Value) → attempt.choice ≡ Some old
       → (IsBest candidate (reports_of (first_of_each promises)) old.reported_at old.value → Chooses candidate (reports_of (first_of_each promises) ++ option_to_list promise.report) value)
-      → IsMajority members (members_in members next) → Gives members candidate promises promise (Some value)
+      → IsMajority members (members_in members next) → AnswersAtMajority members candidate promises promise (Some value)
   gives_value old value was_old chooses majority =
       let kept = kept_some old was_old in
       (kept.0, majority_after majority, rw (reports_with members candidate promises promise attempt was by_new) (chooses kept.1))
 
   -- something is given, so that it is refused only where it would be
-  pub not_none : (old : Choice) → attempt.choice ≡ Some old → IsMajority members (members_in members next) → Gives members candidate promises promise None → ⊥
+  pub not_none : (old : Choice) → attempt.choice ≡ Some old → IsMajority members (members_in members next) → AnswersAtMajority members candidate promises promise None → ⊥
   not_none old was_old majority none = none (kept_some old was_old).0 (majority_after majority)

@@ -5,7 +5,7 @@ use Rattle.ballots.specs.Ballot.{Ballot, IsBelow}
 use Rattle.ballots.specs.declared.value.Value.{Value}
 use Rattle.proposer.specs.Call.{Begun, Promise, Call, Begins, Promises, Nacks}
 use Rattle.proposer.specs.Choosing.{HasMajority, reports_of}
-use Rattle.proposer.specs.Attempting.{highest_begun, next_ballot, Rises, IsOpen, answering, counted, is_for, promise_in, Proposes, Accepts, Answers}
+use Rattle.proposer.specs.Attempting.{highest_begun, next_ballot, BallotsIncrease, IsOpen, answering, counted, is_for, promise_in, Proposes, Accepts, Answers}
 use Rattle.proposer.proofs.Lists.{Meet, same, earlier, later, splits}
 use Rattle.proposer.proofs.Highest.{chooses_one}
 use Rattle.proposer.proofs.Counting.{majority_grows}
@@ -54,17 +54,17 @@ above_next : (highest seen low round : ℕ) → low ≤ highest → round ≡ su
 above_next highest seen low round le is = omega (arith, le, is)
 
 -- a later attempt's round is above an earlier one's
-round_rises : (me highest : ℕ) (calls before mid after : List Call) (begun another : Begun) → Rises me highest calls → calls ≡ (before ++ Begins begun ∷ mid) ++ Begins another ∷ after → begun.ballot.round < another.ballot.round
+round_rises : (me highest : ℕ) (calls before mid after : List Call) (begun another : Begun) → BallotsIncrease me highest calls → calls ≡ (before ++ Begins begun ∷ mid) ++ Begins another ∷ after → begun.ballot.round < another.ballot.round
 round_rises me highest calls before mid after begun another rises split =
     let next : another.ballot ≡ next_ballot me (highest_begun highest (before ++ Begins begun ∷ mid)) another.seen_round = rises.each (before ++ Begins begun ∷ mid) after another split in
     above_next (highest_begun highest (before ++ Begins begun ∷ mid)) another.seen_round begun.ballot.round another.ballot.round (begun_within highest before mid begun) (ap (λ (b : Ballot). b.round) next)
 
-pub ballots_rise : (me highest : ℕ) (before mid after : List Call) (begun another : Begun) → Rises me highest (before ++ Begins begun ∷ (mid ++ Begins another ∷ after)) → IsBelow begun.ballot another.ballot
+pub ballots_rise : (me highest : ℕ) (before mid after : List Call) (begun another : Begun) → BallotsIncrease me highest (before ++ Begins begun ∷ (mid ++ Begins another ∷ after)) → IsBelow begun.ballot another.ballot
 ballots_rise me highest before mid after begun another rises =
     inl (round_rises me highest (before ++ Begins begun ∷ (mid ++ Begins another ∷ after)) before mid after begun another rises (sym (append_assoc before (Begins begun ∷ mid) (Begins another ∷ after))))
 
 -- the calls at the front rise too
-rises_front : (me highest : ℕ) (calls front rest : List Call) → calls ≡ front ++ rest → Rises me highest calls → Rises me highest front
+rises_front : (me highest : ℕ) (calls front rest : List Call) → calls ≡ front ++ rest → BallotsIncrease me highest calls → BallotsIncrease me highest front
 rises_front me highest calls front rest split rises = record {
   each = λ before after begun e. rises.each before (after ++ rest) begun (rw (split, e) (append_assoc before (Begins begun ∷ after) rest));
 }
@@ -83,7 +83,7 @@ majority_there members begun since mid promise majority =
     (majority_grows members (answering members begun (since ++ Promises promise ∷ [])) (answering members begun mid) majority)
 
 module _ (me highest members : ℕ) (before mid : List Call) (promise promise' : Promise) (accept accept' : ℕ × Ballot × Value)
-    (rises : Rises me highest (before ++ Promises promise ∷ mid)) (one : Accepts members before promise accept) (other : Accepts members (before ++ Promises promise ∷ mid) promise' accept')
+    (rises : BallotsIncrease me highest (before ++ Promises promise ∷ mid)) (one : Accepts members before promise accept) (other : Accepts members (before ++ Promises promise ∷ mid) promise' accept')
     (ballots : accept.1 ≡ accept'.1) where
   rounds : one.begun.ballot.round ≡ other.begun.ballot.round
   rounds = ap (λ (b : Ballot). b.round) (sym one.ballot_is ∙ ballots ∙ other.ballot_is)
@@ -105,7 +105,7 @@ module _ (me highest members : ℕ) (before mid : List Call) (promise promise' :
   no_second : ⊥
   no_second = no_second_where_they_meet (splits one.open_is.before other.open_is.before (Begins one.begun) (Begins other.begun) (one.since ++ Promises promise ∷ mid) other.since (sym there ∙ other.open_is.split))
 
-module _ (me highest members : ℕ) (calls : List Call) (rises : Rises me highest calls) (before before' after after' : List Call) (promise promise' : Promise) (accept accept' : ℕ × Ballot × Value)
+module _ (me highest members : ℕ) (calls : List Call) (rises : BallotsIncrease me highest calls) (before before' after after' : List Call) (promise promise' : Promise) (accept accept' : ℕ × Ballot × Value)
     (split : calls ≡ before ++ Promises promise ∷ after) (split' : calls ≡ before' ++ Promises promise' ∷ after')
     (one : Accepts members before promise accept) (other : Accepts members before' promise' accept') (ballots : accept.1 ≡ accept'.1) where
   once_where_they_meet : Meet before before' (Promises promise) (Promises promise') after after' → (before ≡ before') × (accept ≡ accept')

@@ -4,7 +4,7 @@ use Rattle.std.proofs.lemmas.Grind.{common_steps}
 use Rattle.std.proofs.lemmas.Bool.Decides.{nat_tests}
 use Rattle.ballots.specs.Ballot.{Ballot}
 use Rattle.proposer.specs.Call.{Begun, Call, Begins, Promises, Nacks}
-use Rattle.proposer.specs.Attempting.{highest_begun, next_ballot, Rises, ends, IsOpen}
+use Rattle.proposer.specs.Attempting.{highest_begun, next_ballot, BallotsIncrease, ends, IsOpen}
 use Rattle.proposer.proofs.Lists.{all-append, all_there, all_front, Meet, same, earlier, later, splits, nothing_there}
 
 -- ---- ballots
@@ -35,7 +35,7 @@ highest_begun-same round (Begins another ∷ calls) call begins_none = highest_b
 highest_begun-same round (Promises promise ∷ calls) call begins_none = highest_begun-same round calls call begins_none
 highest_begun-same round (Nacks slot ballot ∷ calls) call begins_none = highest_begun-same round calls call begins_none
 
-module _ (me highest : ℕ) (calls : List Call) (call : Call) (rises : Rises me highest calls)
+module _ (me highest : ℕ) (calls : List Call) (call : Call) (rises : BallotsIncrease me highest calls)
     (last : (begun : Begun) → call ≡ Begins begun → begun.ballot ≡ next_ballot me (highest_begun highest calls) begun.seen_round) where
   by_meeting : (before after : List Call) (begun : Begun) → Meet calls before call (Begins begun) [] after → begun.ballot ≡ next_ballot me (highest_begun highest before) begun.seen_round
   by_meeting before after begun (same b e a) = subst (λ (cs : List Call). begun.ballot ≡ next_ballot me (highest_begun highest cs) begun.seen_round) b (last begun e)
@@ -43,7 +43,7 @@ module _ (me highest : ℕ) (calls : List Call) (call : Call) (rises : Rises me 
   by_meeting before after begun (later mid a b) = rises.each before mid begun b
 
   -- one more call, whose ballot is the next one if it begins an attempt
-  pub rises-push : Rises me highest (calls ++ call ∷ [])
+  pub rises-push : BallotsIncrease me highest (calls ++ call ∷ [])
   rises-push = record { each = λ before after begun split. by_meeting before after begun (splits calls before call (Begins begun) [] after split) }
 
 pub no_begin : (call : Call) (begun : Begun) → is_begin call ≡ false → call ≡ Begins begun → ⊥

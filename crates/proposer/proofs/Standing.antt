@@ -5,13 +5,13 @@ use Rattle.proposer.specs.declared.attempt.Attempt.{Attempt}
 use Rattle.proposer.specs.Call.{Start, Begun, Call, Begins}
 use Rattle.proposer.specs.Attempting.{highest_begun, next_ballot}
 use Rattle.proposer.specs.Counting.{Counts}
-use Rattle.proposer.specs.Holding.{Holding, HoldsOpen, Stands}
+use Rattle.proposer.specs.State.{ProposerState, HoldsOpen, StateAfter}
 use Rattle.proposer.proofs.Lists.{nothing_there}
 use Rattle.proposer.proofs.Opening.{highest_begun-push, highest_begun-same, is_begin, no_begin, rises-push, nothing_open, opens}
 
 -- ---- at first, and after a begin
 
-pub stands_at_first : (start : Start) → Stands start [] (record { me = start.me; members = start.members; highest_round = start.highest_round; attempt = None })
+pub stands_at_first : (start : Start) → StateAfter start [] (record { me = start.me; members = start.members; highest_round = start.highest_round; attempt = None })
 stands_at_first start = record {
   me = refl;
   members = refl;
@@ -27,10 +27,10 @@ same_begun b c e = cc
 next_is_highest : (highest seen round : ℕ) → round ≡ suc (max seen highest) → round ≡ max highest round
 next_is_highest highest seen round next = omega (arith, next)
 
-pub stands_after_begin : (start : Start) (calls : List Call) (old : Holding) (begun : Begun) (attempt : Attempt) (round : ℕ) → Stands start calls old
+pub stands_after_begin : (start : Start) (calls : List Call) (old : ProposerState) (begun : Begun) (attempt : Attempt) (round : ℕ) → StateAfter start calls old
     → begun.ballot ≡ next_ballot old.me old.highest_round begun.seen_round → round ≡ begun.ballot.round
     → attempt.slot ≡ begun.slot → attempt.ballot ≡ begun.ballot → ((members : ℕ) → Counts members begun.candidate [] attempt)
-    → Stands start (calls ++ Begins begun ∷ []) (record { me = old.me; members = old.members; highest_round = round; attempt = Some attempt })
+    → StateAfter start (calls ++ Begins begun ∷ []) (record { me = old.me; members = old.members; highest_round = round; attempt = Some attempt })
 stands_after_begin start calls old begun attempt round stands next round_is slot_is ballot_is counts =
     let next_there : begun.ballot ≡ next_ballot start.me (highest_begun start.highest_round calls) begun.seen_round = rw (← stands.me, ← stands.highest_round) next in
     record {
@@ -51,9 +51,9 @@ stands_after_begin start calls old begun attempt round stands next round_is slot
 -- ---- after a call that begins nothing
 
 -- what does not touch the attempt leaves the rest too
-pub stands_after : (start : Start) (calls : List Call) (call : Call) (old : Holding) (attempt : Option Attempt) → is_begin call ≡ false → Stands start calls old
+pub stands_after : (start : Start) (calls : List Call) (call : Call) (old : ProposerState) (attempt : Option Attempt) → is_begin call ≡ false → StateAfter start calls old
     → HoldsOpen start.members (calls ++ call ∷ []) attempt
-    → Stands start (calls ++ call ∷ []) (record { me = old.me; members = old.members; highest_round = old.highest_round; attempt = attempt })
+    → StateAfter start (calls ++ call ∷ []) (record { me = old.me; members = old.members; highest_round = old.highest_round; attempt = attempt })
 stands_after start calls call old attempt begins_none stands holds = record {
   me = stands.me;
   members = stands.members;

@@ -21,7 +21,7 @@ abbrev pub next_ballot : ℕ → ℕ → ℕ → Ballot
 next_ballot me highest seen_round = record { round = suc (max seen_round highest); node = me }
 
 -- each attempt begins at its node's next ballot, above what the node had seen and above all that it began before
-pub record Rises (me highest : ℕ) (calls : List Call) : Type 0 where
+pub record BallotsIncrease (me highest : ℕ) (calls : List Call) : Type 0 where
   pub each : (before after : List Call) (begun : Begun) → calls ≡ before ++ Begins begun ∷ after
       → begun.ballot ≡ next_ballot me (highest_begun highest before) begun.seen_round
 

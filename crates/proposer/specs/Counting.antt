@@ -15,22 +15,22 @@ IsBest candidate reports None value = (reports ≡ []) × (value ≡ candidate)
 IsBest candidate reports (Some ballot) value = IsHighest reports (ballot, value)
 
 -- the choice is gone exactly where a majority has answered
-abbrev pub Keeps : ℕ → Value → List Promise → Option Choice → Type 0
-Keeps members candidate promises None = HasMajority members promises
-Keeps members candidate promises (Some choice) =
+abbrev pub ChoiceAfter : ℕ → Value → List Promise → Option Choice → Type 0
+ChoiceAfter members candidate promises None = HasMajority members promises
+ChoiceAfter members candidate promises (Some choice) =
     (HasMajority members promises → ⊥) × IsBest candidate (reports_of (first_of_each promises)) choice.reported_at choice.value
 
 -- who is counted, and what is chosen so far, by the promises that answered the attempt
 pub record Counts (members : ℕ) (candidate : Value) (promises : List Promise) (attempt : Attempt) : Type 0 where
   pub senders : (node : ℕ) → node < members → contains attempt.counted node ≡ is_sender promises node
-  pub choice : Keeps members candidate promises attempt.choice
+  pub choice : ChoiceAfter members candidate promises attempt.choice
 
 -- what one more promise gives: the chosen value exactly where the majority comes with it
-abbrev pub Gives : ℕ → Value → List Promise → Promise → Option Value → Type 0
-Gives members candidate promises promise (Some value) =
+abbrev pub AnswersAtMajority : ℕ → Value → List Promise → Promise → Option Value → Type 0
+AnswersAtMajority members candidate promises promise (Some value) =
     (HasMajority members promises → ⊥) × HasMajority members (promises ++ promise ∷ [])
     × Chooses candidate (reports_of (first_of_each (promises ++ promise ∷ []))) value
-Gives members candidate promises promise None =
+AnswersAtMajority members candidate promises promise None =
     (HasMajority members promises → ⊥) → HasMajority members (promises ++ promise ∷ []) → ⊥
 
 -- it is the first of its sender, who is a member
@@ -39,7 +39,7 @@ pub record IsNew (members : ℕ) (sender : ℕ) (attempt : Attempt) : Type 0 whe
   pub not_counted : contains attempt.counted sender ≡ false
 
 -- the attempt counts a promise of this sender for this slot and ballot
-pub record Takes (members sender slot : ℕ) (ballot : Ballot) (attempt : Attempt) : Type 0 where
+pub record WouldCount (members sender slot : ℕ) (ballot : Ballot) (attempt : Attempt) : Type 0 where
   pub slot_is : attempt.slot ≡ slot
   pub ballot_is : attempt.ballot ≡ ballot
   pub is_new : IsNew members sender attempt

@@ -2,4 +2,4 @@ pub mod Call
 pub mod Choosing
 pub mod Attempting
 pub mod Counting
-pub mod Holding
+pub mod State

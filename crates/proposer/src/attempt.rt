@@ -3,7 +3,7 @@ ghost use Rattle.ballots.specs.Ballot.{IsAbove};
 ghost use Rattle.ballots.specs.declared.value.Value.{Value as Held};
 ghost use Rattle.proposer.specs.Call.{Promise};
 ghost use Rattle.proposer.specs.Choosing.{Report, Chooses};
-ghost use Rattle.proposer.specs.Counting.{IsBest, Counts, Gives, IsNew, Takes};
+ghost use Rattle.proposer.specs.Counting.{IsBest, Counts, AnswersAtMajority, IsNew, WouldCount};
 
 use ballots::{Ballot, Members, NodeId, NodeSet, OutOfMemory, Slot, Value};
 
@@ -58,8 +58,14 @@ impl Attempt {
     }
 
     /// Whether a promise of this node for this slot and ballot would be counted.
-    pub(crate) fn takes(&self, members: Members, sender: NodeId, slot: Slot, ballot: Ballot) -> bool
-        ensures { IsTrue result ↔ Takes members sender slot ballot self.now }
+    pub(crate) fn would_count(
+        &self,
+        members: Members,
+        sender: NodeId,
+        slot: Slot,
+        ballot: Ballot,
+    ) -> bool
+        ensures { IsTrue result ↔ WouldCount members sender slot ballot self.now }
     {
         self.is_of(slot, ballot) && self.is_new(members, sender)
     }
@@ -77,10 +83,10 @@ impl Attempt {
         ensures counts { (candidate : Held) (promises : List Promise) (promise : Promise) → promise.sender ≡ sender → promise.report ≡ report
             → Counts members candidate promises self.old → Counts members candidate (promises ++ promise ∷ []) self.new }
         ensures gives { (candidate : Held) (promises : List Promise) (promise : Promise) → promise.sender ≡ sender → promise.report ≡ report
-            → Counts members candidate promises self.old → Gives members candidate promises promise result }
+            → Counts members candidate promises self.old → AnswersAtMajority members candidate promises promise result }
     {
         self.counted = self.counted.with(sender);
-        let choice = weigh(self.choice.take()?, report);
+        let choice = higher_of(self.choice.take()?, report);
         if members.are_majority(self.counted) {
             return Some(choice.value);
         }
@@ -97,9 +103,9 @@ impl Attempt {
     ) -> Result<Option<Value>, OutOfMemory>
         requires { IsNew members sender self.now }
         ensures gives { IfOk result (λ given. (candidate : Held) (promises : List Promise) (promise : Promise) → promise.sender ≡ sender
-            → promise.report ≡ report.now → Counts members candidate promises self.now → Gives members candidate promises promise given) }
+            → promise.report ≡ report.now → Counts members candidate promises self.now → AnswersAtMajority members candidate promises promise given) }
         ensures memory { OnErr result ((candidate : Held) (promises : List Promise) (promise : Promise) → promise.sender ≡ sender
-            → promise.report ≡ report.now → Counts members candidate promises self.now → Gives members candidate promises promise None → ⊥) }
+            → promise.report ≡ report.now → Counts members candidate promises self.now → AnswersAtMajority members candidate promises promise None → ⊥) }
     {
         let Some(choice) = &self.choice else {
             return Ok(None);
@@ -107,22 +113,22 @@ impl Attempt {
         if !members.are_majority(self.counted.with(sender)) {
             return Ok(None);
         }
-        copied(weighed(choice, report))
+        copied(higher_value(choice, report))
     }
 }
 
 // The better of the choice so far and a report: that of the higher ballot, and of equal ones the choice.
-fn weigh(choice: Choice, report: Option<(Ballot, Value)>) -> Choice
+fn higher_of(choice: Choice, report: Option<(Ballot, Value)>) -> Choice
     ensures { (candidate : Held) (reports : List Report) → IsBest candidate reports choice.reported_at choice.value
         → IsBest candidate (reports ++ option_to_list report) result.reported_at result.value }
 {
     match report {
-        Some((ballot, value)) => weigh_report(choice, ballot, value),
+        Some((ballot, value)) => higher_of_report(choice, ballot, value),
         None => choice,
     }
 }
 
-fn weigh_report(choice: Choice, ballot: Ballot, value: Value) -> Choice
+fn higher_of_report(choice: Choice, ballot: Ballot, value: Value) -> Choice
     ensures { (candidate : Held) (reports : List Report) → IsBest candidate reports choice.reported_at choice.value
         → IsBest candidate (reports ++ (ballot, value) ∷ []) result.reported_at result.value }
 {
@@ -135,8 +141,8 @@ fn weigh_report(choice: Choice, ballot: Ballot, value: Value) -> Choice
     }
 }
 
-// The value that `weigh` would take.
-fn weighed<'a>(choice: &'a Choice, report: &'a Option<(Ballot, Value)>) -> &'a Value
+// The value that `higher_of` would take.
+fn higher_value<'a>(choice: &'a Choice, report: &'a Option<(Ballot, Value)>) -> &'a Value
     ensures { (candidate : Held) (reports : List Report) → IsBest candidate reports choice.now.reported_at choice.now.value
         → Chooses candidate (reports ++ option_to_list report.now) result.now }
 {

@@ -5,7 +5,7 @@ ghost use Rattle.ballots.specs.declared.value.Value.{Value as Held};
 ghost use Rattle.ballots.specs.Ballot.{Ballot as Pair, IsBelow};
 ghost use Rattle.proposer.specs.Call.{Begun, Promise, Call, Begins, Promises};
 ghost use Rattle.proposer.specs.Choosing.{Report, Chooses};
-ghost use Rattle.proposer.specs.Attempting.{Rises, IsOpen, Accepts, Answers};
+ghost use Rattle.proposer.specs.Attempting.{BallotsIncrease, IsOpen, Accepts, Answers};
 
 /// What is chosen of a list of reports is one value.
 pub fn choices_are_one()
@@ -26,8 +26,8 @@ pub fn answers_are_one()
 /// answered by one Accept at each ballot at most: two Accepts at one ballot are the same answer to the same promise.
 pub fn one_accept_a_ballot()
     ensures rise { (me highest : ℕ) (before mid after : List Call) (begun another : Begun)
-        → Rises me highest (before ++ Begins begun ∷ (mid ++ Begins another ∷ after)) → IsBelow begun.ballot another.ballot }
-    ensures once { (me highest members : ℕ) (calls : List Call) → Rises me highest calls
+        → BallotsIncrease me highest (before ++ Begins begun ∷ (mid ++ Begins another ∷ after)) → IsBelow begun.ballot another.ballot }
+    ensures once { (me highest members : ℕ) (calls : List Call) → BallotsIncrease me highest calls
         → (before before' after after' : List Call) (promise promise' : Promise) (accept accept' : ℕ × Pair × Held)
         → calls ≡ before ++ Promises promise ∷ after → calls ≡ before' ++ Promises promise' ∷ after'
         → Accepts members before promise accept → Accepts members before' promise' accept' → accept.1 ≡ accept'.1

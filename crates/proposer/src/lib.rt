@@ -8,8 +8,7 @@
 #![tactic(auto)]
 
 mod attempt;
-mod laws;
+pub mod laws;
 mod proposer;
 
-pub use laws::{answers_are_one, choices_are_one, one_accept_a_ballot};
 pub use proposer::{Proposer, RoundsSpent};

@@ -3,7 +3,7 @@ ghost use Rattle.ballots.specs.Limits.{max_round};
 ghost use Rattle.proposer.specs.Call.{Start, Begins, Promises, Nacks, Call};
 ghost use Rattle.proposer.specs.Attempting.{highest_begun, next_ballot, IsAttempt, Answers};
 ghost use Rattle.proposer.specs.Counting.{IsAt};
-ghost use Rattle.proposer.specs.Holding.{Stands, Holds, HoldsOpen, attempt_of};
+ghost use Rattle.proposer.specs.State.{StateAfter, Holds, HoldsOpen, attempt_of};
 
 use crate::attempt::Attempt;
 use ballots::{Ballot, Members, NodeId, OutOfMemory, Slot, Value};
@@ -25,9 +25,9 @@ pub struct Proposer {
 }
 
 impl Model for Proposer {
-    ghost use Rattle.proposer.specs.Holding.{Holding};
+    ghost use Rattle.proposer.specs.State.{ProposerState};
 
-    ghost Value = { Holding };
+    ghost Value = { ProposerState };
 
     ghost view = { λ p. record {
       me = p.me;
@@ -40,7 +40,7 @@ impl Model for Proposer {
 impl Proposer {
     /// A proposer with no attempt, of a node that has begun no ballot above this round (0 where it has begun none).
     pub fn new(me: NodeId, members: Members, highest_round: u32) -> Proposer
-        ensures { Stands (record { me = me; members = members; highest_round = highest_round }) [] result }
+        ensures { StateAfter (record { me = me; members = members; highest_round = highest_round }) [] result }
     {
         Proposer {
             me,
@@ -53,7 +53,7 @@ impl Proposer {
     /// The slot and the ballot of the open attempt, `None` where none is open. An attempt stays open after its majority.
     pub fn attempt(&self) -> Option<(Slot, Ballot)>
         ensures value { result ≡ attempt_of self.now }
-        ensures open { (start : Start) (calls : List Call) → Stands start calls self.now → IsAttempt calls result }
+        ensures open { (start : Start) (calls : List Call) → StateAfter start calls self.now → IsAttempt calls result }
     {
         match &self.attempt {
             Some(attempt) => Some((attempt.slot, attempt.ballot)),
@@ -70,12 +70,12 @@ impl Proposer {
         seen_round: u32,
         candidate: Value,
     ) -> Result<Ballot, RoundsSpent>
-        ensures spent { (start : Start) (calls : List Call) → Stands start calls self.old
+        ensures spent { (start : Start) (calls : List Call) → StateAfter start calls self.old
             → IsErr result ↔ (max_round ≤ max seen_round (highest_begun start.highest_round calls)) }
-        ensures ballot { IfOk result (λ ballot. (start : Start) (calls : List Call) → Stands start calls self.old
+        ensures ballot { IfOk result (λ ballot. (start : Start) (calls : List Call) → StateAfter start calls self.old
             → ballot ≡ next_ballot start.me (highest_begun start.highest_round calls) seen_round) }
-        ensures stands { IfOk result (λ ballot. (start : Start) (calls : List Call) → Stands start calls self.old
-            → Stands start (calls ++ Begins (record { slot = slot; seen_round = seen_round; candidate = candidate; ballot = ballot }) ∷ []) self.new) }
+        ensures stands { IfOk result (λ ballot. (start : Start) (calls : List Call) → StateAfter start calls self.old
+            → StateAfter start (calls ++ Begins (record { slot = slot; seen_round = seen_round; candidate = candidate; ballot = ballot }) ∷ []) self.new) }
         ensures err { OnErr result (self.new ≡ self.old) }
     {
         let ballot = self.next(seen_round)?;
@@ -91,9 +91,9 @@ impl Proposer {
         seen_round: u32,
         _candidate: &Value,
     ) -> Result<Ballot, RoundsSpent>
-        ensures spent { (start : Start) (calls : List Call) → Stands start calls self.now
+        ensures spent { (start : Start) (calls : List Call) → StateAfter start calls self.now
             → IsErr result ↔ (max_round ≤ max seen_round (highest_begun start.highest_round calls)) }
-        ensures ballot { IfOk result (λ ballot. (start : Start) (calls : List Call) → Stands start calls self.now
+        ensures ballot { IfOk result (λ ballot. (start : Start) (calls : List Call) → StateAfter start calls self.now
             → ballot ≡ next_ballot start.me (highest_begun start.highest_round calls) seen_round) }
     {
         self.next(seen_round)
@@ -110,10 +110,10 @@ impl Proposer {
         ballot: Ballot,
         report: Option<(Ballot, Value)>,
     ) -> Option<(Slot, Ballot, Value)>
-        ensures answers { (start : Start) (calls : List Call) → Stands start calls self.old
+        ensures answers { (start : Start) (calls : List Call) → StateAfter start calls self.old
             → Answers start.members calls (record { sender = sender; slot = slot; ballot = ballot; report = report }) result }
-        ensures stands { (start : Start) (calls : List Call) → Stands start calls self.old
-            → Stands start (calls ++ Promises (record { sender = sender; slot = slot; ballot = ballot; report = report }) ∷ []) self.new }
+        ensures stands { (start : Start) (calls : List Call) → StateAfter start calls self.old
+            → StateAfter start (calls ++ Promises (record { sender = sender; slot = slot; ballot = ballot; report = report }) ∷ []) self.new }
     {
         let members = self.members;
         count_in(&mut self.attempt, members, sender, slot, ballot, report)
@@ -127,9 +127,9 @@ impl Proposer {
         ballot: Ballot,
         report: &Option<(Ballot, Value)>,
     ) -> Result<Option<(Slot, Ballot, Value)>, OutOfMemory>
-        ensures answers { IfOk result (λ answer. (start : Start) (calls : List Call) → Stands start calls self.now
+        ensures answers { IfOk result (λ answer. (start : Start) (calls : List Call) → StateAfter start calls self.now
             → Answers start.members calls (record { sender = sender; slot = slot; ballot = ballot; report = report.now }) answer) }
-        ensures memory { OnErr result ((start : Start) (calls : List Call) → Stands start calls self.now
+        ensures memory { OnErr result ((start : Start) (calls : List Call) → StateAfter start calls self.now
             → Answers start.members calls (record { sender = sender; slot = slot; ballot = ballot; report = report.now }) None → ⊥) }
     {
         match &self.attempt {
@@ -140,8 +140,8 @@ impl Proposer {
 
     /// Ends the attempt of this slot and ballot, if it is open: a member has promised a higher one.
     pub fn on_nack(&mut self, slot: Slot, ballot: Ballot)
-        ensures stands { (start : Start) (calls : List Call) → Stands start calls self.old
-            → Stands start (calls ++ Nacks slot ballot ∷ []) self.new }
+        ensures stands { (start : Start) (calls : List Call) → StateAfter start calls self.old
+            → StateAfter start (calls ++ Nacks slot ballot ∷ []) self.new }
     {
         end_at(&mut self.attempt, slot, ballot);
     }
@@ -194,7 +194,7 @@ fn count_for(
     ensures stands { (calls : List Call) → Holds members calls attempt.old
         → Holds members (calls ++ Promises (record { sender = sender; slot = slot; ballot = ballot; report = report }) ∷ []) attempt.new }
 {
-    if !attempt.takes(members, sender, slot, ballot) {
+    if !attempt.would_count(members, sender, slot, ballot) {
         return None;
     }
     let value = attempt.count(members, sender, report)?;
@@ -215,7 +215,7 @@ fn see_count_in(
     ensures memory { OnErr result ((calls : List Call) → Holds members calls attempt.now
         → Answers members calls (record { sender = sender; slot = slot; ballot = ballot; report = report.now }) None → ⊥) }
 {
-    if !attempt.takes(members, sender, slot, ballot) {
+    if !attempt.would_count(members, sender, slot, ballot) {
         return Ok(None);
     }
     match attempt.see_count(members, sender, report)? {

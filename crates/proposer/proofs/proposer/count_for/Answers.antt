@@ -4,13 +4,13 @@ use Rattle.proposer.specs.Call.{Promise}
 use Rattle.proposer.proofs.Answering.{holds_idle, answers_idle, holds_taken, answers_value, answers_nothing}
 use Rattle.proposer.proofs.proposer.count_for.Goals as goal
 
-pub returns-then-not-takes-clause-answers : goal.returns-then-not-takes-clause-answers
-returns-then-not-takes-clause-answers c = λ calls holds.
+pub returns-then-not-would_count-clause-answers : goal.returns-then-not-would_count-clause-answers
+returns-then-not-would_count-clause-answers c = λ calls holds.
     let promise : Promise = record { sender = c.args.sender; slot = c.args.slot; ballot = c.args.ballot; report = c.args.report } in
     answers_idle c.args.members calls promise c.args.attempt.now holds (grind (arith, common_steps))
 
-pub returns-then-not-takes-clause-stands : goal.returns-then-not-takes-clause-stands
-returns-then-not-takes-clause-stands c = λ calls holds.
+pub returns-then-not-would_count-clause-stands : goal.returns-then-not-would_count-clause-stands
+returns-then-not-would_count-clause-stands c = λ calls holds.
     let promise : Promise = record { sender = c.args.sender; slot = c.args.slot; ballot = c.args.ballot; report = c.args.report } in
     holds_idle c.args.members calls promise c.args.attempt.now holds (grind (arith, common_steps))
 
@@ -18,23 +18,23 @@ pub returns-in_err-value-clause-answers : goal.returns-in_err-value-clause-answe
 returns-in_err-value-clause-answers c = λ calls holds.
     let promise : Promise = record { sender = c.args.sender; slot = c.args.slot; ballot = c.args.ballot; report = c.args.report } in
     rw c.from_residual.ensures
-    (answers_nothing c.args.members calls promise c.args.attempt.now holds (c.takes.ensures.0 c.if-not-takes.false)
+    (answers_nothing c.args.members calls promise c.args.attempt.now holds (c.would_count.ensures.0 c.if-not-would_count.false)
     (λ candidate promises counts. c.in_err-value.ensures.gives candidate promises promise refl refl counts))
 
 pub returns-in_err-value-clause-stands : goal.returns-in_err-value-clause-stands
 returns-in_err-value-clause-stands c = λ calls holds.
     let promise : Promise = record { sender = c.args.sender; slot = c.args.slot; ballot = c.args.ballot; report = c.args.report } in
-    holds_taken c.args.members calls promise c.args.attempt.now holds (c.takes.ensures.0 c.if-not-takes.false) c.count.new.self c.count.ensures.slot c.count.ensures.ballot
+    holds_taken c.args.members calls promise c.args.attempt.now holds (c.would_count.ensures.0 c.if-not-would_count.false) c.count.new.self c.count.ensures.slot c.count.ensures.ballot
     (λ candidate promises counts. c.count.ensures.counts candidate promises promise refl refl counts)
 
 pub returns-clause-answers : goal.returns-clause-answers
 returns-clause-answers c = λ calls holds.
     let promise : Promise = record { sender = c.args.sender; slot = c.args.slot; ballot = c.args.ballot; report = c.args.report } in
-    answers_value c.args.members calls promise c.args.attempt.now holds (c.takes.ensures.0 c.if-not-takes.false) c.in_ok-value.value
+    answers_value c.args.members calls promise c.args.attempt.now holds (c.would_count.ensures.0 c.if-not-would_count.false) c.in_ok-value.value
     (λ candidate promises counts. c.in_ok-value.ensures.gives candidate promises promise refl refl counts)
 
 pub returns-clause-stands : goal.returns-clause-stands
 returns-clause-stands c = λ calls holds.
     let promise : Promise = record { sender = c.args.sender; slot = c.args.slot; ballot = c.args.ballot; report = c.args.report } in
-    holds_taken c.args.members calls promise c.args.attempt.now holds (c.takes.ensures.0 c.if-not-takes.false) c.count.new.self c.count.ensures.slot c.count.ensures.ballot
+    holds_taken c.args.members calls promise c.args.attempt.now holds (c.would_count.ensures.0 c.if-not-would_count.false) c.count.new.self c.count.ensures.slot c.count.ensures.ballot
     (λ candidate promises counts. c.count.ensures.counts candidate promises promise refl refl counts)

@@ -15,7 +15,7 @@ returns-clause-memory c = where_err c.copied.result (λ candidate promises promi
     c.in-Some.choice c.in-Some.is (c.are_majority.ensures.0 c.if-not-are_majority.false))
 
 pub returns-clause-gives : goal.returns-clause-gives
-returns-clause-gives c = where_ok _ c.copied.result (Some c.weighed.result.now) c.copied.ensures (λ candidate promises promise by_sender reports was.
+returns-clause-gives c = where_ok _ c.copied.result (Some c.higher_value.result.now) c.copied.ensures (λ candidate promises promise by_sender reports was.
     gives_value c.args.members candidate promises promise c.args.self.now c.args.sender c.with.result by_sender c.with.ensures c.requires was
-    c.in-Some.choice c.weighed.result.now c.in-Some.is (rw reports (c.weighed.ensures candidate _))
+    c.in-Some.choice c.higher_value.result.now c.in-Some.is (rw reports (c.higher_value.ensures candidate _))
     (c.are_majority.ensures.0 c.if-not-are_majority.false))

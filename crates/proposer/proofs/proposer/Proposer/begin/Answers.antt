@@ -1,6 +1,6 @@
 use Rattle.std.proofs.Common.{◌≡◌, sym, subst}
 use Rattle.proposer.specs.Attempting.{next_ballot}
-use Rattle.proposer.specs.Holding.{Holding, Stands}
+use Rattle.proposer.specs.State.{ProposerState, StateAfter}
 use Rattle.proposer.proofs.Standing.{stands_after_begin}
 use Rattle.proposer.proofs.proposer.Proposer.begin.Goals as goal
 
@@ -8,4 +8,4 @@ pub returns-clause-stands : goal.returns-clause-stands
 returns-clause-stands c = λ start calls stands.
     stands_after_begin start calls (record { me = c.self.inside.me; members = c.self.inside.members; highest_round = c.self.inside.highest_round; attempt = c.self.inside.attempt })
     (record { slot = c.args.slot; seen_round = c.args.seen_round; candidate = c.args.candidate; ballot = c.in_ok-ballot.ballot }) c.new.result c.round-self-inside.result
-    (subst (Stands start calls) (sym c.self.view_is) stands) (subst (λ (h : Holding). c.in_ok-ballot.ballot ≡ next_ballot h.me h.highest_round c.args.seen_round) (sym c.self.view_is) c.in_ok-ballot.ensures.ballot) c.round-self-inside.ensures.value c.new.ensures.slot c.new.ensures.ballot c.new.ensures.counts
+    (subst (StateAfter start calls) (sym c.self.view_is) stands) (subst (λ (h : ProposerState). c.in_ok-ballot.ballot ≡ next_ballot h.me h.highest_round c.args.seen_round) (sym c.self.view_is) c.in_ok-ballot.ensures.ballot) c.round-self-inside.ensures.value c.new.ensures.slot c.new.ensures.ballot c.new.ensures.counts

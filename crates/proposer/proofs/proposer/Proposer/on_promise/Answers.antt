@@ -1,23 +1,23 @@
 use Rattle.std.proofs.Common.{ℕ, ◌++◌, ◌∷◌, [], refl, sym, subst}
 use Rattle.proposer.specs.Call.{Promise, Promises}
 use Rattle.proposer.specs.Attempting.{Answers}
-use Rattle.proposer.specs.Holding.{Holding, HoldsOpen, Stands}
+use Rattle.proposer.specs.State.{ProposerState, HoldsOpen, StateAfter}
 use Rattle.proposer.proofs.Standing.{stands_after}
 use Rattle.proposer.proofs.proposer.Proposer.on_promise.Goals as goal
 
 pub returns-clause-answers : goal.returns-clause-answers
 returns-clause-answers c = λ start calls stands.
-    let old : Holding = record { me = c.self.inside.me; members = c.self.inside.members; highest_round = c.self.inside.highest_round; attempt = c.self.inside.attempt } in
+    let old : ProposerState = record { me = c.self.inside.me; members = c.self.inside.members; highest_round = c.self.inside.highest_round; attempt = c.self.inside.attempt } in
     let promise : Promise = record { sender = c.args.sender; slot = c.args.slot; ballot = c.args.ballot; report = c.args.report } in
-    let was : Stands start calls old = subst (Stands start calls) (sym c.self.view_is) stands in
+    let was : StateAfter start calls old = subst (StateAfter start calls) (sym c.self.view_is) stands in
     subst (λ (m : ℕ). Answers m calls promise c.count_in.result) was.members
     (c.count_in.ensures.answers calls (subst (λ (m : ℕ). HoldsOpen m calls c.self.inside.attempt) (sym was.members) was.attempt))
 
 pub returns-clause-stands : goal.returns-clause-stands
 returns-clause-stands c = λ start calls stands.
-    let old : Holding = record { me = c.self.inside.me; members = c.self.inside.members; highest_round = c.self.inside.highest_round; attempt = c.self.inside.attempt } in
+    let old : ProposerState = record { me = c.self.inside.me; members = c.self.inside.members; highest_round = c.self.inside.highest_round; attempt = c.self.inside.attempt } in
     let promise : Promise = record { sender = c.args.sender; slot = c.args.slot; ballot = c.args.ballot; report = c.args.report } in
-    let was : Stands start calls old = subst (Stands start calls) (sym c.self.view_is) stands in
+    let was : StateAfter start calls old = subst (StateAfter start calls) (sym c.self.view_is) stands in
     stands_after start calls (Promises promise) old c.count_in.new.held refl was
     (subst (λ (m : ℕ). HoldsOpen m (calls ++ Promises promise ∷ []) c.count_in.new.held) was.members
     (c.count_in.ensures.stands calls (subst (λ (m : ℕ). HoldsOpen m calls c.self.inside.attempt) (sym was.members) was.attempt)))

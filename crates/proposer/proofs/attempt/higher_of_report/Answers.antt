@@ -1,5 +1,5 @@
 use Rattle.proposer.proofs.Highest.{best_changes}
-use Rattle.proposer.proofs.attempt.weigh_report.Goals as goal
+use Rattle.proposer.proofs.attempt.higher_of_report.Goals as goal
 
 pub returns : goal.returns
 returns c = λ candidate reports is_best.

@@ -1,6 +1,6 @@
 use Rattle.std.proofs.Common.{Some}
 use Rattle.proposer.proofs.Highest.{best_changes, best_is_chosen}
-use Rattle.proposer.proofs.attempt.weighed.Goals as goal
+use Rattle.proposer.proofs.attempt.higher_value.Goals as goal
 
 pub returns-in-Some : goal.returns-in-Some
 returns-in-Some c = λ candidate reports is_best. rw c.in-Some.is

@@ -4,18 +4,18 @@ use Rattle.std.specs.Option.{option_map}
 use Rattle.ballots.specs.Ballot.{Ballot}
 use Rattle.proposer.specs.declared.attempt.Attempt.{Attempt}
 use Rattle.proposer.specs.Call.{Start, Begun, Call}
-use Rattle.proposer.specs.Attempting.{highest_begun, Rises, IsOpen, answering}
+use Rattle.proposer.specs.Attempting.{highest_begun, BallotsIncrease, IsOpen, answering}
 use Rattle.proposer.specs.Counting.{Counts}
 
-pub record Holding : Type 0 where
+pub record ProposerState : Type 0 where
   pub me : ℕ
   pub members : ℕ
   pub highest_round : ℕ
   pub attempt : Option Attempt
 
 -- the slot and the ballot of the attempt, if there is one
-abbrev pub attempt_of : Holding → Option (ℕ × Ballot)
-attempt_of holding = option_map (λ attempt. (attempt.slot, attempt.ballot)) holding.attempt
+abbrev pub attempt_of : ProposerState → Option (ℕ × Ballot)
+attempt_of state = option_map (λ attempt. (attempt.slot, attempt.ballot)) state.attempt
 
 -- the attempt that is held is the open one
 pub record Holds (members : ℕ) (calls : List Call) (attempt : Attempt) : Type 0 where
@@ -32,9 +32,9 @@ HoldsOpen members calls (Some attempt) = Holds members calls attempt
 HoldsOpen members calls None = (begun : Begun) (since : List Call) → IsOpen calls begun since → ⊥
 
 -- how a proposer that was made so stands after these calls
-pub record Stands (start : Start) (calls : List Call) (holding : Holding) : Type 0 where
-  pub me : holding.me ≡ start.me
-  pub members : holding.members ≡ start.members
-  pub highest_round : holding.highest_round ≡ highest_begun start.highest_round calls
-  pub rises : Rises start.me start.highest_round calls
-  pub attempt : HoldsOpen start.members calls holding.attempt
+pub record StateAfter (start : Start) (calls : List Call) (state : ProposerState) : Type 0 where
+  pub me : state.me ≡ start.me
+  pub members : state.members ≡ start.members
+  pub highest_round : state.highest_round ≡ highest_begun start.highest_round calls
+  pub rises : BallotsIncrease start.me start.highest_round calls
+  pub attempt : HoldsOpen start.members calls state.attempt
