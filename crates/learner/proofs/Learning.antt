@@ -7,15 +7,15 @@ use Rattle.ballots.specs.Ballot.{Ballot}
 use Rattle.ballots.specs.Majority.{tally, IsMajority}
 use Rattle.ballots.specs.declared.value.Value.{Value}
 use Rattle.ballots.proofs.CallerLemmas.{tally_same}
-use Rattle.learner.specs.Calls.{Call, Accepted, Decided, is_vote_of, has_voted, first_counted, IsSettled, IsLearned}
-use Rattle.learner.specs.Holding.{Holding, has_vote, tally_in, decided_at, tally_at, voted_at, first_at}
-use Rattle.learner.specs.Learned.{Learnt, IsSame}
+use Rattle.learner.specs.Calls.{Call, Accepted, Decided, is_vote_of, has_voted, first_counted, IsChosenOrDecided, IsLearned}
+use Rattle.learner.specs.State.{LearnerState, has_vote, tally_in, decided_at, tally_at, voted_at, first_at}
+use Rattle.learner.specs.Learned.{StateAfter, IsSame}
 use Rattle.learner.specs.Changes.{Counts, Puts, IsChosenWith}
 use Rattle.learner.proofs.Settling.{IsApart, slot_of, other_apart, stranger_apart, votes_with, first_with, none_alone, votes_apart, first_apart, unsettled_apart, votes_there, first_there, unsettled_accepted}
 use Rattle.learner.proofs.OneValue.{learned_more, learned_by_decision, learned_by_majority, settled_of_learned, unsettled_at_first}
 
 -- look-ups that answer as before
-pub same_learnt : (n : ℕ) (calls : List Call) (old new : Holding) → IsSame old new → Learnt n calls old → Learnt n calls new
+pub same_learnt : (n : ℕ) (calls : List Call) (old new : LearnerState) → IsSame old new → StateAfter n calls old → StateAfter n calls new
 same_learnt n calls old new same l = record {
   members = same.members ∙ l.members;
   learned = λ slot value e. l.learned slot value (sym (same.decided slot) ∙ e);
@@ -26,8 +26,8 @@ same_learnt n calls old new same l = record {
 }
 
 -- what counts for no slot that is not learned changes nothing
-pub learnt_ignores : (n : ℕ) (calls : List Call) (c : Call) (h : Holding) → Learnt n calls h → ((slot : ℕ) → decided_at h slot ≡ None → IsApart n slot c)
-    → Learnt n (calls ++ c ∷ []) h
+pub learnt_ignores : (n : ℕ) (calls : List Call) (c : Call) (h : LearnerState) → StateAfter n calls h → ((slot : ℕ) → decided_at h slot ≡ None → IsApart n slot c)
+    → StateAfter n (calls ++ c ∷ []) h
 learnt_ignores n calls c h l apart = record {
   members = l.members;
   learned = λ slot value e. learned_more n calls (c ∷ []) slot value (l.learned slot value e);
@@ -38,17 +38,17 @@ learnt_ignores n calls c h l apart = record {
 }
 
 -- the call's slot has learned
-pub learnt_over_learned : (n : ℕ) (calls : List Call) (c : Call) (h : Holding) → Learnt n calls h → (decided_at h (slot_of c) ≡ None → ⊥) → Learnt n (calls ++ c ∷ []) h
+pub learnt_over_learned : (n : ℕ) (calls : List Call) (c : Call) (h : LearnerState) → StateAfter n calls h → (decided_at h (slot_of c) ≡ None → ⊥) → StateAfter n (calls ++ c ∷ []) h
 learnt_over_learned n calls c h l has =
     learnt_ignores n calls c h l (λ slot e. other_apart n slot c (λ (same : slot ≡ slot_of c). has (subst (λ (s : ℕ). decided_at h s ≡ None) same e)))
 
 -- it is told by a node that is no member
-pub learnt_stranger : (n : ℕ) (calls : List Call) (a s : ℕ) (b : Ballot) (v : Value) (h : Holding) → Learnt n calls h → (a < h.members → ⊥) → Learnt n (calls ++ Accepted a s b v ∷ []) h
+pub learnt_stranger : (n : ℕ) (calls : List Call) (a s : ℕ) (b : Ballot) (v : Value) (h : LearnerState) → StateAfter n calls h → (a < h.members → ⊥) → StateAfter n (calls ++ Accepted a s b v ∷ []) h
 learnt_stranger n calls a s b v h l stranger =
     learnt_ignores n calls (Accepted a s b v) h l (λ slot e. stranger_apart n slot a s b v (λ lt. stranger (omega (arith, lt, l.members))))
 
 -- the slot learns this value
-module _ (n : ℕ) (calls : List Call) (c : Call) (old new : Holding) (value : Value) (l : Learnt n calls old) (puts : Puts old new (slot_of c) value)
+module _ (n : ℕ) (calls : List Call) (c : Call) (old new : LearnerState) (value : Value) (l : StateAfter n calls old) (puts : Puts old new (slot_of c) value)
     (learned : IsLearned n (calls ++ c ∷ []) (slot_of c) value) where
   is_other : (slot : ℕ) → decided_at new slot ≡ None → slot ≢ slot_of c
   is_other slot e same = absurd (some_none (sym puts.here ∙ sym (ap (decided_at new) same) ∙ e))
@@ -77,7 +77,7 @@ module _ (n : ℕ) (calls : List Call) (c : Call) (old new : Holding) (value : V
         ap (λ (o : _). option_map (λ t. t.value) o) (puts.tallies slot b differs) ∙ l.gone slot b v (sym (puts.decided slot differs) ∙ e)
   ]
 
-  pub learnt_puts : Learnt n (calls ++ c ∷ []) new
+  pub learnt_puts : StateAfter n (calls ++ c ∷ []) new
   learnt_puts = record {
     members = puts.members ∙ l.members;
     learned = learned_at;
@@ -91,13 +91,13 @@ module _ (n : ℕ) (calls : List Call) (c : Call) (old new : Holding) (value : V
         ∙ l.firsts slot b (was_none slot e) ∙ sym (first_apart n calls c slot (other_apart n slot c (is_other slot e)) b);
   }
 
-pub learnt_decides : (n : ℕ) (calls : List Call) (slot : ℕ) (value : Value) (old new : Holding) → Learnt n calls old → decided_at old slot ≡ None → Puts old new slot value
-    → Learnt n (calls ++ Decided slot value ∷ []) new
+pub learnt_decides : (n : ℕ) (calls : List Call) (slot : ℕ) (value : Value) (old new : LearnerState) → StateAfter n calls old → decided_at old slot ≡ None → Puts old new slot value
+    → StateAfter n (calls ++ Decided slot value ∷ []) new
 learnt_decides n calls slot value old new l none puts =
     learnt_puts n calls (Decided slot value) old new value l puts (learned_by_decision n calls slot value (l.unsettled slot none))
 
 -- a member's vote, at a slot that has not learned
-module _ (n : ℕ) (calls : List Call) (a slot : ℕ) (b : Ballot) (v : Value) (old : Holding) (l : Learnt n calls old) (none : decided_at old slot ≡ None) where
+module _ (n : ℕ) (calls : List Call) (a slot : ℕ) (b : Ballot) (v : Value) (old : LearnerState) (l : StateAfter n calls old) (none : decided_at old slot ≡ None) where
   abbrev told : Call
   told = Accepted a slot b v
 
@@ -130,16 +130,16 @@ module _ (n : ℕ) (calls : List Call) (a slot : ℕ) (b : Ballot) (v : Value) (
       learned_by_majority n calls a slot b v (unwrap_or (first_at old slot b) v) (l.unsettled slot none) (majority_of_chosen chosen) (first_told member)
 
   -- or it does not
-  pub unsettled_by_vote : (IsChosenWith old a slot b → ⊥) → IsSettled n (calls ++ told ∷ []) slot → ⊥
+  pub unsettled_by_vote : (IsChosenWith old a slot b → ⊥) → IsChosenOrDecided n (calls ++ told ∷ []) slot → ⊥
   unsettled_by_vote not = unsettled_accepted n calls a slot b v (l.unsettled slot none) (λ majority. not (chosen_of_majority majority))
 
-  pub learnt_chooses : (new : Holding) → a < old.members → IsChosenWith old a slot b → Puts old new slot (unwrap_or (first_at old slot b) v) → Learnt n (calls ++ told ∷ []) new
+  pub learnt_chooses : (new : LearnerState) → a < old.members → IsChosenWith old a slot b → Puts old new slot (unwrap_or (first_at old slot b) v) → StateAfter n (calls ++ told ∷ []) new
   learnt_chooses new member chosen puts =
       learnt_puts n calls told old new (unwrap_or (first_at old slot b) v) l puts (learned_by_vote member chosen)
 
-  still : (IsChosenWith old a slot b → ⊥) → (s : ℕ) → decided_at old s ≡ None → IsSettled n (calls ++ told ∷ []) s → ⊥
+  still : (IsChosenWith old a slot b → ⊥) → (s : ℕ) → decided_at old s ≡ None → IsChosenOrDecided n (calls ++ told ∷ []) s → ⊥
   still not s e = elim (cases_eq s slot) [
-    | inl same ↦ subst (λ (k : ℕ). IsSettled n (calls ++ told ∷ []) k → ⊥) (sym same) (unsettled_by_vote not)
+    | inl same ↦ subst (λ (k : ℕ). IsChosenOrDecided n (calls ++ told ∷ []) k → ⊥) (sym same) (unsettled_by_vote not)
     | inr differs ↦ unsettled_apart n calls told s (other_apart n s told differs) (l.unsettled s e)
   ]
 
@@ -149,7 +149,7 @@ module _ (n : ℕ) (calls : List Call) (a slot : ℕ) (b : Ballot) (v : Value) (
       some_none : Some value ≡ None → ⊥
       some_none is = cc
 
-  pub learnt_counts : (new : Holding) → a < old.members → (IsChosenWith old a slot b → ⊥) → Counts old new a slot b v → Learnt n (calls ++ told ∷ []) new
+  pub learnt_counts : (new : LearnerState) → a < old.members → (IsChosenWith old a slot b → ⊥) → Counts old new a slot b v → StateAfter n (calls ++ told ∷ []) new
   learnt_counts new member not counts = record {
     members = counts.members ∙ l.members;
     learned = λ s value e. learned_more n calls (told ∷ []) s value (l.learned s value (sym (counts.decided s) ∙ e));
@@ -169,24 +169,24 @@ module _ (n : ℕ) (calls : List Call) (a slot : ℕ) (b : Ballot) (v : Value) (
 -- ---- calls that the learner passes over
 
 -- it is told by no member, or the slot has learned
-pub learnt_closed : (n : ℕ) (calls : List Call) (a s : ℕ) (b : Ballot) (v : Value) (h : Holding) → Learnt n calls h
-    → ((a < h.members) × (decided_at h s ≡ None) → ⊥) → Learnt n (calls ++ Accepted a s b v ∷ []) h
+pub learnt_closed : (n : ℕ) (calls : List Call) (a s : ℕ) (b : Ballot) (v : Value) (h : LearnerState) → StateAfter n calls h
+    → ((a < h.members) × (decided_at h s ≡ None) → ⊥) → StateAfter n (calls ++ Accepted a s b v ∷ []) h
 learnt_closed n calls a s b v h l closed = elim (cases_lt a h.members) [
   | inl lt ↦ learnt_over_learned n calls (Accepted a s b v) h l (λ none. closed (lt, none))
   | inr le ↦ learnt_stranger n calls a s b v h l (λ lt. absurd (omega (arith, lt, le)))
 ]
 
 -- it settles nothing
-pub settles_nothing : (n : ℕ) (calls more : List Call) (slot : ℕ) (h : Holding) → Learnt n calls h → Learnt n more h → IsSettled n more slot → IsSettled n calls slot
+pub settles_nothing : (n : ℕ) (calls more : List Call) (slot : ℕ) (h : LearnerState) → StateAfter n calls h → StateAfter n more h → IsChosenOrDecided n more slot → IsChosenOrDecided n calls slot
 settles_nothing n calls more slot h l m settled = by (decided_at h slot) refl
   where
-    by : (o : Option Value) → decided_at h slot ≡ o → IsSettled n calls slot
+    by : (o : Option Value) → decided_at h slot ≡ o → IsChosenOrDecided n calls slot
     by None e = absurd (m.unsettled slot e settled)
     by (Some value) e = settled_of_learned n calls slot value (l.learned slot value e)
 
 -- ---- a learner that was told nothing
 
-pub learnt_at_first : (n : ℕ) (h : Holding) → h.members ≡ n → h.learned.entries ≡ [] → h.tallies.entries ≡ [] → Learnt n [] h
+pub learnt_at_first : (n : ℕ) (h : LearnerState) → h.members ≡ n → h.learned.entries ≡ [] → h.tallies.entries ≡ [] → StateAfter n [] h
 learnt_at_first n h members learned tallies = record {
   members = members;
   learned = λ slot value e.

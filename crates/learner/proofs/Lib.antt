@@ -2,3 +2,4 @@ pub mod Settling
 pub mod OneValue
 pub mod Learning
 pub mod Lookups
+pub mod Voting

@@ -12,7 +12,7 @@ use Rattle.ballots.specs.declared.value.Value.{Value}
 use Rattle.ballots.proofs.CallerLemmas.{same_ballot_is, tally_same}
 use Rattle.learner.specs.declared.tally.Tally.{Tally}
 use Rattle.learner.specs.Calls.{Call, Accepted, is_vote_of, first_counted}
-use Rattle.learner.specs.Holding.{Holding, Tallies, tally_in, has_vote, decided_at, tally_at, voted_at, first_at, HasRoomForTally}
+use Rattle.learner.specs.State.{LearnerState, Tallies, tally_in, has_vote, decided_at, tally_at, voted_at, first_at, HasRoomForTally}
 use Rattle.learner.specs.Learned.{IsSame}
 use Rattle.learner.specs.Changes.{Counts, CountsIn, Drops, Puts, IsChosenWith}
 use Rattle.learner.proofs.Settling.{other_apart, or_none, vote_there, vote_other_ballot, counted_there, counted_other_ballot, first_alone, none_alone}
@@ -41,7 +41,7 @@ not_both r t f = let no : true ≡ false = sym t ∙ f in cc
 
 -- ---- whether a majority is counted
 
-pub chosen_where : (h : Holding) (n : ℕ) (votes after : NodeSet) (a slot : ℕ) (b : Ballot) (r : Bool) → n ≡ h.members
+pub chosen_where : (h : LearnerState) (n : ℕ) (votes after : NodeSet) (a slot : ℕ) (b : Ballot) (r : Bool) → n ≡ h.members
     → ((m : ℕ) → contains votes m ≡ voted_at h slot b m) → ((m : ℕ) → contains after m ≡ (contains votes m || (a == m)))
     → (IsTrue r ↔ IsMajority n (members_in n after)) → (IsTrue r ↔ IsChosenWith h a slot b)
 chosen_where h n votes after a slot b r members now then is =
@@ -51,7 +51,7 @@ chosen_where h n votes after a slot b r members now then is =
 
 -- ---- look-ups that answer as before
 
-pub same_by_tallies : (old new : Holding) → new.members ≡ old.members → ((s : ℕ) → decided_at new s ≡ decided_at old s)
+pub same_by_tallies : (old new : LearnerState) → new.members ≡ old.members → ((s : ℕ) → decided_at new s ≡ decided_at old s)
     → ((s : ℕ) (b : Ballot) → tally_at new s b ≡ tally_at old s b) → IsSame old new
 same_by_tallies old new members decided tallies = record {
   members = members;
@@ -61,12 +61,12 @@ same_by_tallies old new members decided tallies = record {
 }
 
 -- the learned values' entries stay, and the tallies
-pub same_entries : (old new : Holding) → new.members ≡ old.members → new.learned.entries ≡ old.learned.entries → new.tallies ≡ old.tallies → IsSame old new
+pub same_entries : (old new : LearnerState) → new.members ≡ old.members → new.learned.entries ≡ old.learned.entries → new.tallies ≡ old.tallies → IsSame old new
 same_entries old new members learned tallies =
     same_by_tallies old new members (λ s. ap (lookup (nat_eq s)) learned) (λ s b. ap (λ (m : _). option_and_then (λ t. tally_in t b) (get nat_eq m s)) tallies)
 
 -- one slot's tallies look as before, and all else is
-pub same_at_slot : (old new : Holding) (slot : ℕ) → new.members ≡ old.members → new.learned ≡ old.learned
+pub same_at_slot : (old new : LearnerState) (slot : ℕ) → new.members ≡ old.members → new.learned ≡ old.learned
     → ((s : ℕ) → s ≢ slot → get nat_eq new.tallies s ≡ get nat_eq old.tallies s) → ((b : Ballot) → tally_at new slot b ≡ tally_at old slot b) → IsSame old new
 same_at_slot old new slot members learned others here =
     same_by_tallies old new members (λ s. ap (λ (m : _). get nat_eq m s) learned) tallies
@@ -87,7 +87,7 @@ pub entries_here : (o p : Option Tallies) (t u : Tallies) (b : Ballot) → o ≡
 entries_here o p t u b old new same =
     ap (option_and_then (λ x. tally_in x b)) new ∙ ap (lookup (is_same_ballot b)) same ∙ sym (ap (option_and_then (λ x. tally_in x b)) old)
 
-pub same_twice : (old mid new : Holding) → IsSame old mid → IsSame mid new → IsSame old new
+pub same_twice : (old mid new : LearnerState) → IsSame old mid → IsSame mid new → IsSame old new
 same_twice old mid new p q = record {
   members = q.members ∙ p.members;
   decided = λ s. q.decided s ∙ p.decided s;
@@ -95,7 +95,7 @@ same_twice old mid new p q = record {
   firsts = λ s b. q.firsts s b ∙ p.firsts s b;
 }
 
-pub puts_after_drops : (old mid new : Holding) (slot : ℕ) (value : Value) → Drops old mid slot → Puts mid new slot value → Puts old new slot value
+pub puts_after_drops : (old mid new : LearnerState) (slot : ℕ) (value : Value) → Drops old mid slot → Puts mid new slot value → Puts old new slot value
 puts_after_drops old mid new slot value drops puts = record {
   members = puts.members ∙ drops.members;
   here = puts.here;
@@ -113,7 +113,7 @@ room_here o t u b e f room = subst (λ (x : Tallies). HasRoomForTally x b) (is t
 
 -- ---- a vote is counted
 
-module _ (old new : Holding) (a slot : ℕ) (b : Ballot) (v : Value) (was now : Tallies) (members : new.members ≡ old.members) (learned : new.learned ≡ old.learned)
+module _ (old new : LearnerState) (a slot : ℕ) (b : Ballot) (v : Value) (was now : Tallies) (members : new.members ≡ old.members) (learned : new.learned ≡ old.learned)
     (before : get nat_eq old.tallies slot ≡ Some was) (after : get nat_eq new.tallies slot ≡ Some now)
     (others : (s : ℕ) → s ≢ slot → get nat_eq new.tallies s ≡ get nat_eq old.tallies s)
     (here : CountsIn (tally_in was b) (tally_in now b) a v) (apart : (c : Ballot) → is_same_ballot b c ≡ false → tally_in now c ≡ tally_in was c) where

@@ -11,7 +11,7 @@ use Rattle.ballots.specs.Ballot.{Ballot, is_same_ballot}
 use Rattle.ballots.specs.Majority.{tally, IsMajority}
 use Rattle.ballots.specs.declared.value.Value.{Value}
 use Rattle.ballots.proofs.CallerLemmas.{same_ballot_is, tally_more, tally_same, some_member}
-use Rattle.learner.specs.Calls.{Call, Accepted, Decided, value_in, is_decision_for, is_vote_of, is_counted, has_voted, first_counted, IsSettled}
+use Rattle.learner.specs.Calls.{Call, Accepted, Decided, value_in, is_decision_for, is_vote_of, is_counted, has_voted, first_counted, IsChosenOrDecided}
 
 -- ---- one more call
 
@@ -41,7 +41,7 @@ pub none_alone : (n slot : ℕ) (b : Ballot) (c : Call) → is_counted n slot b 
 none_alone n slot b c not = ap (λ (x : Bool). option_map value_in (cond x (Some c) None)) not
 
 -- a slot that is settled stays so
-pub settled_more : (n : ℕ) (calls more : List Call) (slot : ℕ) → IsSettled n calls slot → IsSettled n (calls ++ more) slot
+pub settled_more : (n : ℕ) (calls more : List Call) (slot : ℕ) → IsChosenOrDecided n calls slot → IsChosenOrDecided n (calls ++ more) slot
 settled_more n calls more slot (inl told) =
     inl (list_any-append (is_decision_for slot) calls more ∙ ap (λ (x : Bool). x || list_any (is_decision_for slot) more) told)
 settled_more n calls more slot (inr chosen) =
@@ -49,15 +49,15 @@ settled_more n calls more slot (inr chosen) =
     inr (chosen.0, omega (arith, chosen.1, tally_more n (has_voted calls slot chosen.0) (has_voted (calls ++ more) slot chosen.0) votes))
 
 -- what is told of it by one more call settles it
-pub settled_by_decision : (n : ℕ) (calls : List Call) (slot : ℕ) (v : Value) → IsSettled n (calls ++ Decided slot v ∷ []) slot
+pub settled_by_decision : (n : ℕ) (calls : List Call) (slot : ℕ) (v : Value) → IsChosenOrDecided n (calls ++ Decided slot v ∷ []) slot
 settled_by_decision n calls slot v =
     let here : list_any (is_decision_for slot) (Decided slot v ∷ []) ≡ true = ap (λ (x : Bool). x || false) (eq-eqb slot slot refl) in
     inl (list_any-append (is_decision_for slot) calls (Decided slot v ∷ []) ∙ grind (arith, common_steps))
 
 -- a slot that is not settled stays so where the call is no decision for it and makes no new majority
-pub still_unsettled : (n : ℕ) (calls : List Call) (c : Call) (slot : ℕ) → (IsSettled n calls slot → ⊥) → is_decision_for slot c ≡ false
+pub still_unsettled : (n : ℕ) (calls : List Call) (c : Call) (slot : ℕ) → (IsChosenOrDecided n calls slot → ⊥) → is_decision_for slot c ≡ false
     → ((b : Ballot) → IsMajority n (tally n (has_voted (calls ++ c ∷ []) slot b)) → IsMajority n (tally n (has_voted calls slot b)))
-    → IsSettled n (calls ++ c ∷ []) slot → ⊥
+    → IsChosenOrDecided n (calls ++ c ∷ []) slot → ⊥
 still_unsettled n calls c slot not none majority (inl told) =
     let was : (list_any (is_decision_for slot) calls || list_any (is_decision_for slot) (c ∷ [])) ≡ true = sym (list_any-append (is_decision_for slot) calls (c ∷ [])) ∙ told in
     not (inl (grind (arith, common_steps)))
@@ -107,7 +107,7 @@ module _ (n : ℕ) (calls : List Call) (c : Call) (slot : ℕ) (apart : IsApart 
   first_apart b =
       first_with n calls c slot b ∙ ap (option_or (first_counted n calls slot b)) (none_alone n slot b c (apart.counted b)) ∙ or_none (first_counted n calls slot b)
 
-  pub unsettled_apart : (IsSettled n calls slot → ⊥) → IsSettled n (calls ++ c ∷ []) slot → ⊥
+  pub unsettled_apart : (IsChosenOrDecided n calls slot → ⊥) → IsChosenOrDecided n (calls ++ c ∷ []) slot → ⊥
   unsettled_apart not =
       still_unsettled n calls c slot not apart.decision (λ b majority. subst (IsMajority n) (tally_same n (has_voted (calls ++ c ∷ []) slot b) (has_voted calls slot b) (votes_apart b)) majority)
 
@@ -148,8 +148,8 @@ module _ (n : ℕ) (calls : List Call) (a slot : ℕ) (b : Ballot) (v : Value) w
       let votes : (m : ℕ) → m < n → has_voted (calls ++ told ∷ []) slot c m ≡ has_voted calls slot c m = λ m lt. votes_with calls told slot c m ∙ ap (λ (x : Bool). has_voted calls slot c m || x) (vote_other_ballot a slot b v m slot c differs) ∙ or-false (has_voted calls slot c m) in
       subst (IsMajority n) (tally_same n (has_voted (calls ++ told ∷ []) slot c) (has_voted calls slot c) votes) majority
 
-  pub unsettled_accepted : (IsSettled n calls slot → ⊥) → (IsMajority n (tally n (has_voted (calls ++ told ∷ []) slot b)) → ⊥)
-      → IsSettled n (calls ++ told ∷ []) slot → ⊥
+  pub unsettled_accepted : (IsChosenOrDecided n calls slot → ⊥) → (IsMajority n (tally n (has_voted (calls ++ told ∷ []) slot b)) → ⊥)
+      → IsChosenOrDecided n (calls ++ told ∷ []) slot → ⊥
   unsettled_accepted not no_majority =
       still_unsettled n calls told slot not refl (λ c majority. by_ballot c (is_same_ballot b c) refl no_majority majority)
 

@@ -40,16 +40,16 @@ abbrev pub first_counted : ℕ → List Call → ℕ → Ballot → Option Value
 first_counted members calls slot ballot = option_map value_in (find (is_counted members slot ballot) calls)
 
 -- the slot was told as decided, or at one ballot a majority of the members accepted for it
-abbrev pub IsSettled : ℕ → List Call → ℕ → Type 0
-IsSettled members calls slot =
+abbrev pub IsChosenOrDecided : ℕ → List Call → ℕ → Type 0
+IsChosenOrDecided members calls slot =
     IsTrue (list_any (is_decision_for slot) calls)
     ⊎ ((ballot : Ballot) × IsMajority members (tally members (has_voted calls slot ballot)))
 
 -- what the last of the calls, which settled the slot, tells of its value: a decision has its own, and with an acceptance
 -- it is that of the first counted at the ballot
-abbrev pub Tells : ℕ → List Call → ℕ → Call → Value → Type 0
-Tells members calls slot (Accepted acceptor s ballot v) value = first_counted members calls slot ballot ≡ Some value
-Tells members calls slot (Decided s v) value = v ≡ value
+abbrev pub DecidingValue : ℕ → List Call → ℕ → Call → Value → Type 0
+DecidingValue members calls slot (Accepted acceptor s ballot v) value = first_counted members calls slot ballot ≡ Some value
+DecidingValue members calls slot (Decided s v) value = v ≡ value
 
 -- One of the calls settled the slot: those before it did not, with it they do. The value is what that call tells.
 pub record IsLearned (members : ℕ) (calls : List Call) (slot : ℕ) (value : Value) : Type 0 where
@@ -57,11 +57,11 @@ pub record IsLearned (members : ℕ) (calls : List Call) (slot : ℕ) (value : V
   pub call : Call
   pub after : List Call
   pub parts : calls ≡ before ++ call ∷ after
-  pub not_before : IsSettled members before slot → ⊥
-  pub settled : IsSettled members (before ++ call ∷ []) slot
-  pub told : Tells members (before ++ call ∷ []) slot call value
+  pub not_before : IsChosenOrDecided members before slot → ⊥
+  pub settled : IsChosenOrDecided members (before ++ call ∷ []) slot
+  pub told : DecidingValue members (before ++ call ∷ []) slot call value
 
 -- which value a further call makes the slot learn: none where it does not settle the slot, or the slot was settled
-abbrev pub Teaches : ℕ → List Call → Call → ℕ → Option Value → Type 0
-Teaches members calls call slot (Some value) = (IsSettled members calls slot → ⊥) × IsLearned members (calls ++ call ∷ []) slot value
-Teaches members calls call slot None = IsSettled members (calls ++ call ∷ []) slot → IsSettled members calls slot
+abbrev pub Learns : ℕ → List Call → Call → ℕ → Option Value → Type 0
+Learns members calls call slot (Some value) = (IsChosenOrDecided members calls slot → ⊥) × IsLearned members (calls ++ call ∷ []) slot value
+Learns members calls call slot None = IsChosenOrDecided members (calls ++ call ∷ []) slot → IsChosenOrDecided members calls slot

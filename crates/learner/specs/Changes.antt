@@ -6,12 +6,12 @@ use Rattle.ballots.specs.Majority.{tally, IsMajority}
 use Rattle.ballots.specs.declared.value.Value.{Value}
 use Rattle.learner.specs.declared.tally.Tally.{Tally}
 use Rattle.learner.specs.Calls.{Accepted, is_vote_of, first_counted}
-use Rattle.learner.specs.Holding.{Holding, has_vote, decided_at, tally_at, voted_at, first_at}
+use Rattle.learner.specs.State.{LearnerState, has_vote, decided_at, tally_at, voted_at, first_at}
 
 -- with this acceptor's vote, those counted at the slot and ballot are a majority
-abbrev pub IsChosenWith : Holding → ℕ → ℕ → Ballot → Type 0
-IsChosenWith holding acceptor slot ballot =
-    IsMajority holding.members (tally holding.members (λ member. voted_at holding slot ballot member || (acceptor == member)))
+abbrev pub IsChosenWith : LearnerState → ℕ → ℕ → Ballot → Type 0
+IsChosenWith state acceptor slot ballot =
+    IsMajority state.members (tally state.members (λ member. voted_at state slot ballot member || (acceptor == member)))
 
 -- the acceptor is counted in a ballot's tally, which stands from then on; its value is that of the first
 pub record CountsIn (old new : Option Tally) (acceptor : ℕ) (value : Value) : Type 0 where
@@ -19,7 +19,7 @@ pub record CountsIn (old new : Option Tally) (acceptor : ℕ) (value : Value) : 
   pub first : option_map (λ t. t.value) new ≡ option_or (option_map (λ t. t.value) old) (Some value)
 
 -- the acceptor is counted at the slot and ballot, and all else is as before
-pub record Counts (old new : Holding) (acceptor slot : ℕ) (ballot : Ballot) (value : Value) : Type 0 where
+pub record Counts (old new : LearnerState) (acceptor slot : ℕ) (ballot : Ballot) (value : Value) : Type 0 where
   pub members : new.members ≡ old.members
   pub decided : (s : ℕ) → decided_at new s ≡ decided_at old s
   pub votes : (s : ℕ) (b : Ballot) (member : ℕ)
@@ -28,13 +28,13 @@ pub record Counts (old new : Holding) (acceptor slot : ℕ) (ballot : Ballot) (v
       → first_at new s b ≡ option_or (first_at old s b) (first_counted old.members (Accepted acceptor slot ballot value ∷ []) s b)
 
 -- the slot's tallies may be gone, and all else is as before
-pub record Drops (old new : Holding) (slot : ℕ) : Type 0 where
+pub record Drops (old new : LearnerState) (slot : ℕ) : Type 0 where
   pub members : new.members ≡ old.members
   pub learned : new.learned ≡ old.learned
   pub tallies : (s : ℕ) (b : Ballot) → s ≢ slot → tally_at new s b ≡ tally_at old s b
 
 -- the slot has this value and no tallies, and the other slots are as before
-pub record Puts (old new : Holding) (slot : ℕ) (value : Value) : Type 0 where
+pub record Puts (old new : LearnerState) (slot : ℕ) (value : Value) : Type 0 where
   pub members : new.members ≡ old.members
   pub here : decided_at new slot ≡ Some value
   pub gone : (b : Ballot) → first_at new slot b ≡ None

@@ -1,4 +1,5 @@
 pub mod Calls
-pub mod Holding
+pub mod Votes
+pub mod State
 pub mod Learned
 pub mod Changes

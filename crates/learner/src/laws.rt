@@ -1,13 +1,20 @@
 //! Laws of the definitions that every call here is proved against.
 
-ghost use Rattle.std.specs.Prelude.{◌≡◌, ℕ, List, ◌++◌};
+ghost use Rattle.std.specs.Prelude.{◌≡◌, ◌≢◌, ℕ, ◌<◌, ◌↔◌, List, [], ◌∷◌, ◌++◌, Option, Some, None};
+ghost use Rattle.std.specs.List.{Contains};
+ghost use Rattle.ballots.specs.Ballot.{Ballot};
 ghost use Rattle.ballots.specs.declared.value.Value.{Value};
-ghost use Rattle.learner.specs.Calls.{Call, IsSettled, IsLearned};
+ghost use Rattle.learner.specs.Calls.{Call, Accepted, Decided, first_counted, IsChosenOrDecided, IsLearned, Learns};
+ghost use Rattle.learner.specs.Votes.{HasAccepted, MajorityAccepted, IsDecidedOrChosen};
+ghost use Rattle.learner.specs.State.{LearnerState, decided_at, first_at, voted_at};
+ghost use Rattle.learner.specs.Learned.{StateAfter};
 
-/// Of the same calls, a slot learns one value at most.
+/// Of the same calls, a slot learns one value at most, and a further call makes it learn one thing: a value or nothing.
 pub fn learned_is_one()
-    ensures { (members : ℕ) (calls : List Call) (slot : ℕ) (v w : Value)
+    ensures learned { (members : ℕ) (calls : List Call) (slot : ℕ) (v w : Value)
         → IsLearned members calls slot v → IsLearned members calls slot w → v ≡ w }
+    ensures learns { (members : ℕ) (calls : List Call) (call : Call) (slot : ℕ) (a b : Option Value)
+        → Learns members calls call slot a → Learns members calls call slot b → a ≡ b }
 {}
 
 /// What a slot has learned stays, whatever is told later.
@@ -18,9 +25,40 @@ pub fn learned_stays()
 
 /// A slot learns a value exactly where its value was told as decided, or a majority of the members was counted at one
 /// ballot.
-pub fn learned_where_settled()
+pub fn learned_where_chosen_or_decided()
     ensures learned { (members : ℕ) (calls : List Call) (slot : ℕ)
-        → IsSettled members calls slot → (v : Value) × IsLearned members calls slot v }
+        → IsChosenOrDecided members calls slot → (v : Value) × IsLearned members calls slot v }
     ensures settled { (members : ℕ) (calls : List Call) (slot : ℕ) (v : Value)
-        → IsLearned members calls slot v → IsSettled members calls slot }
+        → IsLearned members calls slot v → IsChosenOrDecided members calls slot }
+{}
+
+/// A slot learns where it was told as decided, and where different members, more than half of all, accepted for it at one
+/// ballot; and a value that is learned was told as decided, or accepted by a member at such a ballot.
+pub fn learned_is_decided_or_chosen()
+    ensures decided { (members : ℕ) (calls : List Call) (slot : ℕ) (v : Value)
+        → Contains calls (Decided slot v) → (w : Value) × IsLearned members calls slot w }
+    ensures chosen { (members : ℕ) (calls : List Call) (slot : ℕ) (ballot : Ballot)
+        → MajorityAccepted members calls slot ballot → (w : Value) × IsLearned members calls slot w }
+    ensures only { (members : ℕ) (calls : List Call) (slot : ℕ) (v : Value)
+        → IsLearned members calls slot v → IsDecidedOrChosen members calls slot v }
+{}
+
+/// The first value that is counted at a slot and ballot is that of a member, and no member's vote there comes before it.
+pub fn first_counted_comes_first()
+    ensures { (members : ℕ) (calls : List Call) (slot : ℕ) (ballot : Ballot) (v : Value)
+        → first_counted members calls slot ballot ≡ Some v
+        → (before : List Call) × (member : ℕ) × (after : List Call)
+        × (calls ≡ before ++ Accepted member slot ballot v ∷ after) × (member < members)
+        × ((m : ℕ) → m < members → HasAccepted before m slot ballot → ⊥) }
+{}
+
+/// A learner has of each slot what its calls made it learn, and learners of the same calls answer every look-up alike.
+pub fn states_are_what_was_learned()
+    ensures decided { (members : ℕ) (calls : List Call) (state : LearnerState) (slot : ℕ) (v : Value)
+        → StateAfter members calls state → decided_at state slot ≡ Some v ↔ IsLearned members calls slot v }
+    ensures votes { (members : ℕ) (calls : List Call) (a b : LearnerState) (slot : ℕ) (ballot : Ballot) (member : ℕ)
+        → StateAfter members calls a → StateAfter members calls b → member < members
+        → voted_at a slot ballot member ≡ voted_at b slot ballot member }
+    ensures firsts { (members : ℕ) (calls : List Call) (a b : LearnerState) (slot : ℕ) (ballot : Ballot)
+        → StateAfter members calls a → StateAfter members calls b → first_at a slot ballot ≡ first_at b slot ballot }
 {}

@@ -3,9 +3,9 @@ ghost use Rattle.std.specs.Option.{option_map};
 ghost use Rattle.indexmap.specs.IndexMap.{get, spare, IsUnchanged};
 ghost use Rattle.ballots.specs.Ballot.{Ballot as Pair, is_same_ballot};
 ghost use Rattle.ballots.specs.Majority.{contains};
-ghost use Rattle.learner.specs.Calls.{Call, Accepted, Decided, Teaches};
-ghost use Rattle.learner.specs.Holding.{decided_at, first_at, tally_in, tally_at, voted_at, HasRoomToLearn, HasRoomToCount, HasRoomForTally, HasRoomForVote};
-ghost use Rattle.learner.specs.Learned.{Learnt, IsSame};
+ghost use Rattle.learner.specs.Calls.{Call, Accepted, Decided, Learns};
+ghost use Rattle.learner.specs.State.{decided_at, first_at, tally_in, tally_at, voted_at, HasRoomToLearn, HasRoomToCount, HasRoomForTally, HasRoomForVote};
+ghost use Rattle.learner.specs.Learned.{StateAfter, IsSame};
 ghost use Rattle.learner.specs.Changes.{Counts, CountsIn, Drops, Puts, IsChosenWith};
 
 use crate::tally::Tally;
@@ -26,13 +26,13 @@ pub struct Learner {
 }
 
 impl Model for Learner {
-    ghost use Rattle.learner.specs.Holding.{Holding, holding_code};
+    ghost use Rattle.learner.specs.State.{LearnerState, learner_state_code};
 
-    ghost Value = { Holding };
+    ghost Value = { LearnerState };
 
     ghost use Rattle.std.specs.Coded.{codes};
 
-    ghost coded = { holding_code (Prim.hlevel codes) (Prim.hlevel codes) (Prim.hlevel codes) (Prim.hlevel codes) };
+    ghost coded = { learner_state_code (Prim.hlevel codes) (Prim.hlevel codes) (Prim.hlevel codes) (Prim.hlevel codes) };
 
     ghost view = { λ l. record { members = l.members; learned = l.learned; tallies = l.tallies } };
 }
@@ -40,7 +40,7 @@ impl Model for Learner {
 impl Learner {
     /// A learner that was told nothing. It takes memory from this allocator as it grows, and counts these members.
     pub fn new(alloc: Global, members: Members) -> Learner
-        ensures { Learnt members [] result }
+        ensures { StateAfter members [] result }
     {
         Learner {
             members,
@@ -64,8 +64,8 @@ impl Learner {
         value: &Value,
     ) -> Result<Option<Value>, OutOfMemory>
         ensures room { OnOk result (HasRoomToLearn self.new slot) }
-        ensures told { IfOk result (λ told. (n : ℕ) (calls : List Call) → Learnt n calls self.old
-            → Teaches n calls (Decided slot value.now) slot told) }
+        ensures told { IfOk result (λ told. (n : ℕ) (calls : List Call) → StateAfter n calls self.old
+            → Learns n calls (Decided slot value.now) slot told) }
         ensures same { IsSame self.old self.new }
         ensures memory { OnErr result (decided_at self.old slot ≡ None) }
     {
@@ -79,7 +79,7 @@ impl Learner {
     /// Learns that this value was decided for the slot. Where the slot has learned one, it stays.
     pub fn on_decided(&mut self, slot: Slot, value: Value)
         requires { HasRoomToLearn self.old slot }
-        ensures { (n : ℕ) (calls : List Call) → Learnt n calls self.old → Learnt n (calls ++ Decided slot value ∷ []) self.new }
+        ensures { (n : ℕ) (calls : List Call) → StateAfter n calls self.old → StateAfter n (calls ++ Decided slot value ∷ []) self.new }
     {
         if self.is_open(slot) {
             self.learn(slot, value);
@@ -96,8 +96,8 @@ impl Learner {
         value: &Value,
     ) -> Result<Option<Value>, OutOfMemory>
         ensures room { OnOk result (HasRoomForVote self.new acceptor slot ballot) }
-        ensures told { IfOk result (λ told. (n : ℕ) (calls : List Call) → Learnt n calls self.old
-            → Teaches n calls (Accepted acceptor slot ballot value.now) slot told) }
+        ensures told { IfOk result (λ told. (n : ℕ) (calls : List Call) → StateAfter n calls self.old
+            → Learns n calls (Accepted acceptor slot ballot value.now) slot told) }
         ensures same { IsSame self.old self.new }
         ensures memory { OnErr result ((acceptor < self.old.members) × (decided_at self.old slot ≡ None)) }
     {
@@ -116,8 +116,8 @@ impl Learner {
     /// by a node that is no member, or of a slot that has learned a value, counts for nothing.
     pub fn on_accepted(&mut self, acceptor: NodeId, slot: Slot, ballot: Ballot, value: Value)
         requires { HasRoomForVote self.old acceptor slot ballot }
-        ensures { (n : ℕ) (calls : List Call) → Learnt n calls self.old
-            → Learnt n (calls ++ Accepted acceptor slot ballot value ∷ []) self.new }
+        ensures { (n : ℕ) (calls : List Call) → StateAfter n calls self.old
+            → StateAfter n (calls ++ Accepted acceptor slot ballot value ∷ []) self.new }
     {
         if !self.is_open_to(acceptor, slot) {
             return;

@@ -6,9 +6,8 @@
 //! caller makes its room with the call of the same name behind `see_`, which tells what the call will make learned.
 #![tactic(auto)]
 
-mod laws;
+pub mod laws;
 mod learner;
 mod tally;
 
-pub use laws::{learned_is_one, learned_stays, learned_where_settled};
 pub use learner::Learner;

@@ -1,5 +1,5 @@
 use Rattle.std.proofs.Common.{ap, ◌∙◌}
-use Rattle.learner.specs.Holding.{tally_in}
+use Rattle.learner.specs.State.{tally_in}
 use Rattle.learner.proofs.learner.count_in.Goals as goal
 
 pub returns-clause-others : goal.returns-clause-others

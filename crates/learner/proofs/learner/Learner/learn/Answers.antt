@@ -1,6 +1,6 @@
 use Rattle.std.proofs.Common.{refl, ap}
 use Rattle.std.specs.Option.{option_map, option_and_then}
-use Rattle.learner.specs.Holding.{tally_in}
+use Rattle.learner.specs.State.{tally_in}
 use Rattle.learner.proofs.Lookups.{apart_is_false}
 use Rattle.learner.proofs.learner.Learner.learn.Goals as goal
 

@@ -1,0 +1,11 @@
+use Rattle.learner.proofs.Voting.{decided_is_learned, votes_alike, firsts_alike}
+use Rattle.learner.proofs.laws.states_are_what_was_learned.Goals as goal
+
+pub returns-clause-decided : goal.returns-clause-decided
+returns-clause-decided c = decided_is_learned
+
+pub returns-clause-votes : goal.returns-clause-votes
+returns-clause-votes c = votes_alike
+
+pub returns-clause-firsts : goal.returns-clause-firsts
+returns-clause-firsts c = firsts_alike
