@@ -160,7 +160,7 @@ closed_answers members calls promise closed begun since is_open completes = clos
 
 -- ---- a Nack
 
-ended_by : (begun : Begun) (slot : ℕ) (ballot : Ballot) → begun.slot ≡ slot → begun.ballot ≡ ballot → ends begun (Nacks slot ballot) ≡ true
+pub ended_by : (begun : Begun) (slot : ℕ) (ballot : Ballot) → begun.slot ≡ slot → begun.ballot ≡ ballot → ends begun (Nacks slot ballot) ≡ true
 ended_by begun slot ballot slot_is ballot_is = rw (eq-eqb slot begun.slot (sym slot_is), (same_ballot_is ballot begun.ballot).1 (sym ballot_is)) refl
 
 pub closed_by : (members : ℕ) (calls : List Call) (held : Option Attempt) (slot : ℕ) (ballot : Ballot) → IsAt held slot ballot → HoldsOpen members calls held → HoldsOpen members (calls ++ Nacks slot ballot ∷ []) None
@@ -172,7 +172,7 @@ closed_by members calls (Some attempt) slot ballot at holds = λ begun since is_
     let differ : true ≡ false = sym ended ∙ was.not_ended in
     absurd (cc)
 
-not_ended_by : (answer : Bool) (begun : Begun) (slot : ℕ) (ballot : Ballot) → ends begun (Nacks slot ballot) ≡ answer → ((begun.slot ≡ slot) × (begun.ballot ≡ ballot) → ⊥) → ends begun (Nacks slot ballot) ≡ false
+pub not_ended_by : (answer : Bool) (begun : Begun) (slot : ℕ) (ballot : Ballot) → ends begun (Nacks slot ballot) ≡ answer → ((begun.slot ≡ slot) × (begun.ballot ≡ ballot) → ⊥) → ends begun (Nacks slot ballot) ≡ false
 not_ended_by false begun slot ballot is not = is
 not_ended_by true begun slot ballot is not =
     let both : ((slot == begun.slot) ≡ true) × (is_same_ballot ballot begun.ballot ≡ true) = both_true _ _ is in

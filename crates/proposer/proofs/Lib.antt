@@ -6,3 +6,6 @@ pub mod Opening
 pub mod Standing
 pub mod Answering
 pub mod Once
+pub mod Members
+pub mod Attempts
+pub mod Majority

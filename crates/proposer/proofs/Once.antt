@@ -13,9 +13,6 @@ use Rattle.proposer.proofs.Opening.{one_open}
 
 -- ---- one answer
 
-pub one_begun : (calls : List Call) (begun another : Begun) (since after : List Call) → IsOpen calls begun since → IsOpen calls another after → begun ≡ another
-one_begun calls begun another since after one other = (one_open calls begun another since after one other).0
-
 same_triple : (a b : ℕ × Ballot × Value) → a.0 ≡ b.0 → a.1 ≡ b.1 → a.2 ≡ b.2 → a ≡ b
 same_triple a b slots ballots values =
     ap (λ (x : ℕ). (x, a.1, a.2)) slots ∙ ap (λ (y : Ballot). (b.0, y, a.2)) ballots ∙ ap (λ (z : Value). (b.0, b.1, z)) values
@@ -38,7 +35,7 @@ one_answer members calls promise (Some a) (Some b) one other = ap Some (one_acce
 
 -- ---- ballots rise
 
-first_within : (round : ℕ) (calls : List Call) → round ≤ highest_begun round calls
+pub first_within : (round : ℕ) (calls : List Call) → round ≤ highest_begun round calls
 first_within round [] = omega arith
 first_within round (Begins begun ∷ calls) = let more : max round begun.ballot.round ≤ highest_begun (max round begun.ballot.round) calls = first_within (max round begun.ballot.round) calls in omega (arith, more)
 first_within round (Promises promise ∷ calls) = first_within round calls
@@ -50,7 +47,7 @@ begun_within round (Begins another ∷ before) after begun = begun_within (max r
 begun_within round (Promises promise ∷ before) after begun = begun_within round before after begun
 begun_within round (Nacks slot ballot ∷ before) after begun = begun_within round before after begun
 
-above_next : (highest seen low round : ℕ) → low ≤ highest → round ≡ suc (max seen highest) → low < round
+pub above_next : (highest seen low round : ℕ) → low ≤ highest → round ≡ suc (max seen highest) → low < round
 above_next highest seen low round le is = omega (arith, le, is)
 
 -- a later attempt's round is above an earlier one's

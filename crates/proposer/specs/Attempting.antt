@@ -89,3 +89,8 @@ abbrev pub Answers : ℕ → List Call → Promise → Option (ℕ × Ballot × 
 Answers members calls promise (Some accept) = Accepts members calls promise accept
 Answers members calls promise None =
     (begun : Begun) (since : List Call) → IsOpen calls begun since → Completes members begun since promise → ⊥
+
+-- the open attempt has been promised by a majority, so that its Accept was answered
+abbrev pub HasItsMajority : ℕ → List Call → Type 0
+HasItsMajority members calls =
+    (begun : Begun) × (since : List Call) × IsOpen calls begun since × HasMajority members (answering members begun since)

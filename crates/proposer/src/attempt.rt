@@ -50,6 +50,13 @@ impl Attempt {
         self.slot == slot && self.ballot == ballot
     }
 
+    /// Whether its majority has answered, and its Accept was given.
+    pub(crate) fn has_majority(&self) -> bool
+        ensures { IsTrue result ↔ (self.now.choice ≡ None) }
+    {
+        self.choice.is_none()
+    }
+
     /// Whether a promise of this node would be counted: it is a member, and none of its promises is counted.
     pub(crate) fn is_new(&self, members: Members, sender: NodeId) -> bool
         ensures { IsTrue result ↔ IsNew members sender self.now }

@@ -1,7 +1,7 @@
 ghost use Rattle.std.specs.Prelude.{◌≡◌, ℕ, ◌≤◌, ◌++◌, ◌∷◌, [], List, max, Option, Some, None, IfOk, OnErr, IsErr, IsTrue, ◌↔◌};
 ghost use Rattle.ballots.specs.Limits.{max_round};
 ghost use Rattle.proposer.specs.Call.{Start, Begins, Promises, Nacks, Call};
-ghost use Rattle.proposer.specs.Attempting.{highest_begun, next_ballot, IsAttempt, Answers};
+ghost use Rattle.proposer.specs.Attempting.{highest_begun, next_ballot, IsAttempt, Answers, HasItsMajority};
 ghost use Rattle.proposer.specs.Counting.{IsAt};
 ghost use Rattle.proposer.specs.State.{StateAfter, Holds, HoldsOpen, attempt_of};
 
@@ -58,6 +58,17 @@ impl Proposer {
         match &self.attempt {
             Some(attempt) => Some((attempt.slot, attempt.ballot)),
             None => None,
+        }
+    }
+
+    /// Whether the open attempt has its majority, so that its Accept was given; false where none is open.
+    pub fn has_majority(&self) -> bool
+        ensures { (start : Start) (calls : List Call) → StateAfter start calls self.now
+            → IsTrue result ↔ HasItsMajority start.members calls }
+    {
+        match &self.attempt {
+            Some(attempt) => attempt.has_majority(),
+            None => false,
         }
     }
 

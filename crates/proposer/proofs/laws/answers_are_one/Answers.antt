@@ -1,8 +1,9 @@
-use Rattle.proposer.proofs.Once.{one_begun, one_answer}
+use Rattle.proposer.proofs.Opening.{one_open}
+use Rattle.proposer.proofs.Once.{one_answer}
 use Rattle.proposer.proofs.laws.answers_are_one.Goals as goal
 
 pub returns-clause-attempts : goal.returns-clause-attempts
-returns-clause-attempts c = one_begun
+returns-clause-attempts c = λ calls begun another since after one other. one_open calls begun another since after one other
 
 pub returns-clause-answers : goal.returns-clause-answers
 returns-clause-answers c = one_answer

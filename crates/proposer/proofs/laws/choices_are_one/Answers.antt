@@ -1,5 +1,9 @@
 use Rattle.proposer.proofs.Highest.{chooses_one}
+use Rattle.proposer.proofs.Members.{chooses_highest}
 use Rattle.proposer.proofs.laws.choices_are_one.Goals as goal
 
-pub returns : goal.returns
-returns c = chooses_one
+pub returns-clause-one : goal.returns-clause-one
+returns-clause-one c = chooses_one
+
+pub returns-clause-highest : goal.returns-clause-highest
+returns-clause-highest c = chooses_highest

@@ -1,0 +1,33 @@
+-- Whether the attempt that is held has its majority.
+use Rattle.std.proofs.Common.{◌≡◌, ℕ, List, Option, Some, None, refl, subst}
+use Rattle.proposer.specs.declared.attempt.Attempt.{Attempt}
+use Rattle.proposer.specs.declared.attempt.Choice.{Choice}
+use Rattle.proposer.specs.Call.{Begun, Call}
+use Rattle.proposer.specs.Choosing.{HasMajority}
+use Rattle.proposer.specs.Attempting.{IsOpen, answering, HasItsMajority}
+use Rattle.proposer.specs.Counting.{ChoiceAfter}
+use Rattle.proposer.specs.State.{Holds, HoldsOpen}
+use Rattle.proposer.proofs.Opening.{one_open}
+
+module _ (members : ℕ) (calls : List Call) (attempt : Attempt) (holds : Holds members calls attempt) where
+  pub majority_where_gone : attempt.choice ≡ None → HasItsMajority members calls
+  majority_where_gone gone =
+      (holds.begun, holds.since, holds.open_is, subst (ChoiceAfter members holds.begun.candidate (answering members holds.begun holds.since)) gone holds.counts.choice)
+
+  pub none_where_kept : (choice : Choice) → attempt.choice ≡ Some choice → HasItsMajority members calls → ⊥
+  none_where_kept choice kept majority =
+      let one : (majority.0 ≡ holds.begun) × (majority.1 ≡ holds.since) = one_open calls majority.0 holds.begun majority.1 holds.since majority.2 holds.open_is in
+      let here : HasMajority members (answering members holds.begun holds.since) =
+      subst (λ (b : Begun). HasMajority members (answering members b holds.since)) one.0 (subst (λ (s : List Call). HasMajority members (answering members majority.0 s)) one.1 majority.3) in
+      (subst (ChoiceAfter members holds.begun.candidate (answering members holds.begun holds.since)) kept holds.counts.choice).0 here
+
+-- where nothing is open, nothing has it
+pub none_where_closed : (members : ℕ) (calls : List Call) → HoldsOpen members calls None → HasItsMajority members calls → ⊥
+none_where_closed members calls closed majority = closed majority.0 majority.1 majority.2
+
+pub gone_where_majority : (members : ℕ) (calls : List Call) (attempt : Attempt) → Holds members calls attempt → HasItsMajority members calls → attempt.choice ≡ None
+gone_where_majority members calls attempt holds majority = by attempt.choice refl
+  where
+    by : (choice : Option Choice) → attempt.choice ≡ choice → attempt.choice ≡ None
+    by None gone = gone
+    by (Some choice) kept = absurd (none_where_kept members calls attempt holds choice kept majority)

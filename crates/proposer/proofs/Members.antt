@@ -1,0 +1,263 @@
+-- What is among the promises and the reports, told by what is in the list.
+use Rattle.std.proofs.Common.{◌≡◌, ◌≢◌, ℕ, ◌<◌, ◌==◌, ◌||◌, ◌⊎◌, ◌↔◌, inl, inr, Bool, true, false, not, cond, List, [], ◌∷◌, ◌++◌, filter, filter_map, refl, sym, ap, subst, ◌∙◌, arith, eq-eqb, ne_eqb}
+use Rattle.std.specs.List.{Contains, AllByRecursion, list_any}
+use Rattle.std.proofs.lemmas.Bool.Decides.{nat_tests}
+use Rattle.std.proofs.lemmas.List.Elements.{Contains-push, Contains-append_left, Contains-append_right, Contains-append_cases, Contains-push_cases}
+use Rattle.ballots.specs.Ballot.{Ballot, IsBelow}
+use Rattle.ballots.specs.Majority.{tally, IsMajority}
+use Rattle.ballots.specs.declared.value.Value.{Value}
+use Rattle.ballots.proofs.CallerLemmas.{not_below_itself, below_carried, majority_stays}
+use Rattle.proposer.specs.Call.{Begun, Promise, Call, Begins, Promises, Nacks}
+use Rattle.proposer.specs.Choosing.{Report, is_from, is_sender, HasMajority, first_of_each, IsHighest, Chooses}
+use Rattle.proposer.specs.Attempting.{answering, is_for, promise_in}
+use Rattle.proposer.specs.Promised.{IsAnswerTo, HasPromised, MajorityPromised}
+use Rattle.proposer.proofs.Lists.{all-append, all_weaker}
+use Rattle.proposer.proofs.Counting.{other_than}
+use Rattle.proposer.proofs.Answering.{is_for_parts, is_for_these}
+
+-- ---- one element of a list
+
+here : {X : Type 0} (x : X) (xs : List X) → Contains (x ∷ xs) x
+here x xs = Contains-append_left (x ∷ []) xs x (Contains-push [] x)
+
+there : {X : Type 0} (x y : X) (xs : List X) → Contains xs y → Contains (x ∷ xs) y
+there x y xs is_in = Contains-append_right (x ∷ []) xs y is_in
+
+in_the_middle : {X : Type 0} (before after : List X) (x : X) → Contains (before ++ x ∷ after) x
+in_the_middle before after x = Contains-append_right before (x ∷ after) x (here x after)
+
+nowhere : {X : Type 0} (x : X) → Contains [] x → ⊥
+nowhere x is_in = absurd (omega (arith, is_in.1))
+
+first_or_rest : {X : Type 0} (x y : X) (xs : List X) → Contains (x ∷ xs) y → (x ≡ y) ⊎ Contains xs y
+first_or_rest x y xs is_in = elim (Contains-append_cases (x ∷ []) xs y is_in) as (λ _. (x ≡ y) ⊎ Contains xs y) [
+  | inl one ↦ elim (Contains-push_cases [] x y one) as (λ _. (x ≡ y) ⊎ Contains xs y) [
+    | inl none ↦ absurd (nowhere y none)
+    | inr same ↦ inl same
+  ]
+  | inr rest ↦ inr rest
+]
+
+-- what holds of each holds of what is in the list
+all_in : {X : Type 0} (P : X → Type 0) (xs : List X) (x : X) → AllByRecursion P xs → Contains xs x → P x
+all_in P [] x of_all is_in = absurd (nowhere x is_in)
+all_in P (y ∷ xs) x of_all is_in = elim (first_or_rest y x xs is_in) as (λ _. P x) [
+  | inl same ↦ subst P same of_all.0
+  | inr rest ↦ all_in P xs x of_all.1 rest
+]
+
+-- ---- a filter
+
+out_step : {X : Type 0} (f : X → Bool) (y x : X) (xs : List X) (b : Bool) → f y ≡ b → Contains (cond b (y ∷ filter f xs) (filter f xs)) x
+    → (Contains (filter f xs) x → Contains xs x × (f x ≡ true)) → Contains (y ∷ xs) x × (f x ≡ true)
+out_step f y x xs true is is_in rest = elim (first_or_rest y x (filter f xs) is_in) as (λ _. Contains (y ∷ xs) x × (f x ≡ true)) [
+  | inl same ↦ (subst (Contains (y ∷ xs)) same (here y xs), subst (λ z. f z ≡ true) same is)
+  | inr later ↦ (there y x xs (rest later).0, (rest later).1)
+]
+out_step f y x xs false is is_in rest = (there y x xs (rest is_in).0, (rest is_in).1)
+
+out_of_filter : {X : Type 0} (f : X → Bool) (xs : List X) (x : X) → Contains (filter f xs) x → Contains xs x × (f x ≡ true)
+out_of_filter f [] x is_in = absurd (nowhere x is_in)
+out_of_filter f (y ∷ xs) x is_in = out_step f y x xs (f y) refl is_in (out_of_filter f xs x)
+
+into_step : {X : Type 0} (f : X → Bool) (y x : X) (xs : List X) (b : Bool) → f y ≡ b → f x ≡ true → (y ≡ x) ⊎ Contains (filter f xs) x
+    → Contains (cond b (y ∷ filter f xs) (filter f xs)) x
+into_step f y x xs true is passes (inl same) = subst (Contains (y ∷ filter f xs)) same (here y (filter f xs))
+into_step f y x xs true is passes (inr rest) = there y x (filter f xs) rest
+into_step f y x xs false is passes (inl same) = absurd (let no : false ≡ true = sym is ∙ ap f same ∙ passes in cc)
+into_step f y x xs false is passes (inr rest) = rest
+
+into_filter : {X : Type 0} (f : X → Bool) (xs : List X) (x : X) → f x ≡ true → Contains xs x → Contains (filter f xs) x
+into_filter f [] x passes is_in = absurd (nowhere x is_in)
+into_filter f (y ∷ xs) x passes is_in = elim (first_or_rest y x xs is_in) as (λ _. Contains (filter f (y ∷ xs)) x) [
+  | inl same ↦ into_step f y x xs (f y) refl passes (inl same)
+  | inr rest ↦ into_step f y x xs (f y) refl passes (inr (into_filter f xs x passes rest))
+]
+
+-- ---- the promises that answer an attempt
+
+promised_in : (calls : List Call) (promise : Promise) → Contains (filter_map promise_in calls) promise → Contains calls (Promises promise)
+promised_in [] promise is_in = absurd (nowhere promise is_in)
+promised_in (Begins begun ∷ calls) promise is_in = there (Begins begun) (Promises promise) calls (promised_in calls promise is_in)
+promised_in (Nacks slot ballot ∷ calls) promise is_in = there (Nacks slot ballot) (Promises promise) calls (promised_in calls promise is_in)
+promised_in (Promises first ∷ calls) promise is_in = elim (first_or_rest first promise (filter_map promise_in calls) is_in) as (λ _. Contains (Promises first ∷ calls) (Promises promise)) [
+  | inl same ↦ subst (λ p. Contains (Promises first ∷ calls) (Promises p)) same (here (Promises first) calls)
+  | inr rest ↦ there (Promises first) (Promises promise) calls (promised_in calls promise rest)
+]
+
+same_promise : (p q : Promise) → Promises p ≡ Promises q → p ≡ q
+same_promise p q e = cc
+
+in_promised : (calls : List Call) (promise : Promise) → Contains calls (Promises promise) → Contains (filter_map promise_in calls) promise
+in_promised [] promise is_in = absurd (nowhere (Promises promise) is_in)
+in_promised (Begins begun ∷ calls) promise is_in = elim (first_or_rest (Begins begun) (Promises promise) calls is_in) as (λ _. Contains (filter_map promise_in calls) promise) [
+  | inl same ↦ absurd (cc)
+  | inr rest ↦ in_promised calls promise rest
+]
+in_promised (Nacks slot ballot ∷ calls) promise is_in = elim (first_or_rest (Nacks slot ballot) (Promises promise) calls is_in) as (λ _. Contains (filter_map promise_in calls) promise) [
+  | inl same ↦ absurd (cc)
+  | inr rest ↦ in_promised calls promise rest
+]
+in_promised (Promises first ∷ calls) promise is_in = elim (first_or_rest (Promises first) (Promises promise) calls is_in) as (λ _. Contains (first ∷ filter_map promise_in calls) promise) [
+  | inl same ↦ subst (Contains (first ∷ filter_map promise_in calls)) (same_promise first promise same) (here first (filter_map promise_in calls))
+  | inr rest ↦ there first promise (filter_map promise_in calls) (in_promised calls promise rest)
+]
+
+answers_then : (members : ℕ) (begun : Begun) (since : List Call) (promise : Promise) → Contains (answering members begun since) promise → Contains since (Promises promise) × IsAnswerTo members begun promise
+answers_then members begun since promise is_in =
+    let out : Contains (filter_map promise_in since) promise × (is_for members begun promise ≡ true) = out_of_filter (is_for members begun) (filter_map promise_in since) promise is_in in
+    let parts : (promise.sender < members) × (promise.slot ≡ begun.slot) × (promise.ballot ≡ begun.ballot) = is_for_parts members begun promise out.1 in
+    (promised_in since promise out.0, record { member = parts.0; slot = parts.1; ballot = parts.2 })
+
+answers_by : (members : ℕ) (begun : Begun) (since : List Call) (promise : Promise) → Contains since (Promises promise) × IsAnswerTo members begun promise → Contains (answering members begun since) promise
+answers_by members begun since promise told =
+    into_filter (is_for members begun) (filter_map promise_in since) promise (is_for_these members begun promise told.1.member told.1.slot told.1.ballot) (in_promised since promise told.0)
+
+pub answers_are_told : (members : ℕ) (begun : Begun) (since : List Call) (promise : Promise) → (Contains (answering members begun since) promise ↔ (Contains since (Promises promise) × IsAnswerTo members begun promise))
+answers_are_told members begun since promise = (answers_then members begun since promise, answers_by members begun since promise)
+
+-- ---- senders
+
+abbrev IsSender : List Promise → ℕ → Type 0
+IsSender promises node = (promise : Promise) × Contains promises promise × (promise.sender ≡ node)
+
+sender_step : (promise : Promise) (promises : List Promise) (node : ℕ) (b : Bool) → is_from node promise ≡ b → is_sender (promise ∷ promises) node ≡ true
+    → (is_sender promises node ≡ true → IsSender promises node) → IsSender (promise ∷ promises) node
+sender_step promise promises node true from is rest = (promise, here promise promises, grind (arith, nat_tests, from))
+sender_step promise promises node false not_from is rest =
+    let later = rest (ap (λ (b : Bool). b || is_sender promises node) (sym not_from) ∙ is) in
+    (later.0, there promise later.0 promises later.1, later.2)
+
+sender_then : (promises : List Promise) (node : ℕ) → is_sender promises node ≡ true → IsSender promises node
+sender_then [] node is = absurd (let no : false ≡ true = is in cc)
+sender_then (promise ∷ promises) node is = sender_step promise promises node (is_from node promise) refl is (sender_then promises node)
+
+or_true : (b : Bool) → (b || true) ≡ true
+or_true true = refl
+or_true false = refl
+
+sender_by : (promises : List Promise) (promise : Promise) → Contains promises promise → is_sender promises promise.sender ≡ true
+sender_by [] promise is_in = absurd (nowhere promise is_in)
+sender_by (first ∷ promises) promise is_in = elim (first_or_rest first promise promises is_in) as (λ _. is_sender (first ∷ promises) promise.sender ≡ true) [
+  | inl same ↦
+      let from : is_from promise.sender first ≡ true = eq-eqb first.sender promise.sender (ap (λ (p : Promise). p.sender) same) in
+      ap (λ (b : Bool). b || is_sender promises promise.sender) from
+  | inr rest ↦ ap (λ (b : Bool). is_from promise.sender first || b) (sender_by promises promise rest) ∙ or_true (is_from promise.sender first)
+]
+
+-- ---- a majority
+
+majority_then : (members : ℕ) (begun : Begun) (since : List Call) → HasMajority members (answering members begun since) → MajorityPromised members begun since
+majority_then members begun since majority = record {
+  has_promised = is_sender (answering members begun since);
+  majority = majority;
+  each = λ node lt is.
+      let sent = sender_then (answering members begun since) node is in
+      let told = answers_then members begun since sent.0 sent.1 in
+      (sent.0, told.0, told.1, sent.2);
+}
+
+majority_by : (members : ℕ) (begun : Begun) (since : List Call) → MajorityPromised members begun since → HasMajority members (answering members begun since)
+majority_by members begun since promised =
+    majority_stays members promised.has_promised (is_sender (answering members begun since))
+    (λ node lt is.
+    let told = promised.each node lt is in
+    subst (λ (n : ℕ). is_sender (answering members begun since) n ≡ true) told.3 (sender_by (answering members begun since) told.0 (answers_by members begun since told.0 (told.1, told.2))))
+    promised.majority
+
+pub majority_is_promised : (members : ℕ) (begun : Begun) (since : List Call) → (HasMajority members (answering members begun since) ↔ MajorityPromised members begun since)
+majority_is_promised members begun since = (majority_then members begun since, majority_by members begun since)
+
+-- ---- each sender's first
+
+differs_of : (a b : ℕ) → not (a == b) ≡ true → a ≢ b
+differs_of a b is same =
+    let no : not true ≡ true = subst (λ (x : Bool). not x ≡ true) (eq-eqb a b same) is in
+    absurd (let falsum : false ≡ true = no in cc)
+
+other_by : (first other : Promise) → first.sender ≢ other.sender → other_than first other ≡ true
+other_by first other differs = ap not (ne_eqb other.sender first.sender (λ same. differs (sym same)))
+
+-- the promise, with none of its sender before it
+abbrev FirstOf : List Promise → Promise → Type 0
+FirstOf promises promise =
+    (before : List Promise) × (after : List Promise) × (promises ≡ before ++ promise ∷ after)
+    × ((other : Promise) → Contains before other → other.sender ≢ promise.sender)
+
+first_then : (promises : List Promise) (promise : Promise) → Contains (first_of_each promises) promise → FirstOf promises promise
+first_then [] promise is_in = absurd (nowhere promise is_in)
+first_then (first ∷ promises) promise is_in = elim (first_or_rest first promise (filter (other_than first) (first_of_each promises)) is_in) as (λ _. FirstOf (first ∷ promises) promise) [
+  | inl same ↦ ([], promises, ap (λ (p : Promise). p ∷ promises) same, λ other none. absurd (nowhere other none))
+  | inr rest ↦
+      let out = out_of_filter (other_than first) (first_of_each promises) promise rest in
+      let later = first_then promises promise out.0 in (
+        first ∷ later.0,
+        later.1,
+        ap (λ (l : List Promise). first ∷ l) later.2,
+        λ other before. elim (first_or_rest first other later.0 before) as (λ _. other.sender ≢ promise.sender) [
+          | inl same ↦ λ own. differs_of promise.sender first.sender out.1 (sym (ap (λ (p : Promise). p.sender) same ∙ own))
+          | inr earlier ↦ later.3 other earlier
+        ],
+      )
+]
+
+first_by : (before after : List Promise) (promise : Promise) → ((other : Promise) → Contains before other → other.sender ≢ promise.sender) → Contains (first_of_each (before ++ promise ∷ after)) promise
+first_by [] after promise none = here promise (filter (other_than promise) (first_of_each after))
+first_by (first ∷ before) after promise none =
+    there first promise (filter (other_than first) (first_of_each (before ++ promise ∷ after)))
+    (into_filter (other_than first) (first_of_each (before ++ promise ∷ after)) promise (other_by first promise (none first (here first before)))
+    (first_by before after promise (λ other earlier. none other (there first other before earlier))))
+
+pub firsts_count : (promises : List Promise) (promise : Promise) → (Contains (first_of_each promises) promise ↔ FirstOf promises promise)
+firsts_count promises promise =
+    (first_then promises promise, λ first. subst (λ (l : List Promise). Contains (first_of_each l) promise) (sym first.2) (first_by first.0 first.1 promise first.3))
+
+-- no two are of one sender
+abbrev Apart : List Promise → Type 0
+Apart [] = Unit {0}
+Apart (promise ∷ promises) = ((other : Promise) → Contains promises other → promise.sender ≢ other.sender) × Apart promises
+
+filter_step : (f : Promise → Bool) (promise : Promise) (promises : List Promise) (b : Bool) → ((other : Promise) → Contains promises other → promise.sender ≢ other.sender) → Apart (filter f promises)
+    → Apart (cond b (promise ∷ filter f promises) (filter f promises))
+filter_step f promise promises true apart rest = (λ other is_in. apart other (out_of_filter f promises other is_in).0, rest)
+filter_step f promise promises false apart rest = rest
+
+filter_apart : (f : Promise → Bool) (promises : List Promise) → Apart promises → Apart (filter f promises)
+filter_apart f [] apart = tt
+filter_apart f (promise ∷ promises) apart = filter_step f promise promises (f promise) apart.0 (filter_apart f promises apart.1)
+
+firsts_apart : (promises : List Promise) → Apart (first_of_each promises)
+firsts_apart [] = tt
+firsts_apart (first ∷ promises) = (
+  λ other is_in own. differs_of other.sender first.sender (out_of_filter (other_than first) (first_of_each promises) other is_in).1 (sym own),
+  filter_apart (other_than first) (first_of_each promises) (firsts_apart promises),
+)
+
+apart_back : (before rest : List Promise) → Apart (before ++ rest) → Apart rest
+apart_back [] rest apart = apart
+apart_back (promise ∷ before) rest apart = apart_back before rest apart.1
+
+pub count_once : (promises before mid after : List Promise) (promise other : Promise) → first_of_each promises ≡ before ++ promise ∷ (mid ++ other ∷ after) → promise.sender ≢ other.sender
+count_once promises before mid after promise other split =
+    (apart_back before (promise ∷ (mid ++ other ∷ after)) (subst Apart split (firsts_apart promises))).0 other (in_the_middle mid after other)
+
+-- ---- the highest report
+
+none_above : (reports : List Report) (report other : Report) → IsHighest reports report → Contains reports other → IsBelow report.0 other.0 → ⊥
+none_above reports report other highest is_in =
+    all_in (λ r. IsBelow report.0 r.0 → ⊥) reports other
+    (rw highest.split
+    (all-append (λ r. IsBelow report.0 r.0 → ⊥) highest.before (report ∷ highest.after)
+    (all_weaker (λ r. IsBelow r.0 report.0) (λ r. IsBelow report.0 r.0 → ⊥) highest.before (λ r below above. not_below_itself r.0 (below_carried r.0 report.0 r.0 below above)) highest.above_those_before)
+    (not_below_itself report.0, highest.not_below_those_after)))
+    is_in
+
+pub chooses_highest : (candidate : Value) (reports : List Report) (v : Value) → Chooses candidate reports v
+    → ((reports ≡ []) × (v ≡ candidate)) ⊎ ((ballot : Ballot) × Contains reports (ballot, v) × ((other : Report) → Contains reports other → IsBelow ballot other.0 → ⊥))
+chooses_highest candidate reports v (inl own) = inl own
+chooses_highest candidate reports v (inr highest) =
+    inr (
+      highest.0,
+      subst (λ (l : List Report). Contains l (highest.0, v)) (sym highest.1.split) (in_the_middle highest.1.before highest.1.after (highest.0, v)),
+      λ other is_in. none_above reports (highest.0, v) other highest.1 is_in,
+    )
