@@ -3,3 +3,4 @@ pub mod Agreement
 pub mod Places
 pub mod Slots
 pub mod Following
+pub mod ByMessages

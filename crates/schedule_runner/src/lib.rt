@@ -6,9 +6,8 @@
 #![tactic(auto)]
 
 mod judge;
-mod laws;
+pub mod laws;
 mod sayings;
 mod trace;
 
-pub use laws::one_value;
 pub use trace::{Trace, audit};
