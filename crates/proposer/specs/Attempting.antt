@@ -1,6 +1,7 @@
--- Which attempt is open after a list of calls, what answers it, and when it has its majority: Lamport, "Paxos Made Simple",
--- sections 2.2 and 2.4, phases 1a and 2a.
-use Rattle.std.specs.Prelude.{◌≡◌, ℕ, suc, max, ◌==◌, nat_lt, ◌&&◌, Bool, true, false, List, [], ◌∷◌, ◌++◌, filter, filter_map, Option, Some, None}
+-- Which attempt is open after a list of calls, what answers it, and when it has its majority: Lamport, "Paxos Made
+-- Simple", sections 2.2 and 2.4, phases 1a and 2a.
+use Rattle.std.specs.Prelude.{◌≡◌, ℕ, suc, max, ◌==◌, nat_lt, ◌&&◌, Bool, true, false, Option, Some, None}
+use Rattle.std.specs.Prelude.{List, [], ◌∷◌, ◌++◌, filter, filter_map}
 use Rattle.std.specs.List.{AllByRecursion}
 use Rattle.ballots.specs.Ballot.{Ballot, is_same_ballot}
 use Rattle.ballots.specs.declared.value.Value.{Value}
@@ -93,4 +94,5 @@ Answers members calls promise None =
 -- the open attempt has been promised by a majority, so that its Accept was answered
 abbrev pub HasItsMajority : ℕ → List Call → Type 0
 HasItsMajority members calls =
-    (begun : Begun) × (since : List Call) × IsOpen calls begun since × HasMajority members (answering members begun since)
+    (begun : Begun) × (since : List Call) × IsOpen calls begun since
+    × HasMajority members (answering members begun since)

@@ -1,4 +1,5 @@
--- Which value an attempt proposes, by the promises that answered it: Lamport, "Paxos Made Simple", section 2.2, phase 2a.
+-- Which value an attempt proposes, by the promises that answered it: Lamport, "Paxos Made Simple", section 2.2, phase
+-- 2a.
 use Rattle.std.specs.Prelude.{◌≡◌, ℕ, ◌==◌, ◌⊎◌, Bool, not, List, [], ◌∷◌, ◌++◌, filter, filter_map}
 use Rattle.std.specs.List.{list_any, AllByRecursion}
 use Rattle.ballots.specs.Ballot.{Ballot, IsBelow}
@@ -23,7 +24,8 @@ HasMajority members promises = IsMajority members (tally members (is_sender prom
 -- each sender's first
 abbrev pub first_of_each : List Promise → List Promise
 first_of_each [] = []
-first_of_each (promise ∷ promises) = promise ∷ filter (λ other. not (is_from promise.sender other)) (first_of_each promises)
+first_of_each (promise ∷ promises) =
+    promise ∷ filter (λ other. not (is_from promise.sender other)) (first_of_each promises)
 
 -- what they report, in their order
 abbrev pub reports_of : List Promise → List Report

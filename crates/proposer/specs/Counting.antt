@@ -1,5 +1,5 @@
--- What an attempt keeps of the promises that answered it: a tool of the proofs. What is proposed is defined in `Choosing`
--- and `Attempting`.
+-- What an attempt keeps of the promises that answered it: a tool of the proofs. What is proposed is defined in
+-- `Choosing` and `Attempting`.
 use Rattle.std.specs.Prelude.{◌≡◌, ℕ, ◌<◌, ◌++◌, ◌∷◌, false, List, [], Option, Some, None}
 use Rattle.ballots.specs.Ballot.{Ballot}
 use Rattle.ballots.specs.Majority.{contains}
@@ -18,7 +18,8 @@ IsBest candidate reports (Some ballot) value = IsHighest reports (ballot, value)
 abbrev pub ChoiceAfter : ℕ → Value → List Promise → Option Choice → Type 0
 ChoiceAfter members candidate promises None = HasMajority members promises
 ChoiceAfter members candidate promises (Some choice) =
-    (HasMajority members promises → ⊥) × IsBest candidate (reports_of (first_of_each promises)) choice.reported_at choice.value
+    (HasMajority members promises → ⊥)
+    × IsBest candidate (reports_of (first_of_each promises)) choice.reported_at choice.value
 
 -- who is counted, and what is chosen so far, by the promises that answered the attempt
 pub record Counts (members : ℕ) (candidate : Value) (promises : List Promise) (attempt : Attempt) : Type 0 where

@@ -38,3 +38,9 @@ pub record StateAfter (start : Start) (calls : List Call) (state : ProposerState
   pub highest_round : state.highest_round ≡ highest_begun start.highest_round calls
   pub rises : BallotsIncrease start.me start.highest_round calls
   pub attempt : HoldsOpen start.members calls state.attempt
+
+-- it was made somehow, and some calls left it so
+pub record HasHistory (state : ProposerState) : Type 0 where
+  pub start : Start
+  pub calls : List Call
+  pub after : StateAfter start calls state

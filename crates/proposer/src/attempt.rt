@@ -87,9 +87,11 @@ impl Attempt {
         requires { IsNew members sender self.old }
         ensures slot { self.new.slot ≡ self.old.slot }
         ensures ballot { self.new.ballot ≡ self.old.ballot }
-        ensures counts { (candidate : Held) (promises : List Promise) (promise : Promise) → promise.sender ≡ sender → promise.report ≡ report
-            → Counts members candidate promises self.old → Counts members candidate (promises ++ promise ∷ []) self.new }
-        ensures gives { (candidate : Held) (promises : List Promise) (promise : Promise) → promise.sender ≡ sender → promise.report ≡ report
+        ensures counts { (candidate : Held) (promises : List Promise) (promise : Promise)
+            → promise.sender ≡ sender → promise.report ≡ report → Counts members candidate promises self.old
+            → Counts members candidate (promises ++ promise ∷ []) self.new }
+        ensures gives { (candidate : Held) (promises : List Promise) (promise : Promise)
+            → promise.sender ≡ sender → promise.report ≡ report
             → Counts members candidate promises self.old → AnswersAtMajority members candidate promises promise result }
     {
         self.counted = self.counted.with(sender);
@@ -109,10 +111,12 @@ impl Attempt {
         report: &Option<(Ballot, Value)>,
     ) -> Result<Option<Value>, OutOfMemory>
         requires { IsNew members sender self.now }
-        ensures gives { IfOk result (λ given. (candidate : Held) (promises : List Promise) (promise : Promise) → promise.sender ≡ sender
-            → promise.report ≡ report.now → Counts members candidate promises self.now → AnswersAtMajority members candidate promises promise given) }
-        ensures memory { OnErr result ((candidate : Held) (promises : List Promise) (promise : Promise) → promise.sender ≡ sender
-            → promise.report ≡ report.now → Counts members candidate promises self.now → AnswersAtMajority members candidate promises promise None → ⊥) }
+        ensures gives { IfOk result (λ given. (candidate : Held) (promises : List Promise) (promise : Promise)
+            → promise.sender ≡ sender → promise.report ≡ report.now → Counts members candidate promises self.now
+            → AnswersAtMajority members candidate promises promise given) }
+        ensures memory { OnErr result ((candidate : Held) (promises : List Promise) (promise : Promise)
+            → promise.sender ≡ sender → promise.report ≡ report.now → Counts members candidate promises self.now
+            → AnswersAtMajority members candidate promises promise None → ⊥) }
     {
         let Some(choice) = &self.choice else {
             return Ok(None);
@@ -150,7 +154,8 @@ fn higher_of_report(choice: Choice, ballot: Ballot, value: Value) -> Choice
 
 // The value that `higher_of` would take.
 fn higher_value<'a>(choice: &'a Choice, report: &'a Option<(Ballot, Value)>) -> &'a Value
-    ensures { (candidate : Held) (reports : List Report) → IsBest candidate reports choice.now.reported_at choice.now.value
+    ensures { (candidate : Held) (reports : List Report)
+        → IsBest candidate reports choice.now.reported_at choice.now.value
         → Chooses candidate (reports ++ option_to_list report.now) result.now }
 {
     match report {

@@ -10,8 +10,8 @@ ghost use Rattle.proposer.specs.Attempting.{BallotsIncrease, IsOpen, IsAttempt, 
 ghost use Rattle.proposer.specs.Promised.{IsAnswerTo, MajorityPromised};
 ghost use Rattle.proposer.specs.State.{ProposerState, attempt_of, StateAfter};
 
-/// What is chosen of a list of reports is one value: that of a report that no other is above, or the candidate where nothing
-/// is reported.
+/// What is chosen of a list of reports is one value: that of a report that no other is above, or the candidate where
+/// nothing is reported.
 pub fn choices_are_one()
     ensures one { (candidate : Held) (reports : List Report) (v w : Held)
         → Chooses candidate reports v → Chooses candidate reports w → v ≡ w }
@@ -20,7 +20,8 @@ pub fn choices_are_one()
         × ((other : Report) → Contains reports other → IsBelow ballot other.0 → ⊥)) }
 {}
 
-/// An attempt opens where it begins. A promise leaves it open, and so does a Nack of another slot or ballot; its own ends it.
+/// An attempt opens where it begins. A promise leaves it open, and so does a Nack of another slot or ballot; its own ends
+/// it.
 pub fn attempts_open_and_end()
     ensures opens { (calls : List Call) (begun : Begun) → IsOpen (calls ++ Begins begun ∷ []) begun [] }
     ensures goes_on { (calls since : List Call) (begun : Begun) (promise : Promise)
@@ -32,8 +33,8 @@ pub fn attempts_open_and_end()
         → IsOpen (calls ++ Nacks begun.slot begun.ballot ∷ []) begun since → ⊥ }
 {}
 
-/// After a list of calls one attempt is open at most, and what is answered to a promise is one answer: what a call gives and
-/// what was told of it beforehand are the same.
+/// After a list of calls one attempt is open at most, and what is answered to a promise is one answer: what a call gives
+/// and what was told of it beforehand are the same.
 pub fn answers_are_one()
     ensures attempts { (calls : List Call) (begun another : Begun) (since after : List Call)
         → IsOpen calls begun since → IsOpen calls another after → (begun ≡ another) × (since ≡ after) }
@@ -41,8 +42,8 @@ pub fn answers_are_one()
         → Answers members calls promise a → Answers members calls promise b → a ≡ b }
 {}
 
-/// A promise answers an attempt where a member sent it since the attempt began, for its slot and at its ballot. An attempt
-/// has its majority where different members, more than half of all, sent one; none of them counts twice.
+/// A promise answers an attempt where a member sent it since the attempt began, for its slot and at its ballot. An
+/// attempt has its majority where different members, more than half of all, sent one; none of them counts twice.
 pub fn majorities_are_of_members()
     ensures answering { (members : ℕ) (begun : Begun) (since : List Call) (promise : Promise)
         → Contains (answering members begun since) promise
@@ -64,8 +65,8 @@ pub fn senders_count_once()
 pub fn accepts_need_a_majority()
     ensures { (members : ℕ) (calls : List Call) (promise : Promise) (accept : ℕ × Pair × Held)
         → Accepts members calls promise accept
-        → (begun : Begun) × (since : List Call) × IsOpen calls begun since × (accept.0 ≡ begun.slot) × (accept.1 ≡ begun.ballot)
-        × MajorityPromised members begun (since ++ Promises promise ∷ []) }
+        → (begun : Begun) × (since : List Call) × IsOpen calls begun since
+        × (accept.0 ≡ begun.slot) × (accept.1 ≡ begun.ballot) × MajorityPromised members begun (since ++ Promises promise ∷ []) }
 {}
 
 /// Each ballot that is begun is the node's own, above what the node had seen and above all that it began.
@@ -75,8 +76,8 @@ pub fn ballots_are_its_own()
         → (begun.ballot.node ≡ me) × (highest < begun.ballot.round) × (begun.seen_round < begun.ballot.round) }
 {}
 
-/// In a list of calls in which each attempt begins at its node's next ballot, the ballots rise, and all promises together are
-/// answered by one Accept at each ballot at most: two Accepts at one ballot are the same answer to the same promise.
+/// In a list of calls in which each attempt begins at its node's next ballot, the ballots rise, and all promises together
+/// are answered by one Accept at each ballot at most: two Accepts at one ballot are the same answer to the same promise.
 pub fn one_accept_a_ballot()
     ensures rise { (me highest : ℕ) (before mid after : List Call) (begun another : Begun)
         → BallotsIncrease me highest (before ++ Begins begun ∷ (mid ++ Begins another ∷ after))
@@ -97,5 +98,6 @@ pub fn states_answer_alike()
         → StateAfter start calls a → StateAfter start calls b → (a.me ≡ b.me) × (a.highest_round ≡ b.highest_round) }
     ensures is_open { (start : Start) (calls : List Call) (state : ProposerState)
         → StateAfter start calls state → IsAttempt calls (attempt_of state) }
-    ensures open_is_one { (calls : List Call) (a b : Option (ℕ × Pair)) → IsAttempt calls a → IsAttempt calls b → a ≡ b }
+    ensures open_is_one { (calls : List Call) (a b : Option (ℕ × Pair))
+        → IsAttempt calls a → IsAttempt calls b → a ≡ b }
 {}

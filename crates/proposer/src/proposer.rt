@@ -1,9 +1,10 @@
-ghost use Rattle.std.specs.Prelude.{◌≡◌, ℕ, ◌≤◌, ◌++◌, ◌∷◌, [], List, max, Option, Some, None, IfOk, OnErr, IsErr, IsTrue, ◌↔◌};
+ghost use Rattle.std.specs.Prelude.{◌≡◌, ℕ, ◌≤◌, ◌++◌, ◌∷◌, [], List, max, Option, Some, None};
+ghost use Rattle.std.specs.Prelude.{IfOk, OnErr, IsErr, IsTrue, ◌↔◌};
 ghost use Rattle.ballots.specs.Limits.{max_round};
 ghost use Rattle.proposer.specs.Call.{Start, Begins, Promises, Nacks, Call};
 ghost use Rattle.proposer.specs.Attempting.{highest_begun, next_ballot, IsAttempt, Answers, HasItsMajority};
 ghost use Rattle.proposer.specs.Counting.{IsAt};
-ghost use Rattle.proposer.specs.State.{StateAfter, Holds, HoldsOpen, attempt_of};
+ghost use Rattle.proposer.specs.State.{StateAfter, HasHistory, Holds, HoldsOpen, attempt_of};
 
 use crate::attempt::Attempt;
 use ballots::{Ballot, Members, NodeId, OutOfMemory, Slot, Value};
@@ -25,7 +26,7 @@ pub struct Proposer {
 }
 
 impl Model for Proposer {
-    ghost use Rattle.proposer.specs.State.{ProposerState};
+    ghost use Rattle.proposer.specs.State.{ProposerState, HasHistory};
 
     ghost Value = { ProposerState };
 
@@ -35,6 +36,13 @@ impl Model for Proposer {
       highest_round = p.highest_round;
       attempt = p.attempt;
     } };
+
+    ghost invariant = { λ p. HasHistory (record {
+      me = p.me;
+      members = p.members;
+      highest_round = p.highest_round;
+      attempt = p.attempt;
+    }) };
 }
 
 impl Proposer {
@@ -50,9 +58,11 @@ impl Proposer {
         }
     }
 
-    /// The slot and the ballot of the open attempt, `None` where none is open. An attempt stays open after its majority.
+    /// The slot and the ballot of the open attempt, `None` where none is open. An attempt stays open after its
+    /// majority. Each proposer has a history: it was made, and some calls left it as it is.
     pub fn attempt(&self) -> Option<(Slot, Ballot)>
         ensures value { result ≡ attempt_of self.now }
+        ensures history { HasHistory self.now }
         ensures open { (start : Start) (calls : List Call) → StateAfter start calls self.now → IsAttempt calls result }
     {
         match &self.attempt {
@@ -72,9 +82,9 @@ impl Proposer {
         }
     }
 
-    /// Begins an attempt to have the candidate accepted for the slot, in place of an older attempt, and gives its ballot:
-    /// one round above what the node has seen and above all that it has begun. [`RoundsSpent`] where no round is left,
-    /// and then all is as before.
+    /// Begins an attempt to have the candidate accepted for the slot, in place of an older attempt, and gives its
+    /// ballot: one round above what the node has seen and above all that it has begun. [`RoundsSpent`] where no round
+    /// is left, and then all is as before.
     pub fn begin(
         &mut self,
         slot: Slot,
@@ -86,7 +96,12 @@ impl Proposer {
         ensures ballot { IfOk result (λ ballot. (start : Start) (calls : List Call) → StateAfter start calls self.old
             → ballot ≡ next_ballot start.me (highest_begun start.highest_round calls) seen_round) }
         ensures stands { IfOk result (λ ballot. (start : Start) (calls : List Call) → StateAfter start calls self.old
-            → StateAfter start (calls ++ Begins (record { slot = slot; seen_round = seen_round; candidate = candidate; ballot = ballot }) ∷ []) self.new) }
+            → StateAfter start (calls ++ Begins (record {
+              slot = slot;
+              seen_round = seen_round;
+              candidate = candidate;
+              ballot = ballot;
+            }) ∷ []) self.new) }
         ensures err { OnErr result (self.new ≡ self.old) }
     {
         let ballot = self.next(seen_round)?;
@@ -112,8 +127,8 @@ impl Proposer {
 
     /// Counts a promise for the open attempt's slot and ballot: of members, each once, whatever else it sends. With the
     /// promise that makes the counted senders a majority it gives the Accept to send: the value of the report of the
-    /// highest ballot (the first counted, where ballots are equal), or the candidate where nothing is reported. An attempt
-    /// gives one Accept at most.
+    /// highest ballot (the first counted, where ballots are equal), or the candidate where nothing is reported. An
+    /// attempt gives one Accept at most.
     pub fn on_promise(
         &mut self,
         sender: NodeId,
@@ -122,9 +137,11 @@ impl Proposer {
         report: Option<(Ballot, Value)>,
     ) -> Option<(Slot, Ballot, Value)>
         ensures answers { (start : Start) (calls : List Call) → StateAfter start calls self.old
-            → Answers start.members calls (record { sender = sender; slot = slot; ballot = ballot; report = report }) result }
+            → Answers start.members calls
+            (record { sender = sender; slot = slot; ballot = ballot; report = report }) result }
         ensures stands { (start : Start) (calls : List Call) → StateAfter start calls self.old
-            → StateAfter start (calls ++ Promises (record { sender = sender; slot = slot; ballot = ballot; report = report }) ∷ []) self.new }
+            → StateAfter start (calls ++ Promises
+            (record { sender = sender; slot = slot; ballot = ballot; report = report }) ∷ []) self.new }
     {
         let members = self.members;
         count_in(&mut self.attempt, members, sender, slot, ballot, report)
@@ -139,9 +156,11 @@ impl Proposer {
         report: &Option<(Ballot, Value)>,
     ) -> Result<Option<(Slot, Ballot, Value)>, OutOfMemory>
         ensures answers { IfOk result (λ answer. (start : Start) (calls : List Call) → StateAfter start calls self.now
-            → Answers start.members calls (record { sender = sender; slot = slot; ballot = ballot; report = report.now }) answer) }
+            → Answers start.members calls
+            (record { sender = sender; slot = slot; ballot = ballot; report = report.now }) answer) }
         ensures memory { OnErr result ((start : Start) (calls : List Call) → StateAfter start calls self.now
-            → Answers start.members calls (record { sender = sender; slot = slot; ballot = ballot; report = report.now }) None → ⊥) }
+            → Answers start.members calls
+            (record { sender = sender; slot = slot; ballot = ballot; report = report.now }) None → ⊥) }
     {
         match &self.attempt {
             Some(attempt) => see_count_in(attempt, self.members, sender, slot, ballot, report),
@@ -184,7 +203,8 @@ fn count_in(
     ensures answers { (calls : List Call) → HoldsOpen members calls held.old
         → Answers members calls (record { sender = sender; slot = slot; ballot = ballot; report = report }) result }
     ensures stands { (calls : List Call) → HoldsOpen members calls held.old
-        → HoldsOpen members (calls ++ Promises (record { sender = sender; slot = slot; ballot = ballot; report = report }) ∷ []) held.new }
+        → HoldsOpen members (calls ++ Promises
+        (record { sender = sender; slot = slot; ballot = ballot; report = report }) ∷ []) held.new }
 {
     match held {
         Some(attempt) => count_for(attempt, members, sender, slot, ballot, report),
@@ -203,7 +223,8 @@ fn count_for(
     ensures answers { (calls : List Call) → Holds members calls attempt.old
         → Answers members calls (record { sender = sender; slot = slot; ballot = ballot; report = report }) result }
     ensures stands { (calls : List Call) → Holds members calls attempt.old
-        → Holds members (calls ++ Promises (record { sender = sender; slot = slot; ballot = ballot; report = report }) ∷ []) attempt.new }
+        → Holds members (calls ++ Promises
+        (record { sender = sender; slot = slot; ballot = ballot; report = report }) ∷ []) attempt.new }
 {
     if !attempt.would_count(members, sender, slot, ballot) {
         return None;
@@ -222,9 +243,11 @@ fn see_count_in(
     report: &Option<(Ballot, Value)>,
 ) -> Result<Option<(Slot, Ballot, Value)>, OutOfMemory>
     ensures answers { IfOk result (λ answer. (calls : List Call) → Holds members calls attempt.now
-        → Answers members calls (record { sender = sender; slot = slot; ballot = ballot; report = report.now }) answer) }
+        → Answers members calls
+        (record { sender = sender; slot = slot; ballot = ballot; report = report.now }) answer) }
     ensures memory { OnErr result ((calls : List Call) → Holds members calls attempt.now
-        → Answers members calls (record { sender = sender; slot = slot; ballot = ballot; report = report.now }) None → ⊥) }
+        → Answers members calls
+        (record { sender = sender; slot = slot; ballot = ballot; report = report.now }) None → ⊥) }
 {
     if !attempt.would_count(members, sender, slot, ballot) {
         return Ok(None);

@@ -1,8 +1,21 @@
-use Rattle.std.proofs.Common.{◌≡◌, sym, subst}
+use Rattle.std.proofs.Common.{◌≡◌, List, [], ◌∷◌, ◌++◌, sym, subst}
+use Rattle.proposer.specs.Call.{Start, Begun, Call, Begins}
 use Rattle.proposer.specs.Attempting.{next_ballot}
 use Rattle.proposer.specs.State.{ProposerState, StateAfter}
 use Rattle.proposer.proofs.Standing.{stands_after_begin}
 use Rattle.proposer.proofs.proposer.Proposer.begin.Goals as goal
+
+pub invariant_of-self : goal.invariant_of-self
+invariant_of-self c =
+    let old : ProposerState = record { me = c.self.inside.me; members = c.self.inside.members; highest_round = c.self.inside.highest_round; attempt = c.self.inside.attempt } in
+    let begun : Begun = record { slot = c.args.slot; seen_round = c.args.seen_round; candidate = c.args.candidate; ballot = c.in_ok-ballot.ballot } in
+    record {
+      start = c.self.invariant.start;
+      calls = c.self.invariant.calls ++ Begins begun ∷ [];
+      after = stands_after_begin c.self.invariant.start c.self.invariant.calls old begun c.new.result c.round-self-inside.result c.self.invariant.after
+          (subst (λ (h : ProposerState). c.in_ok-ballot.ballot ≡ next_ballot h.me h.highest_round c.args.seen_round) (sym c.self.view_is) c.in_ok-ballot.ensures.ballot)
+          c.round-self-inside.ensures.value c.new.ensures.slot c.new.ensures.ballot c.new.ensures.counts;
+    }
 
 pub returns-clause-stands : goal.returns-clause-stands
 returns-clause-stands c = λ start calls stands.

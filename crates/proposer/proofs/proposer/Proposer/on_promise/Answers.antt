@@ -5,6 +5,21 @@ use Rattle.proposer.specs.State.{ProposerState, HoldsOpen, StateAfter}
 use Rattle.proposer.proofs.Standing.{stands_after}
 use Rattle.proposer.proofs.proposer.Proposer.on_promise.Goals as goal
 
+pub invariant_of-self : goal.invariant_of-self
+invariant_of-self c =
+    let start = c.self.invariant.start in
+    let calls = c.self.invariant.calls in
+    let old : ProposerState = record { me = c.self.inside.me; members = c.self.inside.members; highest_round = c.self.inside.highest_round; attempt = c.self.inside.attempt } in
+    let promise : Promise = record { sender = c.args.sender; slot = c.args.slot; ballot = c.args.ballot; report = c.args.report } in
+    let was : StateAfter start calls old = c.self.invariant.after in
+    record {
+      start = start;
+      calls = calls ++ Promises promise ∷ [];
+      after = stands_after start calls (Promises promise) old c.count_in.new.held refl was
+          (subst (λ (m : ℕ). HoldsOpen m (calls ++ Promises promise ∷ []) c.count_in.new.held) was.members
+          (c.count_in.ensures.stands calls (subst (λ (m : ℕ). HoldsOpen m calls c.self.inside.attempt) (sym was.members) was.attempt)));
+    }
+
 pub returns-clause-answers : goal.returns-clause-answers
 returns-clause-answers c = λ start calls stands.
     let old : ProposerState = record { me = c.self.inside.me; members = c.self.inside.members; highest_round = c.self.inside.highest_round; attempt = c.self.inside.attempt } in
