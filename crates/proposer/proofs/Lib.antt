@@ -9,3 +9,4 @@ pub mod Once
 pub mod Members
 pub mod Attempts
 pub mod Majority
+pub mod Staying

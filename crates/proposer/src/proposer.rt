@@ -102,6 +102,9 @@ impl Proposer {
               candidate = candidate;
               ballot = ballot;
             }) ∷ []) self.new) }
+        ensures opens { IfOk result (λ ballot. attempt_of self.new ≡ Some (slot, ballot)) }
+        ensures next { IfOk result (λ ballot. ballot ≡ next_ballot self.old.me self.old.highest_round seen_round) }
+        ensures round { IfOk result (λ ballot. self.new.highest_round ≡ ballot.round) }
         ensures err { OnErr result (self.new ≡ self.old) }
     {
         let ballot = self.next(seen_round)?;
@@ -142,6 +145,7 @@ impl Proposer {
         ensures stands { (start : Start) (calls : List Call) → StateAfter start calls self.old
             → StateAfter start (calls ++ Promises
             (record { sender = sender; slot = slot; ballot = ballot; report = report }) ∷ []) self.new }
+        ensures attempt { attempt_of self.new ≡ attempt_of self.old }
     {
         let members = self.members;
         count_in(&mut self.attempt, members, sender, slot, ballot, report)
@@ -172,6 +176,8 @@ impl Proposer {
     pub fn on_nack(&mut self, slot: Slot, ballot: Ballot)
         ensures stands { (start : Start) (calls : List Call) → StateAfter start calls self.old
             → StateAfter start (calls ++ Nacks slot ballot ∷ []) self.new }
+        ensures ends { attempt_of self.old ≡ Some (slot, ballot) → attempt_of self.new ≡ None }
+        ensures stays { (attempt_of self.old ≡ Some (slot, ballot) → ⊥) → attempt_of self.new ≡ attempt_of self.old }
     {
         end_at(&mut self.attempt, slot, ballot);
     }

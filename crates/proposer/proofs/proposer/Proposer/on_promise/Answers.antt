@@ -1,8 +1,10 @@
-use Rattle.std.proofs.Common.{ℕ, ◌++◌, ◌∷◌, [], refl, sym, subst}
+use Rattle.std.proofs.Common.{◌≡◌, ℕ, ◌++◌, ◌∷◌, [], refl, sym, ap, subst, ◌∙◌}
 use Rattle.proposer.specs.Call.{Promise, Promises}
 use Rattle.proposer.specs.Attempting.{Answers}
-use Rattle.proposer.specs.State.{ProposerState, HoldsOpen, StateAfter}
+use Rattle.proposer.specs.State.{ProposerState, HoldsOpen, attempt_of, StateAfter}
 use Rattle.proposer.proofs.Standing.{stands_after}
+use Rattle.proposer.proofs.Attempts.{attempts_are_one, state_is_open}
+use Rattle.proposer.proofs.Staying.{attempt_goes_on}
 use Rattle.proposer.proofs.proposer.Proposer.on_promise.Goals as goal
 
 pub invariant_of-self : goal.invariant_of-self
@@ -36,3 +38,19 @@ returns-clause-stands c = λ start calls stands.
     stands_after start calls (Promises promise) old c.count_in.new.held refl was
     (subst (λ (m : ℕ). HoldsOpen m (calls ++ Promises promise ∷ []) c.count_in.new.held) was.members
     (c.count_in.ensures.stands calls (subst (λ (m : ℕ). HoldsOpen m calls c.self.inside.attempt) (sym was.members) was.attempt)))
+
+pub returns-clause-attempt : goal.returns-clause-attempt
+returns-clause-attempt c =
+    let start = c.self.invariant.start in
+    let calls = c.self.invariant.calls in
+    let old : ProposerState = record { me = c.self.inside.me; members = c.self.inside.members; highest_round = c.self.inside.highest_round; attempt = c.self.inside.attempt } in
+    let new : ProposerState = record { me = c.self.inside.me; members = c.self.inside.members; highest_round = c.self.inside.highest_round; attempt = c.count_in.new.held } in
+    let promise : Promise = record { sender = c.args.sender; slot = c.args.slot; ballot = c.args.ballot; report = c.args.report } in
+    let was : StateAfter start calls old = c.self.invariant.after in
+    let now : StateAfter start (calls ++ Promises promise ∷ []) new =
+    stands_after start calls (Promises promise) old c.count_in.new.held refl was
+    (subst (λ (m : ℕ). HoldsOpen m (calls ++ Promises promise ∷ []) c.count_in.new.held) was.members
+    (c.count_in.ensures.stands calls (subst (λ (m : ℕ). HoldsOpen m calls c.self.inside.attempt) (sym was.members) was.attempt))) in
+    attempts_are_one (calls ++ Promises promise ∷ []) (attempt_of new) (attempt_of old) (state_is_open start (calls ++ Promises promise ∷ []) new now)
+    (attempt_goes_on calls promise (attempt_of old) (state_is_open start calls old was))
+    ∙ ap attempt_of c.self.view_is
