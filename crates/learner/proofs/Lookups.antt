@@ -178,3 +178,8 @@ module _ (old new : LearnerState) (a slot : ℕ) (b : Ballot) (v : Value) (was n
 pub read_or : (o : Option (Bor Value)) (r : Bor Value) → (unwrap_or o r).now ≡ unwrap_or (option_map (λ x. x.now) o) r.now
 read_or None r = refl
 read_or (Some x) r = refl
+
+-- what was learned goes before what is told
+pub learned_is_kept : (old : Option Value) (value : Value) → (old ≡ None → ⊥) → old ≡ option_or old (Some value)
+learned_is_kept None value some = absurd (some refl)
+learned_is_kept (Some v) value some = refl

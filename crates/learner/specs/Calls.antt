@@ -1,5 +1,6 @@
 -- What a learner was told, and what it learned of it: Lamport, "Paxos Made Simple", section 2.3.
-use Rattle.std.specs.Prelude.{◌≡◌, ℕ, ◌==◌, ◌⊎◌, Bool, false, ◌&&◌, IsTrue, nat_lt, List, [], ◌∷◌, ◌++◌, find, Option, Some, None}
+use Rattle.std.specs.Prelude.{◌≡◌, ℕ, ◌==◌, ◌⊎◌, Bool, false, ◌&&◌, IsTrue, nat_lt, List, [], ◌∷◌, ◌++◌, find}
+use Rattle.std.specs.Prelude.{Option, Some, None}
 use Rattle.std.specs.List.{list_any}
 use Rattle.std.specs.Option.{option_map}
 use Rattle.ballots.specs.Ballot.{Ballot, is_same_ballot}
@@ -23,12 +24,14 @@ is_decision_for slot (Decided s value) = s == slot
 
 -- it tells that this member accepted for the slot at the ballot
 abbrev pub is_vote_of : ℕ → ℕ → Ballot → Call → Bool
-is_vote_of member slot ballot (Accepted acceptor s b value) = (acceptor == member) && (s == slot) && is_same_ballot b ballot
+is_vote_of member slot ballot (Accepted acceptor s b value)
+    = (acceptor == member) && (s == slot) && is_same_ballot b ballot
 is_vote_of member slot ballot (Decided s value) = false
 
 -- it tells that one of so many members accepted for the slot at the ballot
 abbrev pub is_counted : ℕ → ℕ → Ballot → Call → Bool
-is_counted members slot ballot (Accepted acceptor s b value) = nat_lt acceptor members && (s == slot) && is_same_ballot b ballot
+is_counted members slot ballot (Accepted acceptor s b value)
+    = nat_lt acceptor members && (s == slot) && is_same_ballot b ballot
 is_counted members slot ballot (Decided s value) = false
 
 -- a member counts once, however often it is told of
@@ -45,13 +48,14 @@ IsChosenOrDecided members calls slot =
     IsTrue (list_any (is_decision_for slot) calls)
     ⊎ ((ballot : Ballot) × IsMajority members (tally members (has_voted calls slot ballot)))
 
--- what the last of the calls, which settled the slot, tells of its value: a decision has its own, and with an acceptance
--- it is that of the first counted at the ballot
+-- the value by the last of the calls, with which the slot was chosen or decided: a decision has its own, and with an
+-- acceptance it is that of the first counted at the ballot
 abbrev pub DecidingValue : ℕ → List Call → ℕ → Call → Value → Type 0
-DecidingValue members calls slot (Accepted acceptor s ballot v) value = first_counted members calls slot ballot ≡ Some value
+DecidingValue members calls slot (Accepted acceptor s ballot v) value
+    = first_counted members calls slot ballot ≡ Some value
 DecidingValue members calls slot (Decided s v) value = v ≡ value
 
--- One of the calls settled the slot: those before it did not, with it they do. The value is what that call tells.
+-- With one of the calls the slot was chosen or decided, and not with those before it. The value is by that call.
 pub record IsLearned (members : ℕ) (calls : List Call) (slot : ℕ) (value : Value) : Type 0 where
   pub before : List Call
   pub call : Call
@@ -61,7 +65,9 @@ pub record IsLearned (members : ℕ) (calls : List Call) (slot : ℕ) (value : V
   pub settled : IsChosenOrDecided members (before ++ call ∷ []) slot
   pub told : DecidingValue members (before ++ call ∷ []) slot call value
 
--- which value a further call makes the slot learn: none where it does not settle the slot, or the slot was settled
+-- which value a further call makes the slot learn: none where the slot is not chosen or decided with it, or was before
 abbrev pub Learns : ℕ → List Call → Call → ℕ → Option Value → Type 0
-Learns members calls call slot (Some value) = (IsChosenOrDecided members calls slot → ⊥) × IsLearned members (calls ++ call ∷ []) slot value
-Learns members calls call slot None = IsChosenOrDecided members (calls ++ call ∷ []) slot → IsChosenOrDecided members calls slot
+Learns members calls call slot (Some value) =
+    (IsChosenOrDecided members calls slot → ⊥) × IsLearned members (calls ++ call ∷ []) slot value
+Learns members calls call slot None =
+    IsChosenOrDecided members (calls ++ call ∷ []) slot → IsChosenOrDecided members calls slot

@@ -15,7 +15,8 @@ IsChosenWith state acceptor slot ballot =
 
 -- the acceptor is counted in a ballot's tally, which stands from then on; its value is that of the first
 pub record CountsIn (old new : Option Tally) (acceptor : ℕ) (value : Value) : Type 0 where
-  pub votes : (member : ℕ) → option_map_or (λ t. has_vote t member) new false ≡ (option_map_or (λ t. has_vote t member) old false || (acceptor == member))
+  pub votes : (member : ℕ) → option_map_or (λ t. has_vote t member) new false
+      ≡ (option_map_or (λ t. has_vote t member) old false || (acceptor == member))
   pub first : option_map (λ t. t.value) new ≡ option_or (option_map (λ t. t.value) old) (Some value)
 
 -- the acceptor is counted at the slot and ballot, and all else is as before
@@ -23,9 +24,11 @@ pub record Counts (old new : LearnerState) (acceptor slot : ℕ) (ballot : Ballo
   pub members : new.members ≡ old.members
   pub decided : (s : ℕ) → decided_at new s ≡ decided_at old s
   pub votes : (s : ℕ) (b : Ballot) (member : ℕ)
-      → voted_at new s b member ≡ (voted_at old s b member || is_vote_of member s b (Accepted acceptor slot ballot value))
+      → voted_at new s b member
+      ≡ (voted_at old s b member || is_vote_of member s b (Accepted acceptor slot ballot value))
   pub firsts : (s : ℕ) (b : Ballot) → acceptor < old.members
-      → first_at new s b ≡ option_or (first_at old s b) (first_counted old.members (Accepted acceptor slot ballot value ∷ []) s b)
+      → first_at new s b
+      ≡ option_or (first_at old s b) (first_counted old.members (Accepted acceptor slot ballot value ∷ []) s b)
 
 -- the slot's tallies may be gone, and all else is as before
 pub record Drops (old new : LearnerState) (slot : ℕ) : Type 0 where

@@ -25,12 +25,13 @@ pub record LearnerState : Type 0 where
   pub tallies : IndexMap ℕ Tallies Hashing
 
 -- a state is stored as its fields
-abbrev pub learner_state_code : Coded Value → Coded Ballot → Coded Tally → Coded Hashing → Coded LearnerState
-learner_state_code value ballot tally hashing =
+abbrev pub state_code : Coded Value → Coded Ballot → Coded Tally → Coded Hashing → Coded LearnerState
+state_code value ballot tally hashing =
     let learned = hash_map_code coded_ℕ value hashing in
     let tallies = hash_map_code coded_ℕ (hash_map_code ballot tally hashing) hashing in
     code_by (ℕ × (IndexMap ℕ Value Hashing × IndexMap ℕ Tallies Hashing)) (coded× coded_ℕ (coded× learned tallies))
-    (λ h. (h.members, (h.learned, h.tallies))) (λ p. record { members = p.0; learned = p.1.0; tallies = p.1.1 }) (λ _. refl)
+    (λ h. (h.members, (h.learned, h.tallies)))
+    (λ p. record { members = p.0; learned = p.1.0; tallies = p.1.1 }) (λ _. refl)
 
 -- the value that the slot learned
 abbrev pub decided_at : LearnerState → ℕ → Option Value
@@ -70,4 +71,5 @@ pub record HasRoomToCount (state : LearnerState) (slot : ℕ) (ballot : Ballot) 
 -- an acceptor's vote can be counted, and the slot learned, and no memory is taken
 abbrev pub HasRoomForVote : LearnerState → ℕ → ℕ → Ballot → Type 0
 HasRoomForVote state acceptor slot ballot =
-    acceptor < state.members → decided_at state slot ≡ None → (0 < spare state.learned) × HasRoomToCount state slot ballot
+    acceptor < state.members → decided_at state slot ≡ None
+    → (0 < spare state.learned) × HasRoomToCount state slot ballot

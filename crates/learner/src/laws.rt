@@ -32,8 +32,8 @@ pub fn learned_where_chosen_or_decided()
         → IsLearned members calls slot v → IsChosenOrDecided members calls slot }
 {}
 
-/// A slot learns where it was told as decided, and where different members, more than half of all, accepted for it at one
-/// ballot; and a value that is learned was told as decided, or accepted by a member at such a ballot.
+/// A slot learns where it was told as decided, and where different members, more than half of all, accepted for it at
+/// one ballot; and a value that is learned was told as decided, or accepted by a member at such a ballot.
 pub fn learned_is_decided_or_chosen()
     ensures decided { (members : ℕ) (calls : List Call) (slot : ℕ) (v : Value)
         → Contains calls (Decided slot v) → (w : Value) × IsLearned members calls slot w }
@@ -43,7 +43,8 @@ pub fn learned_is_decided_or_chosen()
         → IsLearned members calls slot v → IsDecidedOrChosen members calls slot v }
 {}
 
-/// The first value that is counted at a slot and ballot is that of a member, and no member's vote there comes before it.
+/// The first value that is counted at a slot and ballot is that of a member, and no member's vote there comes before
+/// it.
 pub fn first_counted_comes_first()
     ensures { (members : ℕ) (calls : List Call) (slot : ℕ) (ballot : Ballot) (v : Value)
         → first_counted members calls slot ballot ≡ Some v

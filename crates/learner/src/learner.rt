@@ -1,10 +1,14 @@
-ghost use Rattle.std.specs.Prelude.{false, IsSome, ◌≡◌, ℕ, ◌<◌, ◌↔◌, [], ◌∷◌, ◌++◌, List, None, Some, IsTrue, IfOk, OnOk, OnErr, nat_eq};
-ghost use Rattle.std.specs.Option.{option_map};
+ghost use Rattle.std.specs.Prelude.{false, IsSome, ◌≡◌, ℕ, ◌<◌, ◌↔◌, [], ◌∷◌, ◌++◌, List, None, Some};
+ghost use Rattle.std.specs.Prelude.{IsTrue, IfOk, OnOk, OnErr, nat_eq};
+ghost use Rattle.std.specs.Option.{option_map, option_or};
 ghost use Rattle.indexmap.specs.IndexMap.{get, spare, IsUnchanged};
 ghost use Rattle.ballots.specs.Ballot.{Ballot as Pair, is_same_ballot};
 ghost use Rattle.ballots.specs.Majority.{contains};
+ghost use Rattle.ballots.specs.Slots.{OthersStay};
+ghost use Rattle.ballots.specs.declared.value.Value.{Value as Held};
 ghost use Rattle.learner.specs.Calls.{Call, Accepted, Decided, Learns};
-ghost use Rattle.learner.specs.State.{decided_at, first_at, tally_in, tally_at, voted_at, HasRoomToLearn, HasRoomToCount, HasRoomForTally, HasRoomForVote};
+ghost use Rattle.learner.specs.State.{decided_at, first_at, tally_in, tally_at, voted_at};
+ghost use Rattle.learner.specs.State.{HasRoomToLearn, HasRoomToCount, HasRoomForTally, HasRoomForVote};
 ghost use Rattle.learner.specs.Learned.{StateAfter, IsSame};
 ghost use Rattle.learner.specs.Changes.{Counts, CountsIn, Drops, Puts, IsChosenWith};
 
@@ -26,13 +30,13 @@ pub struct Learner {
 }
 
 impl Model for Learner {
-    ghost use Rattle.learner.specs.State.{LearnerState, learner_state_code};
+    ghost use Rattle.learner.specs.State.{LearnerState, state_code};
 
     ghost Value = { LearnerState };
 
     ghost use Rattle.std.specs.Coded.{codes};
 
-    ghost coded = { learner_state_code (Prim.hlevel codes) (Prim.hlevel codes) (Prim.hlevel codes) (Prim.hlevel codes) };
+    ghost coded = { state_code (Prim.hlevel codes) (Prim.hlevel codes) (Prim.hlevel codes) (Prim.hlevel codes) };
 
     ghost view = { λ l. record { members = l.members; learned = l.learned; tallies = l.tallies } };
 }
@@ -79,15 +83,18 @@ impl Learner {
     /// Learns that this value was decided for the slot. Where the slot has learned one, it stays.
     pub fn on_decided(&mut self, slot: Slot, value: Value)
         requires { HasRoomToLearn self.old slot }
-        ensures { (n : ℕ) (calls : List Call) → StateAfter n calls self.old → StateAfter n (calls ++ Decided slot value ∷ []) self.new }
+        ensures learned { (n : ℕ) (calls : List Call) → StateAfter n calls self.old
+            → StateAfter n (calls ++ Decided slot value ∷ []) self.new }
+        ensures here { decided_at self.new slot ≡ option_or (decided_at self.old slot) (Some value) }
+        ensures others { OthersStay (decided_at self.old) (decided_at self.new) slot }
     {
         if self.is_open(slot) {
             self.learn(slot, value);
         }
     }
 
-    /// Makes the room for `on_accepted`, and tells a copy of the value with which that call would make the slot learned,
-    /// `None` where it would not. What the learner holds stays.
+    /// Makes the room for `on_accepted`, and tells a copy of the value with which that call would make the slot
+    /// learned, `None` where it would not. What the learner holds stays.
     pub fn see_on_accepted(
         &mut self,
         acceptor: NodeId,
@@ -112,12 +119,14 @@ impl Learner {
         Ok(Some(copy_of(first)?))
     }
 
-    /// Counts that the acceptor accepted the value for the slot at the ballot, once for each slot and ballot. What was told
-    /// by a node that is no member, or of a slot that has learned a value, counts for nothing.
+    /// Counts that the acceptor accepted the value for the slot at the ballot, once for each slot and ballot. What was
+    /// told by a node that is no member, or of a slot that has learned a value, counts for nothing.
     pub fn on_accepted(&mut self, acceptor: NodeId, slot: Slot, ballot: Ballot, value: Value)
         requires { HasRoomForVote self.old acceptor slot ballot }
-        ensures { (n : ℕ) (calls : List Call) → StateAfter n calls self.old
+        ensures learned { (n : ℕ) (calls : List Call) → StateAfter n calls self.old
             → StateAfter n (calls ++ Accepted acceptor slot ballot value ∷ []) self.new }
+        ensures stays { (v : Held) → decided_at self.old slot ≡ Some v → decided_at self.new slot ≡ Some v }
+        ensures others { OthersStay (decided_at self.old) (decided_at self.new) slot }
     {
         if !self.is_open_to(acceptor, slot) {
             return;
