@@ -13,3 +13,4 @@ pub mod MessageWriting
 pub mod Embedding
 pub mod CallerLemmas
 pub mod Sound
+pub mod Strips

@@ -7,3 +7,4 @@ pub mod Writing
 pub mod Descriptor
 pub mod Canonical
 pub mod Taking
+pub mod Stripping

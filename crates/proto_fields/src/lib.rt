@@ -11,9 +11,14 @@
 //! field in `check_field`, `take` and `append`, each of them a call of one of the functions below. It then has `decode`
 //! and `encode`. Proofs of such an `impl` need nothing but these contracts and the lemmas of `proofs/CallerLemmas`,
 //! where `#[tactic(auto, using(proto_fields::proofs::CallerLemmas::chains))]` stands on `append`.
+//!
+//! Whoever has to tell the one encoding from the others adds an `impl` of [`CanonicalMessage`]: beside each line of
+//! `append` one of `strip`, under `#[tactic(auto, using(proto_fields::proofs::CallerLemmas::strips))]`. The message then
+//! has `is_encoded_as`, which takes no memory.
 #![tactic(auto)]
 
 mod appending;
+mod canonical;
 mod fault;
 mod field;
 pub mod laws;
@@ -21,6 +26,7 @@ mod lookup;
 mod message;
 mod repeated;
 mod scalar;
+mod stripping;
 mod varint;
 mod writing;
 
@@ -28,6 +34,7 @@ pub use appending::{
     append_bool, append_bytes, append_enum, append_int64, append_lent, append_messages, append_one,
     append_string, append_strings, append_uint64,
 };
+pub use canonical::CanonicalMessage;
 pub use fault::WireFault;
 pub use field::{Content, ContentRef, MAX_FIELD_NUMBER, read_fields, split_field};
 pub use lookup::{bytes_at, number_at};
@@ -36,6 +43,10 @@ pub use repeated::{check_embedded, merge_one, push_message, push_string};
 pub use scalar::{
     bool_of, bytes_of, check_bytes, check_number, check_string, enum_of, int64_of, string_of,
     uint64_of,
+};
+pub use stripping::{
+    strip_bool, strip_bytes, strip_enum, strip_int64, strip_messages, strip_one, strip_string,
+    strip_strings, strip_uint64,
 };
 pub use varint::MAX_VARINT_BYTES;
 pub use writing::{write_bytes, write_nonempty_bytes, write_nonzero_varint, write_varint};
