@@ -7,8 +7,6 @@ mod all_messages;
 mod all_writes;
 mod fields;
 mod flight;
-mod flight_faults;
-mod flight_merging;
 mod frame_streams;
 mod frames;
 mod plain_fields;

@@ -4,75 +4,14 @@ ghost use Rattle.std.specs.Prelude.{◌≡◌, ◌++◌, OnOk, IfOk};
 ghost use Rattle.proto_fields.specs.Varint.{varint_text};
 ghost use Rattle.proto_fields.specs.Field.{field_at, field_text};
 
-use super::texts::{are_both, are_equal, cells, is_told, number, spelled as bytes_of, two_cells};
-use super::told_fields::{behind_front, told_fields, told_front};
-use proto_wire::{
-    ContentRef, MAX_FIELD_NUMBER, write_bytes, write_nonempty_bytes, write_nonzero_varint,
-    write_varint,
-};
+use super::texts::{are_both, are_equal, number, spelled as bytes_of};
+use proto_wire::{ContentRef, MAX_FIELD_NUMBER, WireFault, read_fields, write_bytes, write_varint};
 use std::alloc::{AllocError, Global};
 use std::process::Abort;
 use std::test::Fail;
 
 /// A field of each wire type, one after the other: the number 150, the text "testing", and 1.0 in eight bytes and in four.
 const EACH_TYPE: &str = "089601 120774657374696e67 19000000000000f03f 250000803f";
-
-/// The fields of [`EACH_TYPE`]: the number, what it holds as a number and as bytes, what it holds, and how many bytes follow.
-const PARTS: &str = "\
-1; 150; -; Varint 150; 23
-2; -; 74657374696e67; Bytes 74657374696e67; 14
-3; -; -; Eight 000000000000f03f; 5
-4; -; -; Four 0000803f; 0";
-
-/// Texts, and their fields.
-const FIELDS: &str = "\
-|
-089601|1 Varint 150;
-120774657374696e67|2 Bytes 74657374696e67;
-088100|1 Varint 1;
-880005|1 Varint 5;
-0a00|1 Bytes ;
-08ffffffffffffffffff01|1 Varint 18446744073709551615;
-f8ffffff0f00|536870911 Varint 0;
-089601 120774657374696e67 19000000000000f03f 250000803f|1 Varint 150;2 Bytes 74657374696e67;3 Eight 000000000000f03f;4 Four 0000803f;";
-
-/// Texts that no field stands at the front of, and why: the number is in its eleventh byte, above 64 bits, or does not end;
-/// the field numbers 0 and 536870912, and the greatest key; the wire types 3, 4, 6 and 7; and the text ends in a key, a
-/// number, a length, or before the bytes that belong to it.
-const FAULTY: &str = "\
-ffffffffffffffffffff01|BadVarint
-ffffffffffffffffff02|BadVarint
-ffffffffffffffffffff|BadVarint
-08ffffffffffffffffff02|BadVarint
-0affffffffffffffffff02|BadVarint
-0000|BadKey
-03|BadKey
-8080808010|BadKey
-ffffffffffffffffff01|BadKey
-0b|BadWireType
-0c|BadWireType
-0e|BadWireType
-0f|BadWireType
-80|CutShort
-ffffffffffffffffff|CutShort
-08|CutShort
-0880|CutShort
-0900|CutShort
-0d00|CutShort
-0a|CutShort
-0a0561|CutShort
-0affffffffffffffffff01|CutShort";
-
-/// What is written one after the other: the call, the field's number, a number or bytes, and what that appends.
-const WRITTEN: &str = "\
-varint|1|150||089601
-bytes|2|0|74657374696e67|120774657374696e67
-present varint|1|0||
-present bytes|2|0||
-present varint|536870911|1||f8ffffff0f01
-present bytes|2|0|00|120100
-varint|1|0||0800
-bytes|2|0||1200";
 
 /// Lengths of bytes.
 const LENGTHS: &str = "0|1|127|128|16383|16384";
@@ -122,71 +61,13 @@ fn spelled(alloc: Global, number: u32, part: ContentRef<'_>) -> Result<Vec<u8>, 
     Ok(text)
 }
 
-/// Whether the fields of the text in a cell are told so.
-fn are_told(alloc: Global, text: &str, want: &str) -> Result<bool, Fail> {
-    let text = bytes_of(alloc, text)?;
-    let told = told_fields(alloc, text.as_slice())?;
-    Ok(is_told(told.as_str(), want))
-}
-
-fn expect_fields(rt: &impl Abort, alloc: Global, row: &str) -> Result<(), Fail> {
-    let (text, want) = two_cells(row)?;
-    let are_told = are_told(alloc, text, want)?;
-    assert!(rt; are_told, "{row}");
-    Ok(())
-}
-
-#[test]
-fn reads_fields(rt: HostRuntime) -> Result<(), Fail> {
-    for row in FIELDS.lines() {
-        expect_fields(&rt, rt.alloc(), row)?;
-    }
-    Ok(())
-}
-
-/// The front of the text has to be told so. Returns the text behind it.
-fn expect_front<'a>(
-    rt: &impl Abort,
-    alloc: Global,
-    text: &'a [u8],
-    want: &str,
-) -> Result<&'a [u8], Fail> {
-    let told = told_front(alloc, text)?;
-    assert!(rt; is_told(told.as_str(), want), "{told} for {want}");
-    Ok(behind_front(text))
-}
-
-fn expect_fault(rt: &impl Abort, alloc: Global, row: &str) -> Result<(), Fail> {
-    let (text, want) = two_cells(row)?;
-    let text = bytes_of(alloc, text)?;
-    expect_front(rt, alloc, text.as_slice(), want)?;
-    Ok(())
-}
-
-/// Each row has a text that is told so, both as fields and as the field at its front.
-fn expect_faults(rt: &impl Abort, alloc: Global, rows: &str) -> Result<(), Fail> {
-    for row in rows.lines() {
-        expect_fields(rt, alloc, row)?;
-        expect_fault(rt, alloc, row)?;
-    }
-    Ok(())
-}
-
-#[test]
-fn tells_faults(rt: HostRuntime) -> Result<(), Fail> {
-    expect_faults(&rt, rt.alloc(), FAULTY)?;
-    expect_fault(&rt, rt.alloc(), "|CutShort")?;
-    // A fault behind a field.
-    expect_fault(&rt, rt.alloc(), "08010b|1; 1; -; Varint 1; 1")?;
-    expect_fields(&rt, rt.alloc(), "08010b|BadWireType")
-}
-
 /// Whether the first `len` bytes are told as fields, and whether they are told as cut short.
 fn told_beginning(alloc: Global, text: &[u8], len: usize) -> Result<(bool, bool), Fail> {
-    let told = told_fields(alloc, text.get(..len).ok_or("no beginning")?)?;
-    let told = told.as_str();
-    let are_fields = told.is_empty() || told.ends_with(';');
-    Ok((are_fields, is_told(told, "CutShort")))
+    match read_fields(alloc, text.get(..len).ok_or("no beginning")?) {
+        Ok(_) => Ok((true, false)),
+        Err(WireFault::CutShort) => Ok((false, true)),
+        Err(_) => Ok((false, false)),
+    }
 }
 
 /// The first `len` bytes of the text in [`EACH_TYPE`] are fields where one ends there, and cut short elsewhere.
@@ -207,16 +88,6 @@ fn a_text_that_ends_inside_a_field_is_cut_short(rt: HostRuntime) -> Result<(), F
     Ok(())
 }
 
-#[test]
-fn splits_a_field(rt: HostRuntime) -> Result<(), Fail> {
-    let text = bytes_of(rt.alloc(), EACH_TYPE)?;
-    let mut rest = text.as_slice();
-    for want in PARTS.lines() {
-        rest = expect_front(&rt, rt.alloc(), rest, want)?;
-    }
-    Ok(())
-}
-
 /// Writes a field by the call of this name.
 fn write(out: &mut Vec<u8>, call: &str, number: u32, value: u64, bytes: &[u8]) -> Result<(), Fail> {
     if number == 0 || number > MAX_FIELD_NUMBER {
@@ -225,8 +96,6 @@ fn write(out: &mut Vec<u8>, call: &str, number: u32, value: u64, bytes: &[u8]) -
     match call {
         "varint" => write_varint(out, number, value)?,
         "bytes" => write_bytes(out, number, bytes)?,
-        "present varint" => write_nonzero_varint(out, number, value)?,
-        "present bytes" => write_nonempty_bytes(out, number, bytes)?,
         _ => return Err(Fail::from("no call")),
     }
     Ok(())
@@ -238,63 +107,6 @@ fn field_number(cell: &str) -> Result<u32, Fail> {
         Ok(number) => Ok(number),
         Err(_) => Err(Fail::from("no number of a field")),
     }
-}
-
-/// Writes the field of a row.
-fn write_row(alloc: Global, cells: &[&str], written: &mut Vec<u8>) -> Result<(), Fail> {
-    let [call, field, value, bytes, _] = cells else {
-        return Err(Fail::from("no row"));
-    };
-    let field = field_number(field)?;
-    let value = number(value)?;
-    let bytes = bytes_of(alloc, bytes)?;
-    write(written, call, field, value, bytes.as_slice())
-}
-
-/// Appends the bytes of a row.
-fn push_row(alloc: Global, cells: &[&str], wanted: &mut Vec<u8>) -> Result<(), Fail> {
-    let [_, _, _, _, want] = cells else {
-        return Err(Fail::from("no row"));
-    };
-    let want = bytes_of(alloc, want)?;
-    wanted.extend_from_slice(want.as_slice())?;
-    Ok(())
-}
-
-/// Both.
-fn extend_both(
-    alloc: Global,
-    row: &str,
-    written: &mut Vec<u8>,
-    wanted: &mut Vec<u8>,
-) -> Result<(), Fail> {
-    let cells = cells(alloc, row)?;
-    write_row(alloc, cells.as_slice(), written)?;
-    push_row(alloc, cells.as_slice(), wanted)
-}
-
-/// Writes the row's field behind the others, which has to give the row's bytes behind theirs.
-fn expect_written(
-    rt: &impl Abort,
-    alloc: Global,
-    row: &str,
-    written: &mut Vec<u8>,
-    wanted: &mut Vec<u8>,
-) -> Result<(), Fail> {
-    extend_both(alloc, row, written, wanted)?;
-    let same = are_equal(written.as_slice(), wanted.as_slice());
-    assert!(rt; same, "{row}");
-    Ok(())
-}
-
-#[test]
-fn writes_fields(rt: HostRuntime) -> Result<(), Fail> {
-    let mut written = Vec::new(rt.alloc());
-    let mut wanted = Vec::new(rt.alloc());
-    for row in WRITTEN.lines() {
-        expect_written(&rt, rt.alloc(), row, &mut written, &mut wanted)?;
-    }
-    Ok(())
 }
 
 /// Whether the field that the call of this name writes has the plain program's text.

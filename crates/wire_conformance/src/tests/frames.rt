@@ -3,7 +3,7 @@
 ghost use Rattle.std.specs.Prelude.{◌≡◌, IfOk};
 ghost use Rattle.grpc_frames.specs.Frame.{frame_text};
 
-use super::texts::{are_both, are_equal, digits_of, is_told, spelled as bytes_of, two_cells};
+use super::texts::{are_both, are_equal, is_told, spelled as bytes_of};
 use grpc_frames::{
     END_FLAG, Frame, FrameFault, MAX_FRAME_PAYLOAD, MESSAGE_FLAG, read_frame, write_frame,
 };
@@ -15,32 +15,6 @@ use std::test::Fail;
 
 /// A message frame that carries the bytes 08 01 28 01.
 const FRAME: &str = "00 00000004 08012801";
-
-/// Texts, and what is read: the flag, the payload and the text behind it, that the input has ended, or the fault and
-/// what is left of the text. Every beginning of a frame is cut short; then come a payload above 4 MiB and one of a byte
-/// more than that, other flags, and that of a compressed message, each with bytes behind it too.
-const READ: &str = "\
-00 00000004 08012801 80 00000000|0; 08012801; 8000000000.
-80 00000000|128; ; .
-|end
-00|Truncated; .
-0000|Truncated; .
-000000|Truncated; .
-00000000|Truncated; .
-02000000|Truncated; .
-00 00000004|Truncated; .
-00 00000004 08|Truncated; .
-00 00000004 0801|Truncated; .
-00 00000004 080128|Truncated; .
-00 ffffffff|TooLong; .
-00 00400001|TooLong; .
-80 00400001 00 00000000|TooLong; 0000000000.
-02 00000000|BadFlag; .
-02 ffffffff 00 00000000|BadFlag; 0000000000.
-ff 00000002 0801|BadFlag; 0801.
-01 ffffffff 0801|Compressed; 0801.
-01 00000002 0801|Compressed; 0801.
-01 00000000|Compressed; .";
 
 /// Gives its bytes, and fails at every read but the first.
 #[derive(Drop)]
@@ -118,44 +92,6 @@ pub fn write<W: Write>(
     Ok(write_frame(writer, flag, payload))
 }
 
-/// The frame and the text behind it, as they stand in the table.
-fn shown(alloc: Global, frame: &Frame, rest: &[u8]) -> Result<String, AllocError> {
-    let payload = digits_of(alloc, frame.payload.as_slice())?;
-    let rest = digits_of(alloc, rest)?;
-    let flag = frame.flag;
-    format!(in alloc; "{flag}; {payload}; {rest}.")
-}
-
-/// The fault and what is left of the text, as they stand in the table.
-fn shown_fault(alloc: Global, fault: FrameFault, rest: &[u8]) -> Result<String, AllocError> {
-    let rest = digits_of(alloc, rest)?;
-    format!(in alloc; "{fault}; {rest}.")
-}
-
-/// What is read at the front of the text.
-fn told(alloc: Global, text: &[u8]) -> Result<String, AllocError> {
-    let mut rest = text;
-    match read(alloc, &mut rest) {
-        Ok(Some(frame)) => shown(alloc, &frame, rest),
-        Ok(None) => String::from_str(alloc, "end"),
-        Err(fault) => shown_fault(alloc, fault, rest),
-    }
-}
-
-/// Whether this is read at the front of the text that the digits spell.
-fn is_read(alloc: Global, digits: &str, want: &str) -> Result<bool, Fail> {
-    let text = bytes_of(alloc, digits)?;
-    let told = told(alloc, text.as_slice())?;
-    Ok(is_told(told.as_str(), want))
-}
-
-fn expect_read(rt: &impl Abort, alloc: Global, row: &str) -> Result<(), Fail> {
-    let (text, want) = two_cells(row)?;
-    let is_read = is_read(alloc, text, want)?;
-    assert!(rt; is_read, "{row}");
-    Ok(())
-}
-
 /// The faults' names as they are printed.
 fn names(alloc: Global) -> Result<String, AllocError> {
     let text = (
@@ -176,14 +112,6 @@ fn faults_print_their_names(rt: HostRuntime) -> Result<(), Fail> {
     let names = names(rt.alloc())?;
     let want = "Truncated BadFlag Compressed TooLong Io OutOfMemory";
     assert!(rt; is_told(names.as_str(), want));
-    Ok(())
-}
-
-#[test]
-fn reads_a_frame_and_leaves_the_rest(rt: HostRuntime) -> Result<(), Fail> {
-    for row in READ.lines() {
-        expect_read(&rt, rt.alloc(), row)?;
-    }
     Ok(())
 }
 
