@@ -1,4 +1,5 @@
-use Rattle.std.proofs.Common.{◌≡◌, List, [], ◌∷◌, ◌++◌, sym, subst}
+use Rattle.std.proofs.Common.{arith, ◌≡◌, List, [], ◌∷◌, ◌++◌, sym, subst}
+use Rattle.std.proofs.lemmas.Grind.{common_steps}
 use Rattle.proposer.specs.Call.{Start, Begun, Call, Begins}
 use Rattle.proposer.specs.Attempting.{next_ballot}
 use Rattle.proposer.specs.State.{ProposerState, StateAfter}
@@ -22,3 +23,12 @@ returns-clause-stands c = λ start calls stands.
     stands_after_begin start calls (record { me = c.self.inside.me; members = c.self.inside.members; highest_round = c.self.inside.highest_round; attempt = c.self.inside.attempt })
     (record { slot = c.args.slot; seen_round = c.args.seen_round; candidate = c.args.candidate; ballot = c.in_ok-ballot.ballot }) c.new.result c.round-self-inside.result
     (subst (StateAfter start calls) (sym c.self.view_is) stands) (subst (λ (h : ProposerState). c.in_ok-ballot.ballot ≡ next_ballot h.me h.highest_round c.args.seen_round) (sym c.self.view_is) c.in_ok-ballot.ensures.ballot) c.round-self-inside.ensures.value c.new.ensures.slot c.new.ensures.ballot c.new.ensures.counts
+
+pub returns-clause-opens : goal.returns-clause-opens
+returns-clause-opens c = grind (arith, common_steps) steps 600000
+
+pub returns-clause-next : goal.returns-clause-next
+returns-clause-next c = grind (arith, common_steps) steps 600000
+
+pub returns-clause-round : goal.returns-clause-round
+returns-clause-round c = grind (arith, common_steps) steps 600000
