@@ -5,8 +5,8 @@ use Rattle.ballots.specs.Ballot.{Ballot}
 use Rattle.ballots.specs.declared.value.Value.{Value}
 use Rattle.proposer.specs.declared.attempt.Attempt.{Attempt}
 use Rattle.proposer.specs.Call.{Start, Begun, Promise, Call, Begins, Promises, Nacks}
-use Rattle.proposer.specs.Choosing.{HasMajority}
-use Rattle.proposer.specs.Attempting.{highest_begun, next_ballot, BallotsIncrease, ends, IsOpen, IsAttempt, answering, Accepts, HasItsMajority}
+use Rattle.proposer.specs.Choosing.{reports_of, Chooses}
+use Rattle.proposer.specs.Attempting.{highest_begun, next_ballot, BallotsIncrease, ends, IsOpen, IsAttempt, counted, Accepts}
 use Rattle.proposer.specs.Promised.{MajorityPromised}
 use Rattle.proposer.specs.Counting.{ChoiceAfter}
 use Rattle.proposer.specs.State.{ProposerState, Holds, HoldsOpen, attempt_of, StateAfter}
@@ -79,6 +79,7 @@ ballot_is_its_own me highest before after begun rises =
 
 pub accept_has_majority : (members : ℕ) (calls : List Call) (promise : Promise) (accept : ℕ × Ballot × Value) → Accepts members calls promise accept
     → (begun : Begun) × (since : List Call) × IsOpen calls begun since × (accept.0 ≡ begun.slot) × (accept.1 ≡ begun.ballot) × MajorityPromised members begun (since ++ Promises promise ∷ [])
+    × Chooses begun.candidate (reports_of (counted members begun (since ++ Promises promise ∷ []))) accept.2
 accept_has_majority members calls promise accept accepts = (
   accepts.begun,
   accepts.since,
@@ -86,4 +87,5 @@ accept_has_majority members calls promise accept accepts = (
   accepts.slot_is,
   accepts.ballot_is,
   (majority_is_promised members accepts.begun (accepts.since ++ Promises promise ∷ [])).0 accepts.completes.now,
+  accepts.value_is,
 )

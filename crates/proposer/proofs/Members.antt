@@ -1,6 +1,6 @@
 -- What is among the promises and the reports, told by what is in the list.
-use Rattle.std.proofs.Common.{◌≡◌, ◌≢◌, ℕ, ◌<◌, ◌==◌, ◌||◌, ◌⊎◌, ◌↔◌, inl, inr, Bool, true, false, not, cond, List, [], ◌∷◌, ◌++◌, filter, filter_map, refl, sym, ap, subst, ◌∙◌, arith, eq-eqb, ne_eqb}
-use Rattle.std.specs.List.{Contains, AllByRecursion, list_any}
+use Rattle.std.proofs.Common.{◌≡◌, ◌≢◌, ℕ, ◌<◌, ◌==◌, ◌||◌, ◌⊎◌, ◌↔◌, inl, inr, Bool, true, false, not, cond, List, [], ◌∷◌, ◌++◌, filter, filter_map, Option, Some, None, refl, sym, ap, subst, ◌∙◌, arith, eq-eqb, ne_eqb}
+use Rattle.std.specs.List.{Contains, AllByRecursion, list_any, cons_option}
 use Rattle.std.proofs.lemmas.Bool.Decides.{nat_tests}
 use Rattle.std.proofs.lemmas.List.Elements.{Contains-push, Contains-append_left, Contains-append_right, Contains-append_cases, Contains-push_cases}
 use Rattle.ballots.specs.Ballot.{Ballot, IsBelow}
@@ -8,7 +8,7 @@ use Rattle.ballots.specs.Majority.{tally, IsMajority}
 use Rattle.ballots.specs.declared.value.Value.{Value}
 use Rattle.ballots.proofs.CallerLemmas.{not_below_itself, below_carried, majority_stays}
 use Rattle.proposer.specs.Call.{Begun, Promise, Call, Begins, Promises, Nacks}
-use Rattle.proposer.specs.Choosing.{Report, is_from, is_sender, HasMajority, first_of_each, IsHighest, Chooses}
+use Rattle.proposer.specs.Choosing.{Report, is_from, is_sender, HasMajority, first_of_each, reports_of, IsHighest, Chooses}
 use Rattle.proposer.specs.Attempting.{answering, is_for, promise_in}
 use Rattle.proposer.specs.Promised.{IsAnswerTo, HasPromised, MajorityPromised}
 use Rattle.proposer.proofs.Lists.{all-append, all_weaker}
@@ -261,3 +261,39 @@ chooses_highest candidate reports v (inr highest) =
       subst (λ (l : List Report). Contains l (highest.0, v)) (sym highest.1.split) (in_the_middle highest.1.before highest.1.after (highest.0, v)),
       λ other is_in. none_above reports (highest.0, v) other highest.1 is_in,
     )
+
+-- ---- what is reported
+
+out_map_step : {X Y : Type 0} (h : X → Option Y) (x : X) (xs : List X) (y : Y) (o : Option Y) → h x ≡ o → Contains (cons_option o (filter_map h xs)) y
+    → (Contains (filter_map h xs) y → (z : X) × Contains xs z × (h z ≡ Some y)) → (z : X) × Contains (x ∷ xs) z × (h z ≡ Some y)
+out_map_step h x xs y None is is_in rest = let later = rest is_in in (later.0, there x later.0 xs later.1, later.2)
+out_map_step {X} h x xs y (Some w) is is_in rest = elim (first_or_rest w y (filter_map h xs) is_in) as (λ _. (z : X) × Contains (x ∷ xs) z × (h z ≡ Some y)) [
+  | inl same ↦ (x, here x xs, is ∙ ap Some same)
+  | inr further ↦ let later = rest further in (later.0, there x later.0 xs later.1, later.2)
+]
+
+out_of_map : {X Y : Type 0} (h : X → Option Y) (xs : List X) (y : Y) → Contains (filter_map h xs) y → (z : X) × Contains xs z × (h z ≡ Some y)
+out_of_map h [] y is_in = absurd (nowhere y is_in)
+out_of_map h (x ∷ xs) y is_in = out_map_step h x xs y (h x) refl is_in (out_of_map h xs y)
+
+same_inside : {Y : Type 0} (a b : Y) → Some a ≡ Some b → a ≡ b
+same_inside a b e = cc
+
+into_map_step : {X Y : Type 0} (h : X → Option Y) (x z : X) (xs : List X) (y : Y) (o : Option Y) → h x ≡ o → h z ≡ Some y → (x ≡ z) ⊎ Contains (filter_map h xs) y
+    → Contains (cons_option o (filter_map h xs)) y
+into_map_step h x z xs y None is found (inl same) = absurd (let no : None ≡ Some y = sym is ∙ ap h same ∙ found in cc)
+into_map_step h x z xs y None is found (inr rest) = rest
+into_map_step h x z xs y (Some w) is found (inl same) =
+    subst (Contains (w ∷ filter_map h xs)) (same_inside w y (sym is ∙ ap h same ∙ found)) (here w (filter_map h xs))
+into_map_step h x z xs y (Some w) is found (inr rest) = there w y (filter_map h xs) rest
+
+into_map : {X Y : Type 0} (h : X → Option Y) (xs : List X) (z : X) (y : Y) → h z ≡ Some y → Contains xs z → Contains (filter_map h xs) y
+into_map h [] z y found is_in = absurd (nowhere z is_in)
+into_map h (x ∷ xs) z y found is_in = elim (first_or_rest x z xs is_in) as (λ _. Contains (filter_map h (x ∷ xs)) y) [
+  | inl same ↦ into_map_step h x z xs y (h x) refl found (inl same)
+  | inr rest ↦ into_map_step h x z xs y (h x) refl found (inr (into_map h xs z y found rest))
+]
+
+pub reports_are_told : (promises : List Promise) (report : Report) → (Contains (reports_of promises) report ↔ ((promise : Promise) × Contains promises promise × (promise.report ≡ Some report)))
+reports_are_told promises report =
+    (out_of_map (λ (p : Promise). p.report) promises report, λ told. into_map (λ (p : Promise). p.report) promises told.0 report told.2 told.1)

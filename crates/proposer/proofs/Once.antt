@@ -105,10 +105,10 @@ module _ (me highest members : ℕ) (before mid : List Call) (promise promise' :
 module _ (me highest members : ℕ) (calls : List Call) (rises : BallotsIncrease me highest calls) (before before' after after' : List Call) (promise promise' : Promise) (accept accept' : ℕ × Ballot × Value)
     (split : calls ≡ before ++ Promises promise ∷ after) (split' : calls ≡ before' ++ Promises promise' ∷ after')
     (one : Accepts members before promise accept) (other : Accepts members before' promise' accept') (ballots : accept.1 ≡ accept'.1) where
-  once_where_they_meet : Meet before before' (Promises promise) (Promises promise') after after' → (before ≡ before') × (accept ≡ accept')
+  once_where_they_meet : Meet before before' (Promises promise) (Promises promise') after after' → (before ≡ before') × (promise ≡ promise') × (accept ≡ accept')
   once_where_they_meet (same b e a) =
       let promises : promise ≡ promise' = cc in
-      (b, one_accept members before' promise' accept accept' (subst (λ (p : Promise). Accepts members before' p accept) promises (subst (λ (cs : List Call). Accepts members cs promise accept) b one)) other)
+      (b, promises, one_accept members before' promise' accept accept' (subst (λ (p : Promise). Accepts members before' p accept) promises (subst (λ (cs : List Call). Accepts members cs promise accept) b one)) other)
   once_where_they_meet (earlier mid a b) =
       absurd (no_second me highest members before mid promise promise' accept accept'
       (rw (← b) (rises_front me highest calls before' (Promises promise' ∷ after') split' rises)) one (subst (λ (cs : List Call). Accepts members cs promise' accept') b other) ballots)
@@ -116,5 +116,5 @@ module _ (me highest members : ℕ) (calls : List Call) (rises : BallotsIncrease
       absurd (no_second me highest members before' mid promise' promise accept' accept
       (rw (← b) (rises_front me highest calls before (Promises promise ∷ after) split rises)) other (subst (λ (cs : List Call). Accepts members cs promise accept) b one) (sym ballots))
 
-  pub once : (before ≡ before') × (accept ≡ accept')
+  pub once : (before ≡ before') × (promise ≡ promise') × (accept ≡ accept')
   once = once_where_they_meet (splits before before' (Promises promise) (Promises promise') after after' (sym split ∙ split'))

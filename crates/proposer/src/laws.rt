@@ -1,27 +1,29 @@
 //! Laws of the definitions that every call here is proved against.
 
-ghost use Rattle.std.specs.Prelude.{◌≡◌, ◌≢◌, ℕ, ◌<◌, ◌⊎◌, ◌↔◌, List, [], ◌∷◌, ◌++◌, Option};
+ghost use Rattle.std.specs.Prelude.{◌≡◌, ◌≢◌, ℕ, ◌<◌, ◌⊎◌, ◌↔◌, List, [], ◌∷◌, ◌++◌, Option, Some};
 ghost use Rattle.std.specs.List.{Contains};
 ghost use Rattle.ballots.specs.declared.value.Value.{Value as Held};
 ghost use Rattle.ballots.specs.Ballot.{Ballot as Pair, IsBelow};
 ghost use Rattle.proposer.specs.Call.{Start, Begun, Promise, Call, Begins, Promises, Nacks};
-ghost use Rattle.proposer.specs.Choosing.{Report, HasMajority, first_of_each, Chooses};
-ghost use Rattle.proposer.specs.Attempting.{BallotsIncrease, IsOpen, IsAttempt, answering, Accepts, Answers};
+ghost use Rattle.proposer.specs.Choosing.{Report, HasMajority, first_of_each, reports_of, Chooses};
+ghost use Rattle.proposer.specs.Attempting.{BallotsIncrease, IsOpen, IsAttempt, answering, counted, Accepts, Answers};
 ghost use Rattle.proposer.specs.Promised.{IsAnswerTo, MajorityPromised};
 ghost use Rattle.proposer.specs.State.{ProposerState, attempt_of, StateAfter};
 
 /// What is chosen of a list of reports is one value: that of a report that no other is above, or the candidate where
-/// nothing is reported.
+/// nothing is reported. The reports are what the promises report.
 pub fn choices_are_one()
     ensures one { (candidate : Held) (reports : List Report) (v w : Held)
         → Chooses candidate reports v → Chooses candidate reports w → v ≡ w }
     ensures highest { (candidate : Held) (reports : List Report) (v : Held) → Chooses candidate reports v
         → ((reports ≡ []) × (v ≡ candidate)) ⊎ ((ballot : Pair) × Contains reports (ballot, v)
         × ((other : Report) → Contains reports other → IsBelow ballot other.0 → ⊥)) }
+    ensures reports { (promises : List Promise) (report : Report) → Contains (reports_of promises) report
+        ↔ ((promise : Promise) × Contains promises promise × (promise.report ≡ Some report)) }
 {}
 
-/// An attempt opens where it begins. A promise leaves it open, and so does a Nack of another slot or ballot; its own ends
-/// it.
+/// An attempt opens where it begins. A promise leaves it open, and so does a Nack of another slot or ballot; its own
+/// ends it.
 pub fn attempts_open_and_end()
     ensures opens { (calls : List Call) (begun : Begun) → IsOpen (calls ++ Begins begun ∷ []) begun [] }
     ensures goes_on { (calls since : List Call) (begun : Begun) (promise : Promise)
@@ -33,8 +35,8 @@ pub fn attempts_open_and_end()
         → IsOpen (calls ++ Nacks begun.slot begun.ballot ∷ []) begun since → ⊥ }
 {}
 
-/// After a list of calls one attempt is open at most, and what is answered to a promise is one answer: what a call gives
-/// and what was told of it beforehand are the same.
+/// After a list of calls one attempt is open at most, and what is answered to a promise is one answer: what a call
+/// gives and what was told of it beforehand are the same.
 pub fn answers_are_one()
     ensures attempts { (calls : List Call) (begun another : Begun) (since after : List Call)
         → IsOpen calls begun since → IsOpen calls another after → (begun ≡ another) × (since ≡ after) }
@@ -61,12 +63,15 @@ pub fn senders_count_once()
         → first_of_each promises ≡ before ++ promise ∷ (mid ++ other ∷ after) → promise.sender ≢ other.sender }
 {}
 
-/// An Accept is that of the open attempt, for its slot and at its ballot, and a majority of members promised it.
+/// An Accept is that of the open attempt, for its slot and at its ballot; a majority of members promised it, and its
+/// value is chosen by the reports of the promises that count.
 pub fn accepts_need_a_majority()
     ensures { (members : ℕ) (calls : List Call) (promise : Promise) (accept : ℕ × Pair × Held)
         → Accepts members calls promise accept
         → (begun : Begun) × (since : List Call) × IsOpen calls begun since
-        × (accept.0 ≡ begun.slot) × (accept.1 ≡ begun.ballot) × MajorityPromised members begun (since ++ Promises promise ∷ []) }
+        × (accept.0 ≡ begun.slot) × (accept.1 ≡ begun.ballot)
+        × MajorityPromised members begun (since ++ Promises promise ∷ [])
+        × Chooses begun.candidate (reports_of (counted members begun (since ++ Promises promise ∷ []))) accept.2 }
 {}
 
 /// Each ballot that is begun is the node's own, above what the node had seen and above all that it began.
@@ -76,8 +81,9 @@ pub fn ballots_are_its_own()
         → (begun.ballot.node ≡ me) × (highest < begun.ballot.round) × (begun.seen_round < begun.ballot.round) }
 {}
 
-/// In a list of calls in which each attempt begins at its node's next ballot, the ballots rise, and all promises together
-/// are answered by one Accept at each ballot at most: two Accepts at one ballot are the same answer to the same promise.
+/// In a list of calls in which each attempt begins at its node's next ballot, the ballots rise, and all promises
+/// together are answered by one Accept at each ballot at most: two Accepts at one ballot are the same answer to the
+/// same promise.
 pub fn one_accept_a_ballot()
     ensures rise { (me highest : ℕ) (before mid after : List Call) (begun another : Begun)
         → BallotsIncrease me highest (before ++ Begins begun ∷ (mid ++ Begins another ∷ after))
@@ -86,11 +92,11 @@ pub fn one_accept_a_ballot()
         → (before before' after after' : List Call) (promise promise' : Promise) (accept accept' : ℕ × Pair × Held)
         → calls ≡ before ++ Promises promise ∷ after → calls ≡ before' ++ Promises promise' ∷ after'
         → Accepts members before promise accept → Accepts members before' promise' accept' → accept.1 ≡ accept'.1
-        → (before ≡ before') × (accept ≡ accept') }
+        → (before ≡ before') × (promise ≡ promise') × (accept ≡ accept') }
 {}
 
-/// Proposers that were made alike and had the same calls are of one node, have begun the same rounds, and have the same
-/// attempt open.
+/// Proposers that were made alike and had the same calls are of one node, have begun the same rounds, and have the
+/// same attempt open.
 pub fn states_answer_alike()
     ensures attempts { (start : Start) (calls : List Call) (a b : ProposerState)
         → StateAfter start calls a → StateAfter start calls b → attempt_of a ≡ attempt_of b }
