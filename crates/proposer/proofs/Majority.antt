@@ -1,13 +1,17 @@
 -- Whether the attempt that is held has its majority.
-use Rattle.std.proofs.Common.{◌≡◌, ℕ, List, Option, Some, None, refl, subst}
+use Rattle.std.proofs.Common.{◌≡◌, ℕ, ◌*◌, List, [], ◌∷◌, ◌++◌, Option, Some, None, inl, inr, refl, subst, arith}
+use Rattle.std.proofs.lemmas.Bool.{cases_lt}
+use Rattle.ballots.specs.Ballot.{Ballot}
+use Rattle.ballots.specs.Majority.{tally}
+use Rattle.ballots.specs.declared.value.Value.{Value}
 use Rattle.proposer.specs.declared.attempt.Attempt.{Attempt}
 use Rattle.proposer.specs.declared.attempt.Choice.{Choice}
-use Rattle.proposer.specs.Call.{Begun, Call}
-use Rattle.proposer.specs.Choosing.{HasMajority}
-use Rattle.proposer.specs.Attempting.{IsOpen, answering, HasItsMajority}
+use Rattle.proposer.specs.Call.{Begun, Promise, Call, Promises}
+use Rattle.proposer.specs.Choosing.{is_sender, HasMajority}
+use Rattle.proposer.specs.Attempting.{IsOpen, answering, Accepts, Answers, HasItsMajority}
 use Rattle.proposer.specs.Counting.{ChoiceAfter}
 use Rattle.proposer.specs.State.{Holds, HoldsOpen}
-use Rattle.proposer.proofs.Opening.{one_open}
+use Rattle.proposer.proofs.Opening.{one_open, still_open, was_open, WasOpen}
 
 module _ (members : ℕ) (calls : List Call) (attempt : Attempt) (holds : Holds members calls attempt) where
   pub majority_where_gone : attempt.choice ≡ None → HasItsMajority members calls
@@ -31,3 +35,26 @@ gone_where_majority members calls attempt holds majority = by attempt.choice ref
     by : (choice : Option Choice) → attempt.choice ≡ choice → attempt.choice ≡ None
     by None gone = gone
     by (Some choice) kept = absurd (none_where_kept members calls attempt holds choice kept majority)
+
+-- ---- it comes with the Accept
+
+pub majority_now : (members : ℕ) (calls : List Call) (promise : Promise) (accept : ℕ × Ballot × Value) → Accepts members calls promise accept → HasItsMajority members (calls ++ Promises promise ∷ [])
+majority_now members calls promise accept accepts =
+    (accepts.begun, accepts.since ++ Promises promise ∷ [], still_open calls accepts.begun accepts.since (Promises promise) refl accepts.open_is, accepts.completes.now)
+
+pub none_before : (members : ℕ) (calls : List Call) (promise : Promise) (accept : ℕ × Ballot × Value) → Accepts members calls promise accept → HasItsMajority members calls → ⊥
+none_before members calls promise accept accepts majority =
+    let one : (majority.0 ≡ accepts.begun) × (majority.1 ≡ accepts.since) = one_open calls majority.0 accepts.begun majority.1 accepts.since majority.2 accepts.open_is in
+    accepts.completes.before
+    (subst (λ (b : Begun). HasMajority members (answering members b accepts.since)) one.0 (subst (λ (s : List Call). HasMajority members (answering members majority.0 s)) one.1 majority.3))
+
+pub none_without : (members : ℕ) (calls : List Call) (promise : Promise) → Answers members calls promise None → HasItsMajority members (calls ++ Promises promise ∷ []) → HasItsMajority members calls
+none_without members calls promise none majority =
+    let was : WasOpen calls (Promises promise) majority.0 majority.1 = was_open calls (Promises promise) majority.0 majority.1 refl majority.2 in
+    elim (cases_lt members (2 * tally members (is_sender (answering members majority.0 was.rest)))) as (λ _. HasItsMajority members calls) [
+      | inl before ↦ (majority.0, was.rest, was.open_is, before)
+      | inr not ↦ absurd (none majority.0 was.rest was.open_is (record {
+        before = λ m. absurd (omega (arith, m, not));
+        now = subst (λ (s : List Call). HasMajority members (answering members majority.0 s)) was.since_is majority.3;
+      }))
+    ]

@@ -1,12 +1,12 @@
 //! Laws of the definitions that every call here is proved against.
 
-ghost use Rattle.std.specs.Prelude.{◌≡◌, ◌≢◌, ℕ, ◌<◌, ◌⊎◌, ◌↔◌, List, [], ◌∷◌, ◌++◌, Option, Some};
+ghost use Rattle.std.specs.Prelude.{◌≡◌, ◌≢◌, ℕ, ◌<◌, ◌⊎◌, ◌↔◌, List, [], ◌∷◌, ◌++◌, Option, Some, None};
 ghost use Rattle.std.specs.List.{Contains};
 ghost use Rattle.ballots.specs.declared.value.Value.{Value as Held};
 ghost use Rattle.ballots.specs.Ballot.{Ballot as Pair, IsBelow};
 ghost use Rattle.proposer.specs.Call.{Start, Begun, Promise, Call, Begins, Promises, Nacks};
 ghost use Rattle.proposer.specs.Choosing.{Report, HasMajority, first_of_each, reports_of, Chooses};
-ghost use Rattle.proposer.specs.Attempting.{BallotsIncrease, IsOpen, IsAttempt, answering, counted, Accepts, Answers};
+ghost use Rattle.proposer.specs.Attempting.{BallotsIncrease, IsOpen, IsAttempt, answering, counted, Accepts, Answers, HasItsMajority};
 ghost use Rattle.proposer.specs.Promised.{IsAnswerTo, MajorityPromised};
 ghost use Rattle.proposer.specs.State.{ProposerState, attempt_of, StateAfter};
 
@@ -72,6 +72,16 @@ pub fn accepts_need_a_majority()
         × (accept.0 ≡ begun.slot) × (accept.1 ≡ begun.ballot)
         × MajorityPromised members begun (since ++ Promises promise ∷ [])
         × Chooses begun.candidate (reports_of (counted members begun (since ++ Promises promise ∷ []))) accept.2 }
+{}
+
+/// The open attempt has its majority with the promise that its Accept answers, not before, and with no other promise.
+pub fn majorities_come_with_accepts()
+    ensures now { (members : ℕ) (calls : List Call) (promise : Promise) (accept : ℕ × Pair × Held)
+        → Accepts members calls promise accept → HasItsMajority members (calls ++ Promises promise ∷ []) }
+    ensures not_before { (members : ℕ) (calls : List Call) (promise : Promise) (accept : ℕ × Pair × Held)
+        → Accepts members calls promise accept → HasItsMajority members calls → ⊥ }
+    ensures no_other { (members : ℕ) (calls : List Call) (promise : Promise) → Answers members calls promise None
+        → HasItsMajority members (calls ++ Promises promise ∷ []) → HasItsMajority members calls }
 {}
 
 /// Each ballot that is begun is the node's own, above what the node had seen and above all that it began.
