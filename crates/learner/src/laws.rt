@@ -7,7 +7,7 @@ ghost use Rattle.ballots.specs.declared.value.Value.{Value};
 ghost use Rattle.learner.specs.Calls.{Call, Accepted, Decided, first_counted, IsChosenOrDecided, IsLearned, Learns};
 ghost use Rattle.learner.specs.Votes.{HasAccepted, MajorityAccepted, IsDecidedOrChosen};
 ghost use Rattle.learner.specs.State.{LearnerState, decided_at, first_at, voted_at};
-ghost use Rattle.learner.specs.Learned.{StateAfter};
+ghost use Rattle.learner.specs.Learned.{StateAfter, IsSame};
 
 /// Of the same calls, a slot learns one value at most, and a further call makes it learn one thing: a value or nothing.
 pub fn learned_is_one()
@@ -53,7 +53,8 @@ pub fn first_counted_comes_first()
         × ((m : ℕ) → m < members → HasAccepted before m slot ballot → ⊥) }
 {}
 
-/// A learner has of each slot what its calls made it learn, and learners of the same calls answer every look-up alike.
+/// A learner has of each slot what its calls made it learn, and learners of the same calls answer every look-up alike. A
+/// look, which leaves every look-up as before, is no call.
 pub fn states_are_what_was_learned()
     ensures decided { (members : ℕ) (calls : List Call) (state : LearnerState) (slot : ℕ) (v : Value)
         → StateAfter members calls state → decided_at state slot ≡ Some v ↔ IsLearned members calls slot v }
@@ -62,4 +63,6 @@ pub fn states_are_what_was_learned()
         → voted_at a slot ballot member ≡ voted_at b slot ballot member }
     ensures firsts { (members : ℕ) (calls : List Call) (a b : LearnerState) (slot : ℕ) (ballot : Ballot)
         → StateAfter members calls a → StateAfter members calls b → first_at a slot ballot ≡ first_at b slot ballot }
+    ensures looks { (members : ℕ) (calls : List Call) (old new : LearnerState)
+        → IsSame old new → StateAfter members calls old → StateAfter members calls new }
 {}

@@ -1,3 +1,4 @@
+use Rattle.learner.proofs.Learning.{same_learnt}
 use Rattle.learner.proofs.Voting.{decided_is_learned, votes_alike, firsts_alike}
 use Rattle.learner.proofs.laws.states_are_what_was_learned.Goals as goal
 
@@ -9,3 +10,6 @@ returns-clause-votes c = votes_alike
 
 pub returns-clause-firsts : goal.returns-clause-firsts
 returns-clause-firsts c = firsts_alike
+
+pub returns-clause-looks : goal.returns-clause-looks
+returns-clause-looks c = same_learnt
