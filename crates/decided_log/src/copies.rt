@@ -12,12 +12,15 @@ use ballots::{Message, NodeId, OutOfMemory, Slot, Value};
 use indexmap::IndexMap;
 use std::alloc::Global;
 
-// The value of the slot of this number.
+// The value of the slot of this number. Where nothing stands behind a gap, as mostly, nothing is hashed.
 fn later_value(later: &IndexMap<Slot, Value>, number: usize) -> Option<&Value>
     requires { (slot : ℕ) → max_slot < slot → lookup (nat_eq slot) later.now.entries ≡ None }
     ensures value { option_map (λ value. value.now) result ≡ lookup (nat_eq number) later.now.entries }
     ensures within { IfSome result (λ value. number ≤ max_slot) }
 {
+    if later.is_empty() {
+        return None;
+    }
     let slot = Slot::new(u32::try_from(number).ok()?)?;
     later.get(&slot)
 }

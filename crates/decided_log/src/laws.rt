@@ -21,8 +21,6 @@ pub fn inserts_are_one()
         → (other : ℕ) (held : Value) → old other ≡ Some held → new other ≡ Some held }
     ensures takes { (old new : ℕ → Option Value) (slot : ℕ) (value : Value) → Inserts old new slot value
         → old slot ≡ None → new slot ≡ Some value }
-    ensures same { (old new : ℕ → Option Value) (slot : ℕ) (value : Value) → Inserts old new slot value
-        → (other : ℕ) → new other ≡ None → old other ≡ None }
 {}
 
 /// What a list of inserts leaves is one thing, slot by slot: after no inserts nothing, and after one insert more what

@@ -56,7 +56,7 @@ fn keep_later(later: &mut IndexMap<Slot, Value>, slot: Slot, value: Value)
     later.insert(slot, value).unwrap();
 }
 
-// Takes out the value of the slot of this number.
+// Takes out the value of the slot of this number. Where nothing stands behind a gap, as mostly, nothing is hashed.
 fn take_later(later: &mut IndexMap<Slot, Value>, number: usize) -> Option<Value>
     requires { (slot : ℕ) → max_slot < slot → lookup (nat_eq slot) later.old.entries ≡ None }
     ensures value { result ≡ lookup (nat_eq number) later.old.entries }
@@ -64,6 +64,9 @@ fn take_later(later: &mut IndexMap<Slot, Value>, number: usize) -> Option<Value>
     ensures len { length later.new.entries + (if is_some result then 1 else 0) ≡ length later.old.entries }
     ensures room { spare later.old ≤ spare later.new }
 {
+    if later.is_empty() {
+        return None;
+    }
     let slot = Slot::new(u32::try_from(number).ok()?)?;
     later.swap_remove(&slot)
 }

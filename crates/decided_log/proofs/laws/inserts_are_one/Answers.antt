@@ -9,6 +9,3 @@ returns-clause-keeps c = search rules steps 300000
 
 pub returns-clause-takes : goal.returns-clause-takes
 returns-clause-takes c = search rules steps 300000
-
-pub returns-clause-same : goal.returns-clause-same
-returns-clause-same c = search rules steps 300000
