@@ -1,10 +1,11 @@
 #!/usr/bin/env bash
 # Times the calls of an acceptor, a learner and a log by `flight_bench`, over 1,000 and over 100,000 slots, beside the
 # same parts in plain Rust over the maps of std (bench/plain_parts.rs, rustc -O). Of the learner and the log each call
-# is told beforehand what it will give, with its room made, as a node does; the plain ones are just called. Each line
-# gives the time of one call by both, from the best of five runs of about a second without the time that an empty run
-# takes, its instructions where valgrind is there, and the ratios; the last of each part gives by what factor a call's
-# time grew as there were a hundred times as many slots. First it shows that the tallies of both agree.
+# is told beforehand what it will give, with its room made, as a node does. The plain log is told so too, so that both
+# make the same copies; the plain learner is just called. Each line gives the time of one call by both, from the best
+# of five runs of about a second without the time that an empty run takes, its instructions where valgrind is there,
+# and the ratios; the last of each part gives by what factor a call's time grew as there were a hundred times as many
+# slots. First it shows that the tallies of both agree.
 cd "$(dirname "${BASH_SOURCE[0]}")/.."
 source bench/programs.sh plain_parts
 

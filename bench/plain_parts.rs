@@ -1,6 +1,6 @@
 //! The parts of a Paxos node in plain Rust, over the maps of std, with nothing proved: what `flight_bench` is timed
-//! against. `TASK COUNT FILE` does what `flight_bench` does at these words, but that no call is told beforehand what it
-//! will give.
+//! against. `TASK COUNT FILE` does what `flight_bench` does at these words, but that the learner is not told beforehand
+//! what a call will give. The log is, by `gain`, as it makes copies of values there, which is most of the work.
 use std::collections::HashMap;
 use std::hint::black_box;
 use std::io;
@@ -82,10 +82,22 @@ struct DecidedLog {
 }
 
 impl DecidedLog {
-    /// By how many values the prefix grows.
-    fn insert(&mut self, slot: Slot, value: Value) -> usize {
-        let before = self.prefix.len();
-        match (slot as usize).cmp(&before) {
+    /// Makes all the room that an insert can need, and gives copies of the values by which the prefix would grow.
+    fn gain(&mut self, slot: Slot, value: &Value) -> Vec<Value> {
+        self.prefix.reserve(self.later.len() + 1);
+        self.later.reserve(1);
+        let mut values = Vec::new();
+        if slot as usize == self.prefix.len() {
+            values.push(value.clone());
+            while let Some(next) = self.later.get(&(slot + values.len() as Slot)) {
+                values.push(next.clone());
+            }
+        }
+        values
+    }
+
+    fn insert(&mut self, slot: Slot, value: Value) {
+        match (slot as usize).cmp(&self.prefix.len()) {
             std::cmp::Ordering::Less => {}
             std::cmp::Ordering::Greater => {
                 self.later.entry(slot).or_insert(value);
@@ -97,7 +109,13 @@ impl DecidedLog {
                 }
             }
         }
-        self.prefix.len() - before
+    }
+
+    /// By how many values the prefix grows.
+    fn add(&mut self, slot: Slot, value: Value) -> usize {
+        let values = self.gain(slot, &value);
+        self.insert(slot, value);
+        values.len()
     }
 }
 
@@ -119,7 +137,7 @@ fn call_learner(slots: Slot) -> u64 {
 
 fn call_log(slots: Slot) -> u64 {
     let mut log = DecidedLog::default();
-    (0..slots).map(|slot| log.insert(black_box(slot), Value::Noop) as u64).sum()
+    (0..slots).map(|slot| log.add(black_box(slot), Value::Noop) as u64).sum()
 }
 
 fn main() -> io::Result<()> {
