@@ -1,0 +1,162 @@
+#!/usr/bin/env python3
+"""Runs the gate, passes on what it prints, and says in the end what each crate cost it, in processor seconds: the first check of
+the crate, that of its tests, its must-fail edits, and the runs of its program and tests.
+
+    tools/gate_costs.py [--write] [COMMAND ..]
+
+With --write the table goes into docs/TESTS.md, between the two lines that mark its place. The gate is ./test, or the command that
+is given, as `rt must-fail ballots` at the top of the repository.
+
+Every process that the gate starts is looked at five times a second, and its time goes to the crate that its words name. The total
+is the kernel's own figure, so that what was missed shows."""
+import os
+import re
+import resource
+import subprocess
+import sys
+import time
+from pathlib import Path
+
+TOP = Path(__file__).resolve().parent.parent
+PAGE = TOP / "docs" / "TESTS.md"
+FIRST = "<!-- The table below is made by tools/gate_costs.py. -->"
+LAST = "<!-- The table above is made by tools/gate_costs.py. -->"
+KINDS = ("proof", "tests", "edits", "runs")
+TICKS = os.sysconf("SC_CLK_TCK")
+
+
+def crates():
+    """The crates that crates.txt lists, in its order."""
+    lines = (TOP / "crates.txt").read_text(encoding="utf-8").splitlines()
+    return [line.split(":")[0].split()[0] for line in lines if ":" in line.split("#")[0]]
+
+
+def stat(pid):
+    """The parent of a process, when it started, and the ticks of processor that it has had."""
+    text = Path(f"/proc/{pid}/stat").read_text(encoding="utf-8", errors="replace")
+    words = text.rpartition(")")[2].split()
+    return int(words[1]), words[19], int(words[11]) + int(words[12])
+
+
+def what_it_is(pid, names):
+    """The crate that a process works for, and at what."""
+    words = Path(f"/proc/{pid}/cmdline").read_bytes().decode(errors="replace").split("\0")
+    ran = re.fullmatch(r"(.*?)(_tests)?", os.path.basename(words[0]))
+    if ran.group(1) in names and "/out/" in words[0]:
+        return ran.group(1), "runs"
+    if "--crate-name" not in words:
+        return None
+    crate = words[words.index("--crate-name") + 1]
+    if "rt-edit-" in os.readlink(f"/proc/{pid}/cwd"):
+        return crate, "edits"
+    return crate, "tests" if "--test" in words else "proof"
+
+
+class Costs:
+    """What the processes below one were seen to take."""
+
+    def __init__(self, top, names):
+        self.top, self.names = top, names
+        self.ticks, self.labels = {}, {}
+
+    def look(self):
+        """Looks at each process below the top once."""
+        found = {}
+        for entry in os.listdir("/proc"):
+            if entry.isdigit():
+                try:
+                    found[int(entry)] = stat(entry)
+                except (OSError, IndexError, ValueError):
+                    pass
+        for pid in found:
+            if self.is_below(pid, found):
+                self.note(pid, found[pid])
+
+    def is_below(self, pid, found):
+        """Whether the process was started by the top one, or by one that was."""
+        for _ in range(64):
+            if pid == self.top:
+                return True
+            if pid not in found:
+                return False
+            pid = found[pid][0]
+        return False
+
+    def note(self, pid, seen):
+        """Keeps how much the process has had so far. What it works for is read again as long as it is not known."""
+        key = pid, seen[1]
+        self.ticks[key] = seen[2]
+        if self.labels.get(key) is None:
+            try:
+                self.labels[key] = what_it_is(pid, self.names)
+            except OSError:
+                pass
+
+    def seconds(self, crate, kind):
+        """Processor seconds of one crate at one kind of work."""
+        return sum(it for key, it in self.ticks.items() if self.labels.get(key) == (crate, kind)) / TICKS
+
+
+def page_of(costs, total, wall, ending):
+    """The table, as lines of the page."""
+    rows = ["| Crate | First check | Tests | Edits | An edit | Runs | Lines of `.rt` |", "|---|---|---|---|---|---|---|"]
+    known = 0
+    for crate in crates():
+        seconds = {kind: costs.seconds(crate, kind) for kind in KINDS}
+        known += sum(seconds.values())
+        edits = len(list((TOP / "crates" / crate / "must-fail").glob("*.edit")))
+        sources = (TOP / "crates" / crate / "src").rglob("*.rt")
+        lines = sum(file.read_text(encoding="utf-8").count("\n") for file in sources)
+        tests, edit, runs = seconds["tests"], seconds["edits"] / max(edits, 1), seconds["runs"]
+        cells = [f"`{crate}`", f"{seconds['proof']:.0f}", f"{tests:.0f}" if tests else "", f"{seconds['edits']:.0f} ({edits})" if edits else ""]
+        cells += [f"{edit:.1f}" if edits else "", f"{runs:.0f}" if runs >= 0.5 else "", f"{lines:,}"]
+        rows.append("| " + " | ".join(cells) + " |")
+    text = f"The gate printed `{ending}`. It took {wall / 60:.0f} minutes on {len(os.sched_getaffinity(0))} processors, and {total / 60:.0f} processor "
+    return [text + f"minutes in all, of which {max(total - known, 0) / 60:.0f} are of no crate. The table has processor seconds.", "", *rows]
+
+
+def write(lines):
+    """Puts the lines between the two marks of the page."""
+    text = PAGE.read_text(encoding="utf-8")
+    head, _, rest = text.partition(FIRST)
+    _, mark, tail = rest.partition(LAST)
+    if not mark:
+        sys.exit(f"gate_costs: {PAGE} has no place for the table")
+    PAGE.write_text(head + "\n".join([FIRST, "", *lines, "", LAST]) + tail, encoding="utf-8")
+
+
+def run(words, names):
+    """Runs the command, passes on what it prints, and gives how it ended, its last line, and what was seen of its costs."""
+    gate = subprocess.Popen(words, cwd=TOP, stdout=subprocess.PIPE, stderr=subprocess.STDOUT)
+    os.set_blocking(gate.stdout.fileno(), False)
+    costs, told = Costs(gate.pid, names), b""
+    while True:
+        is_over = gate.poll() is not None
+        costs.look()
+        try:
+            while part := os.read(gate.stdout.fileno(), 65536):
+                sys.stdout.buffer.write(part)
+                sys.stdout.flush()
+                told = (told + part)[-400:]
+        except BlockingIOError:
+            pass
+        if is_over:
+            return gate.returncode, told.decode(errors="replace").rstrip().rpartition("\n")[2], costs
+        time.sleep(0.2)
+
+
+def main():
+    writes = "--write" in sys.argv[1:]
+    words = [it for it in sys.argv[1:] if it != "--write"] or [str(TOP / "test")]
+    began = time.monotonic()
+    status, ending, costs = run(words, set(crates()))
+    used = resource.getrusage(resource.RUSAGE_CHILDREN)
+    lines = page_of(costs, used.ru_utime + used.ru_stime, time.monotonic() - began, ending)
+    print("\n".join(lines))
+    if writes:
+        write(lines)
+    return status
+
+
+if __name__ == "__main__":
+    sys.exit(main())
