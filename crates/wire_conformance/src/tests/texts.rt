@@ -32,21 +32,6 @@ pub fn spelled(alloc: Global, digits: &str) -> Result<Vec<u8>, Fail> {
     Ok(bytes)
 }
 
-/// The hexadecimal digit of a value below 16.
-fn digit_of(value: u8) -> char {
-    std::char::from_digit(u32::from(value), 16).unwrap_or('?')
-}
-
-/// The bytes as hexadecimal digits.
-pub fn digits_of(alloc: Global, bytes: &[u8]) -> Result<String, AllocError> {
-    let mut digits = String::new(alloc);
-    for byte in bytes {
-        digits.push(digit_of(*byte >> 4))?;
-        digits.push(digit_of(*byte % 16))?;
-    }
-    Ok(digits)
-}
-
 /// The two cells of a row of a table, with a bar between them.
 pub fn two_cells(row: &str) -> Result<(&str, &str), Fail> {
     match row.split_once('|') {
