@@ -21,10 +21,11 @@ pub use grpc_frames::{
     END_FLAG, Frame, FrameFault, MAX_FRAME_PAYLOAD, MESSAGE_FLAG, read_frame, write_frame,
 };
 pub use proto_fields::{
-    Content, ContentRef, MAX_FIELD_NUMBER, MAX_VARINT_BYTES, ProtoMessage, WireFault, append_bool,
-    append_bytes, append_enum, append_int64, append_lent, append_messages, append_one,
-    append_string, append_strings, append_uint64, bool_of, bytes_of, check_bytes, check_embedded,
-    check_number, check_string, enum_of, int64_of, merge_one, push_message, push_string,
-    read_fields, split_field, string_of, uint64_of, write_bytes, write_nonempty_bytes,
-    write_nonzero_varint, write_varint,
+    CanonicalMessage, Content, ContentRef, MAX_FIELD_NUMBER, MAX_VARINT_BYTES, ProtoMessage,
+    WireFault, append_bool, append_bytes, append_enum, append_int64, append_lent, append_messages,
+    append_one, append_string, append_strings, append_uint64, bool_of, bytes_of, check_bytes,
+    check_embedded, check_number, check_string, enum_of, int64_of, merge_one, push_message,
+    push_string, read_fields, split_field, string_of, strip_bool, strip_bytes, strip_enum,
+    strip_int64, strip_messages, strip_one, strip_string, strip_strings, strip_uint64, uint64_of,
+    write_bytes, write_nonempty_bytes, write_nonzero_varint, write_varint,
 };

@@ -9,7 +9,7 @@ use proto_fields::{
 use std::alloc::{AllocError, Global};
 
 /// A schema or a batch on its way.
-#[derive(Debug, PartialEq, Eq, Drop)]
+#[derive(Clone, Debug, PartialEq, Eq, Drop)]
 pub struct FlightData {
     /// What names the flight, in the first message of an upload, field 1.
     pub flight_descriptor: Option<FlightDescriptor>,
@@ -35,7 +35,7 @@ pub struct FlightDataRef<'a> {
 }
 
 /// The answer to an upload.
-#[derive(Debug, PartialEq, Eq, Drop)]
+#[derive(Clone, Debug, PartialEq, Eq, Drop)]
 pub struct PutResult {
     /// What the service says of it, field 1.
     pub app_metadata: Vec<u8>,

@@ -22,7 +22,7 @@ impl DescriptorType {
 }
 
 /// What names a flight: a path, or a command that is opaque to all but the service.
-#[derive(Debug, PartialEq, Eq, Drop)]
+#[derive(Clone, Debug, PartialEq, Eq, Drop)]
 pub struct FlightDescriptor {
     /// Which of the two names it, field 1 (`type` in Flight.proto, a word of the language here).
     pub descriptor_type: DescriptorType,

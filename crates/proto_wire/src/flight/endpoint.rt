@@ -1,27 +1,28 @@
 //! Where the batches of a flight are, and the ticket that asks for them.
 
 use proto_fields::{
-    ContentRef, ProtoMessage, WireFault, append_bytes, append_messages, append_one, append_string,
-    bytes_of, check_bytes, check_embedded, check_string, merge_one, push_message, string_of,
+    CanonicalMessage, ContentRef, ProtoMessage, WireFault, append_bytes, append_messages,
+    append_one, append_string, bytes_of, check_bytes, check_embedded, check_string, merge_one,
+    push_message, string_of, strip_bytes, strip_messages, strip_one, strip_string,
 };
 use std::alloc::{AllocError, Global};
 
 /// What a client sends to be given batches, opaque to all but the service that made it.
-#[derive(Debug, PartialEq, Eq, Drop)]
+#[derive(Clone, Debug, PartialEq, Eq, Drop)]
 pub struct Ticket {
     /// The service's own bytes.
     pub ticket: Vec<u8>,
 }
 
 /// Where a service is.
-#[derive(Debug, PartialEq, Eq, Drop)]
+#[derive(Clone, Debug, PartialEq, Eq, Drop)]
 pub struct Location {
     /// Its URI, as `grpc+tcp://127.0.0.1:42000`.
     pub uri: String,
 }
 
 /// A ticket, and where it is served.
-#[derive(Debug, PartialEq, Eq, Drop)]
+#[derive(Clone, Debug, PartialEq, Eq, Drop)]
 pub struct FlightEndpoint {
     /// The ticket that these locations serve.
     pub ticket: Option<Ticket>,
@@ -71,6 +72,13 @@ impl ProtoMessage for Ticket {
     ghost rises = { Prim.search rules };
 }
 
+impl CanonicalMessage for Ticket {
+    #[tactic(auto, using(proto_fields::proofs::CallerLemmas::strips))]
+    fn strip<'a>(&self, bytes: &'a [u8]) -> Option<&'a [u8]> {
+        strip_bytes(bytes, 1, &self.ticket)
+    }
+}
+
 impl ProtoMessage for Location {
     ghost use Rattle.std.proofs.Common.{rules};
     ghost use Rattle.proto_wire.specs.Flight.{location_descriptor};
@@ -111,6 +119,13 @@ impl ProtoMessage for Location {
     }
 
     ghost rises = { Prim.search rules };
+}
+
+impl CanonicalMessage for Location {
+    #[tactic(auto, using(proto_fields::proofs::CallerLemmas::strips))]
+    fn strip<'a>(&self, bytes: &'a [u8]) -> Option<&'a [u8]> {
+        strip_string(bytes, 1, &self.uri)
+    }
 }
 
 impl ProtoMessage for FlightEndpoint {
@@ -158,4 +173,12 @@ impl ProtoMessage for FlightEndpoint {
     }
 
     ghost rises = { Prim.search rules };
+}
+
+impl CanonicalMessage for FlightEndpoint {
+    #[tactic(auto, using(proto_fields::proofs::CallerLemmas::strips))]
+    fn strip<'a>(&self, bytes: &'a [u8]) -> Option<&'a [u8]> {
+        let bytes = strip_one(bytes, 1, &self.ticket)?;
+        strip_messages(bytes, 2, &self.location)
+    }
 }

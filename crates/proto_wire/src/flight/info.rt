@@ -10,7 +10,7 @@ use proto_fields::{
 use std::alloc::{AllocError, Global};
 
 /// What a service says of a flight: its schema, its name, and where its batches are.
-#[derive(Debug, PartialEq, Eq, Drop)]
+#[derive(Clone, Debug, PartialEq, Eq, Drop)]
 pub struct FlightInfo {
     /// The schema as an encapsulated message of Arrow, field 1.
     pub schema: Vec<u8>,
@@ -27,14 +27,14 @@ pub struct FlightInfo {
 }
 
 /// The schema of a flight.
-#[derive(Debug, PartialEq, Eq, Drop)]
+#[derive(Clone, Debug, PartialEq, Eq, Drop)]
 pub struct SchemaResult {
     /// The schema as an encapsulated message of Arrow, field 1.
     pub schema: Vec<u8>,
 }
 
 /// Which flights are to be listed.
-#[derive(Debug, PartialEq, Eq, Drop)]
+#[derive(Clone, Debug, PartialEq, Eq, Drop)]
 pub struct Criteria {
     /// The service's own expression, empty for all flights, field 1.
     pub expression: Vec<u8>,
