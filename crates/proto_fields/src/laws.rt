@@ -93,3 +93,10 @@ pub fn canonical_messages_are_messages()
     ensures { (descriptor : Descriptor) (v : Values descriptor)
         → RisesFrom 0 descriptor → Fits descriptor v → IsMessage descriptor (canonical descriptor v) v }
 {}
+
+/// Bytes are what is written for at most one message, of every descriptor whose fields stand by rising numbers. So
+/// whoever is given an encoding that is told to be the one knows its message by its bytes.
+pub fn canonical_messages_are_one()
+    ensures { (descriptor : Descriptor) (v w : Values descriptor) → RisesFrom 0 descriptor
+        → Fits descriptor v → Fits descriptor w → canonical descriptor v ≡ canonical descriptor w → v ≡ w }
+{}
