@@ -27,7 +27,8 @@ vector_not_cut text place size first count NotUtf8 fault shown = fault
 vector_not_cut text place size first count SmallVtable fault shown = fault
 
 -- a string is a vector of its bytes
-pub text_is_vector : (text : List ℕ) (place : ℕ) (bytes : List ℕ) → ShowsText text place bytes → ShowsVector text place 1 (place + 4) (length bytes)
+pub text_is_vector : (text : List ℕ) (place : ℕ) (bytes : List ℕ) → ShowsText text place bytes
+    → ShowsVector text place 1 (place + 4) (length bytes)
 text_is_vector text place bytes shown = record {
   shown = shown.shown;
   follows = refl;
@@ -36,11 +37,13 @@ text_is_vector text place bytes shown = record {
   whole = omega arith;
 }
 
-pub text_same : (text : List ℕ) (place : ℕ) (xs ys : List ℕ) → ShowsText text place xs → ShowsText text place ys → xs ≡ ys
+pub text_same : (text : List ℕ) (place : ℕ) (xs ys : List ℕ) → ShowsText text place xs → ShowsText text place ys
+    → xs ≡ ys
 text_same text place xs ys p q =
     holds_same text (place + 4) xs ys p.held q.held (uint_same text place 4 (length xs) (length ys) p.shown q.shown)
 
-pub text_not_cut : (text : List ℕ) (place : ℕ) (e : PlaceFault) (bytes : List ℕ) → TextFault text place e → ShowsText text place bytes → ⊥
+pub text_not_cut : (text : List ℕ) (place : ℕ) (e : PlaceFault) (bytes : List ℕ) → TextFault text place e
+    → ShowsText text place bytes → ⊥
 text_not_cut text place OutOfBounds bytes fault shown =
     vector_not_cut text place 1 (place + 4) (length bytes) OutOfBounds fault (text_is_vector text place bytes shown)
 text_not_cut text place NotUtf8 bytes (others, read, held, not) shown =
@@ -50,7 +53,8 @@ text_not_cut text place NotUtf8 bytes (others, read, held, not) shown =
 text_not_cut text place SmallVtable bytes fault shown = fault
 
 -- the bytes of a vector of bytes are a string where they are UTF-8
-pub text_shown : (text : List ℕ) (place first count : ℕ) (bytes : List ℕ) → ShowsVector text place 1 first count → Holds text first bytes
+pub text_shown : (text : List ℕ) (place first count : ℕ) (bytes : List ℕ) → ShowsVector text place 1 first count
+    → Holds text first bytes
     → length bytes ≡ count → IsUtf8 bytes → ShowsText text place bytes
 text_shown text place first count bytes shown held len utf8 = record {
   shown = subst (ShowsUint text place 4) (sym len) shown.shown;
@@ -59,10 +63,15 @@ text_shown text place first count bytes shown held len utf8 = record {
 }
 
 -- and where they are not, that is its fault
-pub text_not_utf8 : (text : List ℕ) (place first count : ℕ) (bytes : List ℕ) → ShowsVector text place 1 first count → Holds text first bytes
+pub text_not_utf8 : (text : List ℕ) (place first count : ℕ) (bytes : List ℕ) → ShowsVector text place 1 first count
+    → Holds text first bytes
     → length bytes ≡ count → (¬ IsUtf8 bytes) → TextFault text place NotUtf8
-text_not_utf8 text place first count bytes shown held len not =
-    (bytes, subst (ShowsUint text place 4) (sym len) shown.shown, subst (λ k. Holds text k bytes) shown.follows held, not)
+text_not_utf8 text place first count bytes shown held len not = (
+  bytes,
+  subst (ShowsUint text place 4) (sym len) shown.shown,
+  subst (λ k. Holds text k bytes) shown.follows held,
+  not,
+)
 
 pub vector_within : (text : List ℕ) (place size first count : ℕ) → ShowsVector text place size first count
     → (first ≡ place + 4) × (first + count * size ≤ length text)
@@ -70,5 +79,6 @@ vector_within text place size first count h =
     let within : first + length h.elements ≤ length text = holds_within text first h.elements h.held in
     (h.follows, omega (arith, h.whole))
 
-pub text_within : (text : List ℕ) (place : ℕ) (bytes : List ℕ) → ShowsText text place bytes → place + 4 + length bytes ≤ length text
+pub text_within : (text : List ℕ) (place : ℕ) (bytes : List ℕ) → ShowsText text place bytes
+    → place + 4 + length bytes ≤ length text
 text_within text place bytes h = holds_within text (place + 4) bytes h.held

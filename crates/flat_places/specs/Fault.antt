@@ -1,5 +1,5 @@
--- What is wrong with a place that does not show what was asked for: FlatBuffers, "FlatBuffer Internals". Only bytes that the
--- value needs are asked for.
+-- What is wrong with a place that does not show what was asked for: FlatBuffers, "FlatBuffer Internals". Only bytes
+-- that the value needs are asked for.
 use Rattle.std.specs.Prelude.{ℕ, ℤ, pos, ◌+◌, ◌*◌, ◌<ℤ◌, ◌<◌, ◌⊎◌, List, length, IsUtf8}
 use Rattle.flat_places.specs.declared.fault.PlaceFault.{PlaceFault}
 use Rattle.flat_places.specs.declared.fault.PlaceFault.TheVariants.{OutOfBounds, NotUtf8, SmallVtable}
@@ -49,12 +49,14 @@ IsCutSize text table = (vtable : ℕ) × ShowsVtable text table vtable × IsCut 
 abbrev pub TableFault : List ℕ → ℕ → PlaceFault → Type 0
 TableFault text table OutOfBounds = VtableFault text table OutOfBounds ⊎ IsCutSize text table
 TableFault text table NotUtf8 = ⊥
-TableFault text table SmallVtable = (vtable own_size : ℕ) × ShowsTable text table vtable own_size × (own_size < sizes_len)
+TableFault text table SmallVtable = (vtable own_size : ℕ) × ShowsTable text table vtable own_size
+    × (own_size < sizes_len)
 
 -- the slot of field n, where the vtable is long enough for it
 abbrev pub IsCutSlot : List ℕ → ℕ → ℕ → Type 0
 IsCutSlot text table n =
-    (vtable own_size : ℕ) × ShowsTable text table vtable own_size × HasSlot own_size n × IsCut text (slot_place vtable n) 2
+    (vtable own_size : ℕ) × ShowsTable text table vtable own_size × HasSlot own_size n
+    × IsCut text (slot_place vtable n) 2
 
 -- field n of a table that is there
 abbrev pub CutSlotFault : List ℕ → ℕ → ℕ → PlaceFault → Type 0

@@ -1,5 +1,5 @@
--- Bytes at a place of a text. A place is how many bytes stand before it, and offsets are added to it: FlatBuffers, "FlatBuffer
--- Internals", "Offsets". Behind the end of a text nothing is held.
+-- Bytes at a place of a text. A place is how many bytes stand before it, and offsets are added to it: FlatBuffers,
+-- "FlatBuffer Internals", "Offsets". Behind the end of a text nothing is held.
 use Rattle.std.specs.Prelude.{◌≡◌, ℕ, List, ◌++◌, length}
 
 -- at the place the text holds these bytes

@@ -1,5 +1,5 @@
--- Tables and their vtables: FlatBuffers, "FlatBuffer Internals", "Tables". Nothing is said of a vtable's second number, its
--- table's size, nor of slots that nobody asks for.
+-- Tables and their vtables: FlatBuffers, "FlatBuffer Internals", "Tables". Nothing is said of a vtable's second number,
+-- its table's size, nor of slots that nobody asks for.
 use Rattle.std.specs.Prelude.{◌≡◌, ℕ, ℤ, pos, ◌+◌, ◌*◌, ◌-ℤ◌, ◌<◌, ◌≤◌, ◌⊎◌, List, Option, Some, None}
 use Rattle.flat_places.specs.Number.{ShowsUint, ShowsInt}
 
@@ -26,11 +26,13 @@ slot_place vtable n = vtable + 4 + 2 * n
 abbrev pub HasSlot : ℕ → ℕ → Type 0
 HasSlot own_size n = 6 + 2 * n ≤ own_size
 
--- what the vtable says of field n: absent, where its slot is missing or holds 0, or so many bytes behind the table's place
+-- what the vtable says of field n: absent, where its slot is missing or holds 0, or so many bytes behind the table's
+-- place
 abbrev pub SlotSays : List ℕ → ℕ → ℕ → ℕ → ℕ → Option ℕ → Type 0
 SlotSays text table vtable own_size n None = (own_size < 6 + 2 * n) ⊎ ShowsUint text (slot_place vtable n) 2 0
 SlotSays text table vtable own_size n (Some place) =
-    (offset : ℕ) × HasSlot own_size n × (0 < offset) × ShowsUint text (slot_place vtable n) 2 offset × (place ≡ table + offset)
+    (offset : ℕ) × HasSlot own_size n × (0 < offset) × ShowsUint text (slot_place vtable n) 2 offset
+    × (place ≡ table + offset)
 
 -- where field n of the table stands, or that it is absent
 pub record ShowsField (text : List ℕ) (table n : ℕ) (field : Option ℕ) : Type 0 where

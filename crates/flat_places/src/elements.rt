@@ -27,8 +27,8 @@ pub fn vector(buf: &[u8], place: usize, size: usize) -> Result<(usize, usize), P
 }
 
 /// The string at a place: a vector of bytes, in UTF-8 (FlatBuffers, "FlatBuffer Internals", "Strings and Vectors"). The
-/// place is that of the string itself, which [`crate::follow`] gives at a reference to it. The zero byte behind a string
-/// is not looked at.
+/// place is that of the string itself, which [`crate::follow`] gives at a reference to it. The zero byte behind a
+/// string is not looked at.
 ///
 /// The faults are [`PlaceFault::OutOfBounds`], where the count or the bytes do not all lie in the text, and
 /// [`PlaceFault::NotUtf8`], where they do and are not UTF-8.

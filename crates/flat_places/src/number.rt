@@ -23,8 +23,8 @@ pub(crate) fn bytes_at(buf: &[u8], place: usize, size: usize) -> Result<&[u8], P
     }
 }
 
-/// The number at a place, in `size` bytes (1, 2, 4 or 8), the lowest first (FlatBuffers, "FlatBuffer Internals", "Format
-/// components").
+/// The number at a place, in `size` bytes (1, 2, 4 or 8), the lowest first (FlatBuffers, "FlatBuffer Internals",
+/// "Format components").
 ///
 /// [`PlaceFault::OutOfBounds`], the only fault, says that these bytes do not all lie in the text.
 pub fn uint(buf: &[u8], place: usize, size: usize) -> Result<u64, PlaceFault>

@@ -14,8 +14,8 @@ const SIZES_LEN: usize = 4;
 /// The bytes of a slot, and of each of the two sizes before the slots.
 const SLOT_LEN: usize = 2;
 
-/// A table, with the place and the own size of its vtable, which are looked at once (FlatBuffers, "FlatBuffer Internals", "Tables").
-/// A contract sees the buffer and the table's place in it.
+/// A table, with the place and the own size of its vtable, which are looked at once (FlatBuffers, "FlatBuffer
+/// Internals", "Tables"). A contract sees the buffer and the table's place in it.
 #[derive(Clone, Drop)]
 pub struct Table<'a> {
     /// The bytes.
@@ -61,11 +61,12 @@ fn has_slot(own_size: usize, n: usize) -> bool
 }
 
 impl<'a> Table<'a> {
-    /// The table at a place, whose vtable is whole: it has room for its two sizes (FlatBuffers, "FlatBuffer Internals", "Tables").
-    /// Neither the table's size nor any slot is looked at.
+    /// The table at a place, whose vtable is whole: it has room for its two sizes (FlatBuffers, "FlatBuffer Internals",
+    /// "Tables"). Neither the table's size nor any slot is looked at.
     ///
-    /// The faults are [`PlaceFault::SmallVtable`], where the vtable's own size is below 4, and [`PlaceFault::OutOfBounds`], where
-    /// the table's first four bytes or the vtable's first two do not lie in the buffer.
+    /// The faults are [`PlaceFault::SmallVtable`], where the vtable's own size is below 4, and
+    /// [`PlaceFault::OutOfBounds`], where the table's first four bytes or the vtable's first two do not lie in the
+    /// buffer.
     pub fn at(buf: &'a [u8], place: usize) -> Result<Table<'a>, PlaceFault>
         ensures seen { IfOk result (λ table. table ≡ record { buf = buf.now; place = place }) }
         ensures whole { IfOk result (λ table. HasTable buf.now place) }
@@ -92,12 +93,12 @@ impl<'a> Table<'a> {
         self.buf
     }
 
-    /// Where field `n` (from 0) of the table stands, and `None` where it is absent: its vtable is too short to have a slot for it,
-    /// or the slot holds 0 (FlatBuffers, "FlatBuffer Internals", "Tables"). What stands at the field's place is not asked, nor
-    /// whether it lies in the buffer.
+    /// Where field `n` (from 0) of the table stands, and `None` where it is absent: its vtable is too short to have a
+    /// slot for it, or the slot holds 0 (FlatBuffers, "FlatBuffer Internals", "Tables"). What stands at the field's
+    /// place is not asked, nor whether it lies in the buffer.
     ///
-    /// The only fault is [`PlaceFault::OutOfBounds`], where the slot's two bytes do not lie in the buffer. No other slot is looked
-    /// at.
+    /// The only fault is [`PlaceFault::OutOfBounds`], where the slot's two bytes do not lie in the buffer. No other
+    /// slot is looked at.
     pub fn slot(&self, n: usize) -> Result<Option<usize>, PlaceFault>
         ensures read { IfOk result (ShowsField self.now.buf self.now.place n) }
         ensures only { (field : Option ℕ) → ShowsField self.now.buf self.now.place n field → result ≡ Ok field }
@@ -118,8 +119,8 @@ impl<'a> Table<'a> {
 /// place is not asked, nor whether it lies in the text. Who asks for several fields makes a [`Table`] once.
 ///
 /// The faults are [`PlaceFault::SmallVtable`], where the vtable's own size is below 4, and
-/// [`PlaceFault::OutOfBounds`], where the table's first four bytes, the vtable's first two or the slot do not lie in the
-/// text. Neither the table's size nor any other slot is looked at.
+/// [`PlaceFault::OutOfBounds`], where the table's first four bytes, the vtable's first two or the slot do not lie in
+/// the text. Neither the table's size nor any other slot is looked at.
 pub fn slot(buf: &[u8], table: usize, n: usize) -> Result<Option<usize>, PlaceFault>
     ensures read { IfOk result (ShowsField buf.now table n) }
     ensures only { (field : Option ℕ) → ShowsField buf.now table n field → result ≡ Ok field }

@@ -1,22 +1,33 @@
--- What columns, schemas and messages show, as they are laid out.
-use Rattle.std.proofs.Common.{◌≡◌, ℕ, suc, ◌+◌, ◌*◌, ◌^◌, ◌<◌, ◌≤◌, ◌==◌, Bool, true, false, not, List, [], ◌∷◌, length, get_or, Some, arith, refl, sym, ap, subst}
+-- What fields, schemas and messages show, as they are laid out.
+use Rattle.std.proofs.Common.{◌≡◌, ℕ, suc, ◌+◌, ◌*◌, ◌^◌, ◌<◌, ◌≤◌, ◌==◌, Bool, true, false, not, List, [], ◌∷◌, length}
+use Rattle.std.proofs.Common.{get_or, Some, arith, refl, sym, ap, subst}
 use Rattle.std.specs.List.{AllByRecursion}
 use Rattle.byteorder.specs.Endian.{little_bytes}
 use Rattle.flat_places.specs.Held.{Holds}
 use Rattle.flat_places.specs.Number.{ShowsReference}
 use Rattle.flat_places.specs.Vector.{ShowsVector}
 use Rattle.flat_places.proofs.Bytes.{holds_within}
-use Rattle.flatbuf_meta.specs.Columns.{Entry, Shape, null_shape, int_shape, floating_point_shape, binary_shape, utf8_shape, bool_shape, decimal_shape, date_shape, time_shape, timestamp_shape, list_shape, struct_shape, fixed_size_binary_shape, fixed_size_list_shape, duration_shape, Column, Tree, tree, Forest, no_more, more, width, Columns}
-use Rattle.flatbuf_meta.specs.Slots.{ShowsNumber, ShowsLink, Row, no_row}
-use Rattle.flatbuf_meta.specs.Shown.{ShowsEntry, ShowsEntries, ShowsColumn, ShowsTree, ShowsForest}
-use Rattle.flatbuf_meta.specs.Header.{ShowsMetadata, ShowsColumns, schema_header, version_5, schema_type, ShowsMessage, ShowsHeader}
-use Rattle.flatbuf_meta.specs.Objects.{Object, string_object, references_object, Cells, no_cells, link, zeros, padding, cell_count, cells_size, lead, laid, unpadded, text_of}
-use Rattle.flatbuf_meta.specs.Canonical.{number, gap, entry_object, entry_cells, metadata_cell, metadata_place, flag, kind_of, type_object, column_cells, field_object, field_cells, schema_object, message_cells, message_object, header_text}
-use Rattle.flatbuf_meta.specs.Written.{FitsEntry, FitsTree, FitsForest, FitsColumns}
+use Rattle.flatbuf_meta.specs.Fields.{Entry, DataType, null_type, int_type, floating_point_type, binary_type, utf8_type}
+use Rattle.flatbuf_meta.specs.Fields.{bool_type, decimal_type, date_type, time_type, timestamp_type, list_type}
+use Rattle.flatbuf_meta.specs.Fields.{struct_type, fixed_size_binary_type, fixed_size_list_type, duration_type}
+use Rattle.flatbuf_meta.specs.Fields.{FieldHead, Tree, tree, Forest, no_more, more, width, SchemaTree}
+use Rattle.flatbuf_meta.specs.Slots.{ShowsNumber, ShowsReferenceField, VectorRef, no_vector}
+use Rattle.flatbuf_meta.specs.Shown.{ShowsEntry, ShowsEntries, ShowsFieldHead, ShowsTree, ShowsForest}
+use Rattle.flatbuf_meta.specs.Header.{ShowsMetadata, ShowsSchema, schema_header, version_5, schema_type, ShowsMessage}
+use Rattle.flatbuf_meta.specs.Header.{ShowsHeader}
+use Rattle.flatbuf_meta.specs.Objects.{Object, string_object, references_object, Cells, no_cells, reference, zeros}
+use Rattle.flatbuf_meta.specs.Objects.{padding, cell_count, cells_size, lead, laid, unpadded, text_of}
+use Rattle.flatbuf_meta.specs.Canonical.{number, gap, entry_object, entry_cells, metadata_cell, metadata_place, flag}
+use Rattle.flatbuf_meta.specs.Canonical.{type_id_of, type_object, field_table_cells, field_object, field_cells}
+use Rattle.flatbuf_meta.specs.Canonical.{schema_object, message_cells, message_object, header_text}
+use Rattle.flatbuf_meta.specs.Written.{FitsEntry, FitsTree, FitsForest, FitsSchema}
 use Rattle.flatbuf_meta.specs.Profile.{IsWellFormedTree, IsWellFormedForest, InProfile}
 use Rattle.flatbuf_meta.proofs.Filling.{length_little}
-use Rattle.flatbuf_meta.proofs.Lying.{Lies, CellsLie, TableLies, lead_within, held_front, held_back, uint_lies, gap_lies, link_lies, string_lies, references_lie, table_lies, field_none}
-use Rattle.flatbuf_meta.proofs.TypesShown.{number_shown, number_absent, link_shown, link_absent, string_at, row_at, row_absent, flag_fits, shape_lies}
+use Rattle.flatbuf_meta.proofs.Lying.{Lies, CellsLie, TableLies, lead_within, held_front, held_back, uint_lies}
+use Rattle.flatbuf_meta.proofs.Lying.{gap_lies, referred_lies, string_lies, references_lie, table_lies, field_none}
+use Rattle.flatbuf_meta.proofs.NumbersShown.{number_shown, number_absent, reference_shown, reference_absent, string_at}
+use Rattle.flatbuf_meta.proofs.NumbersShown.{vector_at, vector_absent, flag_fits}
+use Rattle.flatbuf_meta.proofs.TypesShown.{data_type_lies}
 
 -- ---- metadata
 
@@ -25,31 +36,38 @@ entry_lies : (text : List ℕ) (place : ℕ) (entry : Entry) → FitsEntry entry
 entry_lies text place entry fits lies =
     let t : ℕ = place + lead place (entry_object entry) in
     let slots : List ℕ = 4 ∷ 8 ∷ [] in
-    let value : Cells = link (string_object entry.1) no_cells in
-    let next : ℕ = t + 4 + cells_size (link (string_object entry.0) value) in
+    let value : Cells = reference (string_object entry.1) no_cells in
+    let next : ℕ = t + 4 + cells_size (reference (string_object entry.0) value) in
     let after : ℕ = next + length (laid next (string_object entry.0)) in
-    let (table, cells) = table_lies text place 8 12 slots (link (string_object entry.0) value) lies refl (omega arith) in
-    let (to_key, key, rest) = link_lies text (t + 4) (t + 8) next (string_object entry.0) value cells (omega arith) in
-    let (to_value, said, _) = link_lies text (t + 8) (t + 12) after (string_object entry.1) no_cells rest (omega arith) in
+    let (table, cells) = table_lies text place 8 12 slots (reference (string_object entry.0) value) lies refl
+    (omega arith) in
+    let (to_key, key, rest) = referred_lies text (t + 4) (t + 8) next (string_object entry.0) value cells
+    (omega arith) in
+    let (to_value, said, _) = referred_lies text (t + 8) (t + 12) after (string_object entry.1) no_cells rest
+    (omega arith) in
     record {
       key = Some entry.0;
       value = Some entry.1;
       key_shown =
           string_at text t 0 (next + lead next (string_object entry.0)) entry.0
-          (link_shown text t 8 slots 0 4 (next + lead next (string_object entry.0)) table (omega arith) refl (omega arith) (omega arith) to_key)
+          (reference_shown text t 8 slots 0 4 (next + lead next (string_object entry.0)) table (omega arith) refl
+          (omega arith) (omega arith) to_key)
           (string_lies text next entry.0 key fits.0);
       value_shown =
           string_at text t 1 (after + lead after (string_object entry.1)) entry.1
-          (link_shown text t 8 slots 1 8 (after + lead after (string_object entry.1)) table (omega arith) refl (omega arith) (omega arith) to_value)
+          (reference_shown text t 8 slots 1 8 (after + lead after (string_object entry.1)) table (omega arith) refl
+          (omega arith) (omega arith) to_value)
           (string_lies text after entry.1 said fits.1);
       both = refl;
     }
 
-entries_lie : (text : List ℕ) (at next : ℕ) (entries : List Entry) → AllByRecursion FitsEntry entries → CellsLie text at next (entry_cells entries)
+entries_lie : (text : List ℕ) (at next : ℕ) (entries : List Entry) → AllByRecursion FitsEntry entries
+    → CellsLie text at next (entry_cells entries)
     → ShowsEntries text at entries
 entries_lie text at next [] fits cells = tt
 entries_lie text at next (entry ∷ rest) fits cells =
-    let (refers, one, others) = link_lies text at (at + 4) next (entry_object entry) (entry_cells rest) cells refl in (
+    let (refers, one, others) = referred_lies text at (at + 4) next (entry_object entry)
+    (entry_cells rest) cells refl in (
       (next + lead next (entry_object entry), refers, entry_lies text next entry fits.0 one),
       entries_lie text (at + 4) (next + length (laid next (entry_object entry))) rest fits.1 others,
     )
@@ -62,48 +80,50 @@ entries_wide : (entries : List Entry) → cells_size (entry_cells entries) ≡ c
 entries_wide [] = refl
 entries_wide (entry ∷ rest) = omega (arith, entries_wide rest)
 
-metadata_lies : (text : List ℕ) (table own_size : ℕ) (slots : List ℕ) (n v next : ℕ) (entries : List Entry) → TableLies text table own_size slots
-    → n < length slots → get_or slots n 0 ≡ metadata_place entries v → 0 < v → v < 65536 → AllByRecursion FitsEntry entries
+metadata_lies : (text : List ℕ) (table own_size : ℕ) (slots : List ℕ) (n v next : ℕ) (entries : List Entry)
+    → TableLies text table own_size slots
+    → n < length slots → get_or slots n 0 ≡ metadata_place entries v → 0 < v → v < 65536
+    → AllByRecursion FitsEntry entries
     → CellsLie text (table + v) next (metadata_cell entries) → ShowsMetadata text table n entries
 metadata_lies text table own_size slots n v next [] lies few is above near fits cells = record {
-  row = no_row;
-  row_shown = row_absent text table n 4 (link_absent text table own_size slots n lies few is);
+  vector = no_vector;
+  vector_shown = vector_absent text table n 4 (reference_absent text table own_size slots n lies few is);
   all = refl;
   shown = tt;
 }
 metadata_lies text table own_size slots n v next (entry ∷ rest) lies few is above near fits cells =
     let entries : List Entry = entry ∷ rest in
-    let vector : Object = references_object (entry_cells entries) in
-    let target : ℕ = next + lead next vector in
-    let (refers, there, _) = link_lies text (table + v) (table + v + 4) next vector no_cells cells refl in
+    let object : Object = references_object (entry_cells entries) in
+    let target : ℕ = next + lead next object in
+    let (refers, there, _) = referred_lies text (table + v) (table + v + 4) next object no_cells cells refl in
     let (shown, elements) = references_lie text next (entry_cells entries) there (entries_wide entries) in
     record {
-      row = record { first = target + 4; count = cell_count (entry_cells entries) };
-      row_shown =
-          row_at text table n target 4 (target + 4) (cell_count (entry_cells entries))
-          (link_shown text table own_size slots n v target lies few is above near refers) shown;
+      vector = record { first = target + 4; count = cell_count (entry_cells entries) };
+      vector_shown =
+          vector_at text table n target 4 (target + 4) (cell_count (entry_cells entries))
+          (reference_shown text table own_size slots n v target lies few is above near refers) shown;
       all = sym (entries_many entries);
       shown = entries_lie text (target + 4) (target + 4 + cells_size (entry_cells entries)) entries fits elements;
     }
 
--- ---- columns
+-- ---- fields
 
-kind_fits : (shape : Shape) → kind_of shape < 256 ^ 1
-kind_fits null_shape = omega arith
-kind_fits (int_shape width signed) = omega arith
-kind_fits (floating_point_shape precision) = omega arith
-kind_fits binary_shape = omega arith
-kind_fits utf8_shape = omega arith
-kind_fits bool_shape = omega arith
-kind_fits (decimal_shape precision scale width) = omega arith
-kind_fits (date_shape unit) = omega arith
-kind_fits (time_shape unit) = omega arith
-kind_fits (timestamp_shape unit timezone) = omega arith
-kind_fits list_shape = omega arith
-kind_fits struct_shape = omega arith
-kind_fits (fixed_size_binary_shape byte_width) = omega arith
-kind_fits (fixed_size_list_shape list_size) = omega arith
-kind_fits (duration_shape unit) = omega arith
+type_id_fits : (data_type : DataType) → type_id_of data_type < 256 ^ 1
+type_id_fits null_type = omega arith
+type_id_fits (int_type width signed) = omega arith
+type_id_fits (floating_point_type precision) = omega arith
+type_id_fits binary_type = omega arith
+type_id_fits utf8_type = omega arith
+type_id_fits bool_type = omega arith
+type_id_fits (decimal_type precision scale width) = omega arith
+type_id_fits (date_type unit) = omega arith
+type_id_fits (time_type unit) = omega arith
+type_id_fits (timestamp_type unit timezone) = omega arith
+type_id_fits list_type = omega arith
+type_id_fits struct_type = omega arith
+type_id_fits (fixed_size_binary_type byte_width) = omega arith
+type_id_fits (fixed_size_list_type list_size) = omega arith
+type_id_fits (duration_type unit) = omega arith
 
 flag_means : (b : Bool) → b ≡ not (flag b == 0)
 flag_means false = refl
@@ -117,7 +137,7 @@ fields_wide : (f : Forest) → cells_size (field_cells f) ≡ cell_count (field_
 fields_wide no_more = refl
 fields_wide (more t rest) = omega (arith, fields_wide rest)
 
--- a vector of columns is laid out there
+-- a vector of fields is laid out there
 record FieldsLie (text : List ℕ) (target : ℕ) (inner : Forest) : Type 0 where
   pub next : ℕ
   pub shown : ShowsVector text target 4 (target + 4) (width inner)
@@ -134,69 +154,80 @@ fields_lie text place inner lies =
       cells = cells;
     }
 
--- a column is laid out there, and the columns inside it
-record ColumnLies (text : List ℕ) (table : ℕ) (column : Column) (entries : List Entry) (inner : Forest) : Type 0 where
+-- a field is laid out there, and the fields inside it
+record FieldPartsLie (text : List ℕ) (table : ℕ) (field : FieldHead) (entries : List Entry)
+    (inner : Forest) : Type 0 where
   pub children : ℕ
-  pub metadata : Row
-  pub shown : ShowsColumn text table column (record { first = children + 4; count = width inner }) metadata
+  pub metadata : VectorRef
+  pub shown : ShowsFieldHead text table field (record { first = children + 4; count = width inner }) metadata
   pub all : length entries ≡ metadata.count
   pub entries_shown : ShowsEntries text metadata.first entries
   pub inside : FieldsLie text children inner
 
-column_lies : (text : List ℕ) (place : ℕ) (column : Column) (entries : List Entry) (inner : Forest) → FitsTree (tree column entries inner)
-    → IsWellFormedTree (tree column entries inner) → Lies text place (field_object (tree column entries inner))
-    → ColumnLies text (place + lead place (field_object (tree column entries inner))) column entries inner
-column_lies text place column entries inner fits formed lies =
-    let t : ℕ = place + lead place (field_object (tree column entries inner)) in
+field_parts_lie : (text : List ℕ) (place : ℕ) (field : FieldHead) (entries : List Entry) (inner : Forest)
+    → FitsTree (tree field entries inner)
+    → IsWellFormedTree (tree field entries inner) → Lies text place (field_object (tree field entries inner))
+    → FieldPartsLie text (place + lead place (field_object (tree field entries inner))) field entries inner
+field_parts_lie text place field entries inner fits formed lies =
+    let t : ℕ = place + lead place (field_object (tree field entries inner)) in
     let slots : List ℕ = 4 ∷ 8 ∷ 9 ∷ 12 ∷ 0 ∷ 16 ∷ metadata_place entries 20 ∷ [] in
-    let vector : Object = references_object (field_cells inner) in
-    let all : Cells = column_cells column entries vector in
+    let object : Object = references_object (field_cells inner) in
+    let all : Cells = field_table_cells field entries object in
     let last : Cells = metadata_cell entries in
-    let from_children : Cells = link vector last in
-    let from_type : Cells = link (type_object column.shape) from_children in
-    let from_kind : Cells = number 1 (kind_of column.shape) (gap 2 from_type) in
-    let from_flag : Cells = number 1 (flag column.nullable) from_kind in
+    let from_children : Cells = reference object last in
+    let from_type : Cells = reference (type_object field.data_type) from_children in
+    let from_type_id : Cells = number 1 (type_id_of field.data_type) (gap 2 from_type) in
+    let from_flag : Cells = number 1 (flag field.nullable) from_type_id in
     let next : ℕ = t + 4 + cells_size all in
-    let next_type : ℕ = next + length (laid next (string_object column.name)) in
-    let next_children : ℕ = next_type + length (laid next_type (type_object column.shape)) in
-    let next_metadata : ℕ = next_children + length (laid next_children vector) in
-    let name_at : ℕ = next + lead next (string_object column.name) in
-    let type_at : ℕ = next_type + lead next_type (type_object column.shape) in
-    let children_at : ℕ = next_children + lead next_children vector in
+    let next_type : ℕ = next + length (laid next (string_object field.name)) in
+    let next_children : ℕ = next_type + length (laid next_type (type_object field.data_type)) in
+    let next_metadata : ℕ = next_children + length (laid next_children object) in
+    let name_at : ℕ = next + lead next (string_object field.name) in
+    let type_at : ℕ = next_type + lead next_type (type_object field.data_type) in
+    let children_at : ℕ = next_children + lead next_children object in
     let (table, one) = table_lies text place 18 24 slots all lies refl (omega arith) in
-    let (to_name, name, two) = link_lies text (t + 4) (t + 8) next (string_object column.name) from_flag one (omega arith) in
-    let (nullable, three) = uint_lies text (t + 8) (t + 9) next_type 1 (flag column.nullable) from_kind two (flag_fits column.nullable) (omega arith) in
-    let (kind, four) = uint_lies text (t + 9) (t + 10) next_type 1 (kind_of column.shape) (gap 2 from_type) three (kind_fits column.shape) (omega arith) in
+    let (to_name, name, two) = referred_lies text (t + 4) (t + 8) next (string_object field.name) from_flag one
+    (omega arith) in
+    let (nullable, three) = uint_lies text (t + 8) (t + 9) next_type 1 (flag field.nullable) from_type_id two
+    (flag_fits field.nullable) (omega arith) in
+    let (type_id, four) = uint_lies text (t + 9) (t + 10) next_type 1 (type_id_of field.data_type)
+    (gap 2 from_type) three (type_id_fits field.data_type) (omega arith) in
     let five = gap_lies text (t + 10) (t + 12) next_type 2 from_type four (omega arith) in
-    let (to_type, type, six) = link_lies text (t + 12) (t + 16) next_type (type_object column.shape) from_children five (omega arith) in
-    let (to_children, children, seven) = link_lies text (t + 16) (t + 20) next_children vector last six (omega arith) in
+    let (to_type, type, six) = referred_lies text (t + 12) (t + 16) next_type
+    (type_object field.data_type) from_children five (omega arith) in
+    let (to_children, children, seven) = referred_lies text (t + 16) (t + 20) next_children object last six
+    (omega arith) in
     let inside : FieldsLie text children_at inner = fields_lie text next_children inner children in
     let metadata : ShowsMetadata text t 6 entries =
-    metadata_lies text t 18 slots 6 20 next_metadata entries table (omega arith) refl (omega arith) (omega arith) fits.2 seven in
-    let linked : ShowsLink text t 3 (Some type_at) =
-    link_shown text t 18 slots 3 12 type_at table (omega arith) refl (omega arith) (omega arith) to_type in
+    metadata_lies text t 18 slots 6 20 next_metadata entries table (omega arith) refl (omega arith)
+    (omega arith) fits.2 seven in
+    let referred : ShowsReferenceField text t 3 (Some type_at) =
+    reference_shown text t 18 slots 3 12 type_at table (omega arith) refl (omega arith) (omega arith) to_type in
     record {
       children = children_at;
-      metadata = metadata.row;
+      metadata = metadata.vector;
       shown = record {
-        name = Some column.name;
-        nullable = flag column.nullable;
-        kind = kind_of column.shape;
+        name = Some field.name;
+        nullable = flag field.nullable;
+        type_id = type_id_of field.data_type;
         name_shown =
-            string_at text t 0 name_at column.name
-            (link_shown text t 18 slots 0 4 name_at table (omega arith) refl (omega arith) (omega arith) to_name)
-            (string_lies text next column.name name fits.0);
+            string_at text t 0 name_at field.name
+            (reference_shown text t 18 slots 0 4 name_at table (omega arith) refl (omega arith) (omega arith) to_name)
+            (string_lies text next field.name name fits.0);
         named = refl;
-        nullable_shown = number_shown text t 18 slots 1 8 1 0 (flag column.nullable) table (omega arith) refl (omega arith) (omega arith) nullable;
-        may_be_null = flag_means column.nullable;
-        kind_shown = number_shown text t 18 slots 2 9 1 0 (kind_of column.shape) table (omega arith) refl (omega arith) (omega arith) kind;
-        shape_shown = shape_lies text t next_type column.shape fits.1 formed.1 type linked;
+        nullable_shown = number_shown text t 18 slots 1 8 1 0 (flag field.nullable) table (omega arith) refl
+            (omega arith) (omega arith) nullable;
+        may_be_null = flag_means field.nullable;
+        type_id_shown = number_shown text t 18 slots 2 9 1 0 (type_id_of field.data_type) table (omega arith) refl
+            (omega arith) (omega arith) type_id;
+        data_type_shown = data_type_lies text t next_type field.data_type fits.1 formed.1 type referred;
         no_dictionary = field_none text t 18 slots 4 table (omega arith) refl;
         children_shown =
-            row_at text t 5 children_at 4 (children_at + 4) (width inner)
-            (link_shown text t 18 slots 5 16 children_at table (omega arith) refl (omega arith) (omega arith) to_children) inside.shown;
+            vector_at text t 5 children_at 4 (children_at + 4) (width inner)
+            (reference_shown text t 18 slots 5 16 children_at table (omega arith) refl (omega arith)
+            (omega arith) to_children) inside.shown;
         allowed = formed.0;
-        metadata_shown = metadata.row_shown;
+        metadata_shown = metadata.vector_shown;
       };
       all = metadata.all;
       entries_shown = metadata.shown;
@@ -206,11 +237,13 @@ column_lies text place column entries inner fits formed lies =
 -- ---- trees
 
 mutual
-  tree_lies : (text : List ℕ) (place : ℕ) (t : Tree) → FitsTree t → IsWellFormedTree t → Lies text place (field_object t)
+  tree_lies : (text : List ℕ) (place : ℕ) (t : Tree) → FitsTree t → IsWellFormedTree t
+      → Lies text place (field_object t)
       → ShowsTree text (place + lead place (field_object t)) t
-  tree_lies text place (tree column entries inner) fits formed lies =
-      let there : ColumnLies text (place + lead place (field_object (tree column entries inner))) column entries inner =
-      column_lies text place column entries inner fits formed lies in (
+  tree_lies text place (tree field entries inner) fits formed lies =
+      let there : FieldPartsLie text (place + lead place (field_object (tree field entries inner))) field entries
+      inner =
+      field_parts_lie text place field entries inner fits formed lies in (
         record { first = there.children + 4; count = width inner },
         there.metadata,
         there.shown,
@@ -220,39 +253,44 @@ mutual
         forest_lies text (there.children + 4) there.inside.next inner fits.3 formed.2 there.inside.cells,
       )
 
-  forest_lies : (text : List ℕ) (at next : ℕ) (f : Forest) → FitsForest f → IsWellFormedForest f → CellsLie text at next (field_cells f)
+  forest_lies : (text : List ℕ) (at next : ℕ) (f : Forest) → FitsForest f → IsWellFormedForest f
+      → CellsLie text at next (field_cells f)
       → ShowsForest text at f
   forest_lies text at next no_more fits formed cells = tt
   forest_lies text at next (more t rest) fits formed cells =
-      let (refers, one, others) = link_lies text at (at + 4) next (field_object t) (field_cells rest) cells refl in (
+      let (refers, one, others) =
+      referred_lies text at (at + 4) next (field_object t) (field_cells rest) cells refl in (
         (next + lead next (field_object t), refers, tree_lies text next t fits.0 formed.0 one),
         forest_lies text (at + 4) (next + length (laid next (field_object t))) rest fits.1 formed.1 others,
       )
 
 -- ---- schemas
 
-schema_lies : (text : List ℕ) (place : ℕ) (columns : Columns) → InProfile columns → FitsColumns columns → Lies text place (schema_object columns)
-    → ShowsColumns text (place + lead place (schema_object columns)) columns
-schema_lies text place columns profile fits lies =
-    let t : ℕ = place + lead place (schema_object columns) in
-    let slots : List ℕ = 0 ∷ 4 ∷ metadata_place columns.metadata 8 ∷ [] in
-    let vector : Object = references_object (field_cells columns.fields) in
-    let last : Cells = metadata_cell columns.metadata in
-    let next : ℕ = t + 4 + cells_size (link vector last) in
-    let fields_at : ℕ = next + lead next vector in
-    let (table, one) = table_lies text place 10 12 slots (link vector last) lies refl (omega arith) in
-    let (to_fields, fields, two) = link_lies text (t + 4) (t + 8) next vector last one (omega arith) in
-    let inside : FieldsLie text fields_at columns.fields = fields_lie text next columns.fields fields in
+schema_lies : (text : List ℕ) (place : ℕ) (schema : SchemaTree) → InProfile schema → FitsSchema schema
+    → Lies text place (schema_object schema)
+    → ShowsSchema text (place + lead place (schema_object schema)) schema
+schema_lies text place schema profile fits lies =
+    let t : ℕ = place + lead place (schema_object schema) in
+    let slots : List ℕ = 0 ∷ 4 ∷ metadata_place schema.metadata 8 ∷ [] in
+    let object : Object = references_object (field_cells schema.fields) in
+    let last : Cells = metadata_cell schema.metadata in
+    let next : ℕ = t + 4 + cells_size (reference object last) in
+    let fields_at : ℕ = next + lead next object in
+    let (table, one) = table_lies text place 10 12 slots (reference object last) lies refl (omega arith) in
+    let (to_fields, fields, two) = referred_lies text (t + 4) (t + 8) next object last one (omega arith) in
+    let inside : FieldsLie text fields_at schema.fields = fields_lie text next schema.fields fields in
     record {
       little_endian = number_absent text t 10 slots 0 2 0 table (omega arith) refl;
-      fields = record { first = fields_at + 4; count = width columns.fields };
+      fields = record { first = fields_at + 4; count = width schema.fields };
       fields_shown =
-          row_at text t 1 fields_at 4 (fields_at + 4) (width columns.fields)
-          (link_shown text t 10 slots 1 4 fields_at table (omega arith) refl (omega arith) (omega arith) to_fields) inside.shown;
+          vector_at text t 1 fields_at 4 (fields_at + 4) (width schema.fields)
+          (reference_shown text t 10 slots 1 4 fields_at table (omega arith) refl (omega arith) (omega arith) to_fields)
+          inside.shown;
       all = refl;
-      shown = forest_lies text (fields_at + 4) inside.next columns.fields fits.fields profile.well_formed inside.cells;
+      shown = forest_lies text (fields_at + 4) inside.next schema.fields fits.fields profile.well_formed inside.cells;
       metadata_shown =
-          metadata_lies text t 10 slots 2 8 (next + length (laid next vector)) columns.metadata table (omega arith) refl (omega arith) (omega arith)
+          metadata_lies text t 10 slots 2 8 (next + length (laid next object)) schema.metadata table (omega arith) refl
+          (omega arith) (omega arith)
           fits.metadata two;
       not_deep = profile.not_deep;
       within = profile.within;
@@ -260,13 +298,15 @@ schema_lies text place columns profile fits lies =
 
 -- ---- messages
 
-root_near : (text : List ℕ) (root : Object) → Holds text 4 (laid 4 root) → length text < 2 ^ 32 → 4 + lead 4 root < 256 ^ 4
+root_near : (text : List ℕ) (root : Object) → Holds text 4 (laid 4 root) → length text < 2 ^ 32
+    → 4 + lead 4 root < 256 ^ 4
 root_near text root held small =
     let within : 4 + length (laid 4 root) ≤ length text = holds_within text 4 (laid 4 root) held in
     let leads : lead 4 root ≤ length (laid 4 root) = lead_within 4 root in omega arith
 
 -- the root of a text is laid out behind the reference to it
-root_lies : (root : Object) → length (text_of root) < 2 ^ 32 → ShowsReference (text_of root) 0 (4 + lead 4 root) × Lies (text_of root) 4 root
+root_lies : (root : Object) → length (text_of root) < 2 ^ 32
+    → ShowsReference (text_of root) 0 (4 + lead 4 root) × Lies (text_of root) 4 root
 root_lies root small =
     let text : List ℕ = text_of root in
     let all : Holds text 0 (unpadded root) = record {
@@ -276,7 +316,8 @@ root_lies root small =
       stands = refl;
     } in
     let number : List ℕ = little_bytes 4 (4 + lead 4 root) in
-    let laid_out : Holds text 4 (laid 4 root) = held_back text 0 4 number (laid 4 root) (length_little 4 (4 + lead 4 root)) all in (
+    let laid_out : Holds text 4 (laid 4 root) =
+    held_back text 0 4 number (laid 4 root) (length_little 4 (4 + lead 4 root)) all in (
       record {
         offset = 4 + lead 4 root;
         shown = record { held = held_front text 0 number (laid 4 root) all; fits = root_near text root laid_out small };
@@ -303,7 +344,7 @@ message_lies type header body_length near far small =
     let slots : List ℕ = 4 ∷ 6 ∷ 8 ∷ 16 ∷ [] in
     let all : Cells = message_cells type header body_length in
     let last : Cells = number 8 body_length no_cells in
-    let from_header : Cells = link header (gap 4 last) in
+    let from_header : Cells = reference header (gap 4 last) in
     let from_type : Cells = number 1 type (gap 1 from_header) in
     let next : ℕ = t + 4 + cells_size all in
     let after : ℕ = next + length (laid next header) in
@@ -311,9 +352,10 @@ message_lies type header body_length near far small =
     let (refers, lies) = root_lies root small in
     let (table, one) = table_lies text 4 12 24 slots all lies refl (omega arith) in
     let (version, two) = uint_lies text (t + 4) (t + 6) next 2 version_5 from_type one (omega arith) (omega arith) in
-    let (kind, three) = uint_lies text (t + 6) (t + 7) next 1 type (gap 1 from_header) two (omega arith) (omega arith) in
+    let (header_type, three) = uint_lies text (t + 6) (t + 7) next 1 type (gap 1 from_header) two (omega arith)
+    (omega arith) in
     let four = gap_lies text (t + 7) (t + 8) next 1 from_header three (omega arith) in
-    let (to_header, there, five) = link_lies text (t + 8) (t + 12) next header (gap 4 last) four (omega arith) in
+    let (to_header, there, five) = referred_lies text (t + 8) (t + 12) next header (gap 4 last) four (omega arith) in
     let six = gap_lies text (t + 12) (t + 16) after 4 last five (omega arith) in
     let (body, _) = uint_lies text (t + 16) (t + 24) after 8 body_length no_cells six far (omega arith) in
     record {
@@ -321,22 +363,28 @@ message_lies type header body_length near far small =
       next = next;
       shown = record {
         root = refers;
-        version = number_shown text t 12 slots 0 4 2 0 version_5 table (omega arith) refl (omega arith) (omega arith) version;
-        type_shown = number_shown text t 12 slots 1 6 1 0 type table (omega arith) refl (omega arith) (omega arith) kind;
-        header = link_shown text t 12 slots 2 8 header_at table (omega arith) refl (omega arith) (omega arith) to_header;
+        version = number_shown text t 12 slots 0 4 2 0 version_5 table (omega arith) refl (omega arith)
+            (omega arith) version;
+        type_shown = number_shown text t 12 slots 1 6 1 0 type table (omega arith) refl (omega arith)
+            (omega arith) header_type;
+        header = reference_shown text t 12 slots 2 8 header_at table (omega arith) refl (omega arith)
+            (omega arith) to_header;
       };
-      body = number_shown text t 12 slots 3 16 8 0 body_length table (omega arith) refl (omega arith) (omega arith) body;
+      body = number_shown text t 12 slots 3 16 8 0 body_length table (omega arith) refl (omega arith)
+          (omega arith) body;
       lies = there;
     }
 
 -- a schema's text that is not too large shows the schema
-pub schema_text_shown : (columns : Columns) → InProfile columns → FitsColumns columns → length (header_text (schema_header columns)) < 2 ^ 32
-    → ShowsHeader (header_text (schema_header columns)) (schema_header columns)
-schema_text_shown columns profile fits small =
-    let text : List ℕ = header_text (schema_header columns) in
-    let there : MessageLies text schema_type (schema_object columns) 0 = message_lies schema_type (schema_object columns) 0 (omega arith) (omega arith) small in (
+pub schema_text_shown : (schema : SchemaTree) → InProfile schema → FitsSchema schema
+    → length (header_text (schema_header schema)) < 2 ^ 32
+    → ShowsHeader (header_text (schema_header schema)) (schema_header schema)
+schema_text_shown schema profile fits small =
+    let text : List ℕ = header_text (schema_header schema) in
+    let there : MessageLies text schema_type (schema_object schema) 0 =
+    message_lies schema_type (schema_object schema) 0 (omega arith) (omega arith) small in (
       there.message,
-      there.next + lead there.next (schema_object columns),
+      there.next + lead there.next (schema_object schema),
       there.shown,
-      schema_lies text there.next columns profile fits there.lies,
+      schema_lies text there.next schema profile fits there.lies,
     )

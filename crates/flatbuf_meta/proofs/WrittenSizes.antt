@@ -1,12 +1,19 @@
 -- How large the texts of headers are, and that they show their headers.
-use Rattle.std.proofs.Common.{◌≡◌, ℕ, ◌+◌, ◌*◌, ◌^◌, ◌<◌, ◌≤◌, false, List, [], ◌∷◌, ◌++◌, length, Some, None, arith, ◌∙◌, length-append}
+use Rattle.std.proofs.Common.{◌≡◌, ℕ, ◌+◌, ◌*◌, ◌^◌, ◌<◌, ◌≤◌, false, List, [], ◌∷◌, ◌++◌, length, Some, None, arith}
+use Rattle.std.proofs.Common.{◌∙◌, length-append}
 use Rattle.byteorder.specs.Endian.{little_bytes}
-use Rattle.flatbuf_meta.specs.Columns.{Entry, Shape, null_shape, int_shape, floating_point_shape, binary_shape, utf8_shape, bool_shape, decimal_shape, date_shape, time_shape, timestamp_shape, list_shape, struct_shape, fixed_size_binary_shape, fixed_size_list_shape, duration_shape, Tree, tree, Forest, no_more, more, Columns}
-use Rattle.flatbuf_meta.specs.Limits.{tree_extent, forest_extent, entry_bytes, shape_bytes}
+use Rattle.flatbuf_meta.specs.Fields.{Entry, DataType, null_type, int_type, floating_point_type, binary_type, utf8_type}
+use Rattle.flatbuf_meta.specs.Fields.{bool_type, decimal_type, date_type, time_type, timestamp_type, list_type}
+use Rattle.flatbuf_meta.specs.Fields.{struct_type, fixed_size_binary_type, fixed_size_list_type, duration_type, Tree}
+use Rattle.flatbuf_meta.specs.Fields.{tree, Forest, no_more, more, SchemaTree}
+use Rattle.flatbuf_meta.specs.Limits.{tree_totals, forest_totals, entry_bytes, data_type_bytes}
 use Rattle.flatbuf_meta.specs.Header.{Head, schema_header, batch_header, schema_type, batch_type, ShowsHeader}
-use Rattle.flatbuf_meta.specs.Objects.{Object, string_object, structs_object, references_object, table_object, Cells, no_cells, inline, link, zeros, padding, cell_count, cells_size, table_lead, lead, laid, objects_text, unpadded, text_of}
-use Rattle.flatbuf_meta.specs.Canonical.{entry_cells, metadata_cell, type_object, field_object, field_cells, schema_object, int64_number, batch_object, message_object, header_text}
-use Rattle.flatbuf_meta.specs.Written.{FitsColumns, FitsHead}
+use Rattle.flatbuf_meta.specs.Objects.{Object, string_object, structs_object, references_object, table_object, Cells}
+use Rattle.flatbuf_meta.specs.Objects.{no_cells, inline, reference, zeros, padding, cell_count, cells_size, table_lead}
+use Rattle.flatbuf_meta.specs.Objects.{lead, laid, objects_text, unpadded, text_of}
+use Rattle.flatbuf_meta.specs.Canonical.{entry_cells, metadata_cell, type_object, field_object, field_cells}
+use Rattle.flatbuf_meta.specs.Canonical.{schema_object, int64_number, batch_object, message_object, header_text}
+use Rattle.flatbuf_meta.specs.Written.{FitsSchema, FitsHead}
 use Rattle.flatbuf_meta.specs.Profile.{InProfile}
 use Rattle.flatbuf_meta.proofs.Filling.{length_zeros, length_little, length_shorts}
 use Rattle.flatbuf_meta.proofs.Lying.{cells_long}
@@ -26,7 +33,7 @@ abbrev mutual
   pub cells_weight : Cells → ℕ
   cells_weight no_cells = 0
   cells_weight (inline bytes rest) = length bytes + cells_weight rest
-  cells_weight (link o rest) = 4 + weight o + cells_weight rest
+  cells_weight (reference o rest) = 4 + weight o + cells_weight rest
 
 few_zeros : (place : ℕ) → length (zeros (padding 4 place)) ≤ 3
 few_zeros place = omega (arith, length_zeros (padding 4 place))
@@ -43,7 +50,14 @@ mutual
   light place (references_object cells) =
       let at : ℕ = place + padding 4 place + 4 in
       let next : ℕ = at + cells_size cells in
-      simp length-append (omega (arith, few_zeros place, length_little 4 (cell_count cells), cells_long at next cells, cells_light next cells))
+      simp length-append (omega (
+        arith,
+        few_zeros place,
+        length_little 4
+            (cell_count cells),
+        cells_long at next cells,
+        cells_light next cells,
+      ))
   light place (table_object numbers cells) =
       let at : ℕ = place + table_lead place numbers + 4 in
       let next : ℕ = at + cells_size cells in
@@ -59,7 +73,7 @@ mutual
   cells_light : (next : ℕ) (cells : Cells) → cells_size cells + length (objects_text next cells) ≤ cells_weight cells
   cells_light next no_cells = omega arith
   cells_light next (inline bytes rest) = omega (arith, cells_light next rest)
-  cells_light next (link o rest) =
+  cells_light next (reference o rest) =
       let after : ℕ = next + length (laid next o) in
       simp length-append (omega (arith, light next o, cells_light after rest))
 
@@ -76,7 +90,8 @@ text_light root =
     let whole : length (text_of root) ≤ 7 + length (unpadded root) = padded_light (unpadded root) in
     omega (arith, light 4 root)
 
-message_light : (type : ℕ) (header : Object) (body_length : ℕ) → length (text_of (message_object type header body_length)) ≤ 54 + weight header
+message_light : (type : ℕ) (header : Object) (body_length : ℕ)
+    → length (text_of (message_object type header body_length)) ≤ 54 + weight header
 message_light type header body_length =
     let root : Object = message_object type header body_length in
     let all : weight root ≡ 43 + weight header = omega arith in
@@ -88,44 +103,47 @@ entries_light : (entries : List Entry) → cells_weight (entry_cells entries) �
 entries_light [] = omega arith
 entries_light (entry ∷ rest) = omega (arith, entries_light rest)
 
-metadata_light : (entries : List Entry) → cells_weight (metadata_cell entries) ≤ 11 + 47 * length entries + entry_bytes entries
+metadata_light : (entries : List Entry) → cells_weight
+    (metadata_cell entries) ≤ 11 + 47 * length entries + entry_bytes entries
 metadata_light [] = omega arith
 metadata_light (entry ∷ rest) = omega (arith, entries_light (entry ∷ rest))
 
-shape_light : (shape : Shape) → weight (type_object shape) ≤ 35 + shape_bytes shape
-shape_light null_shape = omega arith
-shape_light (int_shape width signed) = omega arith
-shape_light (floating_point_shape precision) = omega arith
-shape_light binary_shape = omega arith
-shape_light utf8_shape = omega arith
-shape_light bool_shape = omega arith
-shape_light (decimal_shape precision scale width) = omega arith
-shape_light (date_shape unit) = omega arith
-shape_light (time_shape unit) = omega arith
-shape_light (timestamp_shape unit None) = omega arith
-shape_light (timestamp_shape unit (Some timezone)) = omega arith
-shape_light list_shape = omega arith
-shape_light struct_shape = omega arith
-shape_light (fixed_size_binary_shape byte_width) = omega arith
-shape_light (fixed_size_list_shape list_size) = omega arith
-shape_light (duration_shape unit) = omega arith
+data_type_light : (data_type : DataType) → weight (type_object data_type) ≤ 35 + data_type_bytes data_type
+data_type_light null_type = omega arith
+data_type_light (int_type width signed) = omega arith
+data_type_light (floating_point_type precision) = omega arith
+data_type_light binary_type = omega arith
+data_type_light utf8_type = omega arith
+data_type_light bool_type = omega arith
+data_type_light (decimal_type precision scale width) = omega arith
+data_type_light (date_type unit) = omega arith
+data_type_light (time_type unit) = omega arith
+data_type_light (timestamp_type unit None) = omega arith
+data_type_light (timestamp_type unit (Some timezone)) = omega arith
+data_type_light list_type = omega arith
+data_type_light struct_type = omega arith
+data_type_light (fixed_size_binary_type byte_width) = omega arith
+data_type_light (fixed_size_list_type list_size) = omega arith
+data_type_light (duration_type unit) = omega arith
 
 mutual
-  tree_light : (t : Tree) → 4 + weight (field_object t) ≤ 110 * (tree_extent t).fields + 47 * (tree_extent t).entries + (tree_extent t).bytes
-  tree_light (tree column entries inner) =
-      omega (arith, shape_light column.shape, metadata_light entries, forest_light inner)
+  tree_light : (t : Tree) → 4 + weight (field_object t) ≤ 110 * (tree_totals t).fields + 47 * (tree_totals t).entries
+      + (tree_totals t).bytes
+  tree_light (tree field entries inner) =
+      omega (arith, data_type_light field.data_type, metadata_light entries, forest_light inner)
 
-  forest_light : (f : Forest) → cells_weight (field_cells f) ≤ 110 * (forest_extent f).fields + 47 * (forest_extent f).entries + (forest_extent f).bytes
+  forest_light : (f : Forest) → cells_weight
+      (field_cells f) ≤ 110 * (forest_totals f).fields + 47 * (forest_totals f).entries + (forest_totals f).bytes
   forest_light no_more = omega arith
   forest_light (more t rest) = omega (arith, tree_light t, forest_light rest)
 
-pub schema_small : (columns : Columns) → InProfile columns → length (header_text (schema_header columns)) < 2 ^ 31
-schema_small columns profile =
+pub schema_small : (schema : SchemaTree) → InProfile schema → length (header_text (schema_header schema)) < 2 ^ 31
+schema_small schema profile =
     omega (
       arith,
-      message_light schema_type (schema_object columns) 0,
-      forest_light columns.fields,
-      metadata_light columns.metadata,
+      message_light schema_type (schema_object schema) 0,
+      forest_light schema.fields,
+      metadata_light schema.metadata,
       profile.within.fields_within,
       profile.within.entries_within,
       profile.within.bytes_within,
@@ -133,7 +151,8 @@ schema_small columns profile =
 
 -- ---- batches
 
-pub batch_small : (head : Head) → length head.nodes ≤ 512 → length head.buffers ≤ 1536 → length (header_text (batch_header head)) < 2 ^ 31
+pub batch_small : (head : Head) → length head.nodes ≤ 512 → length head.buffers ≤ 1536
+    → length (header_text (batch_header head)) < 2 ^ 31
 batch_small head few some =
     omega (
       arith,
@@ -144,9 +163,11 @@ batch_small head few some =
 
 -- ---- headers
 
-pub schema_shown : (columns : Columns) → InProfile columns → FitsColumns columns → ShowsHeader (header_text (schema_header columns)) (schema_header columns)
-schema_shown columns profile fits = schema_text_shown columns profile fits (omega (arith, schema_small columns profile))
+pub schema_shown : (schema : SchemaTree) → InProfile schema → FitsSchema schema
+    → ShowsHeader (header_text (schema_header schema)) (schema_header schema)
+schema_shown schema profile fits = schema_text_shown schema profile fits (omega (arith, schema_small schema profile))
 
-pub batch_shown : (head : Head) → head.compressed ≡ false → length head.nodes ≤ 512 → length head.buffers ≤ 1536 → FitsHead head
+pub batch_shown : (head : Head) → head.compressed ≡ false → length head.nodes ≤ 512 → length head.buffers ≤ 1536
+    → FitsHead head
     → ShowsHeader (header_text (batch_header head)) (batch_header head)
 batch_shown head plain few some fits = batch_text_shown head plain fits (omega (arith, batch_small head few some))

@@ -1,7 +1,7 @@
--- The one text that is written of a header: which tables there are, and what stands in each. Apache Arrow, "Schema.fbs" and
--- "Message.fbs". A vtable's numbers are its size, its table's size, and where each field stands in the table, 0 for an absent one.
--- A table's cells are given from behind its first four bytes. Metadata that has no entries is absent, as is a time zone; a vector
--- of columns is always there, one without elements too.
+-- The one text that is written of a header: which tables there are, and what stands in each. Apache Arrow, "Schema.fbs"
+-- and "Message.fbs". A vtable's numbers are its size, its table's size, and where each field stands in the table, 0 for
+-- an absent one. A table's cells are given from behind its first four bytes. Metadata that has no entries is absent, as
+-- is a time zone; a vector of fields is always there, one without elements too.
 use Rattle.std.specs.Prelude.{ℕ, ℤ, Bool, true, false, List, [], ◌∷◌, ◌++◌, length, Option, Some, None}
 use Rattle.std.specs.Int.{w32, w64, cast_unsigned}
 use Rattle.byteorder.specs.Endian.{little_bytes}
@@ -15,10 +15,14 @@ use Rattle.flatbuf_meta.specs.declared.field_type.DateUnit.{DateUnit}
 use Rattle.flatbuf_meta.specs.declared.field_type.DateUnit.TheVariants as date
 use Rattle.flatbuf_meta.specs.declared.field_type.TimeUnit.{TimeUnit}
 use Rattle.flatbuf_meta.specs.declared.field_type.TimeUnit.TheVariants as time
-use Rattle.flatbuf_meta.specs.Columns.{Text, Entry, Shape, null_shape, int_shape, floating_point_shape, binary_shape, utf8_shape, bool_shape, decimal_shape, date_shape, time_shape, timestamp_shape, list_shape, struct_shape, fixed_size_binary_shape, fixed_size_list_shape, duration_shape, Column, Tree, tree, Forest, no_more, more, Columns}
-use Rattle.flatbuf_meta.specs.Kinds.{time_bits}
+use Rattle.flatbuf_meta.specs.Fields.{Text, Entry, DataType, null_type, int_type, floating_point_type, binary_type}
+use Rattle.flatbuf_meta.specs.Fields.{utf8_type, bool_type, decimal_type, date_type, time_type, timestamp_type}
+use Rattle.flatbuf_meta.specs.Fields.{list_type, struct_type, fixed_size_binary_type, fixed_size_list_type}
+use Rattle.flatbuf_meta.specs.Fields.{duration_type, FieldHead, Tree, tree, Forest, no_more, more, SchemaTree}
+use Rattle.flatbuf_meta.specs.TypeIds.{time_bits}
 use Rattle.flatbuf_meta.specs.Header.{Head, Header, schema_header, batch_header, version_5, schema_type, batch_type}
-use Rattle.flatbuf_meta.specs.Objects.{Object, string_object, structs_object, references_object, table_object, Cells, no_cells, inline, link, zeros, text_of}
+use Rattle.flatbuf_meta.specs.Objects.{Object, string_object, structs_object, references_object, table_object, Cells}
+use Rattle.flatbuf_meta.specs.Objects.{no_cells, inline, reference, zeros, text_of}
 
 -- ---- cells
 
@@ -33,16 +37,17 @@ gap size rest = inline (zeros size) rest
 -- ---- metadata
 
 abbrev pub entry_object : Entry → Object
-entry_object entry = table_object (8 ∷ 12 ∷ 4 ∷ 8 ∷ []) (link (string_object entry.0) (link (string_object entry.1) no_cells))
+entry_object entry = table_object (8 ∷ 12 ∷ 4 ∷ 8 ∷ [])
+    (reference (string_object entry.0) (reference (string_object entry.1) no_cells))
 
 abbrev pub entry_cells : List Entry → Cells
 entry_cells [] = no_cells
-entry_cells (entry ∷ rest) = link (entry_object entry) (entry_cells rest)
+entry_cells (entry ∷ rest) = reference (entry_object entry) (entry_cells rest)
 
 -- the last cell of a table, and where it stands there
 abbrev pub metadata_cell : List Entry → Cells
 metadata_cell [] = gap 4 no_cells
-metadata_cell (entry ∷ rest) = link (references_object (entry_cells (entry ∷ rest))) no_cells
+metadata_cell (entry ∷ rest) = reference (references_object (entry_cells (entry ∷ rest))) no_cells
 
 abbrev pub metadata_place : List Entry → ℕ → ℕ
 metadata_place [] place = 0
@@ -80,22 +85,22 @@ flag false = 0
 flag true = 1
 
 -- the number of the type in the union `Type`
-abbrev pub kind_of : Shape → ℕ
-kind_of null_shape = 1
-kind_of (int_shape width signed) = 2
-kind_of (floating_point_shape precision) = 3
-kind_of binary_shape = 4
-kind_of utf8_shape = 5
-kind_of bool_shape = 6
-kind_of (decimal_shape precision scale width) = 7
-kind_of (date_shape unit) = 8
-kind_of (time_shape unit) = 9
-kind_of (timestamp_shape unit timezone) = 10
-kind_of list_shape = 12
-kind_of struct_shape = 13
-kind_of (fixed_size_binary_shape byte_width) = 15
-kind_of (fixed_size_list_shape list_size) = 16
-kind_of (duration_shape unit) = 18
+abbrev pub type_id_of : DataType → ℕ
+type_id_of null_type = 1
+type_id_of (int_type width signed) = 2
+type_id_of (floating_point_type precision) = 3
+type_id_of binary_type = 4
+type_id_of utf8_type = 5
+type_id_of bool_type = 6
+type_id_of (decimal_type precision scale width) = 7
+type_id_of (date_type unit) = 8
+type_id_of (time_type unit) = 9
+type_id_of (timestamp_type unit timezone) = 10
+type_id_of list_type = 12
+type_id_of struct_type = 13
+type_id_of (fixed_size_binary_type byte_width) = 15
+type_id_of (fixed_size_list_type list_size) = 16
+type_id_of (duration_type unit) = 18
 
 abbrev pub int32_number : ℤ → ℕ
 int32_number z = cast_unsigned w32 z
@@ -111,57 +116,59 @@ abbrev pub word_table : ℕ → Object
 word_table x = table_object (6 ∷ 8 ∷ 4 ∷ []) (number 4 x no_cells)
 
 abbrev pub timestamp_table : TimeUnit → Option Text → Object
-timestamp_table unit None = table_object (8 ∷ 12 ∷ 4 ∷ 0 ∷ []) (number 2 (time_unit_number unit) (gap 2 (gap 4 no_cells)))
+timestamp_table unit None = table_object (8 ∷ 12 ∷ 4 ∷ 0 ∷ [])
+    (number 2 (time_unit_number unit) (gap 2 (gap 4 no_cells)))
 timestamp_table unit (Some timezone) =
-    table_object (8 ∷ 12 ∷ 4 ∷ 8 ∷ []) (number 2 (time_unit_number unit) (gap 2 (link (string_object timezone) no_cells)))
+    table_object (8 ∷ 12 ∷ 4 ∷ 8 ∷ []) (number 2 (time_unit_number unit)
+    (gap 2 (reference (string_object timezone) no_cells)))
 
-abbrev pub type_object : Shape → Object
-type_object null_shape = empty_table
-type_object (int_shape width signed) =
+abbrev pub type_object : DataType → Object
+type_object null_type = empty_table
+type_object (int_type width signed) =
     table_object (8 ∷ 12 ∷ 4 ∷ 8 ∷ []) (number 4 (bits_of width) (number 1 (flag signed) (gap 3 no_cells)))
-type_object (floating_point_shape precision) = short_table (precision_number precision)
-type_object binary_shape = empty_table
-type_object utf8_shape = empty_table
-type_object bool_shape = empty_table
-type_object (decimal_shape precision scale width) =
+type_object (floating_point_type precision) = short_table (precision_number precision)
+type_object binary_type = empty_table
+type_object utf8_type = empty_table
+type_object bool_type = empty_table
+type_object (decimal_type precision scale width) =
     table_object (10 ∷ 16 ∷ 4 ∷ 8 ∷ 12 ∷ [])
     (number 4 (int32_number precision) (number 4 (int32_number scale) (number 4 (decimal_bits width) no_cells)))
-type_object (date_shape unit) = short_table (date_unit_number unit)
-type_object (time_shape unit) =
+type_object (date_type unit) = short_table (date_unit_number unit)
+type_object (time_type unit) =
     table_object (8 ∷ 12 ∷ 4 ∷ 8 ∷ []) (number 2 (time_unit_number unit) (gap 2 (number 4 (time_bits unit) no_cells)))
-type_object (timestamp_shape unit timezone) = timestamp_table unit timezone
-type_object list_shape = empty_table
-type_object struct_shape = empty_table
-type_object (fixed_size_binary_shape byte_width) = word_table (int32_number byte_width)
-type_object (fixed_size_list_shape list_size) = word_table (int32_number list_size)
-type_object (duration_shape unit) = short_table (time_unit_number unit)
+type_object (timestamp_type unit timezone) = timestamp_table unit timezone
+type_object list_type = empty_table
+type_object struct_type = empty_table
+type_object (fixed_size_binary_type byte_width) = word_table (int32_number byte_width)
+type_object (fixed_size_list_type list_size) = word_table (int32_number list_size)
+type_object (duration_type unit) = short_table (time_unit_number unit)
 
--- ---- columns
+-- ---- fields
 
 -- The table `Field`. Its fields 0 name, 1 nullable, 2 the type's number, 3 the type, 5 children, 6 custom_metadata.
-abbrev pub column_numbers : List Entry → List ℕ
-column_numbers entries = 18 ∷ 24 ∷ 4 ∷ 8 ∷ 9 ∷ 12 ∷ 0 ∷ 16 ∷ metadata_place entries 20 ∷ []
+abbrev pub field_numbers : List Entry → List ℕ
+field_numbers entries = 18 ∷ 24 ∷ 4 ∷ 8 ∷ 9 ∷ 12 ∷ 0 ∷ 16 ∷ metadata_place entries 20 ∷ []
 
-abbrev pub column_cells : Column → List Entry → Object → Cells
-column_cells column entries children =
-    link (string_object column.name)
-    (number 1 (flag column.nullable) (number 1 (kind_of column.shape) (gap 2
-    (link (type_object column.shape) (link children (metadata_cell entries))))))
+abbrev pub field_table_cells : FieldHead → List Entry → Object → Cells
+field_table_cells field entries children =
+    reference (string_object field.name)
+    (number 1 (flag field.nullable) (number 1 (type_id_of field.data_type) (gap 2
+    (reference (type_object field.data_type) (reference children (metadata_cell entries))))))
 
 abbrev mutual
   pub field_object : Tree → Object
-  field_object (tree column entries inner) =
-      table_object (column_numbers entries) (column_cells column entries (references_object (field_cells inner)))
+  field_object (tree field entries inner) =
+      table_object (field_numbers entries) (field_table_cells field entries (references_object (field_cells inner)))
 
   pub field_cells : Forest → Cells
   field_cells no_more = no_cells
-  field_cells (more t rest) = link (field_object t) (field_cells rest)
+  field_cells (more t rest) = reference (field_object t) (field_cells rest)
 
 -- The table `Schema`. Its fields 0 endianness (absent: Little), 1 fields, 2 custom_metadata.
-abbrev pub schema_object : Columns → Object
-schema_object columns =
-    table_object (10 ∷ 12 ∷ 0 ∷ 4 ∷ metadata_place columns.metadata 8 ∷ [])
-    (link (references_object (field_cells columns.fields)) (metadata_cell columns.metadata))
+abbrev pub schema_object : SchemaTree → Object
+schema_object schema =
+    table_object (10 ∷ 12 ∷ 0 ∷ 4 ∷ metadata_place schema.metadata 8 ∷ [])
+    (reference (references_object (field_cells schema.fields)) (metadata_cell schema.metadata))
 
 -- ---- batches
 
@@ -171,7 +178,8 @@ int64_number z = cast_unsigned w64 z
 -- structs of two numbers of eight bytes
 abbrev pub pairs_text : List (ℤ × ℤ) → List ℕ
 pairs_text [] = []
-pairs_text (pair ∷ rest) = little_bytes 8 (int64_number pair.0) ++ little_bytes 8 (int64_number pair.1) ++ pairs_text rest
+pairs_text (pair ∷ rest) = little_bytes 8 (int64_number pair.0) ++ little_bytes 8
+    (int64_number pair.1) ++ pairs_text rest
 
 abbrev pub pairs_object : List (ℤ × ℤ) → Object
 pairs_object pairs = structs_object (length pairs) (pairs_text pairs)
@@ -180,7 +188,8 @@ pairs_object pairs = structs_object (length pairs) (pairs_text pairs)
 abbrev pub batch_object : Head → Object
 batch_object head =
     table_object (10 ∷ 24 ∷ 8 ∷ 4 ∷ 16 ∷ [])
-    (link (pairs_object head.nodes) (number 8 (int64_number head.length) (link (pairs_object head.buffers) (gap 4 no_cells))))
+    (reference (pairs_object head.nodes) (number 8 (int64_number head.length)
+    (reference (pairs_object head.buffers) (gap 4 no_cells))))
 
 -- ---- messages
 
@@ -190,15 +199,17 @@ message_numbers = 12 ∷ 24 ∷ 4 ∷ 6 ∷ 8 ∷ 16 ∷ []
 
 abbrev pub message_cells : ℕ → Object → ℕ → Cells
 message_cells type header body_length =
-    number 2 version_5 (number 1 type (gap 1 (link header (gap 4 (number 8 body_length no_cells)))))
+    number 2 version_5 (number 1 type (gap 1 (reference header (gap 4 (number 8 body_length no_cells)))))
 
 abbrev pub message_object : ℕ → Object → ℕ → Object
 message_object type header body_length = table_object message_numbers (message_cells type header body_length)
 
 abbrev pub header_text : Header → List ℕ
-header_text (schema_header columns) = text_of (message_object schema_type (schema_object columns) 0)
-header_text (batch_header head) = text_of (message_object batch_type (batch_object head) (int64_number head.body_length))
+header_text (schema_header schema) = text_of (message_object schema_type (schema_object schema) 0)
+header_text (batch_header head) = text_of (message_object batch_type (batch_object head)
+    (int64_number head.body_length))
 
--- Apache Arrow, "Columnar format", "Encapsulated message format": four bytes 255, the length in four bytes, and the message
+-- Apache Arrow, "Columnar format", "Encapsulated message format": four bytes 255, the length in four bytes, and the
+-- message
 abbrev pub encapsulated : List ℕ → List ℕ
 encapsulated message = 255 ∷ 255 ∷ 255 ∷ 255 ∷ little_bytes 4 (length message) ++ message

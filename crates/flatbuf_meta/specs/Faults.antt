@@ -1,16 +1,20 @@
--- What is wrong with a text that shows no header, each fault by a condition of its own on the text. Where several stand, which one
--- is told is open.
-use Rattle.std.specs.Prelude.{◌≡◌, ◌≢◌, ◌≤◌, ◌<◌, ◌⊎◌, ℕ, zero, suc, ◌+◌, ◌*◌, Bool, true, false, List, length, Option, Some, None}
+-- What is wrong with a text that shows no header, each fault by a condition of its own on the text. Where several
+-- stand, which one is told is open.
+use Rattle.std.specs.Prelude.{◌≡◌, ◌≢◌, ◌≤◌, ◌<◌, ◌⊎◌, ℕ, zero, suc, ◌+◌, ◌*◌, Bool, true, false, List, length, Option}
+use Rattle.std.specs.Prelude.{Some, None}
 use Rattle.flat_places.specs.Number.{ShowsReference}
 use Rattle.flat_places.specs.Table.{ShowsField}
 use Rattle.flat_places.specs.Fault.{NumberFault}
 use Rattle.flatbuf_meta.specs.declared.fault.MetaFault.{MetaFault}
-use Rattle.flatbuf_meta.specs.declared.fault.MetaFault.TheVariants.{Version, Endianness, Unsupported, Dictionary, TooDeep, TooManyFields, BadHeader}
-use Rattle.flatbuf_meta.specs.Columns.{Entry, Shape, Forest, width}
-use Rattle.flatbuf_meta.specs.Slots.{ShowsNumber, ShowsLink, Row, ShowsRow, Told, FieldSlotFault, SlotNumberFault, LinkFault, StringFault, RowFault}
-use Rattle.flatbuf_meta.specs.Kinds.{Parameter, parameters_of, has_timezone, shape_from, is_carried, is_decimal, AllowsChildren}
-use Rattle.flatbuf_meta.specs.Shown.{ShowsEntries, ShowsParameters, ShowsShape, ShowsForestPart}
-use Rattle.flatbuf_meta.specs.Limits.{depth_limit, add_extents, entries_extent, forest_extent, IsBeyond}
+use Rattle.flatbuf_meta.specs.declared.fault.MetaFault.TheVariants.{Version, Endianness, Unsupported, Dictionary}
+use Rattle.flatbuf_meta.specs.declared.fault.MetaFault.TheVariants.{TooDeep, TooManyFields, BadHeader}
+use Rattle.flatbuf_meta.specs.Fields.{Entry, DataType, Forest, width}
+use Rattle.flatbuf_meta.specs.Slots.{ShowsNumber, ShowsReferenceField, VectorRef, ShowsVectorRef, FromPlaceFault}
+use Rattle.flatbuf_meta.specs.Slots.{FieldSlotFault, SlotNumberFault, ReferenceFault, StringFault, VectorRefFault}
+use Rattle.flatbuf_meta.specs.TypeIds.{Parameter, parameters_of, has_timezone, data_type_from, is_carried, is_decimal}
+use Rattle.flatbuf_meta.specs.TypeIds.{AllowsChildren}
+use Rattle.flatbuf_meta.specs.Shown.{ShowsEntries, ShowsParameters, ShowsDataType, ShowsForestPart}
+use Rattle.flatbuf_meta.specs.Limits.{depth_limit, add_totals, entries_totals, forest_totals, IsBeyond}
 use Rattle.flatbuf_meta.specs.Header.{version_5, schema_type, dictionary_type, batch_type, ShowsMessage}
 
 -- ---- metadata
@@ -20,143 +24,149 @@ abbrev pub EntryFault : List ℕ → ℕ → MetaFault → Type 0
 EntryFault text table fault = StringFault text table 0 fault ⊎ StringFault text table 1 fault
 
 -- one of so many entries whose references stand from the place on
-abbrev pub EntriesFault : List ℕ → Row → MetaFault → Type 0
-EntriesFault text row fault =
-    (i table : ℕ) × (i < row.count) × ShowsReference text (row.first + 4 * i) table × EntryFault text table fault
+abbrev pub EntriesFault : List ℕ → VectorRef → MetaFault → Type 0
+EntriesFault text vector fault =
+    (i table : ℕ) × (i < vector.count) × ShowsReference text (vector.first + 4 * i) table × EntryFault text table fault
 
 -- the metadata at field n of a table
 abbrev pub MetadataFault : List ℕ → ℕ → ℕ → MetaFault → Type 0
 MetadataFault text table n fault =
-    RowFault text table n 4 fault ⊎ ((row : Row) × ShowsRow text table n 4 row × EntriesFault text row fault)
+    VectorRefFault text table n 4 fault ⊎ ((vector : VectorRef) × ShowsVectorRef text table n 4 vector
+    × EntriesFault text vector fault)
 
--- ---- a column
+-- ---- a field
 
 -- the way to a parameter, or the parameter; a parameter that the type does not have is not looked at
 abbrev pub ParameterFault : List ℕ → ℕ → ℕ → Option Parameter → MetaFault → Type 0
 ParameterFault text table n None fault = ⊥
 ParameterFault text table n (Some p) fault =
-    LinkFault text table 3 fault
-    ⊎ ((type : ℕ) × ShowsLink text table 3 (Some type) × SlotNumberFault text type n p.size fault)
+    ReferenceFault text table 3 fault
+    ⊎ ((type : ℕ) × ShowsReferenceField text table 3 (Some type) × SlotNumberFault text type n p.size fault)
 
 abbrev pub TimezoneFault : List ℕ → ℕ → Bool → MetaFault → Type 0
 TimezoneFault text table false fault = ⊥
 TimezoneFault text table true fault =
-    LinkFault text table 3 fault ⊎ ((type : ℕ) × ShowsLink text table 3 (Some type) × StringFault text type 1 fault)
+    ReferenceFault text table 3 fault ⊎ ((type : ℕ) × ShowsReferenceField text table 3 (Some type)
+    × StringFault text type 1 fault)
 
 -- the parameters of the type of this number
 abbrev pub ParametersFault : List ℕ → ℕ → ℕ → MetaFault → Type 0
-ParametersFault text table kind fault =
-    ParameterFault text table 0 (parameters_of kind).first fault
-    ⊎ ParameterFault text table 1 (parameters_of kind).second fault
-    ⊎ ParameterFault text table 2 (parameters_of kind).third fault
-    ⊎ TimezoneFault text table (has_timezone kind) fault
+ParametersFault text table type_id fault =
+    ParameterFault text table 0 (parameters_of type_id).first fault
+    ⊎ ParameterFault text table 1 (parameters_of type_id).second fault
+    ⊎ ParameterFault text table 2 (parameters_of type_id).third fault
+    ⊎ TimezoneFault text table (has_timezone type_id) fault
 
 -- the type of this number has no such parameters as those that are shown
-pub record HasWrongParameters (text : List ℕ) (table kind : ℕ) : Type 0 where
+pub record HasWrongParameters (text : List ℕ) (table type_id : ℕ) : Type 0 where
   pub a : ℕ
   pub b : ℕ
   pub c : ℕ
-  pub numbers : ShowsParameters text table kind a b c
-  pub wrong : shape_from kind a b c None ≡ None
+  pub numbers : ShowsParameters text table type_id a b c
+  pub wrong : data_type_from type_id a b c None ≡ None
 
 -- the type of this number is not carried, or is a decimal of another width
 abbrev pub IsUnsupported : List ℕ → ℕ → ℕ → Type 0
-IsUnsupported text table kind = (is_carried kind ≡ false) ⊎ ((is_decimal kind ≡ true) × HasWrongParameters text table kind)
+IsUnsupported text table type_id = (is_carried type_id ≡ false)
+    ⊎ ((is_decimal type_id ≡ true) × HasWrongParameters text table type_id)
 
 -- what is wrong with the type itself
-abbrev pub KindFault : List ℕ → ℕ → ℕ → MetaFault → Type 0
-KindFault text table kind (Unsupported told) = (told ≡ kind) × IsUnsupported text table kind
-KindFault text table kind BadHeader = (is_carried kind ≡ true) × (is_decimal kind ≡ false) × HasWrongParameters text table kind
-KindFault text table kind _ = ⊥
+abbrev pub TypeFault : List ℕ → ℕ → ℕ → MetaFault → Type 0
+TypeFault text table type_id (Unsupported told) = (told ≡ type_id) × IsUnsupported text table type_id
+TypeFault text table type_id BadHeader = (is_carried type_id ≡ true) × (is_decimal type_id ≡ false)
+    × HasWrongParameters text table type_id
+TypeFault text table type_id _ = ⊥
 
 -- the number of the type, its parameters, or what they say
-abbrev pub ShapeFault : List ℕ → ℕ → MetaFault → Type 0
-ShapeFault text table fault =
+abbrev pub DataTypeFault : List ℕ → ℕ → MetaFault → Type 0
+DataTypeFault text table fault =
     SlotNumberFault text table 2 1 fault
-    ⊎ ((kind : ℕ) × ShowsNumber text table 2 1 0 kind × (ParametersFault text table kind fault ⊎ KindFault text table kind fault))
+    ⊎ ((type_id : ℕ) × ShowsNumber text table 2 1 0 type_id
+    × (ParametersFault text table type_id fault ⊎ TypeFault text table type_id fault))
 
--- the column's type has another number of columns inside it
+-- the field's type has another number of fields inside it
 pub record HasWrongChildren (text : List ℕ) (table : ℕ) : Type 0 where
-  pub kind : ℕ
-  pub shape : Shape
-  pub children : Row
-  pub kind_shown : ShowsNumber text table 2 1 0 kind
-  pub shape_shown : ShowsShape text table kind shape
-  pub children_shown : ShowsRow text table 5 4 children
-  pub wrong : ¬ AllowsChildren shape children.count
+  pub type_id : ℕ
+  pub data_type : DataType
+  pub children : VectorRef
+  pub type_id_shown : ShowsNumber text table 2 1 0 type_id
+  pub data_type_shown : ShowsDataType text table type_id data_type
+  pub children_shown : ShowsVectorRef text table 5 4 children
+  pub wrong : ¬ AllowsChildren data_type children.count
 
--- the column is of the values of a dictionary
+-- the field is of the values of a dictionary
 abbrev pub RefersToDictionary : List ℕ → ℕ → Type 0
 RefersToDictionary text table = (place : ℕ) × ShowsField text table 4 (Some place)
 
--- what is wrong with the column alone
+-- what is wrong with the field alone
 abbrev pub OwnFault : List ℕ → ℕ → MetaFault → Type 0
 OwnFault text table BadHeader = HasWrongChildren text table
 OwnFault text table Dictionary = RefersToDictionary text table
 OwnFault text table _ = ⊥
 
--- a part of the column, but for the columns inside it
-abbrev pub ColumnFault : List ℕ → ℕ → MetaFault → Type 0
-ColumnFault text table fault =
+-- a part of the field, but for the fields inside it
+abbrev pub FieldFault : List ℕ → ℕ → MetaFault → Type 0
+FieldFault text table fault =
     StringFault text table 0 fault
     ⊎ SlotNumberFault text table 1 1 fault
-    ⊎ ShapeFault text table fault
+    ⊎ DataTypeFault text table fault
     ⊎ FieldSlotFault text table 4 fault
-    ⊎ RowFault text table 5 4 fault
+    ⊎ VectorRefFault text table 5 4 fault
     ⊎ MetadataFault text table 6 fault
     ⊎ OwnFault text table fault
 
--- ---- columns inside one another
+-- ---- fields inside one another
 
 -- the reference at place i of the vector names this table
-abbrev pub IsElement : List ℕ → Row → ℕ → Type 0
-IsElement text row table = (i : ℕ) × (i < row.count) × ShowsReference text (row.first + 4 * i) table
+abbrev pub IsElement : List ℕ → VectorRef → ℕ → Type 0
+IsElement text vector table = (i : ℕ) × (i < vector.count) × ShowsReference text (vector.first + 4 * i) table
 
--- the second table is that of a column inside the first one's
+-- the second table is that of a field inside the first one's
 abbrev pub IsChild : List ℕ → ℕ → ℕ → Type 0
-IsChild text table child = (row : Row) × ShowsRow text table 5 4 row × IsElement text row child
+IsChild text table child = (vector : VectorRef) × ShowsVectorRef text table 5 4 vector × IsElement text vector child
 
 -- something stands so many levels below a table
-abbrev pub StandsBelow : List ℕ → ℕ → ℕ → (ℕ → Type 0) → Type 0
-StandsBelow text zero table Stands = Stands table
-StandsBelow text (suc levels) table Stands = (child : ℕ) × IsChild text table child × StandsBelow text levels child Stands
+abbrev pub HasFieldAtDepth : List ℕ → ℕ → ℕ → (ℕ → Type 0) → Type 0
+HasFieldAtDepth text zero table Stands = Stands table
+HasFieldAtDepth text (suc levels) table Stands = (child : ℕ) × IsChild text table child
+    × HasFieldAtDepth text levels child Stands
 
--- Of the columns whose references these are, where so many levels may be read: one of them or one inside it has a fault, or one
--- stands below the last level.
-abbrev pub ForestFault : List ℕ → ℕ → Row → MetaFault → Type 0
-ForestFault text levels row fault =
+-- Of the fields whose references these are, where so many levels may be read: one of them or one inside it has a fault,
+-- or one stands below the last level.
+abbrev pub ForestFault : List ℕ → ℕ → VectorRef → MetaFault → Type 0
+ForestFault text levels vector fault =
     (table level : ℕ)
-    × IsElement text row table
-    × (((level < levels) × StandsBelow text level table (λ column. ColumnFault text column fault))
-    ⊎ ((fault ≡ TooDeep) × StandsBelow text levels table (λ column. Unit {0})))
+    × IsElement text vector table
+    × (((level < levels) × HasFieldAtDepth text level table (λ field. FieldFault text field fault))
+    ⊎ ((fault ≡ TooDeep) × HasFieldAtDepth text levels table (λ field. Unit {0})))
 
 -- ---- the schema
 
--- some of the columns and of the metadata are more than a schema may say
-pub record SaysTooMuch (text : List ℕ) (table : ℕ) : Type 0 where
-  pub fields : Row
-  pub fields_shown : ShowsRow text table 1 4 fields
-  pub columns : Forest
-  pub some_columns : width columns ≤ fields.count
-  pub columns_shown : ShowsForestPart text fields.first columns
-  pub metadata : Row
-  pub metadata_shown : ShowsRow text table 2 4 metadata
+-- some of the fields and of the metadata are more than a schema may say
+pub record ExceedsLimits (text : List ℕ) (table : ℕ) : Type 0 where
+  pub fields : VectorRef
+  pub fields_shown : ShowsVectorRef text table 1 4 fields
+  pub part : Forest
+  pub part_of_fields : width part ≤ fields.count
+  pub part_shown : ShowsForestPart text fields.first part
+  pub metadata : VectorRef
+  pub metadata_shown : ShowsVectorRef text table 2 4 metadata
   pub entries : List Entry
   pub some_entries : length entries ≤ metadata.count
   pub entries_shown : ShowsEntries text metadata.first entries
-  pub beyond : IsBeyond (add_extents (forest_extent columns) (entries_extent entries))
+  pub beyond : IsBeyond (add_totals (forest_totals part) (entries_totals entries))
 
 -- what is wrong with the schema alone
 abbrev pub SchemaOwnFault : List ℕ → ℕ → MetaFault → Type 0
 SchemaOwnFault text table Endianness = (order : ℕ) × ShowsNumber text table 0 2 0 order × (order ≢ 0)
-SchemaOwnFault text table TooManyFields = SaysTooMuch text table
+SchemaOwnFault text table TooManyFields = ExceedsLimits text table
 SchemaOwnFault text table _ = ⊥
 
 abbrev pub SchemaFault : List ℕ → ℕ → MetaFault → Type 0
 SchemaFault text table fault =
     SlotNumberFault text table 0 2 fault
-    ⊎ RowFault text table 1 4 fault
-    ⊎ ((row : Row) × ShowsRow text table 1 4 row × ForestFault text depth_limit row fault)
+    ⊎ VectorRefFault text table 1 4 fault
+    ⊎ ((vector : VectorRef) × ShowsVectorRef text table 1 4 vector × ForestFault text depth_limit vector fault)
     ⊎ MetadataFault text table 2 fault
     ⊎ SchemaOwnFault text table fault
 
@@ -165,8 +175,8 @@ SchemaFault text table fault =
 abbrev pub BatchFault : List ℕ → ℕ → MetaFault → Type 0
 BatchFault text table fault =
     SlotNumberFault text table 0 8 fault
-    ⊎ RowFault text table 1 16 fault
-    ⊎ RowFault text table 2 16 fault
+    ⊎ VectorRefFault text table 1 16 fault
+    ⊎ VectorRefFault text table 2 16 fault
     ⊎ FieldSlotFault text table 3 fault
 
 -- a header of a type that is not carried
@@ -178,20 +188,20 @@ abbrev pub MessageOwnFault : List ℕ → ℕ → MetaFault → Type 0
 MessageOwnFault text message Version = (version : ℕ) × ShowsNumber text message 0 2 0 version × (version ≢ version_5)
 MessageOwnFault text message Dictionary = ShowsNumber text message 1 1 0 dictionary_type
 MessageOwnFault text message BadHeader =
-    ShowsLink text message 2 None ⊎ ((type : ℕ) × ShowsNumber text message 1 1 0 type × IsOtherType type)
+    ShowsReferenceField text message 2 None ⊎ ((type : ℕ) × ShowsNumber text message 1 1 0 type × IsOtherType type)
 MessageOwnFault text message _ = ⊥
 
 abbrev pub MessageFault : List ℕ → ℕ → MetaFault → Type 0
 MessageFault text message fault =
     SlotNumberFault text message 0 2 fault
     ⊎ SlotNumberFault text message 1 1 fault
-    ⊎ LinkFault text message 2 fault
+    ⊎ ReferenceFault text message 2 fault
     ⊎ MessageOwnFault text message fault
 
 -- the fault stands in the text
 abbrev pub HeaderFault : List ℕ → MetaFault → Type 0
 HeaderFault text fault =
-    Told (NumberFault text 0 4) fault
+    FromPlaceFault (NumberFault text 0 4) fault
     ⊎ ((message : ℕ) × ShowsReference text 0 message × MessageFault text message fault)
     ⊎ ((message table : ℕ) × ShowsMessage text message schema_type table × SchemaFault text table fault)
     ⊎ ((message table : ℕ)

@@ -1,33 +1,33 @@
--- The header of a message: Apache Arrow, "Message.fbs", the tables `Message` and `RecordBatch` and the struct `FieldNode`, and
--- "Schema.fbs", the table `Schema` and the struct `Buffer`.
+-- The header of a message: Apache Arrow, "Message.fbs", the tables `Message` and `RecordBatch` and the struct
+-- `FieldNode`, and "Schema.fbs", the table `Schema` and the struct `Buffer`.
 use Rattle.std.specs.Prelude.{◌≡◌, ◌≤◌, ℕ, ◌+◌, ℤ, Bool, List, [], ◌∷◌, length, Option, Some, is_some}
 use Rattle.std.specs.Int.{w64, cast_signed}
 use Rattle.flat_places.specs.Number.{ShowsUint, ShowsReference}
 use Rattle.flat_places.specs.Table.{ShowsField}
-use Rattle.flatbuf_meta.specs.Columns.{Entry, width, Columns}
-use Rattle.flatbuf_meta.specs.Slots.{ShowsNumber, ShowsLink, Row, ShowsRow}
+use Rattle.flatbuf_meta.specs.Fields.{Entry, width, SchemaTree}
+use Rattle.flatbuf_meta.specs.Slots.{ShowsNumber, ShowsReferenceField, VectorRef, ShowsVectorRef}
 use Rattle.flatbuf_meta.specs.Shown.{ShowsEntries, ShowsForest}
-use Rattle.flatbuf_meta.specs.Limits.{depth_limit, forest_depth, columns_extent, IsWithin}
+use Rattle.flatbuf_meta.specs.Limits.{depth_limit, forest_depth, schema_totals, IsWithin}
 
 -- ---- schemas
 
 -- the metadata at field n of a table
 pub record ShowsMetadata (text : List ℕ) (table n : ℕ) (entries : List Entry) : Type 0 where
-  pub row : Row
-  pub row_shown : ShowsRow text table n 4 row
-  pub all : length entries ≡ row.count
-  pub shown : ShowsEntries text row.first entries
+  pub vector : VectorRef
+  pub vector_shown : ShowsVectorRef text table n 4 vector
+  pub all : length entries ≡ vector.count
+  pub shown : ShowsEntries text vector.first entries
 
 -- the table `Schema`: 0 endianness, which is Little, 1 fields, 2 custom_metadata
-pub record ShowsColumns (text : List ℕ) (table : ℕ) (columns : Columns) : Type 0 where
+pub record ShowsSchema (text : List ℕ) (table : ℕ) (schema : SchemaTree) : Type 0 where
   pub little_endian : ShowsNumber text table 0 2 0 0
-  pub fields : Row
-  pub fields_shown : ShowsRow text table 1 4 fields
-  pub all : width columns.fields ≡ fields.count
-  pub shown : ShowsForest text fields.first columns.fields
-  pub metadata_shown : ShowsMetadata text table 2 columns.metadata
-  pub not_deep : forest_depth columns.fields ≤ depth_limit
-  pub within : IsWithin (columns_extent columns)
+  pub fields : VectorRef
+  pub fields_shown : ShowsVectorRef text table 1 4 fields
+  pub all : width schema.fields ≡ fields.count
+  pub shown : ShowsForest text fields.first schema.fields
+  pub metadata_shown : ShowsMetadata text table 2 schema.metadata
+  pub not_deep : forest_depth schema.fields ≤ depth_limit
+  pub within : IsWithin (schema_totals schema)
 
 -- ---- batches
 
@@ -45,10 +45,10 @@ ShowsPairs text place (pair ∷ rest) =
 
 -- the vector of such structs at field n of a table
 pub record ShowsPairsAt (text : List ℕ) (table n : ℕ) (pairs : List (ℤ × ℤ)) : Type 0 where
-  pub row : Row
-  pub row_shown : ShowsRow text table n 16 row
-  pub all : length pairs ≡ row.count
-  pub shown : ShowsPairs text row.first pairs
+  pub vector : VectorRef
+  pub vector_shown : ShowsVectorRef text table n 16 vector
+  pub all : length pairs ≡ vector.count
+  pub shown : ShowsPairs text vector.first pairs
 
 -- where the parts of a batch stand in its body
 pub record Head : Type 0 where
@@ -58,8 +58,8 @@ pub record Head : Type 0 where
   pub compressed : Bool
   pub body_length : ℤ
 
--- The table `RecordBatch`: 0 length, 1 nodes, 2 buffers, 3 compression, 4 variadicBufferCounts, which is passed over. The number
--- of the body's bytes stands in the message.
+-- The table `RecordBatch`: 0 length, 1 nodes, 2 buffers, 3 compression, 4 variadicBufferCounts, which is passed over.
+-- The number of the body's bytes stands in the message.
 pub record ShowsBatch (text : List ℕ) (table : ℕ) (head : Head) : Type 0 where
   pub rows : ℕ
   pub rows_shown : ShowsNumber text table 0 8 0 rows
@@ -73,7 +73,7 @@ pub record ShowsBatch (text : List ℕ) (table : ℕ) (head : Head) : Type 0 whe
 -- ---- messages
 
 pub data Header : Type 0 where
-  schema_header : Columns → Header
+  schema_header : SchemaTree → Header
   batch_header : Head → Header
 
 -- the version of the metadata that is read, and the types of headers
@@ -94,12 +94,12 @@ pub record ShowsMessage (text : List ℕ) (message type table : ℕ) : Type 0 wh
   pub root : ShowsReference text 0 message
   pub version : ShowsNumber text message 0 2 0 version_5
   pub type_shown : ShowsNumber text message 1 1 0 type
-  pub header : ShowsLink text message 2 (Some table)
+  pub header : ShowsReferenceField text message 2 (Some table)
 
 -- The text shows this header. Field 3 of the message is bodyLength, field 4 custom_metadata, which is passed over.
 abbrev pub ShowsHeader : List ℕ → Header → Type 0
-ShowsHeader text (schema_header columns) =
-    (message table : ℕ) × ShowsMessage text message schema_type table × ShowsColumns text table columns
+ShowsHeader text (schema_header schema) =
+    (message table : ℕ) × ShowsMessage text message schema_type table × ShowsSchema text table schema
 ShowsHeader text (batch_header head) =
     (message table : ℕ)
     × ShowsMessage text message batch_type table

@@ -8,8 +8,8 @@ use Rattle.flatbuf_meta.specs.declared.fault.MetaFault.TheVariants.{OutOfMemory}
 use Rattle.flatbuf_meta.specs.declared.header.BatchHead.{BatchHead}
 use Rattle.flatbuf_meta.specs.declared.header.Header.{Header as ReadHeader}
 use Rattle.flatbuf_meta.specs.declared.header.Header.TheVariants as read
-use Rattle.flatbuf_meta.specs.Views.{columns_of}
-use Rattle.flatbuf_meta.specs.Slots.{ShowsNumber, Row, ShowsRow, Told, SlotNumberFault}
+use Rattle.flatbuf_meta.specs.Views.{schema_of}
+use Rattle.flatbuf_meta.specs.Slots.{ShowsNumber, VectorRef, ShowsVectorRef, FromPlaceFault, SlotNumberFault}
 use Rattle.flatbuf_meta.specs.Header.{int64_of, ShowsInt64, Head, ShowsBatch, Header, schema_header, batch_header}
 use Rattle.flatbuf_meta.specs.Faults.{BatchFault, MessageFault}
 
@@ -23,7 +23,7 @@ head_of h = record {
 }
 
 abbrev pub header_of : ReadHeader → Header
-header_of (read.Schema schema) = schema_header (columns_of schema)
+header_of (read.Schema schema) = schema_header (schema_of schema)
 header_of (read.Batch head) = batch_header (head_of head)
 
 -- the header that was read is this one, unless memory was refused
@@ -43,13 +43,15 @@ ShowsBatchIn text message table head = ShowsBatch text table head × ShowsLong t
 
 -- the table says whether the buffers are compressed
 abbrev pub ShowsCompression : List ℕ → ℕ → Bool → Type 0
-ShowsCompression text table compressed = (field : Option ℕ) × ShowsField text table 3 field × (compressed ≡ is_some field)
+ShowsCompression text table compressed = (field : Option ℕ) × ShowsField text table 3 field
+    × (compressed ≡ is_some field)
 
 -- the same of a batch, but for the structs of its two vectors
-pub record ShowsRowsIn (text : List ℕ) (message table : ℕ) (length : ℤ) (nodes buffers : Row) (compressed : Bool) (body_length : ℤ) : Type 0 where
+pub record ShowsBatchParts (text : List ℕ) (message table : ℕ) (length : ℤ) (nodes buffers : VectorRef)
+    (compressed : Bool) (body_length : ℤ) : Type 0 where
   pub length_shown : ShowsLong text table 0 length
-  pub nodes_shown : ShowsRow text table 1 16 nodes
-  pub buffers_shown : ShowsRow text table 2 16 buffers
+  pub nodes_shown : ShowsVectorRef text table 1 16 nodes
+  pub buffers_shown : ShowsVectorRef text table 2 16 buffers
   pub compression : Option ℕ
   pub compression_shown : ShowsField text table 3 compression
   pub compressed_is : compressed ≡ is_some compression
@@ -67,4 +69,5 @@ IsPairAt text first i pair = ShowsInt64 text (first + 16 * i) pair.0 × ShowsInt
 -- what is wrong with a text before its header
 abbrev pub RootFault : List ℕ → MetaFault → Type 0
 RootFault text fault =
-    Told (NumberFault text 0 4) fault ⊎ ((message : ℕ) × ShowsReference text 0 message × MessageFault text message fault)
+    FromPlaceFault (NumberFault text 0 4) fault
+    ⊎ ((message : ℕ) × ShowsReference text 0 message × MessageFault text message fault)

@@ -1,11 +1,13 @@
--- How objects are laid out one behind the other: FlatBuffers, "FlatBuffer Internals", with one choice wherever it leaves one.
--- Places are filled upwards. An object is followed by all that it refers to, in the order of its references, each whole before the
--- next. A table stands right behind its vtable, at a multiple of 8; a string and a vector of references begin at a multiple of 4, a
--- vector of structs so that its first struct stands at a multiple of 8. Bytes between objects are zero, and as few as can be.
+-- How objects are laid out one behind the other: FlatBuffers, "FlatBuffer Internals", with one choice wherever it
+-- leaves one. Places are filled upwards. An object is followed by all that it refers to, in the order of its
+-- references, each whole before the next. A table stands right behind its vtable, at a multiple of 8; a string and a
+-- vector of references begin at a multiple of 4, a vector of structs so that its first struct stands at a multiple of
+-- 8. Bytes between objects are zero, and as few as can be.
 use Rattle.std.specs.Prelude.{ℕ, zero, suc, ◌+◌, ◌-◌, ◌*◌, ◌%◌, List, [], ◌∷◌, ◌++◌, length}
 use Rattle.byteorder.specs.Endian.{little_bytes}
 
--- what is written at one place, with all that it refers to; and what stands in a table or a vector: bytes, or a reference
+-- what is written at one place, with all that it refers to; and what stands in a table or a vector: bytes, or a
+-- reference
 mutual
   pub data Object : Type 0 where
     string_object : List ℕ → Object
@@ -16,7 +18,7 @@ mutual
   pub data Cells : Type 0 where
     no_cells : Cells
     inline : List ℕ → Cells → Cells
-    link : Object → Cells → Cells
+    reference : Object → Cells → Cells
 
 abbrev pub zeros : ℕ → List ℕ
 zeros zero = []
@@ -35,12 +37,12 @@ shorts (x ∷ rest) = little_bytes 2 x ++ shorts rest
 abbrev pub cell_count : Cells → ℕ
 cell_count no_cells = 0
 cell_count (inline bytes rest) = suc (cell_count rest)
-cell_count (link o rest) = suc (cell_count rest)
+cell_count (reference o rest) = suc (cell_count rest)
 
 abbrev pub cells_size : Cells → ℕ
 cells_size no_cells = 0
 cells_size (inline bytes rest) = length bytes + cells_size rest
-cells_size (link o rest) = 4 + cells_size rest
+cells_size (reference o rest) = 4 + cells_size rest
 
 -- so many zero bytes and bytes of the vtable with these numbers stand before a table
 abbrev pub table_lead : ℕ → List ℕ → ℕ
@@ -59,27 +61,29 @@ abbrev mutual
   laid place (string_object bytes) = zeros (padding 4 place) ++ little_bytes 4 (length bytes) ++ bytes ++ 0 ∷ []
   laid place (structs_object count bytes) = zeros (padding 8 (place + 4)) ++ little_bytes 4 count ++ bytes
   laid place (references_object cells) =
-      zeros (padding 4 place) ++ little_bytes 4 (cell_count cells) ++ cells_text (place + padding 4 place + 4) (place + padding 4 place + 4 + cells_size cells) cells
+      zeros (padding 4 place) ++ little_bytes 4 (cell_count cells) ++ cells_text (place + padding 4 place + 4)
+      (place + padding 4 place + 4 + cells_size cells) cells
       ++ objects_text (place + padding 4 place + 4 + cells_size cells) cells
   laid place (table_object numbers cells) =
       zeros (padding 8 (place + 2 * length numbers)) ++ shorts numbers ++ little_bytes 4 (2 * length numbers)
-      ++ cells_text (place + table_lead place numbers + 4) (place + table_lead place numbers + 4 + cells_size cells) cells
+      ++ cells_text (place + table_lead place numbers + 4)
+      (place + table_lead place numbers + 4 + cells_size cells) cells
       ++ objects_text (place + table_lead place numbers + 4 + cells_size cells) cells
 
   -- the cells from the place on, where the objects are laid out from the place `next` on
   pub cells_text : ℕ → ℕ → Cells → List ℕ
   cells_text at next no_cells = []
   cells_text at next (inline bytes rest) = bytes ++ cells_text (at + length bytes) next rest
-  cells_text at next (link o rest) =
+  cells_text at next (reference o rest) =
       little_bytes 4 (next + lead next o - at) ++ cells_text (at + 4) (next + length (laid next o)) rest
 
   pub objects_text : ℕ → Cells → List ℕ
   objects_text next no_cells = []
   objects_text next (inline bytes rest) = objects_text next rest
-  objects_text next (link o rest) = laid next o ++ objects_text (next + length (laid next o)) rest
+  objects_text next (reference o rest) = laid next o ++ objects_text (next + length (laid next o)) rest
 
--- A whole text: the reference to its root, the root, and zero bytes up to a multiple of 8. FlatBuffers, "FlatBuffer Internals":
--- the text begins with a reference to the root table.
+-- A whole text: the reference to its root, the root, and zero bytes up to a multiple of 8. FlatBuffers, "FlatBuffer
+-- Internals": the text begins with a reference to the root table.
 abbrev pub unpadded : Object → List ℕ
 unpadded root = little_bytes 4 (4 + lead 4 root) ++ laid 4 root
 

@@ -1,5 +1,5 @@
--- What a field of a table holds: FlatBuffers, "FlatBuffer Internals", "Tables". An absent number is its default ("Schema",
--- "Tables": "Default values"), and an absent text or vector is told apart from an empty one.
+-- What a field of a table holds: FlatBuffers, "FlatBuffer Internals", "Tables". An absent number is its default
+-- ("Schema", "Tables": "Default values"), and an absent text or vector is told apart from an empty one.
 use Rattle.std.specs.Prelude.{◌≡◌, ◌⊎◌, ℕ, List, Option, Some, None}
 use Rattle.flat_places.specs.declared.fault.PlaceFault.{PlaceFault}
 use Rattle.flat_places.specs.declared.fault.PlaceFault.TheVariants as place
@@ -9,7 +9,7 @@ use Rattle.flat_places.specs.Vector.{ShowsVector, ShowsText}
 use Rattle.flat_places.specs.Fault.{NumberFault, VectorFault, TextFault, SlotFault}
 use Rattle.flatbuf_meta.specs.declared.fault.MetaFault.{MetaFault}
 use Rattle.flatbuf_meta.specs.declared.fault.MetaFault.TheVariants as meta
-use Rattle.flatbuf_meta.specs.Columns.{Text}
+use Rattle.flatbuf_meta.specs.Fields.{Text}
 
 -- ---- what is shown
 
@@ -25,17 +25,17 @@ pub record ShowsNumber (text : List ℕ) (table n size default x : ℕ) : Type 0
   pub number : NumberAt text size default x field
 
 -- at an absent field, nothing; else a reference to the target
-abbrev pub LinkAt : List ℕ → Option ℕ → Option ℕ → Type 0
-LinkAt text None None = Unit {0}
-LinkAt text None (Some place) = ⊥
-LinkAt text (Some target) None = ⊥
-LinkAt text (Some target) (Some place) = ShowsReference text place target
+abbrev pub ReferenceAt : List ℕ → Option ℕ → Option ℕ → Type 0
+ReferenceAt text None None = Unit {0}
+ReferenceAt text None (Some place) = ⊥
+ReferenceAt text (Some target) None = ⊥
+ReferenceAt text (Some target) (Some place) = ShowsReference text place target
 
 -- field n of the table refers to this place, or is absent
-pub record ShowsLink (text : List ℕ) (table n : ℕ) (target : Option ℕ) : Type 0 where
+pub record ShowsReferenceField (text : List ℕ) (table n : ℕ) (target : Option ℕ) : Type 0 where
   pub field : Option ℕ
   pub found : ShowsField text table n field
-  pub refers : LinkAt text target field
+  pub refers : ReferenceAt text target field
 
 abbrev pub StringAt : List ℕ → Option Text → Option ℕ → Type 0
 StringAt text None None = Unit {0}
@@ -46,63 +46,64 @@ StringAt text (Some bytes) (Some place) = ShowsText text place bytes
 -- field n of the table is this text, or is absent
 pub record ShowsString (text : List ℕ) (table n : ℕ) (bytes : Option Text) : Type 0 where
   pub target : Option ℕ
-  pub linked : ShowsLink text table n target
+  pub referred : ShowsReferenceField text table n target
   pub shown : StringAt text bytes target
 
 -- the elements of a vector: where the first one stands, and how many there are
-pub record Row : Type 0 where
+pub record VectorRef : Type 0 where
   pub first : ℕ
   pub count : ℕ
 
-abbrev pub no_row : Row
-no_row = record { first = 0; count = 0 }
+abbrev pub no_vector : VectorRef
+no_vector = record { first = 0; count = 0 }
 
-abbrev pub RowAt : List ℕ → ℕ → Row → Option ℕ → Type 0
-RowAt text size row None = row ≡ no_row
-RowAt text size row (Some place) = ShowsVector text place size row.first row.count
+abbrev pub VectorAt : List ℕ → ℕ → VectorRef → Option ℕ → Type 0
+VectorAt text size vector None = vector ≡ no_vector
+VectorAt text size vector (Some place) = ShowsVector text place size vector.first vector.count
 
 -- field n of the table is this vector of elements of so many bytes; an absent one has none
-pub record ShowsRow (text : List ℕ) (table n size : ℕ) (row : Row) : Type 0 where
+pub record ShowsVectorRef (text : List ℕ) (table n size : ℕ) (vector : VectorRef) : Type 0 where
   pub target : Option ℕ
-  pub linked : ShowsLink text table n target
-  pub shown : RowAt text size row target
+  pub referred : ShowsReferenceField text table n target
+  pub shown : VectorAt text size vector target
 
 -- ---- what is wrong
 
 -- the fault of a place, as one of a header
-abbrev pub Told : (PlaceFault → Type 0) → MetaFault → Type 0
-Told Stands meta.OutOfBounds = Stands place.OutOfBounds
-Told Stands meta.NotUtf8 = Stands place.NotUtf8
-Told Stands meta.BadHeader = Stands place.SmallVtable
-Told Stands meta.Version = ⊥
-Told Stands meta.Endianness = ⊥
-Told Stands (meta.Unsupported kind) = ⊥
-Told Stands meta.Dictionary = ⊥
-Told Stands meta.TooDeep = ⊥
-Told Stands meta.TooManyFields = ⊥
-Told Stands meta.OutOfMemory = ⊥
+abbrev pub FromPlaceFault : (PlaceFault → Type 0) → MetaFault → Type 0
+FromPlaceFault Stands meta.OutOfBounds = Stands place.OutOfBounds
+FromPlaceFault Stands meta.NotUtf8 = Stands place.NotUtf8
+FromPlaceFault Stands meta.BadHeader = Stands place.SmallVtable
+FromPlaceFault Stands meta.Version = ⊥
+FromPlaceFault Stands meta.Endianness = ⊥
+FromPlaceFault Stands (meta.Unsupported type_id) = ⊥
+FromPlaceFault Stands meta.Dictionary = ⊥
+FromPlaceFault Stands meta.TooDeep = ⊥
+FromPlaceFault Stands meta.TooManyFields = ⊥
+FromPlaceFault Stands meta.OutOfMemory = ⊥
 
 abbrev pub FieldSlotFault : List ℕ → ℕ → ℕ → MetaFault → Type 0
-FieldSlotFault text table n = Told (SlotFault text table n)
+FieldSlotFault text table n = FromPlaceFault (SlotFault text table n)
 
 -- the slot of a number, or the number
 abbrev pub SlotNumberFault : List ℕ → ℕ → ℕ → ℕ → MetaFault → Type 0
 SlotNumberFault text table n size fault =
     FieldSlotFault text table n fault
-    ⊎ ((place : ℕ) × ShowsField text table n (Some place) × Told (NumberFault text place size) fault)
+    ⊎ ((place : ℕ) × ShowsField text table n (Some place) × FromPlaceFault (NumberFault text place size) fault)
 
 -- the slot of a reference, or the reference
-abbrev pub LinkFault : List ℕ → ℕ → ℕ → MetaFault → Type 0
-LinkFault text table n = SlotNumberFault text table n 4
+abbrev pub ReferenceFault : List ℕ → ℕ → ℕ → MetaFault → Type 0
+ReferenceFault text table n = SlotNumberFault text table n 4
 
 -- the way to a text, or the text
 abbrev pub StringFault : List ℕ → ℕ → ℕ → MetaFault → Type 0
 StringFault text table n fault =
-    LinkFault text table n fault
-    ⊎ ((target : ℕ) × ShowsLink text table n (Some target) × Told (TextFault text target) fault)
+    ReferenceFault text table n fault
+    ⊎ ((target : ℕ) × ShowsReferenceField text table n (Some target) × FromPlaceFault (TextFault text target) fault)
 
 -- the way to a vector, or the vector
-abbrev pub RowFault : List ℕ → ℕ → ℕ → ℕ → MetaFault → Type 0
-RowFault text table n size fault =
-    LinkFault text table n fault
-    ⊎ ((target : ℕ) × ShowsLink text table n (Some target) × Told (VectorFault text target size) fault)
+abbrev pub VectorRefFault : List ℕ → ℕ → ℕ → ℕ → MetaFault → Type 0
+VectorRefFault text table n size fault =
+    ReferenceFault text table n fault
+    ⊎ ((target : ℕ) × ShowsReferenceField text table n (Some target)
+    × FromPlaceFault (VectorFault text target size) fault)

@@ -3,11 +3,12 @@ use Rattle.std.specs.Prelude.{◌≡◌, ◌≤◌, false, length}
 use Rattle.flatbuf_meta.specs.Header.{Header, schema_header, batch_header}
 use Rattle.flatbuf_meta.specs.Limits.{nodes_limit, buffers_limit}
 use Rattle.flatbuf_meta.specs.Profile.{InProfile}
-use Rattle.flatbuf_meta.specs.Written.{FitsColumns, FitsHead}
+use Rattle.flatbuf_meta.specs.Written.{FitsSchema, FitsHead}
 
--- a schema in profile, or a batch that is not compressed, with no more nodes and buffers than 512 columns have; their texts are
--- UTF-8, and their numbers such of 32 and 64 bits
+-- a schema in profile, or a batch that is not compressed, with no more nodes and buffers than 512 fields have; their
+-- texts are UTF-8, and their numbers such of 32 and 64 bits
 abbrev pub IsWritable : Header → Type 0
-IsWritable (schema_header columns) = InProfile columns × FitsColumns columns
+IsWritable (schema_header schema) = InProfile schema × FitsSchema schema
 IsWritable (batch_header head) =
-    (head.compressed ≡ false) × (length head.nodes ≤ nodes_limit) × (length head.buffers ≤ buffers_limit) × FitsHead head
+    (head.compressed ≡ false) × (length head.nodes ≤ nodes_limit) × (length head.buffers ≤ buffers_limit)
+    × FitsHead head

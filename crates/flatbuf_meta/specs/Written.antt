@@ -1,5 +1,5 @@
--- What is written of the program's values, and that their numbers are such of the program. Tools of the contracts of private
--- functions.
+-- What is written of the program's values, and that their numbers are such of the program. Tools of the contracts of
+-- private functions.
 use Rattle.std.specs.Prelude.{ℕ, ℤ, List, [], ◌∷◌, ◌++◌, Some, None, IsUtf8}
 use Rattle.std.specs.Int.{w64, w32}
 use Rattle.std.specs.Int.RustNames.{FitsSigned}
@@ -7,7 +7,10 @@ use Rattle.std.specs.List.{AllByRecursion}
 use Rattle.byteorder.specs.Endian.{little_bytes}
 use Rattle.flatbuf_meta.specs.declared.layout.Cell.{Cell}
 use Rattle.flatbuf_meta.specs.declared.layout.Cell.TheVariants.{Byte, Short, Word, Long}
-use Rattle.flatbuf_meta.specs.Columns.{Entry, Shape, null_shape, int_shape, floating_point_shape, binary_shape, utf8_shape, bool_shape, decimal_shape, date_shape, time_shape, timestamp_shape, list_shape, struct_shape, fixed_size_binary_shape, fixed_size_list_shape, duration_shape, Column, Tree, tree, Forest, no_more, more, Columns}
+use Rattle.flatbuf_meta.specs.Fields.{Entry, DataType, null_type, int_type, floating_point_type, binary_type, utf8_type}
+use Rattle.flatbuf_meta.specs.Fields.{bool_type, decimal_type, date_type, time_type, timestamp_type, list_type}
+use Rattle.flatbuf_meta.specs.Fields.{struct_type, fixed_size_binary_type, fixed_size_list_type, duration_type}
+use Rattle.flatbuf_meta.specs.Fields.{FieldHead, Tree, tree, Forest, no_more, more, SchemaTree}
 use Rattle.flatbuf_meta.specs.Header.{Head}
 
 abbrev pub cell_bytes : Cell → List ℕ
@@ -28,39 +31,39 @@ FitsPair pair = FitsSigned w64 pair.0 × FitsSigned w64 pair.1
 abbrev pub FitsEntry : Entry → Type 0
 FitsEntry entry = IsUtf8 entry.0 × IsUtf8 entry.1
 
-abbrev pub FitsShape : Shape → Type 0
-FitsShape null_shape = Unit {0}
-FitsShape (int_shape width signed) = Unit {0}
-FitsShape (floating_point_shape precision) = Unit {0}
-FitsShape binary_shape = Unit {0}
-FitsShape utf8_shape = Unit {0}
-FitsShape bool_shape = Unit {0}
-FitsShape (decimal_shape precision scale width) = FitsSigned w32 precision × FitsSigned w32 scale
-FitsShape (date_shape unit) = Unit {0}
-FitsShape (time_shape unit) = Unit {0}
-FitsShape (timestamp_shape unit None) = Unit {0}
-FitsShape (timestamp_shape unit (Some timezone)) = IsUtf8 timezone
-FitsShape list_shape = Unit {0}
-FitsShape struct_shape = Unit {0}
-FitsShape (fixed_size_binary_shape byte_width) = FitsSigned w32 byte_width
-FitsShape (fixed_size_list_shape list_size) = FitsSigned w32 list_size
-FitsShape (duration_shape unit) = Unit {0}
+abbrev pub FitsDataType : DataType → Type 0
+FitsDataType null_type = Unit {0}
+FitsDataType (int_type width signed) = Unit {0}
+FitsDataType (floating_point_type precision) = Unit {0}
+FitsDataType binary_type = Unit {0}
+FitsDataType utf8_type = Unit {0}
+FitsDataType bool_type = Unit {0}
+FitsDataType (decimal_type precision scale width) = FitsSigned w32 precision × FitsSigned w32 scale
+FitsDataType (date_type unit) = Unit {0}
+FitsDataType (time_type unit) = Unit {0}
+FitsDataType (timestamp_type unit None) = Unit {0}
+FitsDataType (timestamp_type unit (Some timezone)) = IsUtf8 timezone
+FitsDataType list_type = Unit {0}
+FitsDataType struct_type = Unit {0}
+FitsDataType (fixed_size_binary_type byte_width) = FitsSigned w32 byte_width
+FitsDataType (fixed_size_list_type list_size) = FitsSigned w32 list_size
+FitsDataType (duration_type unit) = Unit {0}
 
-abbrev pub FitsColumn : Column → Type 0
-FitsColumn column = IsUtf8 column.name × FitsShape column.shape
+abbrev pub FitsField : FieldHead → Type 0
+FitsField field = IsUtf8 field.name × FitsDataType field.data_type
 
 abbrev mutual
   pub FitsTree : Tree → Type 0
-  FitsTree (tree column entries inner) =
-      IsUtf8 column.name × FitsShape column.shape × AllByRecursion FitsEntry entries × FitsForest inner
+  FitsTree (tree field entries inner) =
+      IsUtf8 field.name × FitsDataType field.data_type × AllByRecursion FitsEntry entries × FitsForest inner
 
   pub FitsForest : Forest → Type 0
   FitsForest no_more = Unit {0}
   FitsForest (more t rest) = FitsTree t × FitsForest rest
 
-pub record FitsColumns (columns : Columns) : Type 0 where
-  pub fields : FitsForest columns.fields
-  pub metadata : AllByRecursion FitsEntry columns.metadata
+pub record FitsSchema (schema : SchemaTree) : Type 0 where
+  pub fields : FitsForest schema.fields
+  pub metadata : AllByRecursion FitsEntry schema.metadata
 
 -- what stands in the table of a batch
 pub record FitsParts (head : Head) : Type 0 where

@@ -2,17 +2,18 @@
 
 ghost use Rattle.std.specs.Prelude.{◌≡◌, ◌≤◌, ◌<◌, ◌+◌, ◌⊎◌, length, IfOk, IfErr};
 ghost use Rattle.flatbuf_meta.specs.declared.fault.MetaFault.TheVariants.{OutOfMemory};
-ghost use Rattle.flatbuf_meta.specs.Slots.{ShowsRow, SlotNumberFault};
-ghost use Rattle.flatbuf_meta.specs.Rows.{row_of};
+ghost use Rattle.flatbuf_meta.specs.Slots.{ShowsVectorRef, SlotNumberFault};
+ghost use Rattle.flatbuf_meta.specs.VectorRefs.{vector_ref_of};
 ghost use Rattle.flatbuf_meta.specs.Walking.{IsInside};
 ghost use Rattle.flatbuf_meta.specs.Header.{ShowsInt64, ShowsPairs, Head};
 ghost use Rattle.flatbuf_meta.specs.Faults.{BatchFault};
-ghost use Rattle.flatbuf_meta.specs.HeaderViews.{head_of, ShowsLong, ShowsBatchIn, ShowsCompression, ShowsRowsIn, BatchFaultIn, IsPairAt};
+ghost use Rattle.flatbuf_meta.specs.HeaderViews.{head_of, ShowsLong, ShowsBatchIn, ShowsCompression, ShowsBatchParts};
+ghost use Rattle.flatbuf_meta.specs.HeaderViews.{BatchFaultIn, IsPairAt};
 
 use crate::fault::MetaFault;
 use crate::header::BatchHead;
 use crate::slot;
-use crate::slots::{Row, number, row_at, slot_at, table_at};
+use crate::slots::{VectorRef, number, slot_at, table_at, vector_at};
 use flat_places::{Table, uint};
 use std::alloc::Global;
 
@@ -28,9 +29,9 @@ struct BatchRef {
     /// How many rows there are.
     length: i64,
     /// The structs `FieldNode`.
-    nodes: Row,
+    nodes: VectorRef,
     /// The structs `Buffer`.
-    buffers: Row,
+    buffers: VectorRef,
     /// Whether the message says that the buffers are compressed.
     compressed: bool,
     /// How many bytes the body has.
@@ -57,15 +58,15 @@ fn body_length_of(buf: &[u8], message: usize) -> Result<i64, MetaFault>
 /// What the table says of the batch, whose body has so many bytes, but for the structs of its two vectors.
 fn batch_in(table: &Table<'_>, body_length: i64) -> Result<BatchRef, MetaFault>
     ensures length { IfOk result (λ b. ShowsLong table.now.buf table.now.place 0 b.length) }
-    ensures nodes { IfOk result (λ b. ShowsRow table.now.buf table.now.place 1 16 (row_of b.nodes)) }
-    ensures buffers { IfOk result (λ b. ShowsRow table.now.buf table.now.place 2 16 (row_of b.buffers)) }
+    ensures nodes { IfOk result (λ b. ShowsVectorRef table.now.buf table.now.place 1 16 (vector_ref_of b.nodes)) }
+    ensures buffers { IfOk result (λ b. ShowsVectorRef table.now.buf table.now.place 2 16 (vector_ref_of b.buffers)) }
     ensures compressed { IfOk result (λ b. ShowsCompression table.now.buf table.now.place b.compressed) }
     ensures body { IfOk result (λ b. b.body_length ≡ body_length) }
     ensures fault { IfErr result (BatchFault table.now.buf table.now.place) }
 {
     let length = long(table, slot::BATCH_LENGTH)?;
-    let nodes = row_at(table, slot::BATCH_NODES, PAIR_LEN)?;
-    let buffers = row_at(table, slot::BATCH_BUFFERS, PAIR_LEN)?;
+    let nodes = vector_at(table, slot::BATCH_NODES, PAIR_LEN)?;
+    let buffers = vector_at(table, slot::BATCH_BUFFERS, PAIR_LEN)?;
     let compressed = slot_at(table, slot::BATCH_COMPRESSION)?.is_some();
     Ok(BatchRef {
         length,
@@ -78,7 +79,8 @@ fn batch_in(table: &Table<'_>, body_length: i64) -> Result<BatchRef, MetaFault>
 
 /// The batch whose table and message these are, but for the structs of its two vectors.
 fn batch_at(buf: &[u8], message: usize, table: usize) -> Result<BatchRef, MetaFault>
-    ensures read { IfOk result (λ b. ShowsRowsIn buf.now message table b.length (row_of b.nodes) (row_of b.buffers) b.compressed b.body_length) }
+    ensures read { IfOk result (λ b. ShowsBatchParts buf.now message table b.length (vector_ref_of b.nodes)
+        (vector_ref_of b.buffers) b.compressed b.body_length) }
     ensures fault { IfErr result (BatchFaultIn buf.now message table) }
 {
     let body_length = body_length_of(buf, message)?;
@@ -98,25 +100,25 @@ fn long_at(buf: &[u8], place: usize) -> i64
 }
 
 /// The struct at this place of a vector.
-fn pair_at(buf: &[u8], row: Row, index: usize) -> (i64, i64)
-    requires inside { IsInside buf.now (row_of row) 16 }
-    requires there { index < row.count }
-    ensures { IsPairAt buf.now row.first index result }
+fn pair_at(buf: &[u8], vector: VectorRef, index: usize) -> (i64, i64)
+    requires inside { IsInside buf.now (vector_ref_of vector) 16 }
+    requires there { index < vector.count }
+    ensures { IsPairAt buf.now vector.first index result }
 {
-    let place = row.first + PAIR_LEN * index;
+    let place = vector.first + PAIR_LEN * index;
     (long_at(buf, place), long_at(buf, place + LONG_LEN))
 }
 
 /// The structs of a vector.
-fn pairs_at(alloc: Global, buf: &[u8], row: Row) -> Result<Vec<(i64, i64)>, MetaFault>
-    requires { IsInside buf.now (row_of row) 16 }
-    ensures read { IfOk result (λ pairs. ShowsPairs buf.now row.first pairs.items) }
-    ensures all { IfOk result (λ pairs. length pairs.items ≡ row.count) }
+fn pairs_at(alloc: Global, buf: &[u8], vector: VectorRef) -> Result<Vec<(i64, i64)>, MetaFault>
+    requires { IsInside buf.now (vector_ref_of vector) 16 }
+    ensures read { IfOk result (λ pairs. ShowsPairs buf.now vector.first pairs.items) }
+    ensures all { IfOk result (λ pairs. length pairs.items ≡ vector.count) }
     ensures refused { IfErr result (λ e. e ≡ OutOfMemory) }
 {
-    let mut pairs = Vec::with_capacity(alloc, row.count)?;
-    for index in 0..row.count {
-        pairs.push(pair_at(buf, row, index)).unwrap();
+    let mut pairs = Vec::with_capacity(alloc, vector.count)?;
+    for index in 0..vector.count {
+        pairs.push(pair_at(buf, vector, index)).unwrap();
     }
     Ok(pairs)
 }
@@ -129,7 +131,8 @@ pub(crate) fn read_batch(
     table: usize,
 ) -> Result<BatchHead, MetaFault>
     ensures read { IfOk result (λ head. ShowsBatchIn buf.now message table (head_of head)) }
-    ensures fault { IfErr result (λ e. (e ≡ OutOfMemory) ⊎ BatchFault buf.now table e ⊎ SlotNumberFault buf.now message 3 8 e) }
+    ensures fault { IfErr result (λ e. (e ≡ OutOfMemory) ⊎ BatchFault buf.now table e
+        ⊎ SlotNumberFault buf.now message 3 8 e) }
     ensures memory { result ≡ Err OutOfMemory → (head : Head) × ShowsBatchIn buf.now message table head }
 {
     let batch = batch_at(buf, message, table)?;

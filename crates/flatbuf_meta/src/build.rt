@@ -1,26 +1,28 @@
 //! Schemas, built while they are read.
 
-ghost use Rattle.std.specs.Prelude.{◌≡◌, ◌⊎◌, ◌++◌, ◌∷◌, [], Err, map, length, option_map, string_bytes, IfOk, IfErr, OnOk};
+ghost use Rattle.std.specs.Prelude.{◌≡◌, ◌⊎◌, ◌++◌, ◌∷◌, [], Err, map, length, option_map, string_bytes, IfOk, IfErr};
+ghost use Rattle.std.specs.Prelude.{OnOk};
 ghost use Rattle.flatbuf_meta.specs.declared.fault.MetaFault.TheVariants.{OutOfMemory};
-ghost use Rattle.flatbuf_meta.specs.Columns.{Columns};
-ghost use Rattle.flatbuf_meta.specs.Views.{shape_of, entry_of, tree_of, forest_of, columns_of};
+ghost use Rattle.flatbuf_meta.specs.Fields.{SchemaTree};
+ghost use Rattle.flatbuf_meta.specs.Views.{data_type_of, entry_of, tree_of, forest_of, schema_of};
 ghost use Rattle.flatbuf_meta.specs.Shown.{ShowsEntry, ShowsEntries, ShowsForest};
-ghost use Rattle.flatbuf_meta.specs.Header.{ShowsColumns};
+ghost use Rattle.flatbuf_meta.specs.Header.{ShowsSchema};
 ghost use Rattle.flatbuf_meta.specs.Limits.{IsWithin};
 ghost use Rattle.flatbuf_meta.specs.Faults.{SchemaFault};
-ghost use Rattle.flatbuf_meta.specs.Extents.{extent_of};
-ghost use Rattle.flatbuf_meta.specs.Rows.{row_of};
-ghost use Rattle.flatbuf_meta.specs.ColumnView.{with_timezone};
-ghost use Rattle.flatbuf_meta.specs.Walking.{IsInside, PassesEntry, EntryEnd, PassesEntries, EntriesEnd, PassesColumn, ColumnEnd, PassesForest, ForestEnd};
-ghost use Rattle.flatbuf_meta.specs.Building.{column_built, BuildsColumn};
+ghost use Rattle.flatbuf_meta.specs.Totals.{totals_of};
+ghost use Rattle.flatbuf_meta.specs.VectorRefs.{vector_ref_of};
+ghost use Rattle.flatbuf_meta.specs.FieldRefView.{with_timezone};
+ghost use Rattle.flatbuf_meta.specs.Walking.{IsInside, PassesEntry, EntryEnd, PassesEntries, EntriesEnd, PassesField};
+ghost use Rattle.flatbuf_meta.specs.Walking.{FieldEnd, PassesForest, ForestEnd};
+ghost use Rattle.flatbuf_meta.specs.Building.{field_built, BuildsField};
 
-use crate::extent::Extent;
 use crate::fault::MetaFault;
 use crate::field_type::Ty;
 use crate::limits::MAX_DEPTH;
 use crate::schema::{Field, Schema};
-use crate::slots::Row;
-use crate::verify::{count_column, count_entry, element, schema_at, verify_schema};
+use crate::slots::VectorRef;
+use crate::totals::SchemaTotals;
+use crate::verify::{count_entry, count_field, element, schema_at, verify_schema};
 use std::alloc::Global;
 
 /// Appends the item.
@@ -39,13 +41,13 @@ fn build_entry(
     alloc: Global,
     buf: &[u8],
     table: usize,
-    seen: Extent,
-) -> Result<((String, String), Extent), MetaFault>
-    requires within { IsWithin (extent_of seen) }
+    seen: SchemaTotals,
+) -> Result<((String, String), SchemaTotals), MetaFault>
+    requires within { IsWithin (totals_of seen) }
     ensures read { IfOk result (λ built. ShowsEntry buf.now table (entry_of built.0)) }
-    ensures passes { IfOk result (λ built. PassesEntry buf.now table (extent_of seen) (extent_of built.1)) }
-    ensures within { IfOk result (λ built. IsWithin (extent_of built.1)) }
-    ensures ends { IfErr result (λ e. (e ≡ OutOfMemory) ⊎ EntryEnd buf.now table (extent_of seen) e) }
+    ensures passes { IfOk result (λ built. PassesEntry buf.now table (totals_of seen) (totals_of built.1)) }
+    ensures within { IfOk result (λ built. IsWithin (totals_of built.1)) }
+    ensures ends { IfErr result (λ e. (e ≡ OutOfMemory) ⊎ EntryEnd buf.now table (totals_of seen) e) }
 {
     let ((key, value), seen) = count_entry(buf, table, seen)?;
     let key = String::from_str(alloc, key)?;
@@ -54,25 +56,27 @@ fn build_entry(
 }
 
 /// The entries of metadata whose references these are, and what was read with them.
-#[tactic(auto, using(crate::proofs::Walking::no_entries))]
+#[tactic(auto, using(crate::proofs::EntryWalks::no_entries))]
 fn build_entries(
     alloc: Global,
     buf: &[u8],
-    row: Row,
-    seen: Extent,
-) -> Result<(Vec<(String, String)>, Extent), MetaFault>
-    requires inside { IsInside buf.now (row_of row) 4 }
-    requires within { IsWithin (extent_of seen) }
-    ensures read { IfOk result (λ built. ShowsEntries buf.now row.first (map entry_of built.0.items)) }
-    ensures all { IfOk result (λ built. length built.0.items ≡ row.count) }
-    ensures passes { IfOk result (λ built. PassesEntries buf.now row.first row.count (extent_of seen) (extent_of built.1)) }
-    ensures within { IfOk result (λ built. IsWithin (extent_of built.1)) }
-    ensures ends { IfErr result (λ e. (e ≡ OutOfMemory) ⊎ EntriesEnd buf.now (row_of row) (extent_of seen) e) }
+    vector: VectorRef,
+    seen: SchemaTotals,
+) -> Result<(Vec<(String, String)>, SchemaTotals), MetaFault>
+    requires inside { IsInside buf.now (vector_ref_of vector) 4 }
+    requires within { IsWithin (totals_of seen) }
+    ensures read { IfOk result (λ built. ShowsEntries buf.now vector.first (map entry_of built.0.items)) }
+    ensures all { IfOk result (λ built. length built.0.items ≡ vector.count) }
+    ensures passes { IfOk result (λ built. PassesEntries buf.now vector.first vector.count (totals_of seen)
+        (totals_of built.1)) }
+    ensures within { IfOk result (λ built. IsWithin (totals_of built.1)) }
+    ensures ends { IfErr result (λ e. (e ≡ OutOfMemory)
+        ⊎ EntriesEnd buf.now (vector_ref_of vector) (totals_of seen) e) }
 {
     let mut entries = Vec::new(alloc);
     let mut seen = seen;
-    for index in 0..row.count {
-        let (entry, more) = build_entry(alloc, buf, element(buf, row, index), seen)?;
+    for index in 0..vector.count {
+        let (entry, more) = build_entry(alloc, buf, element(buf, vector, index), seen)?;
         push(&mut entries, entry)?;
         seen = more;
     }
@@ -92,7 +96,8 @@ fn owned(alloc: Global, text: Option<&str>) -> Result<Option<String>, MetaFault>
 
 /// The type with this time zone, where it is one that has a time zone.
 fn zoned(alloc: Global, ty: Ty, timezone: Option<&str>) -> Result<Ty, MetaFault>
-    ensures same { IfOk result (λ own. shape_of own ≡ with_timezone (shape_of ty) (option_map (λ s. s.now) timezone.entry)) }
+    ensures same { IfOk result (λ own. data_type_of own ≡ with_timezone (data_type_of ty)
+        (option_map (λ s. s.now) timezone.entry)) }
     ensures fault { IfErr result (λ e. e ≡ OutOfMemory) }
 {
     match ty {
@@ -104,7 +109,7 @@ fn zoned(alloc: Global, ty: Ty, timezone: Option<&str>) -> Result<Ty, MetaFault>
     }
 }
 
-/// A column but for those inside it, to which there are references.
+/// A field but for those inside it, to which there are references.
 #[derive(Drop)]
 struct Built {
     /// Its name.
@@ -113,32 +118,34 @@ struct Built {
     nullable: bool,
     /// Its type.
     ty: Ty,
-    /// References to the columns inside it.
-    children: Row,
+    /// References to the fields inside it.
+    children: VectorRef,
     /// Its metadata.
     metadata: Vec<(String, String)>,
 }
 
-/// The column at the place, but for those inside it, and what was read with it (Schema.fbs, the table `Field`).
-#[tactic(auto, using(crate::proofs::Walking::row_inside))]
-fn build_column(
+/// The field at the place, but for those inside it, and what was read with it (Schema.fbs, the table `Field`).
+#[tactic(auto, using(crate::proofs::Walking::vector_inside))]
+fn build_field(
     alloc: Global,
     buf: &[u8],
     table: usize,
-    seen: Extent,
-) -> Result<(Built, Extent), MetaFault>
-    requires within { IsWithin (extent_of seen) }
-    ensures read { IfOk result (λ b. BuildsColumn buf.now table (column_built b.0) (map entry_of b.0.metadata.items) (row_of b.0.children)) }
-    ensures inside { IfOk result (λ b. IsInside buf.now (row_of b.0.children) 4) }
-    ensures passes { IfOk result (λ b. PassesColumn buf.now table (row_of b.0.children) (extent_of seen) (extent_of b.1)) }
-    ensures within { IfOk result (λ b. IsWithin (extent_of b.1)) }
-    ensures ends { IfErr result (λ e. (e ≡ OutOfMemory) ⊎ ColumnEnd buf.now table (extent_of seen) e) }
+    seen: SchemaTotals,
+) -> Result<(Built, SchemaTotals), MetaFault>
+    requires within { IsWithin (totals_of seen) }
+    ensures read { IfOk result (λ b. BuildsField buf.now table (field_built b.0) (map entry_of b.0.metadata.items)
+        (vector_ref_of b.0.children)) }
+    ensures inside { IfOk result (λ b. IsInside buf.now (vector_ref_of b.0.children) 4) }
+    ensures passes { IfOk result (λ b. PassesField buf.now table (vector_ref_of b.0.children) (totals_of seen)
+        (totals_of b.1)) }
+    ensures within { IfOk result (λ b. IsWithin (totals_of b.1)) }
+    ensures ends { IfErr result (λ e. (e ≡ OutOfMemory) ⊎ FieldEnd buf.now table (totals_of seen) e) }
 {
-    let (column, seen) = count_column(buf, table, seen)?;
-    let (metadata, seen) = build_entries(alloc, buf, column.metadata, seen)?;
-    let name = String::from_str(alloc, column.name)?;
-    let (nullable, children) = (column.nullable, column.children);
-    let ty = zoned(alloc, column.ty, column.timezone)?;
+    let (field, seen) = count_field(buf, table, seen)?;
+    let (metadata, seen) = build_entries(alloc, buf, field.metadata, seen)?;
+    let name = String::from_str(alloc, field.name)?;
+    let (nullable, children) = (field.nullable, field.children);
+    let ty = zoned(alloc, field.ty, field.timezone)?;
     let built = Built {
         name,
         nullable,
@@ -149,32 +156,35 @@ fn build_column(
     Ok((built, seen))
 }
 
-/// The columns whose references these are, no deeper than so many levels, and what was read with them and those inside them.
-#[tactic(auto, using(crate::proofs::Walking::no_columns, crate::proofs::Walking::too_deep))]
-fn build_columns(
+/// The fields whose references these are, no deeper than so many levels, and what was read with them and those inside
+/// them.
+#[tactic(auto, using(crate::proofs::Walking::no_fields, crate::proofs::Walking::too_deep))]
+fn build_fields(
     alloc: Global,
     buf: &[u8],
-    row: Row,
+    vector: VectorRef,
     levels: usize,
-    seen: Extent,
-) -> Result<(Vec<Field>, Extent), MetaFault>
-    requires inside { IsInside buf.now (row_of row) 4 }
-    requires within { IsWithin (extent_of seen) }
-    ensures read { IfOk result (λ built. ShowsForest buf.now row.first (forest_of (map tree_of built.0.items))) }
-    ensures all { IfOk result (λ built. length built.0.items ≡ row.count) }
-    ensures passes { IfOk result (λ built. PassesForest buf.now row.first row.count levels (extent_of seen) (extent_of built.1)) }
-    ensures within { IfOk result (λ built. IsWithin (extent_of built.1)) }
-    ensures ends { IfErr result (λ e. (e ≡ OutOfMemory) ⊎ ForestEnd buf.now levels (row_of row) (extent_of seen) e) }
+    seen: SchemaTotals,
+) -> Result<(Vec<Field>, SchemaTotals), MetaFault>
+    requires inside { IsInside buf.now (vector_ref_of vector) 4 }
+    requires within { IsWithin (totals_of seen) }
+    ensures read { IfOk result (λ built. ShowsForest buf.now vector.first (forest_of (map tree_of built.0.items))) }
+    ensures all { IfOk result (λ built. length built.0.items ≡ vector.count) }
+    ensures passes { IfOk result (λ built. PassesForest buf.now vector.first vector.count levels (totals_of seen)
+        (totals_of built.1)) }
+    ensures within { IfOk result (λ built. IsWithin (totals_of built.1)) }
+    ensures ends { IfErr result (λ e. (e ≡ OutOfMemory)
+        ⊎ ForestEnd buf.now levels (vector_ref_of vector) (totals_of seen) e) }
 {
     let mut fields = Vec::new(alloc);
     let mut seen = seen;
-    for index in 0..row.count {
-        let table = element(buf, row, index);
+    for index in 0..vector.count {
+        let table = element(buf, vector, index);
         if levels == 0 {
             return Err(MetaFault::TooDeep);
         }
-        let (built, after) = build_column(alloc, buf, table, seen)?;
-        let (children, more) = build_columns(alloc, buf, built.children, levels - 1, after)?;
+        let (built, after) = build_field(alloc, buf, table, seen)?;
+        let (children, more) = build_fields(alloc, buf, built.children, levels - 1, after)?;
         let field = Field {
             name: built.name,
             nullable: built.nullable,
@@ -190,21 +200,21 @@ fn build_columns(
 
 /// The schema at the place, read and counted in one pass.
 fn build_schema(alloc: Global, buf: &[u8], table: usize) -> Result<Schema, MetaFault>
-    ensures read { IfOk result (λ schema. ShowsColumns buf.now table (columns_of schema)) }
+    ensures read { IfOk result (λ schema. ShowsSchema buf.now table (schema_of schema)) }
     ensures fault { IfErr result (λ e. (e ≡ OutOfMemory) ⊎ SchemaFault buf.now table e) }
 {
     let parts = schema_at(buf, table)?;
-    let (fields, seen) = build_columns(alloc, buf, parts.fields, MAX_DEPTH, Extent::NOTHING)?;
+    let (fields, seen) = build_fields(alloc, buf, parts.fields, MAX_DEPTH, SchemaTotals::NOTHING)?;
     let (metadata, _all) = build_entries(alloc, buf, parts.metadata, seen)?;
     Ok(Schema { fields, metadata })
 }
 
-/// The schema whose table this is (Schema.fbs, the table `Schema`). Where memory was refused, the text is looked at once more,
-/// without memory: that it shows a schema has to be known.
+/// The schema whose table this is (Schema.fbs, the table `Schema`). Where memory was refused, the text is looked at
+/// once more, without memory: that it shows a schema has to be known.
 pub(crate) fn read_schema(alloc: Global, buf: &[u8], table: usize) -> Result<Schema, MetaFault>
-    ensures read { IfOk result (λ schema. ShowsColumns buf.now table (columns_of schema)) }
+    ensures read { IfOk result (λ schema. ShowsSchema buf.now table (schema_of schema)) }
     ensures fault { IfErr result (λ e. (e ≡ OutOfMemory) ⊎ SchemaFault buf.now table e) }
-    ensures memory { result ≡ Err OutOfMemory → (columns : Columns) × ShowsColumns buf.now table columns }
+    ensures memory { result ≡ Err OutOfMemory → (schema : SchemaTree) × ShowsSchema buf.now table schema }
 {
     match build_schema(alloc, buf, table) {
         Err(MetaFault::OutOfMemory) => {

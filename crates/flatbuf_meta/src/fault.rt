@@ -20,22 +20,22 @@ pub enum MetaFault {
     /// The schema is not little-endian.
     #[error("Endianness")]
     Endianness,
-    /// A column has a type of this number, which is not carried, or is a decimal of another width.
+    /// A field has a type of this number, which is not carried, or is a decimal of another width.
     #[error("Unsupported({0})")]
     Unsupported(u8),
-    /// The message is a dictionary, or a column refers to one.
+    /// The message is a dictionary, or a field refers to one.
     #[error("Dictionary")]
     Dictionary,
-    /// A column stands inside 16 others.
+    /// A field stands inside 16 others.
     #[error("TooDeep")]
     TooDeep,
-    /// There are more than 512 columns, 4,096 entries of metadata, or 1,048,576 bytes of texts.
+    /// There are more than 512 fields, 4,096 entries of metadata, or 1,048,576 bytes of texts.
     #[error("TooManyFields")]
     TooManyFields,
     /// A text is not UTF-8.
     #[error("NotUtf8")]
     NotUtf8,
-    /// There is no header, or one of a type that is not carried; a vtable's own size is below 4; a column's parameter is
+    /// There is no header, or one of a type that is not carried; a vtable's own size is below 4; a field's parameter is
     /// none of its type's; or its type has another number of children.
     #[error("BadHeader")]
     BadHeader,

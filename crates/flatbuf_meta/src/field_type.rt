@@ -1,4 +1,4 @@
-//! The types of columns (Apache Arrow, "Schema.fbs", the union `Type`).
+//! The types of fields (Apache Arrow, "Schema.fbs", the union `Type`).
 
 /// How many bits an integer has.
 #[derive(Clone, Copy, Debug, PartialEq, Eq)]
@@ -55,7 +55,7 @@ pub enum TimeUnit {
     Nanosecond,
 }
 
-/// The type of a column, with its parameters by the names of Schema.fbs.
+/// The type of a field, with its parameters by the names of Schema.fbs.
 #[derive(Clone, Debug, PartialEq, Eq, Drop)]
 pub enum Ty {
     /// No value at all.
@@ -92,8 +92,8 @@ pub enum Ty {
         /// What is counted.
         unit: DateUnit,
     },
-    /// A time of the day, in four bytes for seconds and milliseconds and in eight for the other units: Schema.fbs allows no
-    /// other `bitWidth` beside each unit.
+    /// A time of the day, in four bytes for seconds and milliseconds and in eight for the other units: Schema.fbs
+    /// allows no other `bitWidth` beside each unit.
     Time {
         /// What is counted since midnight.
         unit: TimeUnit,

@@ -17,9 +17,9 @@ pub enum Header {
 pub struct BatchHead {
     /// How many rows there are.
     pub length: i64,
-    /// Of each column, depth first, a parent before its children: its length and how many of its values are null.
+    /// Of each field, depth first, a parent before its children: its length and how many of its values are null.
     pub nodes: Vec<(i64, i64)>,
-    /// Of each buffer, in the order of the columns: where in the body it begins and how many bytes it has.
+    /// Of each buffer, in the order of the fields: where in the body it begins and how many bytes it has.
     pub buffers: Vec<(i64, i64)>,
     /// Whether the message says that the buffers are compressed.
     pub compressed: bool,

@@ -2,10 +2,11 @@
 
 ghost use Rattle.std.specs.Prelude.{◌≡◌, ℕ, List};
 ghost use Rattle.flatbuf_meta.specs.declared.fault.MetaFault.{MetaFault};
-ghost use Rattle.flatbuf_meta.specs.Columns.{Columns};
+ghost use Rattle.flatbuf_meta.specs.Fields.{SchemaTree};
 ghost use Rattle.flatbuf_meta.specs.Header.{Header, schema_header, ShowsHeader};
 ghost use Rattle.flatbuf_meta.specs.Canonical.{header_text};
-ghost use Rattle.flatbuf_meta.specs.Limits.{depth_limit, fields_limit, entries_limit, bytes_limit, nodes_limit, buffers_limit};
+ghost use Rattle.flatbuf_meta.specs.Limits.{depth_limit, fields_limit, entries_limit, bytes_limit, nodes_limit};
+ghost use Rattle.flatbuf_meta.specs.Limits.{buffers_limit};
 ghost use Rattle.flatbuf_meta.specs.Profile.{InProfile};
 ghost use Rattle.flatbuf_meta.specs.Writable.{IsWritable};
 ghost use Rattle.flatbuf_meta.specs.Faults.{HeaderFault};
@@ -24,7 +25,7 @@ pub fn faults_stand_apart()
 
 /// A schema that a text shows is in profile ([`crate::Schema::in_profile`]), so that it can be written.
 pub fn shown_schemas_are_in_profile()
-    ensures { (text : List ℕ) (columns : Columns) → ShowsHeader text (schema_header columns) → InProfile columns }
+    ensures { (text : List ℕ) (schema : SchemaTree) → ShowsHeader text (schema_header schema) → InProfile schema }
 {}
 
 /// The text that is written of a header shows it.
@@ -37,8 +38,8 @@ pub fn written_headers_differ()
     ensures { (x y : Header) → IsWritable x → IsWritable y → header_text x ≡ header_text y → x ≡ y }
 {}
 
-/// The limits of the program are those of the definitions, and these numbers: levels, columns, entries of metadata and bytes of
-/// texts of a schema, and nodes and buffers of a batch that is written.
+/// The limits of the program are those of the definitions, and these numbers: levels, fields, entries of metadata and
+/// bytes of texts of a schema, and nodes and buffers of a batch that is written.
 pub fn limits_are_these()
     ensures depth { (depth_limit ≡ 16) × (MAX_DEPTH ≡ depth_limit) }
     ensures fields { (fields_limit ≡ 512) × (MAX_FIELDS ≡ fields_limit) }

@@ -1,6 +1,6 @@
-//! Objects written one behind the other (FlatBuffers, "FlatBuffer Internals"). A place is how many bytes stand before it. A
-//! reference is left blank until the object that it names is begun. Where memory is refused, a beginning of what was to be
-//! written may stay.
+//! Objects written one behind the other (FlatBuffers, "FlatBuffer Internals"). A place is how many bytes stand before
+//! it. A reference is left blank until the object that it names is begun. Where memory is refused, a beginning of what
+//! was to be written may stay.
 
 ghost use Rattle.std.specs.Prelude.{◌≡◌, ◌≤◌, ◌+◌, ◌*◌, ◌++◌, ◌⊎◌, [], ◌∷◌, length, OnOk, IfOk};
 ghost use Rattle.std.specs.List.{AllByRecursion};
@@ -9,7 +9,7 @@ ghost use Rattle.std.specs.Int.RustNames.{FitsSigned};
 ghost use Rattle.byteorder.specs.Endian.{little_bytes};
 ghost use Rattle.flatbuf_meta.specs.Objects.{zeros, padding, table_lead, shorts, string_object};
 ghost use Rattle.flatbuf_meta.specs.Canonical.{int64_number, pairs_text, pairs_object};
-ghost use Rattle.flatbuf_meta.specs.Filling.{referring, linked, table_begun, references_begun};
+ghost use Rattle.flatbuf_meta.specs.Filling.{referring, with_object, table_begun, references_begun};
 ghost use Rattle.flatbuf_meta.specs.Written.{cell_bytes, cells_bytes, FitsPair};
 
 use std::alloc::AllocError;
@@ -63,7 +63,7 @@ pub(crate) fn refer(text: &mut Vec<u8>, from: usize)
 /// Appends a string, to which the reference at `from` is set.
 pub(crate) fn put_string(text: &mut Vec<u8>, from: usize, string: &str) -> Result<(), AllocError>
     requires within { from + 4 ≤ length text.old.items }
-    ensures put { OnOk result (text.new.items ≡ linked text.old.items from (string_object string.now)) }
+    ensures put { OnOk result (text.new.items ≡ with_object text.old.items from (string_object string.now)) }
 {
     pad(text, 0, 4)?;
     refer(text, from);
@@ -109,7 +109,7 @@ pub(crate) fn put_pairs(
     pairs: &[(i64, i64)],
 ) -> Result<(), AllocError>
     requires within { from + 4 ≤ length text.old.items }
-    ensures put { OnOk result (text.new.items ≡ linked text.old.items from (pairs_object pairs.now)) }
+    ensures put { OnOk result (text.new.items ≡ with_object text.old.items from (pairs_object pairs.now)) }
     ensures fit { OnOk result (AllByRecursion FitsPair pairs.now) }
 {
     pad(text, 4, 8)?;
@@ -151,9 +151,9 @@ fn put_cells(text: &mut Vec<u8>, cells: &[Cell]) -> Result<(), AllocError>
     Ok(())
 }
 
-/// Appends a table behind its vtable, whose numbers are given: its size, the table's size, and where each field stands in the
-/// table. The reference at `from` is set to it. The cells follow the table's own first four bytes, and the first of them stands
-/// where the result says.
+/// Appends a table behind its vtable, whose numbers are given: its size, the table's size, and where each field stands
+/// in the table. The reference at `from` is set to it. The cells follow the table's own first four bytes, and the first
+/// of them stands where the result says.
 pub(crate) fn put_table(
     text: &mut Vec<u8>,
     from: usize,
@@ -187,8 +187,8 @@ fn put_blank(text: &mut Vec<u8>, count: usize) -> Result<(), AllocError>
     Ok(())
 }
 
-/// Appends a vector of so many references that are not set yet, to which the reference at `from` is set. The first of them stands
-/// where the result says.
+/// Appends a vector of so many references that are not set yet, to which the reference at `from` is set. The first of
+/// them stands where the result says.
 pub(crate) fn put_references(
     text: &mut Vec<u8>,
     from: usize,

@@ -1,28 +1,29 @@
 //! Whether a schema can be written and read back; without memory.
 
 ghost use Rattle.std.specs.Prelude.{◌≡◌, ◌↔◌, ◌∷◌, [], map, length, IsTrue, IsNone, IfSome};
-ghost use Rattle.flatbuf_meta.specs.Views.{shape_of, entry_of, tree_of, forest_of, columns_of};
-ghost use Rattle.flatbuf_meta.specs.Limits.{entries_extent, shape_bytes, add_extents, tree_extent, IsWithin, IsBeyond};
-ghost use Rattle.flatbuf_meta.specs.Extents.{extent_of};
+ghost use Rattle.flatbuf_meta.specs.Views.{data_type_of, entry_of, tree_of, forest_of, schema_of};
+ghost use Rattle.flatbuf_meta.specs.Limits.{entries_totals, data_type_bytes, add_totals, tree_totals, IsWithin};
+ghost use Rattle.flatbuf_meta.specs.Limits.{IsBeyond};
+ghost use Rattle.flatbuf_meta.specs.Totals.{totals_of};
 ghost use Rattle.flatbuf_meta.specs.Walking.{Adds};
 ghost use Rattle.flatbuf_meta.specs.Profile.{IsSized, InProfile};
-ghost use Rattle.flatbuf_meta.specs.ShapeView.{own_tree};
+ghost use Rattle.flatbuf_meta.specs.FieldView.{own_tree};
 ghost use Rattle.flatbuf_meta.specs.Fitting.{IsProper, FitsForest, ForestIsRefused};
 
-use crate::column::allows_children;
-use crate::extent::Extent;
+use crate::field::allows_children;
 use crate::field_type::Ty;
 use crate::limits::MAX_DEPTH;
 use crate::schema::{Field, Schema};
+use crate::totals::SchemaTotals;
 
 impl Schema {
-    /// Whether the schema can be written and read back: it is no deeper than 16 levels, says no more than a schema may, each
-    /// column has as many others inside it as its type allows, and no size is negative (Apache Arrow, "Schema.fbs", the tables
-    /// `Schema`, `Field`, `FixedSizeBinary` and `FixedSizeList`).
+    /// Whether the schema can be written and read back: it is no deeper than 16 levels, says no more than a schema may,
+    /// each field has as many others inside it as its type allows, and no size is negative (Apache Arrow, "Schema.fbs",
+    /// the tables `Schema`, `Field`, `FixedSizeBinary` and `FixedSizeList`).
     pub fn in_profile(&self) -> bool
-        ensures { IsTrue result ↔ InProfile (columns_of self.now) }
+        ensures { IsTrue result ↔ InProfile (schema_of self.now) }
     {
-        match add_columns(&self.fields, MAX_DEPTH, Extent::NOTHING) {
+        match add_fields(&self.fields, MAX_DEPTH, SchemaTotals::NOTHING) {
             Some(seen) => add_entries(&self.metadata, seen).is_some(),
             None => false,
         }
@@ -31,7 +32,7 @@ impl Schema {
 
 /// The type's size, where it has one, is not negative (Schema.fbs, the tables `FixedSizeBinary` and `FixedSizeList`).
 fn is_sized(ty: &Ty) -> bool
-    ensures { IsTrue result ↔ IsSized (shape_of ty.now) }
+    ensures { IsTrue result ↔ IsSized (data_type_of ty.now) }
 {
     match ty {
         Ty::FixedSizeBinary { byte_width: size } | Ty::FixedSizeList { list_size: size } => {
@@ -53,16 +54,16 @@ fn is_sized(ty: &Ty) -> bool
     }
 }
 
-/// A column of this type may have so many others inside it, and its size, where it has one, is not negative.
+/// A field of this type may have so many others inside it, and its size, where it has one, is not negative.
 fn is_proper(ty: &Ty, count: usize) -> bool
-    ensures { IsTrue result ↔ IsProper (shape_of ty.now) count }
+    ensures { IsTrue result ↔ IsProper (data_type_of ty.now) count }
 {
     allows_children(ty, count) && is_sized(ty)
 }
 
 /// The time zone of a type, empty where it has none.
 fn timezone_of(ty: &Ty) -> &str
-    ensures { length result.now ≡ shape_bytes (shape_of ty.now) }
+    ensures { length result.now ≡ data_type_bytes (data_type_of ty.now) }
 {
     match ty {
         Ty::Timestamp {
@@ -88,11 +89,12 @@ fn timezone_of(ty: &Ty) -> &str
 }
 
 /// With one entry of metadata more, where that is not too much.
-fn add_entry(entry: &(String, String), seen: Extent) -> Option<Extent>
-    requires within { IsWithin (extent_of seen) }
-    ensures added { IfSome result (λ new. Adds (extent_of seen) (entries_extent (entry_of entry.now ∷ [])) (extent_of new)) }
-    ensures within { IfSome result (λ new. IsWithin (extent_of new)) }
-    ensures beyond { IsNone result → IsBeyond (add_extents (extent_of seen) (entries_extent (entry_of entry.now ∷ []))) }
+fn add_entry(entry: &(String, String), seen: SchemaTotals) -> Option<SchemaTotals>
+    requires within { IsWithin (totals_of seen) }
+    ensures added { IfSome result (λ new. Adds (totals_of seen) (entries_totals (entry_of entry.now ∷ []))
+        (totals_of new)) }
+    ensures within { IfSome result (λ new. IsWithin (totals_of new)) }
+    ensures beyond { IsNone result → IsBeyond (add_totals (totals_of seen) (entries_totals (entry_of entry.now ∷ []))) }
 {
     let seen = seen.add_entry().ok()?;
     let seen = seen.add_text(&entry.0).ok()?;
@@ -100,11 +102,13 @@ fn add_entry(entry: &(String, String), seen: Extent) -> Option<Extent>
 }
 
 /// With these entries of metadata more, where that is not too much.
-fn add_entries(entries: &[(String, String)], seen: Extent) -> Option<Extent>
-    requires within { IsWithin (extent_of seen) }
-    ensures added { IfSome result (λ new. Adds (extent_of seen) (entries_extent (map entry_of entries.now)) (extent_of new)) }
-    ensures within { IfSome result (λ new. IsWithin (extent_of new)) }
-    ensures beyond { IsNone result → IsBeyond (add_extents (extent_of seen) (entries_extent (map entry_of entries.now))) }
+fn add_entries(entries: &[(String, String)], seen: SchemaTotals) -> Option<SchemaTotals>
+    requires within { IsWithin (totals_of seen) }
+    ensures added { IfSome result (λ new. Adds (totals_of seen) (entries_totals (map entry_of entries.now))
+        (totals_of new)) }
+    ensures within { IfSome result (λ new. IsWithin (totals_of new)) }
+    ensures beyond { IsNone result → IsBeyond
+        (add_totals (totals_of seen) (entries_totals (map entry_of entries.now))) }
 {
     let mut seen = seen;
     for entry in entries {
@@ -113,12 +117,12 @@ fn add_entries(entries: &[(String, String)], seen: Extent) -> Option<Extent>
     Some(seen)
 }
 
-/// With the column's own texts and metadata more, where that is not too much.
-fn add_column(field: &Field, seen: Extent) -> Option<Extent>
-    requires within { IsWithin (extent_of seen) }
-    ensures added { IfSome result (λ new. Adds (extent_of seen) (tree_extent (own_tree field.now)) (extent_of new)) }
-    ensures within { IfSome result (λ new. IsWithin (extent_of new)) }
-    ensures beyond { IsNone result → IsBeyond (add_extents (extent_of seen) (tree_extent (own_tree field.now))) }
+/// With the field's own texts and metadata more, where that is not too much.
+fn add_own(field: &Field, seen: SchemaTotals) -> Option<SchemaTotals>
+    requires within { IsWithin (totals_of seen) }
+    ensures added { IfSome result (λ new. Adds (totals_of seen) (tree_totals (own_tree field.now)) (totals_of new)) }
+    ensures within { IfSome result (λ new. IsWithin (totals_of new)) }
+    ensures beyond { IsNone result → IsBeyond (add_totals (totals_of seen) (tree_totals (own_tree field.now))) }
 {
     let seen = seen.add_field().ok()?;
     let seen = seen.add_text(&field.name).ok()?;
@@ -126,12 +130,13 @@ fn add_column(field: &Field, seen: Extent) -> Option<Extent>
     add_entries(&field.metadata, seen)
 }
 
-/// With these columns and those inside them more, where that is not too much, they are no deeper than so many levels, and each
-/// is well formed.
-fn add_columns(fields: &[Field], levels: usize, seen: Extent) -> Option<Extent>
-    requires within { IsWithin (extent_of seen) }
-    ensures fits { IfSome result (λ new. FitsForest levels (extent_of seen) (extent_of new) (forest_of (map tree_of fields.now))) }
-    ensures refused { IsNone result → ForestIsRefused levels (extent_of seen) (forest_of (map tree_of fields.now)) }
+/// With these fields and those inside them more, where that is not too much, they are no deeper than so many levels,
+/// and each is well formed.
+fn add_fields(fields: &[Field], levels: usize, seen: SchemaTotals) -> Option<SchemaTotals>
+    requires within { IsWithin (totals_of seen) }
+    ensures fits { IfSome result (λ new. FitsForest levels (totals_of seen) (totals_of new)
+        (forest_of (map tree_of fields.now))) }
+    ensures refused { IsNone result → ForestIsRefused levels (totals_of seen) (forest_of (map tree_of fields.now)) }
 {
     let mut seen = seen;
     for field in fields {
@@ -139,8 +144,8 @@ fn add_columns(fields: &[Field], levels: usize, seen: Extent) -> Option<Extent>
         if levels == 0 || !is_proper(&field.ty, children.len()) {
             return None;
         }
-        let after = add_column(field, seen)?;
-        seen = add_columns(children, levels - 1, after)?;
+        let after = add_own(field, seen)?;
+        seen = add_fields(children, levels - 1, after)?;
     }
     Some(seen)
 }

@@ -2,7 +2,7 @@
 
 use crate::field_type::Ty;
 
-/// A column, or one inside another column.
+/// A field, or one inside another field.
 #[derive(Clone, Debug, PartialEq, Eq, Drop)]
 pub struct Field {
     /// Its name, which may be empty.
@@ -11,16 +11,16 @@ pub struct Field {
     pub nullable: bool,
     /// Its type (`type` in Schema.fbs, a word of the language here).
     pub ty: Ty,
-    /// The columns inside it: one for lists, any number for a struct, none for other types.
+    /// The fields inside it: one for lists, any number for a struct, none for other types.
     pub children: Vec<Field>,
     /// What its producer says of it, as keys and values (`custom_metadata` in Schema.fbs).
     pub metadata: Vec<(String, String)>,
 }
 
-/// The columns of a table.
+/// The fields of a table.
 #[derive(Clone, Debug, PartialEq, Eq, Drop)]
 pub struct Schema {
-    /// The top columns, in order.
+    /// The top fields, in order.
     pub fields: Vec<Field>,
     /// What its producer says of it, as keys and values (`custom_metadata` in Schema.fbs).
     pub metadata: Vec<(String, String)>,

@@ -5,15 +5,17 @@ ghost use Rattle.std.specs.Option.{option_map};
 ghost use Rattle.flat_places.specs.Number.{IsNumberSize};
 ghost use Rattle.flat_places.specs.Table.{ShowsField};
 ghost use Rattle.flat_places.specs.Fault.{TableFault};
-ghost use Rattle.flatbuf_meta.specs.Slots.{ShowsNumber, ShowsLink, ShowsString, ShowsRow, FieldSlotFault, SlotNumberFault, LinkFault, StringFault, RowFault, Told};
-ghost use Rattle.flatbuf_meta.specs.Rows.{row_of};
+ghost use Rattle.flatbuf_meta.specs.Slots.{ShowsNumber, ShowsReferenceField, ShowsString, ShowsVectorRef};
+ghost use Rattle.flatbuf_meta.specs.Slots.{FieldSlotFault, SlotNumberFault, ReferenceFault, StringFault};
+ghost use Rattle.flatbuf_meta.specs.Slots.{VectorRefFault, FromPlaceFault};
+ghost use Rattle.flatbuf_meta.specs.VectorRefs.{vector_ref_of};
 
 use crate::fault::MetaFault;
 use flat_places::{Table, follow, text, uint, vector};
 
 /// The elements of a vector.
 #[derive(Clone, Copy)]
-pub(crate) struct Row {
+pub(crate) struct VectorRef {
     /// Where the first one stands.
     pub(crate) first: usize,
     /// How many there are.
@@ -23,7 +25,7 @@ pub(crate) struct Row {
 /// The table at a place (FlatBuffers, "FlatBuffer Internals", "Tables").
 pub(crate) fn table_at(buf: &[u8], place: usize) -> Result<Table<'_>, MetaFault>
     ensures seen { IfOk result (λ table. table ≡ record { buf = buf.now; place = place }) }
-    ensures fault { IfErr result (Told (TableFault buf.now place)) }
+    ensures fault { IfErr result (FromPlaceFault (TableFault buf.now place)) }
 {
     Ok(Table::at(buf, place)?)
 }
@@ -31,7 +33,7 @@ pub(crate) fn table_at(buf: &[u8], place: usize) -> Result<Table<'_>, MetaFault>
 /// The table at a place of the buffer that a table stands in.
 pub(crate) fn table_beside<'a>(table: &Table<'a>, place: usize) -> Result<Table<'a>, MetaFault>
     ensures seen { IfOk result (λ other. other ≡ record { buf = table.now.buf; place = place }) }
-    ensures fault { IfErr result (Told (TableFault table.now.buf place)) }
+    ensures fault { IfErr result (FromPlaceFault (TableFault table.now.buf place)) }
 {
     table_at(table.buf(), place)
 }
@@ -64,9 +66,9 @@ pub(crate) fn number(
 
 /// The place that field `n` of the table refers to, and `None` where it is absent (FlatBuffers, "FlatBuffer Internals",
 /// "Offsets").
-pub(crate) fn link(table: &Table<'_>, n: usize) -> Result<Option<usize>, MetaFault>
-    ensures read { IfOk result (ShowsLink table.now.buf table.now.place n) }
-    ensures fault { IfErr result (LinkFault table.now.buf table.now.place n) }
+pub(crate) fn reference(table: &Table<'_>, n: usize) -> Result<Option<usize>, MetaFault>
+    ensures read { IfOk result (ShowsReferenceField table.now.buf table.now.place n) }
+    ensures fault { IfErr result (ReferenceFault table.now.buf table.now.place n) }
 {
     match slot_at(table, n)? {
         Some(place) => Ok(Some(follow(table.buf(), place)?)),
@@ -74,13 +76,14 @@ pub(crate) fn link(table: &Table<'_>, n: usize) -> Result<Option<usize>, MetaFau
     }
 }
 
-/// The string that field `n` of the table refers to, and `None` where it is absent (FlatBuffers, "FlatBuffer Internals",
-/// "Strings and Vectors").
+/// The string that field `n` of the table refers to, and `None` where it is absent (FlatBuffers, "FlatBuffer
+/// Internals", "Strings and Vectors").
 pub(crate) fn string<'a>(table: &Table<'a>, n: usize) -> Result<Option<&'a str>, MetaFault>
-    ensures read { IfOk result (λ shown. ShowsString table.now.buf table.now.place n (option_map (λ bytes. bytes.now) shown)) }
+    ensures read { IfOk result (λ shown. ShowsString table.now.buf table.now.place n
+        (option_map (λ bytes. bytes.now) shown)) }
     ensures fault { IfErr result (StringFault table.now.buf table.now.place n) }
 {
-    match link(table, n)? {
+    match reference(table, n)? {
         Some(target) => Ok(Some(text(table.buf(), target)?)),
         None => Ok(None),
     }
@@ -88,15 +91,15 @@ pub(crate) fn string<'a>(table: &Table<'a>, n: usize) -> Result<Option<&'a str>,
 
 /// The vector that field `n` of the table refers to, whose elements have `size` bytes each, and no elements where it is
 /// absent (FlatBuffers, "FlatBuffer Internals", "Strings and Vectors").
-pub(crate) fn row_at(table: &Table<'_>, n: usize, size: usize) -> Result<Row, MetaFault>
-    ensures read { IfOk result (λ shown. ShowsRow table.now.buf table.now.place n size (row_of shown)) }
-    ensures fault { IfErr result (RowFault table.now.buf table.now.place n size) }
+pub(crate) fn vector_at(table: &Table<'_>, n: usize, size: usize) -> Result<VectorRef, MetaFault>
+    ensures read { IfOk result (λ shown. ShowsVectorRef table.now.buf table.now.place n size (vector_ref_of shown)) }
+    ensures fault { IfErr result (VectorRefFault table.now.buf table.now.place n size) }
 {
-    match link(table, n)? {
+    match reference(table, n)? {
         Some(target) => {
             let (first, count) = vector(table.buf(), target, size)?;
-            Ok(Row { first, count })
+            Ok(VectorRef { first, count })
         }
-        None => Ok(Row { first: 0, count: 0 }),
+        None => Ok(VectorRef { first: 0, count: 0 }),
     }
 }

@@ -1,24 +1,26 @@
-//! The tables of types, written (Apache Arrow, "Schema.fbs", the union `Type`). The numbers of a vtable are its size, its table's
-//! size, and where each field stands in the table, 0 for an absent one.
+//! The tables of types, written (Apache Arrow, "Schema.fbs", the union `Type`). The numbers of a vtable are its size,
+//! its table's size, and where each field stands in the table, 0 for an absent one.
 
 ghost use Rattle.std.specs.Prelude.{◌≡◌, ◌≤◌, ◌+◌, length, OnOk, string_bytes};
 ghost use Rattle.std.specs.Option.{option_map};
 ghost use Rattle.std.specs.Int.{w32};
 ghost use Rattle.std.specs.Int.RustNames.{FitsSigned};
-ghost use Rattle.flatbuf_meta.specs.Columns.{int_shape, decimal_shape, time_shape, timestamp_shape};
-ghost use Rattle.flatbuf_meta.specs.Kinds.{time_bits};
-ghost use Rattle.flatbuf_meta.specs.Canonical.{bits_of, precision_number, decimal_bits, date_unit_number, time_unit_number, kind_of, int32_number, empty_table, short_table, word_table, timestamp_table, type_object};
-ghost use Rattle.flatbuf_meta.specs.Filling.{linked};
-ghost use Rattle.flatbuf_meta.specs.Views.{shape_of};
-ghost use Rattle.flatbuf_meta.specs.Written.{FitsShape};
+ghost use Rattle.flatbuf_meta.specs.Fields.{int_type, decimal_type, time_type, timestamp_type};
+ghost use Rattle.flatbuf_meta.specs.TypeIds.{time_bits};
+ghost use Rattle.flatbuf_meta.specs.Canonical.{bits_of, precision_number, decimal_bits, date_unit_number};
+ghost use Rattle.flatbuf_meta.specs.Canonical.{time_unit_number, type_id_of, int32_number, empty_table, short_table};
+ghost use Rattle.flatbuf_meta.specs.Canonical.{word_table, timestamp_table, type_object};
+ghost use Rattle.flatbuf_meta.specs.Filling.{with_object};
+ghost use Rattle.flatbuf_meta.specs.Views.{data_type_of};
+ghost use Rattle.flatbuf_meta.specs.Written.{FitsDataType};
 
 use crate::field_type::{BitWidth, DateUnit, DecimalWidth, Precision, TimeUnit, Ty};
 use crate::layout::{Cell, REFERENCE, put_string, put_table};
 use std::alloc::AllocError;
 
 /// The number of the type in the union `Type`.
-pub(crate) fn kind_number(ty: &Ty) -> u8
-    ensures { result ≡ kind_of (shape_of ty.now) }
+pub(crate) fn type_id(ty: &Ty) -> u8
+    ensures { result ≡ type_id_of (data_type_of ty.now) }
 {
     match ty {
         Ty::Null => 1,
@@ -107,7 +109,7 @@ fn time_width(unit: TimeUnit) -> u32
 /// Writes the table of a type without parameters.
 fn put_empty(text: &mut Vec<u8>, from: usize) -> Result<(), AllocError>
     requires within { from + 4 ≤ length text.old.items }
-    ensures put { OnOk result (text.new.items ≡ linked text.old.items from empty_table) }
+    ensures put { OnOk result (text.new.items ≡ with_object text.old.items from empty_table) }
 {
     put_table(text, from, &[4, 4], &[])?;
     Ok(())
@@ -116,7 +118,7 @@ fn put_empty(text: &mut Vec<u8>, from: usize) -> Result<(), AllocError>
 /// Writes the table of a type whose one parameter has two bytes.
 fn put_short(text: &mut Vec<u8>, from: usize, number: u16) -> Result<(), AllocError>
     requires within { from + 4 ≤ length text.old.items }
-    ensures put { OnOk result (text.new.items ≡ linked text.old.items from (short_table number)) }
+    ensures put { OnOk result (text.new.items ≡ with_object text.old.items from (short_table number)) }
 {
     put_table(
         text,
@@ -130,7 +132,7 @@ fn put_short(text: &mut Vec<u8>, from: usize, number: u16) -> Result<(), AllocEr
 /// Writes the table of a type whose one parameter has four bytes, a number of two's complement.
 fn put_int(text: &mut Vec<u8>, from: usize, number: i32) -> Result<(), AllocError>
     requires within { from + 4 ≤ length text.old.items }
-    ensures put { OnOk result (text.new.items ≡ linked text.old.items from (word_table (int32_number number))) }
+    ensures put { OnOk result (text.new.items ≡ with_object text.old.items from (word_table (int32_number number))) }
     ensures fits { FitsSigned w32 number }
 {
     put_table(
@@ -150,7 +152,8 @@ fn put_integer(
     is_signed: bool,
 ) -> Result<(), AllocError>
     requires within { from + 4 ≤ length text.old.items }
-    ensures put { OnOk result (text.new.items ≡ linked text.old.items from (type_object (int_shape width is_signed))) }
+    ensures put { OnOk result (text.new.items ≡ with_object text.old.items from
+        (type_object (int_type width is_signed))) }
 {
     let cells = [
         Cell::Word(bits_number(width)),
@@ -171,8 +174,9 @@ fn put_decimal(
     width: DecimalWidth,
 ) -> Result<(), AllocError>
     requires within { from + 4 ≤ length text.old.items }
-    ensures put { OnOk result (text.new.items ≡ linked text.old.items from (type_object (decimal_shape precision scale width))) }
-    ensures fits { FitsShape (decimal_shape precision scale width) }
+    ensures put { OnOk result (text.new.items ≡ with_object text.old.items from
+        (type_object (decimal_type precision scale width))) }
+    ensures fits { FitsDataType (decimal_type precision scale width) }
 {
     let cells = [
         Cell::Word(precision.cast_unsigned()),
@@ -186,7 +190,7 @@ fn put_decimal(
 /// Writes the table `Time`.
 fn put_time(text: &mut Vec<u8>, from: usize, unit: TimeUnit) -> Result<(), AllocError>
     requires within { from + 4 ≤ length text.old.items }
-    ensures put { OnOk result (text.new.items ≡ linked text.old.items from (type_object (time_shape unit))) }
+    ensures put { OnOk result (text.new.items ≡ with_object text.old.items from (type_object (time_type unit))) }
 {
     let cells = [
         Cell::Short(number_of_time_unit(unit)),
@@ -206,8 +210,8 @@ fn put_timestamp(
 ) -> Result<(), AllocError>
     requires within { from + 4 ≤ length text.old.items }
     ensures put { OnOk result (text.new.items
-        ≡ linked text.old.items from (timestamp_table unit (option_map string_bytes timezone.now))) }
-    ensures fits { OnOk result (FitsShape (timestamp_shape unit (option_map string_bytes timezone.now))) }
+        ≡ with_object text.old.items from (timestamp_table unit (option_map string_bytes timezone.now))) }
+    ensures fits { OnOk result (FitsDataType (timestamp_type unit (option_map string_bytes timezone.now))) }
 {
     let cells = [
         Cell::Short(number_of_time_unit(unit)),
@@ -229,8 +233,8 @@ fn put_timestamp(
 /// Writes the table of a type.
 pub(crate) fn put_type(text: &mut Vec<u8>, from: usize, ty: &Ty) -> Result<(), AllocError>
     requires within { from + 4 ≤ length text.old.items }
-    ensures put { OnOk result (text.new.items ≡ linked text.old.items from (type_object (shape_of ty.now))) }
-    ensures fits { OnOk result (FitsShape (shape_of ty.now)) }
+    ensures put { OnOk result (text.new.items ≡ with_object text.old.items from (type_object (data_type_of ty.now))) }
+    ensures fits { OnOk result (FitsDataType (data_type_of ty.now)) }
 {
     match ty {
         Ty::Int {

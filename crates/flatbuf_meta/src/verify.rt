@@ -1,56 +1,57 @@
-//! Whether all columns of a schema are shown, and say no more than a schema may; without memory.
+//! Whether all fields of a schema are shown, and say no more than a schema may; without memory.
 
 ghost use Rattle.std.specs.Prelude.{◌≡◌, ◌<◌, ◌+◌, ◌*◌, length, option_map, IfOk, IfErr};
 ghost use Rattle.flat_places.specs.Number.{ShowsReference};
-ghost use Rattle.flatbuf_meta.specs.Limits.{IsWithin, IsBeyond, add_extents, shape_bytes};
-ghost use Rattle.flatbuf_meta.specs.Views.{shape_of};
-ghost use Rattle.flatbuf_meta.specs.ColumnView.{with_timezone, column_view};
+ghost use Rattle.flatbuf_meta.specs.Limits.{IsWithin, IsBeyond, add_totals, data_type_bytes};
+ghost use Rattle.flatbuf_meta.specs.Views.{data_type_of};
+ghost use Rattle.flatbuf_meta.specs.FieldRefView.{with_timezone, field_view};
 ghost use Rattle.flatbuf_meta.specs.declared.fault.MetaFault.TheVariants.{TooManyFields};
-ghost use Rattle.flatbuf_meta.specs.Columns.{Columns};
-ghost use Rattle.flatbuf_meta.specs.Shown.{ShowsEntry, ShowsColumn};
-ghost use Rattle.flatbuf_meta.specs.Header.{ShowsColumns};
+ghost use Rattle.flatbuf_meta.specs.Fields.{SchemaTree};
+ghost use Rattle.flatbuf_meta.specs.Shown.{ShowsEntry, ShowsFieldHead};
+ghost use Rattle.flatbuf_meta.specs.Header.{ShowsSchema};
 ghost use Rattle.flatbuf_meta.specs.Faults.{SchemaFault};
 ghost use Rattle.flatbuf_meta.specs.Building.{ShowsSchemaParts};
-ghost use Rattle.flatbuf_meta.specs.Rows.{row_of};
-ghost use Rattle.flatbuf_meta.specs.Extents.{extent_of};
-ghost use Rattle.flatbuf_meta.specs.Walking.{Adds, column_extent, IsInside, PassesEntry, EntryEnd, PassesEntries, EntriesEnd, PassesColumn, ColumnEnd, PassesForest, ForestEnd};
+ghost use Rattle.flatbuf_meta.specs.VectorRefs.{vector_ref_of};
+ghost use Rattle.flatbuf_meta.specs.Totals.{totals_of};
+ghost use Rattle.flatbuf_meta.specs.Walking.{Adds, field_totals, IsInside, PassesEntry, EntryEnd, PassesEntries};
+ghost use Rattle.flatbuf_meta.specs.Walking.{EntriesEnd, PassesField, FieldEnd, PassesForest, ForestEnd};
 
-use crate::column::{ColumnRef, read_column, read_entry};
-use crate::extent::Extent;
 use crate::fault::MetaFault;
+use crate::field::{FieldRef, read_entry, read_field};
 use crate::field_type::Ty;
 use crate::limits::MAX_DEPTH;
 use crate::slot;
-use crate::slots::{Row, number, row_at, table_at};
+use crate::slots::{VectorRef, number, table_at, vector_at};
+use crate::totals::SchemaTotals;
 use flat_places::{Table, follow};
 
 /// The bytes of a reference.
 const REFERENCE_LEN: usize = 4;
 
 /// The table that the reference at this place of a vector names.
-pub(crate) fn element(buf: &[u8], row: Row, index: usize) -> usize
-    requires inside { IsInside buf.now (row_of row) 4 }
-    requires there { index < row.count }
-    ensures { ShowsReference buf.now (row.first + 4 * index) result }
+pub(crate) fn element(buf: &[u8], vector: VectorRef, index: usize) -> usize
+    requires inside { IsInside buf.now (vector_ref_of vector) 4 }
+    requires there { index < vector.count }
+    ensures { ShowsReference buf.now (vector.first + 4 * index) result }
 {
-    match follow(buf, row.first + REFERENCE_LEN * index) {
+    match follow(buf, vector.first + REFERENCE_LEN * index) {
         Ok(table) => table,
         Err(_) => unreachable!(),
     }
 }
 
 /// The entry of metadata at the place, and what was read with it (Schema.fbs, the table `KeyValue`).
-#[tactic(auto, using(crate::proofs::Walking::entry_passes, crate::proofs::Walking::one_too_many, crate::proofs::Walking::key_too_long, crate::proofs::Walking::value_too_long))]
+#[tactic(auto, using(crate::proofs::EntryWalks::entry_passes, crate::proofs::EntryWalks::one_too_many, crate::proofs::EntryWalks::key_too_long, crate::proofs::EntryWalks::value_too_long))]
 pub(crate) fn count_entry(
     buf: &[u8],
     table: usize,
-    seen: Extent,
-) -> Result<((&str, &str), Extent), MetaFault>
-    requires within { IsWithin (extent_of seen) }
+    seen: SchemaTotals,
+) -> Result<((&str, &str), SchemaTotals), MetaFault>
+    requires within { IsWithin (totals_of seen) }
     ensures read { IfOk result (λ r. ShowsEntry buf.now table (r.0.0.now, r.0.1.now)) }
-    ensures passes { IfOk result (λ r. PassesEntry buf.now table (extent_of seen) (extent_of r.1)) }
-    ensures within { IfOk result (λ r. IsWithin (extent_of r.1)) }
-    ensures ends { IfErr result (EntryEnd buf.now table (extent_of seen)) }
+    ensures passes { IfOk result (λ r. PassesEntry buf.now table (totals_of seen) (totals_of r.1)) }
+    ensures within { IfOk result (λ r. IsWithin (totals_of r.1)) }
+    ensures ends { IfErr result (EntryEnd buf.now table (totals_of seen)) }
 {
     let (key, value) = read_entry(buf, table)?;
     let seen = seen.add_entry()?.add_text(key)?.add_text(value)?;
@@ -58,24 +59,30 @@ pub(crate) fn count_entry(
 }
 
 /// Whether these are entries of metadata, and what was read with them.
-#[tactic(auto, using(crate::proofs::Walking::no_entries))]
-fn verify_entries(buf: &[u8], row: Row, seen: Extent) -> Result<Extent, MetaFault>
-    requires inside { IsInside buf.now (row_of row) 4 }
-    requires within { IsWithin (extent_of seen) }
-    ensures passes { IfOk result (λ new. PassesEntries buf.now row.first row.count (extent_of seen) (extent_of new)) }
-    ensures within { IfOk result (λ new. IsWithin (extent_of new)) }
-    ensures ends { IfErr result (EntriesEnd buf.now (row_of row) (extent_of seen)) }
+#[tactic(auto, using(crate::proofs::EntryWalks::no_entries))]
+fn verify_entries(
+    buf: &[u8],
+    vector: VectorRef,
+    seen: SchemaTotals,
+) -> Result<SchemaTotals, MetaFault>
+    requires inside { IsInside buf.now (vector_ref_of vector) 4 }
+    requires within { IsWithin (totals_of seen) }
+    ensures passes { IfOk result (λ new. PassesEntries buf.now vector.first vector.count (totals_of seen)
+        (totals_of new)) }
+    ensures within { IfOk result (λ new. IsWithin (totals_of new)) }
+    ensures ends { IfErr result (EntriesEnd buf.now (vector_ref_of vector) (totals_of seen)) }
 {
     let mut seen = seen;
-    for index in 0..row.count {
-        (_, seen) = count_entry(buf, element(buf, row, index), seen)?;
+    for index in 0..vector.count {
+        (_, seen) = count_entry(buf, element(buf, vector, index), seen)?;
     }
     Ok(seen)
 }
 
-/// The bytes of the time zone that a column's type has.
+/// The bytes of the time zone that a field's type has.
 fn timezone_of<'a>(ty: &'a Ty, timezone: Option<&'a str>) -> &'a str
-    ensures { length result.now ≡ shape_bytes (with_timezone (shape_of ty.now) (option_map (λ s. s.now) timezone.entry)) }
+    ensures { length result.now ≡ data_type_bytes
+        (with_timezone (data_type_of ty.now) (option_map (λ s. s.now) timezone.entry)) }
 {
     match ty {
         Ty::Timestamp { .. } => timezone.unwrap_or(""),
@@ -96,67 +103,78 @@ fn timezone_of<'a>(ty: &'a Ty, timezone: Option<&'a str>) -> &'a str
     }
 }
 
-/// What was read with the column's own texts.
-fn verify_texts(column: &ColumnRef<'_>, seen: Extent) -> Result<Extent, MetaFault>
-    requires within { IsWithin (extent_of seen) }
-    ensures added { IfOk result (λ new. Adds (extent_of seen) (column_extent (column_view column.now)) (extent_of new)) }
-    ensures within { IfOk result (λ new. IsWithin (extent_of new)) }
+/// What was read with the field's own texts.
+fn verify_texts(field: &FieldRef<'_>, seen: SchemaTotals) -> Result<SchemaTotals, MetaFault>
+    requires within { IsWithin (totals_of seen) }
+    ensures added { IfOk result (λ new. Adds (totals_of seen) (field_totals (field_view field.now)) (totals_of new)) }
+    ensures within { IfOk result (λ new. IsWithin (totals_of new)) }
     ensures beyond { IfErr result (λ e. e ≡ TooManyFields) }
-    ensures more { IfErr result (λ e. IsBeyond (add_extents (extent_of seen) (column_extent (column_view column.now)))) }
+    ensures more { IfErr result (λ e. IsBeyond (add_totals (totals_of seen) (field_totals (field_view field.now)))) }
 {
-    let timezone = timezone_of(&column.ty, column.timezone);
-    seen.add_field()?.add_text(column.name)?.add_text(timezone)
+    let timezone = timezone_of(&field.ty, field.timezone);
+    seen.add_field()?.add_text(field.name)?.add_text(timezone)
 }
 
-/// The column at the place, but for the columns inside it and its metadata, and what was read with it (Schema.fbs, the table
-/// `Field`).
-pub(crate) fn count_column(
+/// The field at the place, but for the fields inside it and its metadata, and what was read with it (Schema.fbs, the
+/// table `Field`).
+pub(crate) fn count_field(
     buf: &[u8],
     table: usize,
-    seen: Extent,
-) -> Result<(ColumnRef<'_>, Extent), MetaFault>
-    requires within { IsWithin (extent_of seen) }
-    ensures read { IfOk result (λ r. ShowsColumn buf.now table (column_view r.0) (row_of r.0.children) (row_of r.0.metadata)) }
-    ensures added { IfOk result (λ r. Adds (extent_of seen) (column_extent (column_view r.0)) (extent_of r.1)) }
-    ensures within { IfOk result (λ r. IsWithin (extent_of r.1)) }
-    ensures ends { IfErr result (ColumnEnd buf.now table (extent_of seen)) }
+    seen: SchemaTotals,
+) -> Result<(FieldRef<'_>, SchemaTotals), MetaFault>
+    requires within { IsWithin (totals_of seen) }
+    ensures read { IfOk result (λ r. ShowsFieldHead buf.now table (field_view r.0) (vector_ref_of r.0.children)
+        (vector_ref_of r.0.metadata)) }
+    ensures added { IfOk result (λ r. Adds (totals_of seen) (field_totals (field_view r.0)) (totals_of r.1)) }
+    ensures within { IfOk result (λ r. IsWithin (totals_of r.1)) }
+    ensures ends { IfErr result (FieldEnd buf.now table (totals_of seen)) }
 {
-    let column = read_column(buf, table)?;
-    let seen = verify_texts(&column, seen)?;
-    Ok((column, seen))
+    let field = read_field(buf, table)?;
+    let seen = verify_texts(&field, seen)?;
+    Ok((field, seen))
 }
 
-/// Whether this is a column with its metadata, and what was read with it, but for the columns inside it.
-#[tactic(auto, using(crate::proofs::Walking::column_passes))]
-fn verify_column(buf: &[u8], table: usize, seen: Extent) -> Result<(Row, Extent), MetaFault>
-    requires within { IsWithin (extent_of seen) }
-    ensures passes { IfOk result (λ r. PassesColumn buf.now table (row_of r.0) (extent_of seen) (extent_of r.1)) }
-    ensures inside { IfOk result (λ r. IsInside buf.now (row_of r.0) 4) }
-    ensures within { IfOk result (λ r. IsWithin (extent_of r.1)) }
-    ensures ends { IfErr result (ColumnEnd buf.now table (extent_of seen)) }
+/// Whether this is a field with its metadata, and what was read with it, but for the fields inside it.
+#[tactic(auto, using(crate::proofs::Walking::field_passes))]
+fn verify_field(
+    buf: &[u8],
+    table: usize,
+    seen: SchemaTotals,
+) -> Result<(VectorRef, SchemaTotals), MetaFault>
+    requires within { IsWithin (totals_of seen) }
+    ensures passes { IfOk result (λ r. PassesField buf.now table (vector_ref_of r.0) (totals_of seen) (totals_of r.1)) }
+    ensures inside { IfOk result (λ r. IsInside buf.now (vector_ref_of r.0) 4) }
+    ensures within { IfOk result (λ r. IsWithin (totals_of r.1)) }
+    ensures ends { IfErr result (FieldEnd buf.now table (totals_of seen)) }
 {
-    let (column, seen) = count_column(buf, table, seen)?;
-    let seen = verify_entries(buf, column.metadata, seen)?;
-    Ok((column.children, seen))
+    let (field, seen) = count_field(buf, table, seen)?;
+    let seen = verify_entries(buf, field.metadata, seen)?;
+    Ok((field.children, seen))
 }
 
-/// Whether these are columns, no deeper than so many levels, and what was read with them and those inside them.
-#[tactic(auto, using(crate::proofs::Walking::no_columns, crate::proofs::Walking::too_deep))]
-fn verify_columns(buf: &[u8], row: Row, levels: usize, seen: Extent) -> Result<Extent, MetaFault>
-    requires inside { IsInside buf.now (row_of row) 4 }
-    requires within { IsWithin (extent_of seen) }
-    ensures passes { IfOk result (λ new. PassesForest buf.now row.first row.count levels (extent_of seen) (extent_of new)) }
-    ensures within { IfOk result (λ new. IsWithin (extent_of new)) }
-    ensures ends { IfErr result (ForestEnd buf.now levels (row_of row) (extent_of seen)) }
+/// Whether these are fields, no deeper than so many levels, and what was read with them and those inside them.
+#[tactic(auto, using(crate::proofs::Walking::no_fields, crate::proofs::Walking::too_deep))]
+fn verify_fields(
+    buf: &[u8],
+    vector: VectorRef,
+    levels: usize,
+    seen: SchemaTotals,
+) -> Result<SchemaTotals, MetaFault>
+    requires inside { IsInside buf.now (vector_ref_of vector) 4 }
+    requires within { IsWithin (totals_of seen) }
+    ensures passes { IfOk result (λ new. PassesForest buf.now vector.first vector.count levels (totals_of seen)
+        (totals_of new)) }
+    ensures within { IfOk result (λ new. IsWithin (totals_of new)) }
+    ensures ends { IfErr result (ForestEnd buf.now levels (vector_ref_of vector) (totals_of seen)) }
 {
     let mut seen = seen;
-    for index in 0..row.count {
-        let table = element(buf, row, index);
+    for index in 0..vector.count {
+        let table = element(buf, vector, index);
         if levels == 0 {
             return Err(MetaFault::TooDeep);
         }
-        let (children, after) = verify_column(buf, table, seen)?;
-        seen = verify_columns(buf, children, levels - 1, after)?;
+        let (children, after) = verify_field(buf, table, seen)?;
+        seen = verify_fields(buf, children, levels - 1, after)?;
     }
     Ok(seen)
 }
@@ -164,29 +182,31 @@ fn verify_columns(buf: &[u8], row: Row, levels: usize, seen: Extent) -> Result<E
 /// References to the parts of a schema.
 #[derive(Clone, Copy)]
 pub(crate) struct SchemaRef {
-    /// To its top columns.
-    pub(crate) fields: Row,
+    /// To its top fields.
+    pub(crate) fields: VectorRef,
     /// To its metadata.
-    pub(crate) metadata: Row,
+    pub(crate) metadata: VectorRef,
 }
 
-/// The parts of a little-endian schema, whose columns and entries nobody has looked at yet.
+/// The parts of a little-endian schema, whose fields and entries nobody has looked at yet.
 fn schema_in(table: &Table<'_>) -> Result<SchemaRef, MetaFault>
-    ensures parts { IfOk result (λ parts. ShowsSchemaParts table.now.buf table.now.place (row_of parts.fields) (row_of parts.metadata)) }
+    ensures parts { IfOk result (λ parts. ShowsSchemaParts table.now.buf table.now.place (vector_ref_of parts.fields)
+        (vector_ref_of parts.metadata)) }
     ensures fault { IfErr result (SchemaFault table.now.buf table.now.place) }
 {
     if number(table, slot::SCHEMA_ENDIANNESS, 2, 0)? != 0 {
         return Err(MetaFault::Endianness);
     }
-    let fields = row_at(table, slot::SCHEMA_FIELDS, REFERENCE_LEN)?;
-    let metadata = row_at(table, slot::SCHEMA_METADATA, REFERENCE_LEN)?;
+    let fields = vector_at(table, slot::SCHEMA_FIELDS, REFERENCE_LEN)?;
+    let metadata = vector_at(table, slot::SCHEMA_METADATA, REFERENCE_LEN)?;
     Ok(SchemaRef { fields, metadata })
 }
 
-/// The parts of the little-endian schema at the place, whose columns and entries nobody has looked at yet (Schema.fbs, the table
-/// `Schema`).
+/// The parts of the little-endian schema at the place, whose fields and entries nobody has looked at yet (Schema.fbs,
+/// the table `Schema`).
 pub(crate) fn schema_at(buf: &[u8], table: usize) -> Result<SchemaRef, MetaFault>
-    ensures parts { IfOk result (λ parts. ShowsSchemaParts buf.now table (row_of parts.fields) (row_of parts.metadata)) }
+    ensures parts { IfOk result (λ parts. ShowsSchemaParts buf.now table (vector_ref_of parts.fields)
+        (vector_ref_of parts.metadata)) }
     ensures fault { IfErr result (SchemaFault buf.now table) }
 {
     let table = table_at(buf, table)?;
@@ -195,11 +215,11 @@ pub(crate) fn schema_at(buf: &[u8], table: usize) -> Result<SchemaRef, MetaFault
 
 /// Whether a schema stands at the place, no deeper and no larger than one may be.
 pub(crate) fn verify_schema(buf: &[u8], table: usize) -> Result<(), MetaFault>
-    ensures shown { IfOk result (λ done. (columns : Columns) × ShowsColumns buf.now table columns) }
+    ensures shown { IfOk result (λ done. (schema : SchemaTree) × ShowsSchema buf.now table schema) }
     ensures fault { IfErr result (SchemaFault buf.now table) }
 {
     let parts = schema_at(buf, table)?;
-    let seen = verify_columns(buf, parts.fields, MAX_DEPTH, Extent::NOTHING)?;
+    let seen = verify_fields(buf, parts.fields, MAX_DEPTH, SchemaTotals::NOTHING)?;
     verify_entries(buf, parts.metadata, seen)?;
     Ok(())
 }

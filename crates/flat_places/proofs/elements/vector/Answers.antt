@@ -7,7 +7,8 @@ use Rattle.flat_places.proofs.elements.vector.Goals as goal
 
 pub returns-in-Some-clause-read : goal.returns-in-Some-clause-read
 returns-in-Some-clause-read c =
-    let within : c.args.place + 4 ≤ length c.args.buf.now = uint_within c.args.buf.now c.args.place 4 c.in_ok-count.count c.in_ok-count.ensures.read in
+    let within : c.args.place + 4 ≤ length c.args.buf.now =
+    uint_within c.args.buf.now c.args.place 4 c.in_ok-count.count c.in_ok-count.ensures.read in
     let rest : c.in-Some.len ≤ length (drop (c.args.place + 4) c.args.buf.now) = simp length-drop (omega arith) in
     record {
       shown = c.in_ok-count.ensures.read;

@@ -8,12 +8,14 @@ use Rattle.flat_places.proofs.number.uint.Goals as goal
 pub returns-clause-read : goal.returns-clause-read
 returns-clause-read c =
     let held = c.in_ok-bytes.ensures.read in
-    let fits = held_fit c.args.buf.now c.args.place c.in_ok-bytes.bytes.now held (λ i. omega (arith, c.type_inv.buf i)) in
+    let fits = held_fit c.args.buf.now c.args.place c.in_ok-bytes.bytes.now held
+    (λ i. omega (arith, c.type_inv.buf i)) in
     subst (ShowsUint c.args.buf.now c.args.place c.args.size) (sym c.read_uint.ensures)
     (uint_shown c.args.buf.now c.args.place c.args.size c.in_ok-bytes.bytes.now held c.in_ok-bytes.ensures.len fits)
 
 pub returns-clause-only : goal.returns-clause-only
-returns-clause-only c = λ x shown. ap Ok (uint_same c.args.buf.now c.args.place c.args.size c.read_uint.result x (returns-clause-read c) shown)
+returns-clause-only c = λ x shown. ap Ok (uint_same c.args.buf.now c.args.place c.args.size c.read_uint.result x
+    (returns-clause-read c) shown)
 
 pub returns-in_err-bytes-clause-read : goal.returns-in_err-bytes-clause-read
 returns-in_err-bytes-clause-read c = search rules steps 300000

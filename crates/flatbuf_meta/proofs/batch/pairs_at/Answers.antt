@@ -9,9 +9,12 @@ pub loop-index-preserved : goal.loop-index-preserved
 loop-index-preserved c =
     let items = rw c.unwrap.ensures at c.push.ensures.items in
     let len = rw c.unwrap.ensures at c.push.ensures.len in
-    let there = subst (λ i. IsPairAt c.args.buf.now c.args.row.first i c.pair_at.result) (sym c.loop-index.invariant.all) c.pair_at.ensures in
+    let there = subst (λ i. IsPairAt c.args.buf.now c.args.vector.first i c.pair_at.result)
+    (sym c.loop-index.invariant.all) c.pair_at.ensures in
     record {
-      shown = subst (ShowsPairs c.args.buf.now c.args.row.first) (sym items) (pairs_append c.args.buf.now c.args.row.first c.loop-index.pairs.items c.pair_at.result c.loop-index.invariant.shown there);
+      shown = subst (ShowsPairs c.args.buf.now c.args.vector.first) (sym items)
+          (pairs_append c.args.buf.now c.args.vector.first c.loop-index.pairs.items c.pair_at.result
+          c.loop-index.invariant.shown there);
       all = rw (items, length-append) (omega arith);
       counted = omega arith;
       room = omega arith;

@@ -5,8 +5,8 @@ use Rattle.flatbuf_meta.proofs.batch.pairs_at.Given as goal
 
 abbrev pub invariant-loop-index : goal.invariant-loop-index
 invariant-loop-index l = record {
-  shown : ShowsPairs l.buf l.row.first l.pairs.items;
+  shown : ShowsPairs l.buf l.vector.first l.pairs.items;
   all : length l.pairs.items ≡ l.index;
   counted : vec_len l.pairs ≡ l.index;
-  room : l.row.count ≤ vec_capacity l.pairs;
+  room : l.vector.count ≤ vec_capacity l.pairs;
 }

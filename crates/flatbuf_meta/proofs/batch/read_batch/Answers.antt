@@ -2,35 +2,40 @@ use Rattle.std.proofs.Common.{◌≡◌, ◌⊎◌, inr, arith, rules}
 use Rattle.std.proofs.lemmas.Grind.{common_steps}
 use Rattle.flatbuf_meta.specs.declared.fault.MetaFault.{MetaFault}
 use Rattle.flatbuf_meta.specs.declared.fault.MetaFault.TheVariants.{OutOfMemory}
-use Rattle.flatbuf_meta.specs.Rows.{row_of}
+use Rattle.flatbuf_meta.specs.VectorRefs.{vector_ref_of}
 use Rattle.flatbuf_meta.specs.HeaderViews.{BatchFaultIn}
 use Rattle.flatbuf_meta.proofs.SlotFacts.{handed_on}
-use Rattle.flatbuf_meta.proofs.Walking.{row_inside}
+use Rattle.flatbuf_meta.proofs.Walking.{vector_inside}
 use Rattle.flatbuf_meta.proofs.BatchFacts.{batch_there}
 use Rattle.flatbuf_meta.proofs.batch.read_batch.Goals as goal
 
 pub returns-in_err-batch-clause-fault : goal.returns-in_err-batch-clause-fault
 returns-in_err-batch-clause-fault c =
     let e : MetaFault = c.in_err-batch.field-0.0 in
-    handed_on (λ e. (e ≡ OutOfMemory) ⊎ BatchFaultIn c.args.buf.now c.args.message c.args.table e) c.from_residual.result e c.from_residual.ensures.1
+    handed_on (λ e. (e ≡ OutOfMemory) ⊎ BatchFaultIn c.args.buf.now c.args.message c.args.table e)
+    c.from_residual.result e c.from_residual.ensures.1
     (inr c.in_err-batch.ensures.fault)
 
 pub pairs_at-requires : goal.pairs_at-requires
-pairs_at-requires c = row_inside c.args.buf.now c.args.table 1 16 (row_of c.in_ok-batch.batch.nodes) c.in_ok-batch.ensures.read.nodes_shown
+pairs_at-requires c = vector_inside c.args.buf.now c.args.table 1 16
+    (vector_ref_of c.in_ok-batch.batch.nodes) c.in_ok-batch.ensures.read.nodes_shown
 
 pub returns-in_err-nodes-clause-memory : goal.returns-in_err-nodes-clause-memory
 returns-in_err-nodes-clause-memory c =
     let b = c.in_ok-batch.batch in
-    λ refused. batch_there c.args.buf.now c.args.message c.args.table b.length (row_of b.nodes) (row_of b.buffers) b.compressed b.body_length
+    λ refused. batch_there c.args.buf.now c.args.message c.args.table b.length (vector_ref_of b.nodes)
+    (vector_ref_of b.buffers) b.compressed b.body_length
     c.in_ok-batch.ensures.read (λ i. omega (arith, c.type_inv.buf i))
 
 pub pairs_at-requires-2 : goal.pairs_at-requires-2
-pairs_at-requires-2 c = row_inside c.args.buf.now c.args.table 2 16 (row_of c.in_ok-batch.batch.buffers) c.in_ok-batch.ensures.read.buffers_shown
+pairs_at-requires-2 c = vector_inside c.args.buf.now c.args.table 2 16
+    (vector_ref_of c.in_ok-batch.batch.buffers) c.in_ok-batch.ensures.read.buffers_shown
 
 pub returns-in_err-buffers-clause-memory : goal.returns-in_err-buffers-clause-memory
 returns-in_err-buffers-clause-memory c =
     let b = c.in_ok-batch.batch in
-    λ refused. batch_there c.args.buf.now c.args.message c.args.table b.length (row_of b.nodes) (row_of b.buffers) b.compressed b.body_length
+    λ refused. batch_there c.args.buf.now c.args.message c.args.table b.length (vector_ref_of b.nodes)
+    (vector_ref_of b.buffers) b.compressed b.body_length
     c.in_ok-batch.ensures.read (λ i. omega (arith, c.type_inv.buf i))
 
 pub returns-in_err-batch-clause-read : goal.returns-in_err-batch-clause-read

@@ -1,7 +1,7 @@
 use Rattle.std.proofs.Common.{◌≡◌, ◌⊎◌, inr}
 use Rattle.flatbuf_meta.specs.declared.fault.MetaFault.{MetaFault}
 use Rattle.flatbuf_meta.specs.declared.fault.MetaFault.TheVariants.{OutOfMemory}
-use Rattle.flatbuf_meta.specs.Extents.{extent_of}
+use Rattle.flatbuf_meta.specs.Totals.{totals_of}
 use Rattle.flatbuf_meta.specs.Walking.{EntryEnd}
 use Rattle.flatbuf_meta.proofs.SlotFacts.{handed_on}
 use Rattle.flatbuf_meta.proofs.build.build_entry.Goals as goal
@@ -9,5 +9,6 @@ use Rattle.flatbuf_meta.proofs.build.build_entry.Goals as goal
 pub returns-in_err-key-clause-ends : goal.returns-in_err-key-clause-ends
 returns-in_err-key-clause-ends c =
     let e : MetaFault = c.in_err-key.field-0.0 in
-    handed_on (λ e. (e ≡ OutOfMemory) ⊎ EntryEnd c.args.buf.now c.args.table (extent_of c.args.seen) e) c.from_residual.result e c.from_residual.ensures.1
+    handed_on (λ e. (e ≡ OutOfMemory) ⊎ EntryEnd c.args.buf.now c.args.table (totals_of c.args.seen) e)
+    c.from_residual.result e c.from_residual.ensures.1
     (inr c.in_err-key.ensures.ends)

@@ -6,8 +6,14 @@ use Rattle.flatbuf_meta.specs.HeaderViews.{RootFault}
 use Rattle.flatbuf_meta.proofs.SlotFacts.{handed_on}
 use Rattle.flatbuf_meta.proofs.message.message_at.Goals as goal
 
-pub returns-in_err-kind-clause-fault : goal.returns-in_err-kind-clause-fault
-returns-in_err-kind-clause-fault c =
-    let e : MetaFault = c.in_err-kind.field-0.0 in
-    handed_on (RootFault c.args.buf.now) c.from_residual-in_err-kind.result e c.from_residual-in_err-kind.ensures.1
-    (inr (c.in_ok-place.place, c.in_ok-place.ensures.read, subst (λ (k : Seen). MessageFault k.buf k.place e) c.in_ok-message.ensures.seen c.in_err-kind.ensures.fault))
+pub returns-in_err-header_type-clause-fault : goal.returns-in_err-header_type-clause-fault
+returns-in_err-header_type-clause-fault c =
+    let e : MetaFault = c.in_err-header_type.field-0.0 in
+    handed_on (RootFault c.args.buf.now) c.from_residual-in_err-header_type.result e
+    c.from_residual-in_err-header_type.ensures.1
+    (inr (
+      c.in_ok-place.place,
+      c.in_ok-place.ensures.read,
+      subst (λ (k : Seen). MessageFault k.buf k.place e)
+          c.in_ok-message.ensures.seen c.in_err-header_type.ensures.fault,
+    ))

@@ -14,7 +14,9 @@ returns-in_err-message-clause-fault c =
 
 pub returns-in_err-message-clause-only : goal.returns-in_err-message-clause-only
 returns-in_err-message-clause-only c =
-    none_shown c.args.buf.now c.from_residual.result c.in_err-message.field-0.0 c.from_residual.ensures.1 c.in_err-message.ensures.fault
+    none_shown c.args.buf.now c.from_residual.result c.in_err-message.field-0.0 c.from_residual.ensures.1
+    c.in_err-message.ensures.fault
 
 pub returns-clause-only : goal.returns-clause-only
-returns-clause-only c = only_one c.args.buf.now c.read_header.result c.read_header.ensures.read c.read_header.ensures.fault
+returns-clause-only c = only_one c.args.buf.now c.read_header.result c.read_header.ensures.read
+    c.read_header.ensures.fault

@@ -2,7 +2,7 @@ use Rattle.std.proofs.Common.{◌≡◌, ◌∷◌, [], arith, string_bytes, sym
 use Rattle.std.specs.Option.{option_map}
 use Rattle.flatbuf_meta.specs.declared.layout.Cell.TheVariants.{Short, Word}
 use Rattle.flatbuf_meta.specs.Canonical.{timestamp_table}
-use Rattle.flatbuf_meta.specs.Filling.{linked}
+use Rattle.flatbuf_meta.specs.Filling.{with_object}
 use Rattle.flatbuf_meta.specs.Written.{cells_bytes}
 use Rattle.flatbuf_meta.proofs.Writers.{table_room}
 use Rattle.flatbuf_meta.proofs.TypeTables.{timestamp_put, on_ok}
@@ -19,10 +19,12 @@ pub returns-in_ok-first-in-Some-clause-put : goal.returns-in_ok-first-in-Some-cl
 returns-in_ok-first-in-Some-clause-put c =
     subst
     (λ timezone. OnOk c.put_string.result (c.put_string.new.text.items
-    ≡ linked c.args.text.now.items c.args.from (timestamp_table c.args.unit (option_map string_bytes timezone))))
+    ≡ with_object c.args.text.now.items c.args.from (timestamp_table c.args.unit (option_map string_bytes timezone))))
     (sym c.in-Some.is)
     (on_ok c.put_string.result
-    (timestamp_put c.args.text.now.items c.put_table-in-Some.new.text.items c.put_string.new.text.items c.args.from c.in_ok-first-in-Some.first
-    c.args.unit (string_bytes c.in-Some.timezone) c.as_str.result.now c.number_of_time_unit.result c.requires.within c.in_ok-first-in-Some.ensures.first
+    (timestamp_put c.args.text.now.items c.put_table-in-Some.new.text.items c.put_string.new.text.items c.args.from
+    c.in_ok-first-in-Some.first
+    c.args.unit (string_bytes c.in-Some.timezone) c.as_str.result.now c.number_of_time_unit.result c.requires.within
+    c.in_ok-first-in-Some.ensures.first
     c.number_of_time_unit.ensures c.as_str.ensures.value c.in_ok-first-in-Some.ensures.put)
     c.put_string.ensures.put)

@@ -11,9 +11,11 @@ use Rattle.flatbuf_meta.proofs.write.batch_text.Goals as goal
 pub returns-clause-written : goal.returns-clause-written
 returns-clause-written c =
     let fits : FitsSigned w64 c.args.head.now.body_length = search rules in
-    message_put c.put_message.new.text.items c.put_batch.new.text.items c.pad.new.text.items 3 (int64_number c.args.head.now.body_length) c.in_ok-header.header
+    message_put c.put_message.new.text.items c.put_batch.new.text.items c.pad.new.text.items 3
+    (int64_number c.args.head.now.body_length) c.in_ok-header.header
     (batch_object (head_of c.args.head.now))
-    (c.in_ok-header.ensures.begun ∙ ap (λ (z : ℤ). message_begun 3 (int64_number z)) (to_z-of_z w64 c.args.head.now.body_length fits))
+    (c.in_ok-header.ensures.begun ∙ ap (λ (z : ℤ). message_begun 3 (int64_number z))
+    (to_z-of_z w64 c.args.head.now.body_length fits))
     c.in_ok-header.ensures.header c.in_ok-put_batch.ensures.put c.in_ok-pad.ensures.padded
 
 pub returns-clause-fits : goal.returns-clause-fits

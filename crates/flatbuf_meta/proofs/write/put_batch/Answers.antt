@@ -5,7 +5,7 @@ use Rattle.std.specs.Int.RustNames.{FitsSigned}
 use Rattle.std.specs.List.{AllByRecursion}
 use Rattle.std.proofs.lemmas.Int.{to_z-of_z}
 use Rattle.flatbuf_meta.specs.Canonical.{int64_number, pairs_object}
-use Rattle.flatbuf_meta.specs.Filling.{linked}
+use Rattle.flatbuf_meta.specs.Filling.{with_object}
 use Rattle.flatbuf_meta.specs.HeaderViews.{head_of}
 use Rattle.flatbuf_meta.specs.Written.{FitsPair}
 use Rattle.flatbuf_meta.proofs.Writers.{batch_put}
@@ -14,11 +14,15 @@ use Rattle.flatbuf_meta.proofs.write.put_batch.Goals as goal
 pub returns-clause-put : goal.returns-clause-put
 returns-clause-put c =
     let fits : FitsSigned w64 c.args.head.now.length = search rules in
-    let rows : c.cast_unsigned.result ≡ int64_number c.args.head.now.length = c.cast_unsigned.ensures ∙ ap (of_z w64) (to_z-of_z w64 c.args.head.now.length fits) in
-    batch_put c.args.text.now.items c.put_table.new.text.items c.put_pairs.new.text.items c.put_pairs-2.new.text.items c.args.from c.in_ok-first.first c.cast_unsigned.result
+    let rows : c.cast_unsigned.result ≡ int64_number c.args.head.now.length = c.cast_unsigned.ensures
+    ∙ ap (of_z w64) (to_z-of_z w64 c.args.head.now.length fits) in
+    batch_put c.args.text.now.items c.put_table.new.text.items c.put_pairs.new.text.items c.put_pairs-2.new.text.items
+    c.args.from c.in_ok-first.first c.cast_unsigned.result
     (head_of c.args.head.now) c.requires.within rows c.in_ok-first.ensures.put c.in_ok-first.ensures.first
-    (c.in_ok-put_pairs.ensures.put ∙ ap (λ (pairs : List (ℤ × ℤ)). linked c.put_table.new.text.items c.in_ok-first.first (pairs_object pairs)) c.deref.ensures.value)
-    (c.in_ok-put_pairs-2.ensures.put ∙ ap (λ (pairs : List (ℤ × ℤ)). linked c.put_pairs.new.text.items (c.in_ok-first.first + 12) (pairs_object pairs)) c.deref-2.ensures.value)
+    (c.in_ok-put_pairs.ensures.put ∙ ap (λ (pairs : List (ℤ × ℤ)). with_object c.put_table.new.text.items
+    c.in_ok-first.first (pairs_object pairs)) c.deref.ensures.value)
+    (c.in_ok-put_pairs-2.ensures.put ∙ ap (λ (pairs : List (ℤ × ℤ)). with_object c.put_pairs.new.text.items
+    (c.in_ok-first.first + 12) (pairs_object pairs)) c.deref-2.ensures.value)
 
 pub returns-clause-fit : goal.returns-clause-fit
 returns-clause-fit c =
