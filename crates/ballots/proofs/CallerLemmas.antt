@@ -1,5 +1,5 @@
 -- What a caller cites of the order of ballots and of sets of members. Each lemma speaks of the definitions in `specs/` alone.
-use Rattle.std.proofs.Common.{◌≡◌, ◌≢◌, ℕ, zero, suc, ◌+◌, ◌<◌, ◌≤◌, ◌⊎◌, inl, inr, Bool, true, false, ◌||◌, ◌&&◌, IsTrue, ◌↔◌, cond, eqb, Some, refl, sym, ap, subst, ◌∙◌, eq-eqb, ne_eqb, arith}
+use Rattle.std.proofs.Common.{◌≡◌, ℕ, zero, suc, ◌+◌, ◌<◌, ◌≤◌, ◌⊎◌, inl, inr, Bool, true, false, ◌||◌, ◌&&◌, IsTrue, ◌↔◌, cond, eqb, Some, refl, sym, ap, subst, ◌∙◌, eq-eqb, ne_eqb, arith}
 use Rattle.std.proofs.lemmas.Bool.{cases_lt, cases_eq, eqb-true}
 use Rattle.ballots.specs.Ballot.{Ballot, IsBelow, IsAtLeast, is_same_ballot}
 use Rattle.ballots.specs.Majority.{tally, IsMajority}

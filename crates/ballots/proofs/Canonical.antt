@@ -1,4 +1,4 @@
--- The one spelling of a message means it.
+-- The one encoding of a message means it.
 use Rattle.std.proofs.Common.{◌≡◌, ℕ, ◌^◌, ◌<◌, ◌≤◌, Bool, true, false, cond, List, [], ◌∷◌, ◌++◌, length, Option, Some, None, refl, sym, subst, arith}
 use Rattle.std.specs.Prelude.{not, filter, ◌&&◌, nat_le}
 use Rattle.std.specs.List.{AllByRecursion}
@@ -18,7 +18,7 @@ use Rattle.ballots.specs.declared.message.Message.TheVariants.{Prepare, Promise,
 use Rattle.ballots.specs.Ballot.{Ballot, IsBallot}
 use Rattle.ballots.specs.Message.{Parts, parts_of, Means, IsInRange, IsValue, IsMessageText, value_bytes, number_field, head_fields, ballot_fields, second_fields, value_fields, all_fields, canonical}
 
--- ---- each field has a spelling
+-- ---- each field has an encoding
 
 pub number_fits : (number n : ℕ) → (0 < number) × (number ≤ MAX_FIELD_NUMBER) → n < 2 ^ 64 → FitsField (number_field number n)
 number_fits number n is lt = record { number = is; held = lt }
@@ -160,6 +160,6 @@ pub canonical_means : (m : Message) → IsInRange m → IsMessageText (canonical
 unfolding canonical
 canonical_means m h = record {
   fields = present (all_fields m);
-  spells = fields_text-encodes (present (all_fields m)) (all_fit-filter (λ (f : Field). not (is_default f.held)) (all_fields m) (all_fits m h));
+  encodes = fields_text-encodes (present (all_fields m)) (all_fit-filter (λ (f : Field). not (is_default f.held)) (all_fields m) (all_fits m h));
   means = subst (λ (p : Parts). Means p m) (sym (parts_of-present (all_fields m) (fields_single m))) (all_fields-mean m h);
 }

@@ -1,15 +1,13 @@
 pub mod CallerLemmas
 pub mod Slots
 pub mod PlainMeanings
-pub mod Gathering
+pub mod Steps
 pub mod Numbers
 pub mod Bodies
 pub mod Decodes
 pub mod Written
 pub mod Canonical
-pub mod Rows
-pub mod RecordGathering
+pub mod AllFields
 pub mod RecordBodies
 pub mod RecordDecodes
 pub mod RecordCanonical
-pub mod RecordRows

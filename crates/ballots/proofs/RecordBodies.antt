@@ -9,79 +9,66 @@ use Rattle.ballots.specs.declared.record.Record.{Record}
 use Rattle.ballots.specs.declared.record.Record.TheVariants.{Began, Promised, Accepted}
 use Rattle.ballots.specs.declared.fault.MessageFault.{MessageFault}
 use Rattle.ballots.specs.declared.fault.MessageFault.TheVariants.{BadKind}
-use Rattle.ballots.specs.Ballot.{Ballot}
-use Rattle.ballots.specs.MessageReading.{known, within, ballot_at, value_at}
+use Rattle.ballots.specs.MessageReading.{known, within, ballot_at, acceptance_at}
 use Rattle.ballots.specs.Record.{RecordParts, MeansSlot, MeansRecord, RecordBodyFault, in_began, in_promised, in_accepted, RecordPartsFault, IsUnknownRecordKind}
-use Rattle.ballots.specs.RecordReading.{kept_at, record_at}
-use Rattle.ballots.proofs.Numbers.{within_takes, within_again, within_faults, ballot_takes, ballot_again, ballot_faults, value_takes, value_again, value_faults, known_takes, known_faults}
+use Rattle.ballots.specs.RecordReading.{began_at, promised_at, accepted_at, kept_at, record_at}
+use Rattle.ballots.proofs.Numbers.{within_takes, within_again, within_faults, ballot_takes, ballot_again, ballot_faults, acceptance_takes, acceptance_again, acceptance_faults, known_takes, known_faults}
 
 abbrev Read : Type 0
 Read = Result Record MessageFault
 
 -- ---- what is read for each kind
 
-abbrev then_value : ℕ → Ballot → RecordParts → Read
-then_value slot b p = value_at p.value >>= λ v. Ok (Accepted slot b v)
-
-abbrev then_vote : ℕ → RecordParts → Read
-then_vote slot p = ballot_at p.round p.node >>= λ b. then_value slot b p
+abbrev then_acceptance : ℕ → RecordParts → Read
+then_acceptance slot p = acceptance_at p.round p.node p.value >>= λ a. Ok (Accepted slot a.0 a.1)
 
 abbrev then_promise : ℕ → RecordParts → Read
 then_promise slot p = ballot_at p.round p.node >>= λ b. Ok (Promised slot b)
 
-abbrev read_began : RecordParts → Read
-read_began p = ballot_at p.round p.node >>= λ b. Ok (Began b)
-
-abbrev read_promised : RecordParts → Read
-read_promised p = within MAX_SLOT p.slot >>= λ s. then_promise s p
-
-abbrev read_accepted : RecordParts → Read
-read_accepted p = within MAX_SLOT p.slot >>= λ s. then_vote s p
-
 abbrev from_accepted : ℕ → RecordParts → Read
-from_accepted kind p = cond (eqb kind ACCEPTED) (read_accepted p) (Err BadKind)
+from_accepted kind p = cond (eqb kind ACCEPTED) (accepted_at p) (Err BadKind)
 
 abbrev from_promised : ℕ → RecordParts → Read
-from_promised kind p = cond (eqb kind PROMISED) (read_promised p) (from_accepted kind p)
+from_promised kind p = cond (eqb kind PROMISED) (promised_at p) (from_accepted kind p)
 
 abbrev from_began : ℕ → RecordParts → Read
-from_began kind p = cond (eqb kind BEGAN) (read_began p) (from_promised kind p)
+from_began kind p = cond (eqb kind BEGAN) (began_at p) (from_promised kind p)
 
 -- ---- what is read is meant
 
 slot_means : (number : Option ℕ) (slot : ℕ) → within MAX_SLOT number ≡ Ok slot → MeansSlot number slot
 slot_means number slot e = let w = within_takes MAX_SLOT number slot e in record { slot_is = w.0; within = w.1 }
 
-takes_began : (p : RecordParts) (r : Record) → p.kind ≡ Some BEGAN → read_began p ≡ Ok r → MeansRecord p r
+takes_began : (p : RecordParts) (r : Record) → p.kind ≡ Some BEGAN → began_at p ≡ Ok r → MeansRecord p r
 takes_began p r kind e =
     let b = bind_ok (ballot_at p.round p.node) (λ b. Ok (Began b)) r e in
     subst (MeansRecord p) (ok_is (Began b.0) r b.2) (kind, ballot_takes _ _ b.0 b.1)
 
-takes_promised : (p : RecordParts) (r : Record) → p.kind ≡ Some PROMISED → read_promised p ≡ Ok r → MeansRecord p r
+takes_promised : (p : RecordParts) (r : Record) → p.kind ≡ Some PROMISED → promised_at p ≡ Ok r → MeansRecord p r
 takes_promised p r kind e =
     let s = bind_ok (within MAX_SLOT p.slot) (λ s. then_promise s p) r e in
     let b = bind_ok (ballot_at p.round p.node) (λ b. Ok (Promised s.0 b)) r s.2 in
     subst (MeansRecord p) (ok_is (Promised s.0 b.0) r b.2) (kind, slot_means p.slot s.0 s.1, ballot_takes _ _ b.0 b.1)
 
-takes_accepted : (p : RecordParts) (r : Record) → p.kind ≡ Some ACCEPTED → read_accepted p ≡ Ok r → MeansRecord p r
+takes_accepted : (p : RecordParts) (r : Record) → p.kind ≡ Some ACCEPTED → accepted_at p ≡ Ok r → MeansRecord p r
 takes_accepted p r kind e =
-    let s = bind_ok (within MAX_SLOT p.slot) (λ s. then_vote s p) r e in
-    let b = bind_ok (ballot_at p.round p.node) (λ b. then_value s.0 b p) r s.2 in
-    let v = bind_ok (value_at p.value) (λ v. Ok (Accepted s.0 b.0 v)) r b.2 in
-    subst (MeansRecord p) (ok_is (Accepted s.0 b.0 v.0) r v.2) (kind, slot_means p.slot s.0 s.1, ballot_takes _ _ b.0 b.1, value_takes _ v.0 v.1)
+    let s = bind_ok (within MAX_SLOT p.slot) (λ s. then_acceptance s p) r e in
+    let a = bind_ok (acceptance_at p.round p.node p.value) (λ a. Ok (Accepted s.0 a.0 a.1)) r s.2 in
+    let h = acceptance_takes _ _ _ a.0 a.1 in
+    subst (MeansRecord p) (ok_is (Accepted s.0 a.0.0 a.0.1) r a.2) (kind, slot_means p.slot s.0 s.1, h.0, h.1)
 
 is_kind : (p : RecordParts) (kind other : ℕ) → eqb kind other ≡ true → p.kind ≡ Some kind → p.kind ≡ Some other
 is_kind p kind other e is = is ∙ ap Some (eqb-true _ _ e)
 
 kept_takes : (kind : ℕ) (p : RecordParts) (r : Record) → p.kind ≡ Some kind → from_began kind p ≡ Ok r → MeansRecord p r
 kept_takes kind p r is e =
-    elim (chosen (eqb kind BEGAN) (read_began p) (from_promised kind p) (Ok r) e) [
+    elim (chosen (eqb kind BEGAN) (began_at p) (from_promised kind p) (Ok r) e) [
       | inl h ↦ takes_began p r (is_kind p kind BEGAN h.0 is) h.1
       | inr h ↦
-          elim (chosen (eqb kind PROMISED) (read_promised p) (from_accepted kind p) (Ok r) h.1) [
+          elim (chosen (eqb kind PROMISED) (promised_at p) (from_accepted kind p) (Ok r) h.1) [
             | inl i ↦ takes_promised p r (is_kind p kind PROMISED i.0 is) i.1
             | inr i ↦
-                elim (chosen (eqb kind ACCEPTED) (read_accepted p) (Err BadKind) (Ok r) i.1) [
+                elim (chosen (eqb kind ACCEPTED) (accepted_at p) (Err BadKind) (Ok r) i.1) [
                   | inl j ↦ takes_accepted p r (is_kind p kind ACCEPTED j.0 is) j.1
                   | inr j ↦ not_err r BadKind j.1
                 ]
@@ -106,18 +93,18 @@ slot_again number slot h = ap (within MAX_SLOT) h.slot_is ∙ within_again MAX_S
 pub record_again : (p : RecordParts) (r : Record) → MeansRecord p r → record_at p ≡ Ok r
 record_again p (Began b) h = kind_again p BEGAN h.0 ∙ rw (ballot_again _ _ b h.1) refl
 record_again p (Promised s b) h = kind_again p PROMISED h.0 ∙ rw (slot_again p.slot s h.1, ballot_again _ _ b h.2) refl
-record_again p (Accepted s b v) h = kind_again p ACCEPTED h.0 ∙ rw (slot_again p.slot s h.1, ballot_again _ _ b h.2, value_again p.value v h.3) refl
+record_again p (Accepted s b v) h = kind_again p ACCEPTED h.0 ∙ rw (slot_again p.slot s h.1, acceptance_again _ _ _ b v h.2 h.3) refl
 
 -- ---- each fault stands
 
-faults_began : (p : RecordParts) (fault : MessageFault) → p.kind ≡ Some BEGAN → read_began p ≡ Err fault → RecordBodyFault p fault
+faults_began : (p : RecordParts) (fault : MessageFault) → p.kind ≡ Some BEGAN → began_at p ≡ Err fault → RecordBodyFault p fault
 faults_began p fault kind e =
     elim (bind_err {B = Record} (ballot_at p.round p.node) (λ b. Ok (Began b)) fault e) [
       | inl h ↦ in_began kind (ballot_faults _ _ fault h)
       | inr b ↦ not_ok _ _ b.2
     ]
 
-faults_promised : (p : RecordParts) (fault : MessageFault) → p.kind ≡ Some PROMISED → read_promised p ≡ Err fault → RecordBodyFault p fault
+faults_promised : (p : RecordParts) (fault : MessageFault) → p.kind ≡ Some PROMISED → promised_at p ≡ Err fault → RecordBodyFault p fault
 faults_promised p fault kind e =
     elim (bind_err {B = Record} (within MAX_SLOT p.slot) (λ s. then_promise s p) fault e) [
       | inl h ↦ in_promised kind (inl (within_faults MAX_SLOT p.slot fault h))
@@ -128,18 +115,14 @@ faults_promised p fault kind e =
           ]
     ]
 
-faults_accepted : (p : RecordParts) (fault : MessageFault) → p.kind ≡ Some ACCEPTED → read_accepted p ≡ Err fault → RecordBodyFault p fault
+faults_accepted : (p : RecordParts) (fault : MessageFault) → p.kind ≡ Some ACCEPTED → accepted_at p ≡ Err fault → RecordBodyFault p fault
 faults_accepted p fault kind e =
-    elim (bind_err {B = Record} (within MAX_SLOT p.slot) (λ s. then_vote s p) fault e) [
+    elim (bind_err {B = Record} (within MAX_SLOT p.slot) (λ s. then_acceptance s p) fault e) [
       | inl h ↦ in_accepted kind (inl (within_faults MAX_SLOT p.slot fault h))
       | inr s ↦
-          elim (bind_err {B = Record} (ballot_at p.round p.node) (λ b. then_value s.0 b p) fault s.2) [
-            | inl h ↦ in_accepted kind (inr (inl (ballot_faults _ _ fault h)))
-            | inr b ↦
-                elim (bind_err {B = Record} (value_at p.value) (λ v. Ok (Accepted s.0 b.0 v)) fault b.2) [
-                  | inl h ↦ in_accepted kind (inr (inr (value_faults _ fault h)))
-                  | inr v ↦ not_ok _ _ v.2
-                ]
+          elim (bind_err {B = Record} (acceptance_at p.round p.node p.value) (λ a. Ok (Accepted s.0 a.0 a.1)) fault s.2) [
+            | inl h ↦ in_accepted kind (inr (acceptance_faults _ _ _ fault h))
+            | inr a ↦ not_ok _ _ a.2
           ]
     ]
 
@@ -154,13 +137,13 @@ no_kind p kind is a b c =
 
 kept_faults : (kind : ℕ) (p : RecordParts) (fault : MessageFault) → p.kind ≡ Some kind → from_began kind p ≡ Err fault → RecordPartsFault p fault
 kept_faults kind p fault is e =
-    elim (chosen (eqb kind BEGAN) (read_began p) (from_promised kind p) (Err fault) e) [
+    elim (chosen (eqb kind BEGAN) (began_at p) (from_promised kind p) (Err fault) e) [
       | inl h ↦ inr (inr (faults_began p fault (is_kind p kind BEGAN h.0 is) h.1))
       | inr h ↦
-          elim (chosen (eqb kind PROMISED) (read_promised p) (from_accepted kind p) (Err fault) h.1) [
+          elim (chosen (eqb kind PROMISED) (promised_at p) (from_accepted kind p) (Err fault) h.1) [
             | inl i ↦ inr (inr (faults_promised p fault (is_kind p kind PROMISED i.0 is) i.1))
             | inr i ↦
-                elim (chosen (eqb kind ACCEPTED) (read_accepted p) (Err BadKind) (Err fault) i.1) [
+                elim (chosen (eqb kind ACCEPTED) (accepted_at p) (Err BadKind) (Err fault) i.1) [
                   | inl j ↦ inr (inr (faults_accepted p fault (is_kind p kind ACCEPTED j.0 is) j.1))
                   | inr j ↦ inr (inl (sym (err_is BadKind fault j.1), no_kind p kind is (eqb-false _ _ h.0) (eqb-false _ _ i.0) (eqb-false _ _ j.0)))
                 ]

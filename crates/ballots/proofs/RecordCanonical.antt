@@ -1,4 +1,4 @@
--- The one spelling of a record means it.
+-- The one encoding of a record means it.
 use Rattle.std.proofs.Common.{◌≡◌, ℕ, ◌≤◌, Bool, true, List, ◌++◌, refl, sym, subst, arith}
 use Rattle.std.specs.Prelude.{not, ◌&&◌}
 use Rattle.std.specs.List.{AllByRecursion}
@@ -15,7 +15,7 @@ use Rattle.ballots.specs.Message.{IsValue}
 use Rattle.ballots.specs.Record.{RecordParts, record_parts_of, MeansRecord, IsRecordInRange, IsRecordText, began_fields, slot_fields, kept_ballot_fields, kept_value_fields, record_fields, canonical_record}
 use Rattle.ballots.proofs.Canonical.{number_fits, all_fit-append, all_fit-filter, value_is_short, is_single, and_true, number_same, bytes_same}
 
--- ---- each field has a spelling
+-- ---- each field has an encoding
 
 began_fits : AllByRecursion FitsField began_fields
 began_fits = (number_fits KIND BEGAN (omega arith, omega arith) (omega arith), tt)
@@ -73,6 +73,6 @@ pub canonical_means : (r : Record) → IsRecordInRange r → IsRecordText (canon
 unfolding canonical_record
 canonical_means r h = record {
   fields = present (record_fields r);
-  spells = fields_text-encodes (present (record_fields r)) (all_fit-filter (λ (f : Field). not (is_default f.held)) (record_fields r) (all_fits r h));
+  encodes = fields_text-encodes (present (record_fields r)) (all_fit-filter (λ (f : Field). not (is_default f.held)) (record_fields r) (all_fits r h));
   means = subst (λ (p : RecordParts). MeansRecord p r) (sym (parts_of-present (record_fields r) (fields_single r))) (fields_mean r h);
 }

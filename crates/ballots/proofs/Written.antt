@@ -5,6 +5,7 @@ use Rattle.std.specs.List.{flat_map}
 use Rattle.std.proofs.lemmas.List.Elements.{filter-append}
 use Rattle.std.proofs.lemmas.Grind.{flat_map-append}
 use Rattle.proto_fields.specs.Field.{Field, field_text, is_default, present}
+use Rattle.proto_fields.specs.Writing.{Grows}
 use Rattle.ballots.specs.Message.{written}
 
 pub written-append : (xs ys : List Field) → written (xs ++ ys) ≡ written xs ++ written ys
@@ -24,4 +25,17 @@ three_written old a b new f g h first second third = then_written old b new (f �
 pub parts_written : (old a b new : List ℕ) (xs ys zs : List Field) → a ≡ old ++ written xs → b ≡ a ++ written ys → new ≡ b ++ written zs → new ≡ old ++ written (xs ++ (ys ++ zs))
 parts_written old a b new xs ys zs first second third = then_written old a new xs (ys ++ zs) first (then_written a b new ys zs second third)
 
-pub ruleset written_rules = (two_written, three_written, then_written, parts_written)
+pub four_written : (old a b c new : List ℕ) (xs ys zs ws : List Field) → a ≡ old ++ written xs → b ≡ a ++ written ys → c ≡ b ++ written zs → new ≡ c ++ written ws
+    → new ≡ old ++ written (xs ++ (ys ++ (zs ++ ws)))
+four_written old a b c new xs ys zs ws first second third fourth =
+    then_written old a new xs (ys ++ (zs ++ ws)) first (parts_written a b c new ys zs ws second third fourth)
+
+-- what was written grew, and then grew again
+pub grows_on : (old mid new : List ℕ) → Grows old mid → Grows mid new → Grows old new
+grows_on old mid new first second =
+    (first.0 ++ second.0, second.1 ∙ ap (λ (l : List ℕ). l ++ second.0) first.1 ∙ append_assoc old first.0 second.0)
+
+pub grows_written : (old mid new : List ℕ) (xs : List Field) → mid ≡ old ++ written xs → Grows mid new → Grows old new
+grows_written old mid new xs first second = grows_on old mid new (written xs, first) second
+
+pub ruleset written_rules = (two_written, three_written, then_written, parts_written, grows_written)

@@ -5,9 +5,6 @@ pub mod Slots
 pub mod Value
 pub mod Message
 pub mod MessageReading
-pub mod Parts
-pub mod Row
+pub mod AllFields
 pub mod Record
 pub mod RecordReading
-pub mod RecordParts
-pub mod RecordRow

@@ -100,10 +100,25 @@ IsInRange (Accepted sender slot ballot value) = (sender ≤ MAX_NODE) × (slot �
 IsInRange (Ask sender slot) = (sender ≤ MAX_NODE) × (slot ≤ MAX_SLOT)
 IsInRange (Decided sender slot value) = (sender ≤ MAX_NODE) × (slot ≤ MAX_SLOT) × IsValue value
 
+-- what is copied where such a message is read: the bytes of an upload
+abbrev pub IsUpload : Value → Type 0
+IsUpload Noop = ⊥
+IsUpload (Upload bytes) = Unit {0}
+
+abbrev pub HasUpload : Message → Type 0
+HasUpload (Prepare sender slot ballot) = ⊥
+HasUpload (Promise sender slot ballot None) = ⊥
+HasUpload (Promise sender slot ballot (Some report)) = IsUpload report.1
+HasUpload (Nack sender slot ballot promised) = ⊥
+HasUpload (Accept sender slot ballot value) = IsUpload value
+HasUpload (Accepted sender slot ballot value) = IsUpload value
+HasUpload (Ask sender slot) = ⊥
+HasUpload (Decided sender slot value) = IsUpload value
+
 -- the text is a list of fields that mean the message
 pub record IsMessageText (text : List ℕ) (m : Message) : Type 0 where
   pub fields : List Field
-  pub spells : IsFields text fields
+  pub encodes : IsFields text fields
   pub means : Means (parts_of fields) m
 
 -- ---- faults
@@ -162,7 +177,7 @@ IsFaultOf text fault =
     (fault ≡ OutOfMemory) ⊎ WireStands fault text
     ⊎ ((fields : List Field) × IsFields text fields × PartsFault (parts_of fields) fault)
 
--- ---- the one written spelling
+-- ---- the one written encoding
 
 abbrev pub number_field : ℕ → ℕ → Field
 number_field number n = record { number = number; held = Varint n }
@@ -195,6 +210,6 @@ all_fields (Decided sender slot value) = head_fields DECIDED sender slot ++ valu
 abbrev pub written : List Field → List ℕ
 written fields = fields_text (present fields)
 
--- the one spelling of a message: rising field numbers, shortest varints, defaults left out
+-- the one encoding of a message: rising field numbers, shortest varints, defaults left out
 unfoldable pub canonical : Message → List ℕ
 canonical m = written (all_fields m)

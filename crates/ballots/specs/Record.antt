@@ -13,7 +13,7 @@ use Rattle.ballots.specs.declared.record.Record.TheVariants.{Began, Promised, Ac
 use Rattle.ballots.specs.declared.fault.MessageFault.{MessageFault}
 use Rattle.ballots.specs.declared.fault.MessageFault.TheVariants.{Wire, BadKind, OutOfMemory}
 use Rattle.ballots.specs.Ballot.{Ballot, IsBallot}
-use Rattle.ballots.specs.Message.{value_bytes, IsValue, MeansBallot, MeansValue, Misfit, IsAbove, BallotFault, ValueFault, WireStands, number_field, written}
+use Rattle.ballots.specs.Message.{value_bytes, IsValue, IsUpload, MeansBallot, MeansValue, Misfit, IsAbove, BallotFault, ValueFault, WireStands, number_field, written}
 
 -- what each field of a record means: the last one given or its default, or nothing where one is of another wire type
 pub record RecordParts : Type 0 where
@@ -51,10 +51,16 @@ IsRecordInRange (Began ballot) = IsBallot ballot
 IsRecordInRange (Promised slot ballot) = (slot ≤ MAX_SLOT) × IsBallot ballot
 IsRecordInRange (Accepted slot ballot value) = (slot ≤ MAX_SLOT) × IsBallot ballot × IsValue value
 
+-- what is copied where such a record is read: the bytes of an upload
+abbrev pub KeepsUpload : Record → Type 0
+KeepsUpload (Began ballot) = ⊥
+KeepsUpload (Promised slot ballot) = ⊥
+KeepsUpload (Accepted slot ballot value) = IsUpload value
+
 -- the text is a list of fields that mean the record
 pub record IsRecordText (text : List ℕ) (r : Record) : Type 0 where
   pub fields : List Field
-  pub spells : IsFields text fields
+  pub encodes : IsFields text fields
   pub means : MeansRecord (record_parts_of fields) r
 
 -- ---- faults
@@ -86,7 +92,7 @@ IsRecordFault text fault =
     (fault ≡ OutOfMemory) ⊎ WireStands fault text
     ⊎ ((fields : List Field) × IsFields text fields × RecordPartsFault (record_parts_of fields) fault)
 
--- ---- the one written spelling
+-- ---- the one written encoding
 
 abbrev pub began_fields : List Field
 began_fields = number_field KIND BEGAN ∷ []
@@ -106,6 +112,6 @@ record_fields (Began ballot) = began_fields ++ kept_ballot_fields ballot
 record_fields (Promised slot ballot) = slot_fields PROMISED slot ++ kept_ballot_fields ballot
 record_fields (Accepted slot ballot value) = slot_fields ACCEPTED slot ++ (kept_ballot_fields ballot ++ kept_value_fields value)
 
--- the one spelling of a record: rising field numbers, shortest varints, defaults left out
+-- the one encoding of a record: rising field numbers, shortest varints, defaults left out
 unfoldable pub canonical_record : Record → List ℕ
 canonical_record r = written (record_fields r)

@@ -9,13 +9,22 @@ use Rattle.ballots.specs.declared.record.Record.TheVariants.{Began, Promised, Ac
 use Rattle.ballots.specs.declared.fault.MessageFault.{MessageFault}
 use Rattle.ballots.specs.declared.fault.MessageFault.TheVariants.{BadKind}
 use Rattle.ballots.specs.Record.{RecordParts}
-use Rattle.ballots.specs.MessageReading.{known, within, ballot_at, value_at}
+use Rattle.ballots.specs.MessageReading.{known, within, ballot_at, acceptance_at}
+
+abbrev pub began_at : RecordParts → Result Record MessageFault
+began_at p = ballot_at p.round p.node >>= λ b. Ok (Began b)
+
+abbrev pub promised_at : RecordParts → Result Record MessageFault
+promised_at p = within MAX_SLOT p.slot >>= λ s. ballot_at p.round p.node >>= λ b. Ok (Promised s b)
+
+abbrev pub accepted_at : RecordParts → Result Record MessageFault
+accepted_at p = within MAX_SLOT p.slot >>= λ s. acceptance_at p.round p.node p.value >>= λ a. Ok (Accepted s a.0 a.1)
 
 unfoldable pub kept_at : ℕ → RecordParts → Result Record MessageFault
 kept_at kind p =
-    if kind == BEGAN then (ballot_at p.round p.node >>= λ b. Ok (Began b))
-    else if kind == PROMISED then (within MAX_SLOT p.slot >>= λ s. ballot_at p.round p.node >>= λ b. Ok (Promised s b))
-    else if kind == ACCEPTED then (within MAX_SLOT p.slot >>= λ s. ballot_at p.round p.node >>= λ b. value_at p.value >>= λ v. Ok (Accepted s b v))
+    if kind == BEGAN then began_at p
+    else if kind == PROMISED then promised_at p
+    else if kind == ACCEPTED then accepted_at p
     else Err BadKind
 
 unfoldable pub record_at : RecordParts → Result Record MessageFault

@@ -1,205 +1,167 @@
 //! Messages read from their bytes.
 
-ghost use Rattle.std.specs.Prelude.{◌≡◌, ◌≤◌, ◌⊎◌, ℕ, Option, IfOk, IfErr, Ok, Err};
-ghost use Rattle.std.specs.Option.{option_map};
+ghost use Rattle.std.specs.Prelude.{◌≡◌, ◌⊎◌, IfOk, IfErr, Ok, Err};
 ghost use Rattle.ballots.specs.declared.message.Message.{Message as Meant};
 ghost use Rattle.ballots.specs.declared.fault.MessageFault.TheVariants.{OutOfMemory};
-ghost use Rattle.ballots.specs.Message.{IsMessageText, IsFaultOf};
-ghost use Rattle.ballots.specs.Parts.{parts_at};
-ghost use Rattle.ballots.specs.MessageReading.{Gives, within, ballot_at, value_at, report_at, vote_at, body_at, message_at, known};
+ghost use Rattle.ballots.specs.Message.{parts_of, IsMessageText, IsFaultOf, HasUpload};
+ghost use Rattle.ballots.specs.MessageReading.{Gives, ReportsUpload, OfFields, TellsFields, prepare_at, promise_at, report_at, nack_at, accept_at, accepted_at, decided_at, body_at, message_at};
 
-use crate::ballot::{Ballot, MAX_ROUND};
+use crate::ballot::Ballot;
 use crate::fault::MessageFault;
 use crate::message::Message;
-use crate::message::numbers::{ACCEPT, ACCEPTED, ASK, DECIDED, NACK, PREPARE, PROMISE};
-use crate::node::{MAX_NODE, NodeId};
-use crate::parts::{Parts, read_parts};
-use crate::slot::{MAX_SLOT, Slot};
-use crate::value::{MAX_UPLOAD_BYTES, UploadBytes, Value};
-use bytes::Bytes;
-use proto_fields::WireFault;
+use crate::message::numbers::{
+    ACCEPT, ACCEPTED, ASK, DECIDED, KIND, NACK, NODE, PREPARE, PROMISE, ROUND, SECOND_NODE,
+    SECOND_ROUND, SENDER, SLOT, VALUE,
+};
+use crate::node::NodeId;
+use crate::reading::{acceptance_at, ballot_at, node_at, slot_at, value_at};
+use crate::slot::Slot;
+use crate::value::Value;
+use proto_fields::number_at;
 use std::alloc::Global;
 
-#[tactic(auto, unfolding(crate::specs::MessageReading::within, crate::specs::MessageReading::known))]
-fn number_within(number: Option<u64>, limit: u64) -> Result<u64, MessageFault>
-    ensures read { Gives result (within limit number) }
-    ensures bound { IfOk result (λ n. n ≤ limit) }
+#[tactic(auto, using(crate::proofs::Steps::steps))]
+fn prepare_of(text: &[u8], sender: NodeId, slot: Slot) -> Result<Message, MessageFault>
+    ensures { OfFields text.now (λ fields. Gives HasUpload result (prepare_at sender slot (parts_of fields))) }
 {
-    let Some(number) = number else {
-        return Err(MessageFault::Wire(WireFault::BadWireType));
-    };
-    if number > limit {
-        return Err(MessageFault::OutOfRange);
-    }
-    Ok(number)
+    let ballot = ballot_at(text, ROUND, NODE)?;
+    Ok(Message::Prepare {
+        sender,
+        slot,
+        ballot,
+    })
 }
 
-fn node_of(number: Option<u64>) -> Result<NodeId, MessageFault>
-    ensures { Gives result (within MAX_NODE number) }
+/// What a Promise reports: nothing where its second round is 0, whatever else stands there.
+#[tactic(auto, using(crate::proofs::Steps::steps), unfolding(crate::specs::MessageReading::report_at, crate::specs::MessageReading::known))]
+fn report_of(alloc: Global, text: &[u8]) -> Result<Option<(Ballot, Value)>, MessageFault>
+    ensures { OfFields text.now (λ fields. Gives ReportsUpload result (report_at (parts_of fields))) }
 {
-    let number = number_within(number, u64::from(MAX_NODE))?;
-    match NodeId::new(number as u8) {
-        Some(node) => Ok(node),
-        None => Err(MessageFault::OutOfRange),
+    let second_round = number_at(text, SECOND_ROUND)?;
+    if second_round == 0 {
+        return Ok(None);
     }
+    let report = acceptance_at(alloc, text, (SECOND_ROUND, SECOND_NODE), VALUE)?;
+    Ok(Some(report))
 }
 
-pub(crate) fn slot_of(number: Option<u64>) -> Result<Slot, MessageFault>
-    ensures { Gives result (within MAX_SLOT number) }
+#[tactic(auto, using(crate::proofs::Steps::steps))]
+fn promise_of(
+    alloc: Global,
+    text: &[u8],
+    sender: NodeId,
+    slot: Slot,
+) -> Result<Message, MessageFault>
+    ensures { OfFields text.now (λ fields. Gives HasUpload result (promise_at sender slot (parts_of fields))) }
 {
-    let number = number_within(number, u64::from(MAX_SLOT))?;
-    match Slot::new(number as u32) {
-        Some(slot) => Ok(slot),
-        None => Err(MessageFault::OutOfRange),
-    }
+    let ballot = ballot_at(text, ROUND, NODE)?;
+    let report = report_of(alloc, text)?;
+    Ok(Message::Promise {
+        sender,
+        slot,
+        ballot,
+        report,
+    })
 }
 
-#[tactic(auto, unfolding(crate::specs::MessageReading::ballot_at))]
-pub(crate) fn ballot_of(round: Option<u64>, node: Option<u64>) -> Result<Ballot, MessageFault>
-    ensures { Gives result (ballot_at round node) }
+#[tactic(auto, using(crate::proofs::Steps::steps))]
+fn nack_of(text: &[u8], sender: NodeId, slot: Slot) -> Result<Message, MessageFault>
+    ensures { OfFields text.now (λ fields. Gives HasUpload result (nack_at sender slot (parts_of fields))) }
 {
-    let round = number_within(round, u64::from(MAX_ROUND))?;
-    let node = node_of(node)?;
-    match Ballot::new(round as u32, node) {
-        Some(ballot) => Ok(ballot),
-        None => Err(MessageFault::OutOfRange),
-    }
+    let ballot = ballot_at(text, ROUND, NODE)?;
+    let promised = ballot_at(text, SECOND_ROUND, SECOND_NODE)?;
+    Ok(Message::Nack {
+        sender,
+        slot,
+        ballot,
+        promised,
+    })
 }
 
-#[tactic(auto, unfolding(crate::specs::MessageReading::value_at, crate::specs::MessageReading::known))]
-pub(crate) fn value_of(alloc: Global, bytes: Option<&[u8]>) -> Result<Value, MessageFault>
-    ensures { Gives result (value_at (option_map (λ b. b.now) bytes.entry)) }
+#[tactic(auto, using(crate::proofs::Steps::steps))]
+fn accept_of(
+    alloc: Global,
+    text: &[u8],
+    sender: NodeId,
+    slot: Slot,
+) -> Result<Message, MessageFault>
+    ensures { OfFields text.now (λ fields. Gives HasUpload result (accept_at sender slot (parts_of fields))) }
 {
-    let Some(bytes) = bytes else {
-        return Err(MessageFault::Wire(WireFault::BadWireType));
-    };
-    if bytes.is_empty() {
-        return Ok(Value::Noop);
-    }
-    if bytes.len() > MAX_UPLOAD_BYTES {
-        return Err(MessageFault::OutOfRange);
-    }
-    let Ok(copy) = Bytes::copy_from_slice(alloc, bytes) else {
-        return Err(MessageFault::OutOfMemory);
-    };
-    match UploadBytes::new(copy) {
-        Some(upload) => Ok(Value::Upload(upload)),
-        None => Err(MessageFault::OutOfRange),
-    }
+    let (ballot, value) = acceptance_at(alloc, text, (ROUND, NODE), VALUE)?;
+    Ok(Message::Accept {
+        sender,
+        slot,
+        ballot,
+        value,
+    })
 }
 
-#[tactic(auto, unfolding(crate::specs::MessageReading::report_at, crate::specs::MessageReading::known))]
-fn report_of(alloc: Global, parts: &Parts<'_>) -> Result<Option<(Ballot, Value)>, MessageFault>
-    ensures { Gives result (report_at (parts_at parts.now)) }
+#[tactic(auto, using(crate::proofs::Steps::steps))]
+fn accepted_of(
+    alloc: Global,
+    text: &[u8],
+    sender: NodeId,
+    slot: Slot,
+) -> Result<Message, MessageFault>
+    ensures { OfFields text.now (λ fields. Gives HasUpload result (accepted_at sender slot (parts_of fields))) }
 {
-    match parts.second_round {
-        None => Err(MessageFault::Wire(WireFault::BadWireType)),
-        Some(0) => Ok(None),
-        Some(_) => {
-            let ballot = ballot_of(parts.second_round, parts.second_node)?;
-            let value = value_of(alloc, parts.value)?;
-            Ok(Some((ballot, value)))
-        }
-    }
+    let (ballot, value) = acceptance_at(alloc, text, (ROUND, NODE), VALUE)?;
+    Ok(Message::Accepted {
+        sender,
+        slot,
+        ballot,
+        value,
+    })
+}
+
+#[tactic(auto, using(crate::proofs::Steps::steps))]
+fn decided_of(
+    alloc: Global,
+    text: &[u8],
+    sender: NodeId,
+    slot: Slot,
+) -> Result<Message, MessageFault>
+    ensures { OfFields text.now (λ fields. Gives HasUpload result (decided_at sender slot (parts_of fields))) }
+{
+    let value = value_at(alloc, text, VALUE)?;
+    Ok(Message::Decided {
+        sender,
+        slot,
+        value,
+    })
 }
 
 #[tactic(auto, unfolding(crate::specs::MessageReading::body_at))]
 fn body_of(
     alloc: Global,
     kind: u64,
+    text: &[u8],
     sender: NodeId,
     slot: Slot,
-    parts: &Parts<'_>,
 ) -> Result<Message, MessageFault>
-    ensures { Gives result (body_at kind sender slot (parts_at parts.now)) }
+    ensures { OfFields text.now (λ fields. Gives HasUpload result (body_at kind sender slot (parts_of fields))) }
 {
     match kind {
-        PREPARE => {
-            let ballot = ballot_of(parts.round, parts.node)?;
-            Ok(Message::Prepare {
-                sender,
-                slot,
-                ballot,
-            })
-        }
-        PROMISE => {
-            let ballot = ballot_of(parts.round, parts.node)?;
-            let report = report_of(alloc, parts)?;
-            Ok(Message::Promise {
-                sender,
-                slot,
-                ballot,
-                report,
-            })
-        }
-        NACK => {
-            let ballot = ballot_of(parts.round, parts.node)?;
-            let promised = ballot_of(parts.second_round, parts.second_node)?;
-            Ok(Message::Nack {
-                sender,
-                slot,
-                ballot,
-                promised,
-            })
-        }
-        _ => vote_of(alloc, kind, sender, slot, parts),
-    }
-}
-
-// A message about a vote, or what was decided of the votes.
-fn vote_of(
-    alloc: Global,
-    kind: u64,
-    sender: NodeId,
-    slot: Slot,
-    parts: &Parts<'_>,
-) -> Result<Message, MessageFault>
-    ensures { Gives result (vote_at kind sender slot (parts_at parts.now)) }
-{
-    match kind {
-        ACCEPT => {
-            let ballot = ballot_of(parts.round, parts.node)?;
-            let value = value_of(alloc, parts.value)?;
-            Ok(Message::Accept {
-                sender,
-                slot,
-                ballot,
-                value,
-            })
-        }
-        ACCEPTED => {
-            let ballot = ballot_of(parts.round, parts.node)?;
-            let value = value_of(alloc, parts.value)?;
-            Ok(Message::Accepted {
-                sender,
-                slot,
-                ballot,
-                value,
-            })
-        }
+        PREPARE => prepare_of(text, sender, slot),
+        PROMISE => promise_of(alloc, text, sender, slot),
+        NACK => nack_of(text, sender, slot),
+        ACCEPT => accept_of(alloc, text, sender, slot),
+        ACCEPTED => accepted_of(alloc, text, sender, slot),
         ASK => Ok(Message::Ask { sender, slot }),
-        DECIDED => {
-            let value = value_of(alloc, parts.value)?;
-            Ok(Message::Decided {
-                sender,
-                slot,
-                value,
-            })
-        }
+        DECIDED => decided_of(alloc, text, sender, slot),
         _ => Err(MessageFault::BadKind),
     }
 }
 
-#[tactic(auto, unfolding(crate::specs::MessageReading::message_at, crate::specs::MessageReading::known))]
-fn message_of(alloc: Global, parts: &Parts<'_>) -> Result<Message, MessageFault>
-    ensures { Gives result (message_at (parts_at parts.now)) }
+#[tactic(auto, using(crate::proofs::Steps::steps), unfolding(crate::specs::MessageReading::message_at, crate::specs::MessageReading::known))]
+fn message_of(alloc: Global, text: &[u8]) -> Result<Message, MessageFault>
+    ensures meant { OfFields text.now (λ fields. Gives HasUpload result (message_at (parts_of fields))) }
+    ensures fields { TellsFields text.now result }
 {
-    let Some(kind) = parts.kind else {
-        return Err(MessageFault::Wire(WireFault::BadWireType));
-    };
-    let sender = node_of(parts.sender)?;
-    let slot = slot_of(parts.slot)?;
-    body_of(alloc, kind, sender, slot, parts)
+    let kind = number_at(text, KIND)?;
+    let sender = node_at(text, SENDER)?;
+    let slot = slot_at(text, SLOT)?;
+    body_of(alloc, kind, text, sender, slot)
 }
 
 impl Message {
@@ -208,15 +170,13 @@ impl Message {
     /// A text that means no message is refused with a fault that stands in it: [`MessageFault::Wire`] where it is no list
     /// of protobuf fields or a field that its kind has is of another wire type, [`MessageFault::BadKind`],
     /// [`MessageFault::OutOfRange`]. Fields that the kind does not have are passed over. The only other refusal is
-    /// [`MessageFault::OutOfMemory`].
+    /// [`MessageFault::OutOfMemory`], and only of a text that means a message with an upload: its bytes are copied last.
     pub fn decode(alloc: Global, text: &[u8]) -> Result<Message, MessageFault>
         ensures read { IfOk result (IsMessageText text.now) }
         ensures only { (m : Meant) → IsMessageText text.now m → (result ≡ Ok m) ⊎ (result ≡ Err OutOfMemory) }
         ensures fault { IfErr result (IsFaultOf text.now) }
+        ensures memory { result ≡ Err OutOfMemory → (m : Meant) × IsMessageText text.now m × HasUpload m }
     {
-        match read_parts(text) {
-            Ok(parts) => message_of(alloc, &parts),
-            Err(fault) => Err(MessageFault::Wire(fault)),
-        }
+        message_of(alloc, text)
     }
 }

@@ -1,14 +1,12 @@
-//! Messages written as bytes, each in its one canonical spelling.
+//! Messages written as bytes, each in its one canonical encoding.
 
-ghost use Rattle.std.specs.Prelude.{◌≡◌, ◌≤◌, ◌++◌, List, ℕ, OnOk, OnErr};
+ghost use Rattle.std.specs.Prelude.{◌≡◌, ◌≤◌, ◌++◌, OnOk, OnErr};
 ghost use Rattle.proto_fields.specs.Writing.{Grows};
 ghost use Rattle.ballots.specs.declared.node.TheConstants.{MAX_NODE};
 ghost use Rattle.ballots.specs.declared.slot.TheConstants.{MAX_SLOT};
-ghost use Rattle.ballots.specs.declared.message.Message.TheVariants.{Promise};
-ghost use Rattle.ballots.specs.Ballot.{IsBallot};
-ghost use Rattle.ballots.specs.Message.{head_fields, ballot_fields, second_fields, value_fields, all_fields, written, canonical, value_bytes, IsValue, IsInRange, IsMessageText};
+ghost use Rattle.ballots.specs.Message.{head_fields, written, canonical, IsInRange, IsMessageText};
+ghost use Rattle.ballots.specs.AllFields.{all_fields_text};
 
-use crate::ballot::Ballot;
 use crate::message::Message;
 use crate::message::numbers::{
     ACCEPT, ACCEPTED, ASK, DECIDED, KIND, NACK, NODE, PREPARE, PROMISE, ROUND, SECOND_NODE,
@@ -16,207 +14,55 @@ use crate::message::numbers::{
 };
 use crate::node::NodeId;
 use crate::slot::Slot;
-use crate::value::{OutOfMemory, Value};
+use crate::value::OutOfMemory;
+use crate::writing::{NO_BALLOT, append_pair, or_undone, pair};
 use proto_fields::{write_nonempty_bytes, write_nonzero_varint};
 
-#[tactic(auto, using(crate::proofs::Written::written_rules))]
-fn append_head(out: &mut Vec<u8>, kind: u64, sender: NodeId, slot: Slot) -> Result<(), OutOfMemory>
-    ensures ok { OnOk result (out.new.items ≡ out.old.items ++ written (head_fields kind sender slot)) }
-    ensures err { Grows out.old.items out.new.items }
-    ensures sender { sender ≤ MAX_NODE }
-    ensures slot { slot ≤ MAX_SLOT }
+/// What every message has, as numbers.
+fn head(sender: NodeId, slot: Slot) -> (u8, u32)
+    ensures value { (result.0 ≡ sender) × (result.1 ≡ slot) }
+    ensures within { (sender ≤ MAX_NODE) × (slot ≤ MAX_SLOT) }
 {
-    let (sender, slot) = (sender.number(), slot.number());
+    (sender.number(), slot.number())
+}
+
+#[tactic(auto, using(crate::proofs::Written::written_rules))]
+fn append_head(out: &mut Vec<u8>, kind: u64, head: (u8, u32)) -> Result<(), OutOfMemory>
+    ensures ok { OnOk result (out.new.items ≡ out.old.items ++ written (head_fields kind head.0 head.1)) }
+    ensures err { Grows out.old.items out.new.items }
+{
     write_nonzero_varint(out, KIND, kind)?;
-    write_nonzero_varint(out, SENDER, u64::from(sender))?;
-    write_nonzero_varint(out, SLOT, u64::from(slot))?;
+    write_nonzero_varint(out, SENDER, u64::from(head.0))?;
+    write_nonzero_varint(out, SLOT, u64::from(head.1))?;
     Ok(())
 }
 
+/// Appends all fields of a message, those left out that are 0 or no bytes: its head, a first and a second ballot, and
+/// the bytes of a value.
 #[tactic(auto, using(crate::proofs::Written::written_rules))]
-fn append_ballot(out: &mut Vec<u8>, ballot: Ballot) -> Result<(), OutOfMemory>
-    ensures ok { OnOk result (out.new.items ≡ out.old.items ++ written (ballot_fields ballot)) }
-    ensures err { Grows out.old.items out.new.items }
-    ensures within { IsBallot ballot }
-{
-    let (round, node) = (ballot.round(), ballot.node().number());
-    write_nonzero_varint(out, ROUND, u64::from(round))?;
-    write_nonzero_varint(out, NODE, u64::from(node))?;
-    Ok(())
-}
-
-#[tactic(auto, using(crate::proofs::Written::written_rules))]
-fn append_second(out: &mut Vec<u8>, ballot: Ballot) -> Result<(), OutOfMemory>
-    ensures ok { OnOk result (out.new.items ≡ out.old.items ++ written (second_fields ballot)) }
-    ensures err { Grows out.old.items out.new.items }
-    ensures within { IsBallot ballot }
-{
-    let (round, node) = (ballot.round(), ballot.node().number());
-    write_nonzero_varint(out, SECOND_ROUND, u64::from(round))?;
-    write_nonzero_varint(out, SECOND_NODE, u64::from(node))?;
-    Ok(())
-}
-
-impl Value {
-    /// The bytes of an upload's value, none of a Noop.
-    pub fn as_bytes(&self) -> &[u8]
-        ensures value { result.now ≡ value_bytes self.now }
-        ensures within { IsValue self.now }
-    {
-        match self {
-            Value::Noop => &[],
-            Value::Upload(bytes) => bytes.as_slice(),
-        }
-    }
-}
-
-fn append_value(out: &mut Vec<u8>, value: &Value) -> Result<(), OutOfMemory>
-    ensures ok { OnOk result (out.new.items ≡ out.old.items ++ written (value_fields value.now)) }
-    ensures err { Grows out.old.items out.new.items }
-    ensures within { IsValue value.now }
-{
-    write_nonempty_bytes(out, VALUE, value.as_bytes())?;
-    Ok(())
-}
-
-#[tactic(auto, using(crate::proofs::Written::written_rules))]
-fn append_voted(out: &mut Vec<u8>, ballot: Ballot, value: &Value) -> Result<(), OutOfMemory>
-    ensures ok { OnOk result (out.new.items ≡ out.old.items ++ written (ballot_fields ballot ++ value_fields value.now)) }
-    ensures err { Grows out.old.items out.new.items }
-    ensures within { OnOk result (IsBallot ballot × IsValue value.now) }
-{
-    append_ballot(out, ballot)?;
-    append_value(out, value)?;
-    Ok(())
-}
-
-#[tactic(auto, using(crate::proofs::Written::written_rules))]
-fn append_report(
-    out: &mut Vec<u8>,
-    ballot: Ballot,
-    reported: Ballot,
-    value: &Value,
-) -> Result<(), OutOfMemory>
-    ensures ok { OnOk result (out.new.items
-        ≡ out.old.items ++ written (ballot_fields ballot ++ (second_fields reported ++ value_fields value.now))) }
-    ensures err { Grows out.old.items out.new.items }
-    ensures within { OnOk result (IsBallot ballot × IsBallot reported × IsValue value.now) }
-{
-    append_ballot(out, ballot)?;
-    append_second(out, reported)?;
-    append_value(out, value)?;
-    Ok(())
-}
-
-#[tactic(auto, using(crate::proofs::Written::written_rules))]
-fn append_ballots(out: &mut Vec<u8>, ballot: Ballot, second: Ballot) -> Result<(), OutOfMemory>
-    ensures ok { OnOk result (out.new.items ≡ out.old.items ++ written (ballot_fields ballot ++ second_fields second)) }
-    ensures err { Grows out.old.items out.new.items }
-    ensures within { OnOk result (IsBallot ballot × IsBallot second) }
-{
-    append_ballot(out, ballot)?;
-    append_second(out, second)?;
-    Ok(())
-}
-
-#[tactic(auto, using(crate::proofs::Written::written_rules))]
-fn append_promise(
-    out: &mut Vec<u8>,
-    sender: NodeId,
-    slot: Slot,
-    ballot: Ballot,
-    report: &Option<(Ballot, Value)>,
-) -> Result<(), OutOfMemory>
-    ensures ok { OnOk result (out.new.items ≡ out.old.items ++ written (all_fields (Promise sender slot ballot report.now))) }
-    ensures err { Grows out.old.items out.new.items }
-    ensures within { OnOk result (IsInRange (Promise sender slot ballot report.now)) }
-{
-    append_head(out, PROMISE, sender, slot)?;
-    match report {
-        None => {
-            append_ballot(out, ballot)?;
-            Ok(())
-        }
-        Some((reported, value)) => {
-            append_report(out, ballot, *reported, value)?;
-            Ok(())
-        }
-    }
-}
-
-#[tactic(auto, using(crate::proofs::Written::written_rules))]
-fn append_prepare(
-    out: &mut Vec<u8>,
-    sender: NodeId,
-    slot: Slot,
-    ballot: Ballot,
-) -> Result<(), OutOfMemory>
-    ensures ok { OnOk result (out.new.items ≡ out.old.items ++ written (head_fields PREPARE sender slot ++ ballot_fields ballot)) }
-    ensures err { Grows out.old.items out.new.items }
-    ensures within { OnOk result ((sender ≤ MAX_NODE) × (slot ≤ MAX_SLOT) × IsBallot ballot) }
-{
-    append_head(out, PREPARE, sender, slot)?;
-    append_ballot(out, ballot)?;
-    Ok(())
-}
-
-#[tactic(auto, using(crate::proofs::Written::written_rules))]
-fn append_nack(
-    out: &mut Vec<u8>,
-    sender: NodeId,
-    slot: Slot,
-    ballot: Ballot,
-    promised: Ballot,
-) -> Result<(), OutOfMemory>
-    ensures ok { OnOk result (out.new.items
-        ≡ out.old.items ++ written (head_fields NACK sender slot ++ (ballot_fields ballot ++ second_fields promised))) }
-    ensures err { Grows out.old.items out.new.items }
-    ensures within { OnOk result ((sender ≤ MAX_NODE) × (slot ≤ MAX_SLOT) × IsBallot ballot × IsBallot promised) }
-{
-    append_head(out, NACK, sender, slot)?;
-    append_ballots(out, ballot, promised)?;
-    Ok(())
-}
-
-// An Accept or an Accepted.
-#[tactic(auto, using(crate::proofs::Written::written_rules))]
-fn append_vote(
+fn append_fields(
     out: &mut Vec<u8>,
     kind: u64,
-    sender: NodeId,
-    slot: Slot,
-    ballot: Ballot,
-    value: &Value,
+    head: (u8, u32),
+    first: (u32, u8),
+    second: (u32, u8),
+    value: &[u8],
 ) -> Result<(), OutOfMemory>
     ensures ok { OnOk result (out.new.items
-        ≡ out.old.items ++ written (head_fields kind sender slot ++ (ballot_fields ballot ++ value_fields value.now))) }
+        ≡ out.old.items ++ all_fields_text kind head.0 head.1 first.0 first.1 second.0 second.1 value.now) }
     ensures err { Grows out.old.items out.new.items }
-    ensures within { OnOk result ((sender ≤ MAX_NODE) × (slot ≤ MAX_SLOT) × IsBallot ballot × IsValue value.now) }
 {
-    append_head(out, kind, sender, slot)?;
-    append_voted(out, ballot, value)?;
-    Ok(())
-}
-
-#[tactic(auto, using(crate::proofs::Written::written_rules))]
-fn append_decided(
-    out: &mut Vec<u8>,
-    sender: NodeId,
-    slot: Slot,
-    value: &Value,
-) -> Result<(), OutOfMemory>
-    ensures ok { OnOk result (out.new.items ≡ out.old.items ++ written (head_fields DECIDED sender slot ++ value_fields value.now)) }
-    ensures err { Grows out.old.items out.new.items }
-    ensures within { OnOk result ((sender ≤ MAX_NODE) × (slot ≤ MAX_SLOT) × IsValue value.now) }
-{
-    append_head(out, DECIDED, sender, slot)?;
-    append_value(out, value)?;
+    append_head(out, kind, head)?;
+    append_pair(out, (ROUND, NODE), first)?;
+    append_pair(out, (SECOND_ROUND, SECOND_NODE), second)?;
+    write_nonempty_bytes(out, VALUE, value)?;
     Ok(())
 }
 
 impl Message {
+    #[tactic(auto, using(crate::proofs::AllFields::all_fields))]
     fn append(&self, out: &mut Vec<u8>) -> Result<(), OutOfMemory>
-        ensures ok { OnOk result (out.new.items ≡ out.old.items ++ written (all_fields self.now)) }
+        ensures ok { OnOk result (out.new.items ≡ out.old.items ++ canonical self.now) }
         ensures err { Grows out.old.items out.new.items }
         ensures within { OnOk result (IsInRange self.now) }
     {
@@ -225,37 +71,99 @@ impl Message {
                 sender,
                 slot,
                 ballot,
-            } => append_prepare(out, *sender, *slot, *ballot),
+            } => append_fields(
+                out,
+                PREPARE,
+                head(*sender, *slot),
+                pair(*ballot),
+                NO_BALLOT,
+                &[],
+            ),
             Message::Promise {
                 sender,
                 slot,
                 ballot,
-                report,
-            } => append_promise(out, *sender, *slot, *ballot, report),
+                report: None,
+            } => append_fields(
+                out,
+                PROMISE,
+                head(*sender, *slot),
+                pair(*ballot),
+                NO_BALLOT,
+                &[],
+            ),
+            Message::Promise {
+                sender,
+                slot,
+                ballot,
+                report: Some((reported, value)),
+            } => append_fields(
+                out,
+                PROMISE,
+                head(*sender, *slot),
+                pair(*ballot),
+                pair(*reported),
+                value.as_bytes(),
+            ),
             Message::Nack {
                 sender,
                 slot,
                 ballot,
                 promised,
-            } => append_nack(out, *sender, *slot, *ballot, *promised),
+            } => append_fields(
+                out,
+                NACK,
+                head(*sender, *slot),
+                pair(*ballot),
+                pair(*promised),
+                &[],
+            ),
             Message::Accept {
                 sender,
                 slot,
                 ballot,
                 value,
-            } => append_vote(out, ACCEPT, *sender, *slot, *ballot, value),
+            } => append_fields(
+                out,
+                ACCEPT,
+                head(*sender, *slot),
+                pair(*ballot),
+                NO_BALLOT,
+                value.as_bytes(),
+            ),
             Message::Accepted {
                 sender,
                 slot,
                 ballot,
                 value,
-            } => append_vote(out, ACCEPTED, *sender, *slot, *ballot, value),
-            Message::Ask { sender, slot } => append_head(out, ASK, *sender, *slot),
+            } => append_fields(
+                out,
+                ACCEPTED,
+                head(*sender, *slot),
+                pair(*ballot),
+                NO_BALLOT,
+                value.as_bytes(),
+            ),
+            Message::Ask { sender, slot } => append_fields(
+                out,
+                ASK,
+                head(*sender, *slot),
+                NO_BALLOT,
+                NO_BALLOT,
+                &[],
+            ),
             Message::Decided {
                 sender,
                 slot,
                 value,
-            } => append_decided(out, *sender, *slot, value),
+            } => append_fields(
+                out,
+                DECIDED,
+                head(*sender, *slot),
+                NO_BALLOT,
+                NO_BALLOT,
+                value.as_bytes(),
+            ),
         }
     }
 
@@ -268,10 +176,7 @@ impl Message {
         ensures means { OnOk result (IsMessageText (canonical self.now) self.now) }
     {
         let start = out.len();
-        let result = self.append(out);
-        if result.is_err() {
-            out.truncate(start);
-        }
-        result
+        let appended = self.append(out);
+        or_undone(out, start, appended)
     }
 }

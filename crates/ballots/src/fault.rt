@@ -31,3 +31,14 @@ impl From<AllocError> for MessageFault {
         MessageFault::OutOfMemory
     }
 }
+
+impl From<WireFault> for MessageFault {
+    ghost use Rattle.std.specs.Prelude.{◌≡◌};
+    ghost use Rattle.ballots.specs.declared.fault.MessageFault.TheVariants.{Wire};
+
+    ghost from_gives = { λ wire fault. fault ≡ Wire wire };
+
+    fn from(wire: WireFault) -> MessageFault {
+        MessageFault::Wire(wire)
+    }
+}

@@ -3,6 +3,7 @@
 ghost use Rattle.std.specs.Prelude.{◌≡◌, ◌==◌, ◌<◌, ◌≤◌, ◌||◌, ◌⊎◌, ◌↔◌, ℕ, suc, Bool, true, false, IsTrue, List, [], Some, None};
 ghost use Rattle.std.specs.declared.cmp.Ordering.TheVariants.{Less, Equal, Greater};
 ghost use Rattle.ballots.specs.declared.value.Value.{Value};
+ghost use Rattle.ballots.specs.declared.value.Value.TheVariants.{Noop};
 ghost use Rattle.ballots.specs.declared.message.Message.{Message as Meant};
 ghost use Rattle.ballots.specs.declared.message.Message.TheVariants.{Prepare, Promise, Nack, Accept, Accepted, Ask, Decided};
 ghost use Rattle.ballots.specs.declared.ballot.TheConstants.{MAX_ROUND};
@@ -14,12 +15,11 @@ ghost use Rattle.ballots.specs.Limits.{max_round, max_node, max_members, max_slo
 ghost use Rattle.ballots.specs.Ballot.{Ballot as Pair, IsBelow, IsAbove, IsAtLeast, ballot_cmp, is_same_ballot};
 ghost use Rattle.ballots.specs.Majority.{tally, IsMajority};
 ghost use Rattle.ballots.specs.Slots.{SetsSlot};
-ghost use Rattle.ballots.specs.Message.{IsMessageText, IsInRange, canonical, value_bytes};
-ghost use Rattle.ballots.specs.Row.{row_text};
+ghost use Rattle.ballots.specs.Message.{IsMessageText, IsInRange, HasUpload, canonical, value_bytes};
+ghost use Rattle.ballots.specs.AllFields.{all_fields_text, all_record_fields_text};
 ghost use Rattle.ballots.specs.declared.record.Record.{Record as Kept};
 ghost use Rattle.ballots.specs.declared.record.Record.TheVariants.{Began, Promised, Accepted as HasAccepted};
-ghost use Rattle.ballots.specs.Record.{IsRecordText, IsRecordInRange, canonical_record};
-ghost use Rattle.ballots.specs.RecordRow.{record_row};
+ghost use Rattle.ballots.specs.Record.{IsRecordText, IsRecordInRange, KeepsUpload, canonical_record};
 
 /// The limits of the definitions are these numbers, and the program's constants are the same.
 pub fn limits_are_these()
@@ -91,26 +91,41 @@ pub fn messages_are_one()
     ensures { (text : List ℕ) (m n : Meant) → IsMessageText text m → IsMessageText text n → m ≡ n }
 {}
 
-/// The one written spelling of a message means that message.
+/// The one written encoding of a message means that message.
 pub fn canonical_means_its_message()
     ensures { (m : Meant) → IsInRange m → IsMessageText (canonical m) m }
 {}
 
 /// Whatever its kind, a message is written as all eight fields in their order, those left out that are 0 or no bytes: a
 /// Prepare as kind 1, and so on up to a Decided as kind 7.
-#[tactic(auto, using(crate::proofs::Rows::rows))]
-pub fn messages_are_rows()
-    ensures prepare { (s t : ℕ) (b : Pair) → canonical (Prepare s t b) ≡ row_text 1 s t b.round b.node 0 0 [] }
-    ensures promise { (s t : ℕ) (b : Pair) → canonical (Promise s t b None) ≡ row_text 2 s t b.round b.node 0 0 [] }
+#[tactic(auto, using(crate::proofs::AllFields::all_fields))]
+pub fn messages_write_all_fields()
+    ensures prepare { (s t : ℕ) (b : Pair) → canonical (Prepare s t b) ≡ all_fields_text 1 s t b.round b.node 0 0 [] }
+    ensures promise { (s t : ℕ) (b : Pair) → canonical (Promise s t b None) ≡ all_fields_text 2 s t b.round b.node 0 0 [] }
     ensures report { (s t : ℕ) (b r : Pair) (v : Value) → canonical (Promise s t b (Some (r, v)))
-        ≡ row_text 2 s t b.round b.node r.round r.node (value_bytes v) }
-    ensures nack { (s t : ℕ) (b c : Pair) → canonical (Nack s t b c) ≡ row_text 3 s t b.round b.node c.round c.node [] }
+        ≡ all_fields_text 2 s t b.round b.node r.round r.node (value_bytes v) }
+    ensures nack { (s t : ℕ) (b c : Pair) → canonical (Nack s t b c) ≡ all_fields_text 3 s t b.round b.node c.round c.node [] }
     ensures accept { (s t : ℕ) (b : Pair) (v : Value) → canonical (Accept s t b v)
-        ≡ row_text 4 s t b.round b.node 0 0 (value_bytes v) }
+        ≡ all_fields_text 4 s t b.round b.node 0 0 (value_bytes v) }
     ensures accepted { (s t : ℕ) (b : Pair) (v : Value) → canonical (Accepted s t b v)
-        ≡ row_text 5 s t b.round b.node 0 0 (value_bytes v) }
-    ensures ask { (s t : ℕ) → canonical (Ask s t) ≡ row_text 6 s t 0 0 0 0 [] }
-    ensures decided { (s t : ℕ) (v : Value) → canonical (Decided s t v) ≡ row_text 7 s t 0 0 0 0 (value_bytes v) }
+        ≡ all_fields_text 5 s t b.round b.node 0 0 (value_bytes v) }
+    ensures ask { (s t : ℕ) → canonical (Ask s t) ≡ all_fields_text 6 s t 0 0 0 0 [] }
+    ensures decided { (s t : ℕ) (v : Value) → canonical (Decided s t v) ≡ all_fields_text 7 s t 0 0 0 0 (value_bytes v) }
+{}
+
+/// Reading takes memory for the bytes of an upload alone: whatever has no value, or a Noop, takes none.
+pub fn only_uploads_take_memory()
+    ensures prepare { (s t : ℕ) (b : Pair) → HasUpload (Prepare s t b) → ⊥ }
+    ensures promise { (s t : ℕ) (b : Pair) → HasUpload (Promise s t b None) → ⊥ }
+    ensures report { (s t : ℕ) (b r : Pair) → HasUpload (Promise s t b (Some (r, Noop))) → ⊥ }
+    ensures nack { (s t : ℕ) (b c : Pair) → HasUpload (Nack s t b c) → ⊥ }
+    ensures accept { (s t : ℕ) (b : Pair) → HasUpload (Accept s t b Noop) → ⊥ }
+    ensures accepted { (s t : ℕ) (b : Pair) → HasUpload (Accepted s t b Noop) → ⊥ }
+    ensures ask { (s t : ℕ) → HasUpload (Ask s t) → ⊥ }
+    ensures decided { (s t : ℕ) → HasUpload (Decided s t Noop) → ⊥ }
+    ensures record_began { (b : Pair) → KeepsUpload (Began b) → ⊥ }
+    ensures record_promised { (t : ℕ) (b : Pair) → KeepsUpload (Promised t b) → ⊥ }
+    ensures record_accepted { (t : ℕ) (b : Pair) → KeepsUpload (HasAccepted t b Noop) → ⊥ }
 {}
 
 /// A text means one record at most.
@@ -118,17 +133,17 @@ pub fn records_are_one()
     ensures { (text : List ℕ) (r q : Kept) → IsRecordText text r → IsRecordText text q → r ≡ q }
 {}
 
-/// The one written spelling of a record means that record.
+/// The one written encoding of a record means that record.
 pub fn canonical_means_its_record()
     ensures { (r : Kept) → IsRecordInRange r → IsRecordText (canonical_record r) r }
 {}
 
 /// Whatever its kind, a record is written as all five fields in their order, those left out that are 0 or no bytes: a Began
 /// as kind 1, a Promised as kind 2, an Accepted as kind 3.
-#[tactic(auto, using(crate::proofs::RecordRows::record_rows))]
-pub fn records_are_rows()
-    ensures began { (b : Pair) → canonical_record (Began b) ≡ record_row 1 0 b.round b.node [] }
-    ensures promised { (t : ℕ) (b : Pair) → canonical_record (Promised t b) ≡ record_row 2 t b.round b.node [] }
+#[tactic(auto, using(crate::proofs::AllFields::all_record_fields))]
+pub fn records_write_all_fields()
+    ensures began { (b : Pair) → canonical_record (Began b) ≡ all_record_fields_text 1 0 b.round b.node [] }
+    ensures promised { (t : ℕ) (b : Pair) → canonical_record (Promised t b) ≡ all_record_fields_text 2 t b.round b.node [] }
     ensures accepted { (t : ℕ) (b : Pair) (v : Value) → canonical_record (HasAccepted t b v)
-        ≡ record_row 3 t b.round b.node (value_bytes v) }
+        ≡ all_record_fields_text 3 t b.round b.node (value_bytes v) }
 {}

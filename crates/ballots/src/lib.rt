@@ -4,7 +4,7 @@
 //! The nodes agree on one list of uploads, one decision for each slot. A ballot is a round and the node that began it,
 //! and ballots are ordered by round, then by node. What a message's bytes mean is defined in `specs/`, as a relation
 //! between a message and a list of protobuf fields; `decode` is `Ok` exactly where the bytes mean a message, memory
-//! apart, and `encode` appends the one canonical spelling. The same holds of a record, what a node keeps before it answers.
+//! apart, and `encode` appends the one canonical encoding. The same holds of a record, what a node keeps before it answers.
 //!
 //! A majority is asked of a set of nodes: `NodeSet` holds them without memory, and `Members::are_majority` counts those of
 //! them that are members. Ballots and values are printed as one line each, and read from it. The limits are numbers in
@@ -14,6 +14,8 @@
 
 mod ballot;
 mod decoding;
+#[cfg(test)]
+mod encoded;
 mod encoding;
 mod fault;
 mod laws;
@@ -21,26 +23,25 @@ mod members;
 mod message;
 mod node;
 mod node_set;
-mod parts;
 mod printed;
+mod reading;
 mod record;
 mod record_decoding;
 mod record_encoding;
-mod record_parts;
 mod slot;
-#[cfg(test)]
-mod spelled;
 #[cfg(test)]
 mod tests;
 mod value;
+mod writing;
 
 pub use ballot::{Ballot, MAX_ROUND};
 pub use fault::MessageFault;
 pub use laws::{
     ballots_are_ordered, canonical_means_its_message, canonical_means_its_record,
     comparison_is_the_order, limits_are_these, majorities_meet, messages_are_one,
-    messages_are_rows, none_is_below_every_ballot, records_are_one, records_are_rows,
-    same_ballots_are_one, set_slots_are_one, sizes_count_each_member_once,
+    messages_write_all_fields, none_is_below_every_ballot, only_uploads_take_memory,
+    records_are_one, records_write_all_fields, same_ballots_are_one, set_slots_are_one,
+    sizes_count_each_member_once,
 };
 pub use members::{MAX_MEMBERS, Members};
 pub use message::Message;

@@ -3,51 +3,62 @@
 ghost use Rattle.std.specs.Prelude.{◌≡◌, ◌⊎◌, IfOk, IfErr, Ok, Err};
 ghost use Rattle.ballots.specs.declared.record.Record.{Record as Meant};
 ghost use Rattle.ballots.specs.declared.fault.MessageFault.TheVariants.{OutOfMemory};
-ghost use Rattle.ballots.specs.MessageReading.{Gives};
-ghost use Rattle.ballots.specs.Record.{IsRecordText, IsRecordFault};
-ghost use Rattle.ballots.specs.RecordParts.{record_parts_at};
-ghost use Rattle.ballots.specs.RecordReading.{kept_at, record_at};
+ghost use Rattle.ballots.specs.MessageReading.{Gives, OfFields, TellsFields};
+ghost use Rattle.ballots.specs.Record.{record_parts_of, IsRecordText, IsRecordFault, KeepsUpload};
+ghost use Rattle.ballots.specs.RecordReading.{began_at, promised_at, accepted_at, kept_at, record_at};
 
-use crate::decoding::{ballot_of, slot_of, value_of};
 use crate::fault::MessageFault;
+use crate::reading::{acceptance_at, ballot_at, slot_at};
 use crate::record::Record;
-use crate::record::numbers::{ACCEPTED, BEGAN, PROMISED};
-use crate::record_parts::{RecordParts, read_record_parts};
-use proto_fields::WireFault;
+use crate::record::numbers::{ACCEPTED, BEGAN, KIND, NODE, PROMISED, ROUND, SLOT, VALUE};
+use proto_fields::number_at;
 use std::alloc::Global;
 
+#[tactic(auto, using(crate::proofs::Steps::steps))]
+fn began_of(text: &[u8]) -> Result<Record, MessageFault>
+    ensures { OfFields text.now (λ fields. Gives KeepsUpload result (began_at (record_parts_of fields))) }
+{
+    let ballot = ballot_at(text, ROUND, NODE)?;
+    Ok(Record::Began(ballot))
+}
+
+#[tactic(auto, using(crate::proofs::Steps::steps))]
+fn promised_of(text: &[u8]) -> Result<Record, MessageFault>
+    ensures { OfFields text.now (λ fields. Gives KeepsUpload result (promised_at (record_parts_of fields))) }
+{
+    let slot = slot_at(text, SLOT)?;
+    let ballot = ballot_at(text, ROUND, NODE)?;
+    Ok(Record::Promised(slot, ballot))
+}
+
+#[tactic(auto, using(crate::proofs::Steps::steps))]
+fn accepted_of(alloc: Global, text: &[u8]) -> Result<Record, MessageFault>
+    ensures { OfFields text.now (λ fields. Gives KeepsUpload result (accepted_at (record_parts_of fields))) }
+{
+    let slot = slot_at(text, SLOT)?;
+    let (ballot, value) = acceptance_at(alloc, text, (ROUND, NODE), VALUE)?;
+    Ok(Record::Accepted(slot, ballot, value))
+}
+
 #[tactic(auto, unfolding(crate::specs::RecordReading::kept_at))]
-fn kept_of(alloc: Global, kind: u64, parts: &RecordParts<'_>) -> Result<Record, MessageFault>
-    ensures { Gives result (kept_at kind (record_parts_at parts.now)) }
+fn kept_of(alloc: Global, kind: u64, text: &[u8]) -> Result<Record, MessageFault>
+    ensures { OfFields text.now (λ fields. Gives KeepsUpload result (kept_at kind (record_parts_of fields))) }
 {
     match kind {
-        BEGAN => {
-            let ballot = ballot_of(parts.round, parts.node)?;
-            Ok(Record::Began(ballot))
-        }
-        PROMISED => {
-            let slot = slot_of(parts.slot)?;
-            let ballot = ballot_of(parts.round, parts.node)?;
-            Ok(Record::Promised(slot, ballot))
-        }
-        ACCEPTED => {
-            let slot = slot_of(parts.slot)?;
-            let ballot = ballot_of(parts.round, parts.node)?;
-            let value = value_of(alloc, parts.value)?;
-            Ok(Record::Accepted(slot, ballot, value))
-        }
+        BEGAN => began_of(text),
+        PROMISED => promised_of(text),
+        ACCEPTED => accepted_of(alloc, text),
         _ => Err(MessageFault::BadKind),
     }
 }
 
-#[tactic(auto, unfolding(crate::specs::RecordReading::record_at, crate::specs::MessageReading::known))]
-fn record_of(alloc: Global, parts: &RecordParts<'_>) -> Result<Record, MessageFault>
-    ensures { Gives result (record_at (record_parts_at parts.now)) }
+#[tactic(auto, using(crate::proofs::Steps::steps), unfolding(crate::specs::RecordReading::record_at, crate::specs::MessageReading::known))]
+fn record_of(alloc: Global, text: &[u8]) -> Result<Record, MessageFault>
+    ensures meant { OfFields text.now (λ fields. Gives KeepsUpload result (record_at (record_parts_of fields))) }
+    ensures fields { TellsFields text.now result }
 {
-    let Some(kind) = parts.kind else {
-        return Err(MessageFault::Wire(WireFault::BadWireType));
-    };
-    kept_of(alloc, kind, parts)
+    let kind = number_at(text, KIND)?;
+    kept_of(alloc, kind, text)
 }
 
 impl Record {
@@ -56,15 +67,13 @@ impl Record {
     /// A text that means no record is refused with a fault that stands in it: [`MessageFault::Wire`] where it is no list
     /// of protobuf fields or a field that its kind has is of another wire type, [`MessageFault::BadKind`],
     /// [`MessageFault::OutOfRange`]. Fields that the kind does not have are passed over. The only other refusal is
-    /// [`MessageFault::OutOfMemory`].
+    /// [`MessageFault::OutOfMemory`], and only of a text that means a record with an upload: its bytes are copied last.
     pub fn decode(alloc: Global, text: &[u8]) -> Result<Record, MessageFault>
         ensures read { IfOk result (IsRecordText text.now) }
         ensures only { (r : Meant) → IsRecordText text.now r → (result ≡ Ok r) ⊎ (result ≡ Err OutOfMemory) }
         ensures fault { IfErr result (IsRecordFault text.now) }
+        ensures memory { result ≡ Err OutOfMemory → (r : Meant) × IsRecordText text.now r × KeepsUpload r }
     {
-        match read_record_parts(text) {
-            Ok(parts) => record_of(alloc, &parts),
-            Err(fault) => Err(MessageFault::Wire(fault)),
-        }
+        record_of(alloc, text)
     }
 }

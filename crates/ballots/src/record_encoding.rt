@@ -1,112 +1,55 @@
-//! Records written as bytes, each in its one canonical spelling.
+//! Records written as bytes, each in its one canonical encoding.
 
-ghost use Rattle.std.specs.Prelude.{◌≡◌, ◌≤◌, ◌++◌, OnOk, OnErr};
+ghost use Rattle.std.specs.Prelude.{◌≡◌, ◌++◌, OnOk, OnErr};
 ghost use Rattle.proto_fields.specs.Writing.{Grows};
-ghost use Rattle.ballots.specs.declared.slot.TheConstants.{MAX_SLOT};
-ghost use Rattle.ballots.specs.Ballot.{IsBallot};
-ghost use Rattle.ballots.specs.Message.{IsValue, written};
-ghost use Rattle.ballots.specs.Record.{began_fields, slot_fields, kept_ballot_fields, kept_value_fields, record_fields, canonical_record, IsRecordInRange, IsRecordText};
+ghost use Rattle.ballots.specs.AllFields.{all_record_fields_text};
+ghost use Rattle.ballots.specs.Record.{canonical_record, IsRecordInRange, IsRecordText};
 
-use crate::ballot::Ballot;
 use crate::record::Record;
 use crate::record::numbers::{ACCEPTED, BEGAN, KIND, NODE, PROMISED, ROUND, SLOT, VALUE};
-use crate::slot::Slot;
-use crate::value::{OutOfMemory, Value};
+use crate::value::OutOfMemory;
+use crate::writing::{append_pair, or_undone, pair};
 use proto_fields::{write_nonempty_bytes, write_nonzero_varint};
 
+/// Appends all fields of a record, those left out that are 0 or no bytes.
 #[tactic(auto, using(crate::proofs::Written::written_rules))]
-fn append_ballot(out: &mut Vec<u8>, ballot: Ballot) -> Result<(), OutOfMemory>
-    ensures ok { OnOk result (out.new.items ≡ out.old.items ++ written (kept_ballot_fields ballot)) }
-    ensures err { Grows out.old.items out.new.items }
-    ensures within { IsBallot ballot }
-{
-    let (round, node) = (ballot.round(), ballot.node().number());
-    write_nonzero_varint(out, ROUND, u64::from(round))?;
-    write_nonzero_varint(out, NODE, u64::from(node))?;
-    Ok(())
-}
-
-fn append_value(out: &mut Vec<u8>, value: &Value) -> Result<(), OutOfMemory>
-    ensures ok { OnOk result (out.new.items ≡ out.old.items ++ written (kept_value_fields value.now)) }
-    ensures err { Grows out.old.items out.new.items }
-    ensures within { IsValue value.now }
-{
-    write_nonempty_bytes(out, VALUE, value.as_bytes())?;
-    Ok(())
-}
-
-#[tactic(auto, using(crate::proofs::Written::written_rules))]
-fn append_began(out: &mut Vec<u8>, ballot: Ballot) -> Result<(), OutOfMemory>
-    ensures ok { OnOk result (out.new.items ≡ out.old.items ++ written (began_fields ++ kept_ballot_fields ballot)) }
-    ensures err { Grows out.old.items out.new.items }
-    ensures within { OnOk result (IsBallot ballot) }
-{
-    write_nonzero_varint(out, KIND, BEGAN)?;
-    append_ballot(out, ballot)?;
-    Ok(())
-}
-
-#[tactic(auto, using(crate::proofs::Written::written_rules))]
-fn append_slot(out: &mut Vec<u8>, kind: u64, slot: Slot) -> Result<(), OutOfMemory>
-    ensures ok { OnOk result (out.new.items ≡ out.old.items ++ written (slot_fields kind slot)) }
-    ensures err { Grows out.old.items out.new.items }
-    ensures within { slot ≤ MAX_SLOT }
-{
-    let slot = slot.number();
-    write_nonzero_varint(out, KIND, kind)?;
-    write_nonzero_varint(out, SLOT, u64::from(slot))?;
-    Ok(())
-}
-
-#[tactic(auto, using(crate::proofs::Written::written_rules))]
-fn append_promised(out: &mut Vec<u8>, slot: Slot, ballot: Ballot) -> Result<(), OutOfMemory>
-    ensures ok { OnOk result (out.new.items ≡ out.old.items ++ written (slot_fields PROMISED slot ++ kept_ballot_fields ballot)) }
-    ensures err { Grows out.old.items out.new.items }
-    ensures within { OnOk result ((slot ≤ MAX_SLOT) × IsBallot ballot) }
-{
-    append_slot(out, PROMISED, slot)?;
-    append_ballot(out, ballot)?;
-    Ok(())
-}
-
-#[tactic(auto, using(crate::proofs::Written::written_rules))]
-fn append_voted(out: &mut Vec<u8>, ballot: Ballot, value: &Value) -> Result<(), OutOfMemory>
-    ensures ok { OnOk result (out.new.items ≡ out.old.items ++ written (kept_ballot_fields ballot ++ kept_value_fields value.now)) }
-    ensures err { Grows out.old.items out.new.items }
-    ensures within { OnOk result (IsBallot ballot × IsValue value.now) }
-{
-    append_ballot(out, ballot)?;
-    append_value(out, value)?;
-    Ok(())
-}
-
-#[tactic(auto, using(crate::proofs::Written::written_rules))]
-fn append_accepted(
+fn append_record_fields(
     out: &mut Vec<u8>,
-    slot: Slot,
-    ballot: Ballot,
-    value: &Value,
+    kind: u64,
+    slot: u32,
+    ballot: (u32, u8),
+    value: &[u8],
 ) -> Result<(), OutOfMemory>
     ensures ok { OnOk result (out.new.items
-        ≡ out.old.items ++ written (slot_fields ACCEPTED slot ++ (kept_ballot_fields ballot ++ kept_value_fields value.now))) }
+        ≡ out.old.items ++ all_record_fields_text kind slot ballot.0 ballot.1 value.now) }
     ensures err { Grows out.old.items out.new.items }
-    ensures within { OnOk result ((slot ≤ MAX_SLOT) × IsBallot ballot × IsValue value.now) }
 {
-    append_slot(out, ACCEPTED, slot)?;
-    append_voted(out, ballot, value)?;
+    write_nonzero_varint(out, KIND, kind)?;
+    write_nonzero_varint(out, SLOT, u64::from(slot))?;
+    append_pair(out, (ROUND, NODE), ballot)?;
+    write_nonempty_bytes(out, VALUE, value)?;
     Ok(())
 }
 
 impl Record {
+    #[tactic(auto, using(crate::proofs::AllFields::all_record_fields))]
     fn append(&self, out: &mut Vec<u8>) -> Result<(), OutOfMemory>
-        ensures ok { OnOk result (out.new.items ≡ out.old.items ++ written (record_fields self.now)) }
+        ensures ok { OnOk result (out.new.items ≡ out.old.items ++ canonical_record self.now) }
         ensures err { Grows out.old.items out.new.items }
         ensures within { OnOk result (IsRecordInRange self.now) }
     {
         match self {
-            Record::Began(ballot) => append_began(out, *ballot),
-            Record::Promised(slot, ballot) => append_promised(out, *slot, *ballot),
-            Record::Accepted(slot, ballot, value) => append_accepted(out, *slot, *ballot, value),
+            Record::Began(ballot) => append_record_fields(out, BEGAN, 0, pair(*ballot), &[]),
+            Record::Promised(slot, ballot) => {
+                append_record_fields(out, PROMISED, slot.number(), pair(*ballot), &[])
+            }
+            Record::Accepted(slot, ballot, value) => append_record_fields(
+                out,
+                ACCEPTED,
+                slot.number(),
+                pair(*ballot),
+                value.as_bytes(),
+            ),
         }
     }
 
@@ -119,10 +62,7 @@ impl Record {
         ensures means { OnOk result (IsRecordText (canonical_record self.now) self.now) }
     {
         let start = out.len();
-        let result = self.append(out);
-        if result.is_err() {
-            out.truncate(start);
-        }
-        result
+        let appended = self.append(out);
+        or_undone(out, start, appended)
     }
 }

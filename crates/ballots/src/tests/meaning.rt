@@ -2,7 +2,7 @@
 
 use super::plain_meaning::{Faults, Field, faults_meant, message_meant, parts_meant};
 use super::support::{number, read, refusal, write};
-use crate::spelled::Made;
+use crate::encoded::Made;
 use proto_fields::ContentRef;
 use std::alloc::{AllocError, Global};
 use std::process::Abort;

@@ -3,7 +3,7 @@
 use super::support::{
     bytes_of, cell, cells, is_read_as, made, name_of, number, read, refusal, write,
 };
-use crate::spelled::Made;
+use crate::encoded::Made;
 use crate::{Message, UploadBytes, Value};
 use bytes::Bytes;
 use std::alloc::{AllocError, Global};

@@ -13,17 +13,16 @@ ghost use Rattle.ballots.specs.Ballot.{Ballot as Pair};
 ghost use Rattle.proto_fields.specs.declared.fault.WireFault.TheVariants.{BadWireType};
 ghost use Rattle.ballots.specs.declared.fault.MessageFault.TheVariants.{Wire, BadKind, OutOfRange};
 ghost use Rattle.ballots.specs.declared.value.Value.{Value as Chosen};
-ghost use Rattle.ballots.specs.Message.{parts_of, MeansBallot, MeansValue, HeadFault, BallotFault, ValueFault, BodyFault, IsUnknownKind, PartsFault};
-ghost use Rattle.ballots.specs.Parts.{parts_at};
+ghost use Rattle.ballots.specs.Message.{Parts, parts_of, MeansBallot, MeansValue, HeadFault, BallotFault, ValueFault, BodyFault, IsUnknownKind, PartsFault};
 
-use crate::parts::Parts;
-use crate::spelled::{
+use crate::encoded::{
     Made, accept, accepted, ask, decided, nack, prepare, promise, reporting_promise,
 };
 use crate::{Ballot, MessageFault, NodeId, Slot, UploadBytes, Value};
 use bytes::Bytes;
 use proto_fields::{ContentRef, WireFault};
 use std::alloc::{AllocError, Global};
+use std::marker::Model;
 
 /// A field: its number, and what it holds.
 pub(crate) type Field<'a> = (u32, ContentRef<'a>);
@@ -61,11 +60,39 @@ fn last_bytes<'a>(number: u32, fields: &[Field<'a>]) -> Option<&'a [u8]>
     Some(last)
 }
 
+/// What each field of a message means: the last one given or its default, `None` after one of another wire type.
+#[derive(Clone, Copy, Debug)]
+pub(crate) struct PartsMeant<'a> {
+    pub kind: Option<u64>,
+    pub sender: Option<u64>,
+    pub slot: Option<u64>,
+    pub round: Option<u64>,
+    pub node: Option<u64>,
+    pub second_round: Option<u64>,
+    pub second_node: Option<u64>,
+    pub value: Option<&'a [u8]>,
+}
+
+impl<'a> Model for PartsMeant<'a> {
+    ghost Value = { Parts };
+
+    ghost view = { λ p. record {
+      kind = p.kind;
+      sender = p.sender;
+      slot = p.slot;
+      round = p.round;
+      node = p.node;
+      second_round = p.second_round;
+      second_node = p.second_node;
+      value = option_map (λ b. b.now) p.value;
+    } };
+}
+
 /// The definition `parts_of`: what each field of a message means.
-pub(crate) fn parts_meant<'a>(fields: &[Field<'a>]) -> Parts<'a>
-    ensures { parts_at result ≡ parts_of (map (λ f. field_at f.0 f.1) fields.now) }
+pub(crate) fn parts_meant<'a>(fields: &[Field<'a>]) -> PartsMeant<'a>
+    ensures { result ≡ parts_of (map (λ f. field_at f.0 f.1) fields.now) }
 {
-    Parts {
+    PartsMeant {
         kind: last_number(1, fields),
         sender: last_number(2, fields),
         slot: last_number(3, fields),
@@ -117,7 +144,7 @@ fn value_meant(alloc: Global, bytes: Option<&[u8]>) -> Result<Option<Value>, All
 /// The Promise that this means.
 fn promise_meant(
     alloc: Global,
-    parts: &Parts<'_>,
+    parts: &PartsMeant<'_>,
     (sender, slot): (NodeId, Slot),
     ballot: Ballot,
 ) -> Result<Option<Made>, AllocError> {
@@ -139,7 +166,7 @@ fn promise_meant(
 /// The Nack that this means.
 fn nack_meant(
     alloc: Global,
-    parts: &Parts<'_>,
+    parts: &PartsMeant<'_>,
     (sender, slot): (NodeId, Slot),
     ballot: Ballot,
 ) -> Result<Option<Made>, AllocError> {
@@ -152,7 +179,7 @@ fn nack_meant(
 /// The Accept that this means, or the Accepted.
 fn acceptance_meant(
     alloc: Global,
-    parts: &Parts<'_>,
+    parts: &PartsMeant<'_>,
     (sender, slot): (NodeId, Slot),
     ballot: Ballot,
 ) -> Result<Option<Made>, AllocError> {
@@ -169,7 +196,7 @@ fn acceptance_meant(
 /// The Decided that this means.
 fn decided_meant(
     alloc: Global,
-    parts: &Parts<'_>,
+    parts: &PartsMeant<'_>,
     (sender, slot): (NodeId, Slot),
 ) -> Result<Option<Made>, AllocError> {
     match value_meant(alloc, parts.value)? {
@@ -181,7 +208,7 @@ fn decided_meant(
 /// The message at this ballot that this means.
 fn meant_at(
     alloc: Global,
-    parts: &Parts<'_>,
+    parts: &PartsMeant<'_>,
     head: (NodeId, Slot),
     ballot: Ballot,
 ) -> Result<Option<Made>, AllocError> {
@@ -195,7 +222,10 @@ fn meant_at(
 }
 
 /// The definition `Means`: the message that this means, if any, beside its text.
-pub(crate) fn message_meant(alloc: Global, parts: &Parts<'_>) -> Result<Option<Made>, AllocError> {
+pub(crate) fn message_meant(
+    alloc: Global,
+    parts: &PartsMeant<'_>,
+) -> Result<Option<Made>, AllocError> {
     let (Some(sender), Some(slot)) = (node_meant(parts.sender), slot_meant(parts.slot)) else {
         return Ok(None);
     };
@@ -283,9 +313,9 @@ fn value_faults(bytes: Option<&[u8]>) -> Faults
 }
 
 /// The definition `HeadFault`.
-fn head_faults(parts: &Parts<'_>) -> Faults
-    ensures wire_type { IsTrue result.wire_type ↔ HeadFault (parts_at parts.now) (Wire BadWireType) }
-    ensures range { IsTrue result.range ↔ HeadFault (parts_at parts.now) OutOfRange }
+fn head_faults(parts: &PartsMeant<'_>) -> Faults
+    ensures wire_type { IsTrue result.wire_type ↔ HeadFault parts.now (Wire BadWireType) }
+    ensures range { IsTrue result.range ↔ HeadFault parts.now OutOfRange }
     ensures kind { IsFalse result.kind }
 {
     let kind = Faults {
@@ -297,10 +327,10 @@ fn head_faults(parts: &Parts<'_>) -> Faults
 }
 
 /// The definitions `BodyFault` and `IsUnknownKind`.
-fn body_faults(parts: &Parts<'_>) -> Faults
-    ensures wire_type { IsTrue result.wire_type ↔ BodyFault (parts_at parts.now) (Wire BadWireType) }
-    ensures range { IsTrue result.range ↔ BodyFault (parts_at parts.now) OutOfRange }
-    ensures kind { IsTrue result.kind ↔ IsUnknownKind (parts_at parts.now) }
+fn body_faults(parts: &PartsMeant<'_>) -> Faults
+    ensures wire_type { IsTrue result.wire_type ↔ BodyFault parts.now (Wire BadWireType) }
+    ensures range { IsTrue result.range ↔ BodyFault parts.now OutOfRange }
+    ensures kind { IsTrue result.kind ↔ IsUnknownKind parts.now }
 {
     let ballot = ballot_faults(parts.round, parts.node);
     let second = ballot_faults(parts.second_round, parts.second_node);
@@ -321,10 +351,10 @@ fn body_faults(parts: &Parts<'_>) -> Faults
 }
 
 /// The definition `PartsFault`: all faults that stand.
-pub(crate) fn faults_meant(parts: &Parts<'_>) -> Faults
-    ensures wire_type { IsTrue result.wire_type ↔ PartsFault (parts_at parts.now) (Wire BadWireType) }
-    ensures range { IsTrue result.range ↔ PartsFault (parts_at parts.now) OutOfRange }
-    ensures kind { IsTrue result.kind ↔ PartsFault (parts_at parts.now) BadKind }
+pub(crate) fn faults_meant(parts: &PartsMeant<'_>) -> Faults
+    ensures wire_type { IsTrue result.wire_type ↔ PartsFault parts.now (Wire BadWireType) }
+    ensures range { IsTrue result.range ↔ PartsFault parts.now OutOfRange }
+    ensures kind { IsTrue result.kind ↔ PartsFault parts.now BadKind }
 {
     head_faults(parts).and(body_faults(parts))
 }

@@ -1,8 +1,7 @@
 //! Rows of tables, messages by their names and numbers, and what a text is read as.
 
-use super::plain_meaning::message_meant;
-use crate::parts::Parts;
-use crate::spelled::Made;
+use super::plain_meaning::{PartsMeant, message_meant};
+use crate::encoded::Made;
 use crate::{Ballot, Message, MessageFault, NodeId};
 use std::alloc::{AllocError, Global};
 use std::test::Fail;
@@ -77,7 +76,7 @@ pub(crate) fn name_of(message: &Message) -> &'static str {
 /// and a node, and its value, where it has them.
 pub(crate) fn made(alloc: Global, numbers: [u64; 7], value: &str) -> Result<Made, Fail> {
     let [kind, sender, slot, round, node, second_round, second_node] = numbers;
-    let parts = Parts {
+    let parts = PartsMeant {
         kind: Some(kind),
         sender: Some(sender),
         slot: Some(slot),

@@ -1,12 +1,14 @@
-use Rattle.ballots.specs.Parts.{parts_at}
-use Rattle.ballots.proofs.Decodes.{decodes_read, decodes_fault, decodes_only}
+use Rattle.ballots.proofs.Decodes.{decodes_read, decodes_only, decodes_fault, decodes_memory}
 use Rattle.ballots.proofs.message.Message.decode.Goals as goal
 
-pub returns-in-Ok-clause-read : goal.returns-in-Ok-clause-read
-returns-in-Ok-clause-read c = decodes_read c.args.text.now (parts_at c.in-Ok.parts) c.in-Ok.ensures.read c.message_of.result c.message_of.ensures
+pub returns-clause-read : goal.returns-clause-read
+returns-clause-read c = decodes_read c.args.text.now c.message_of.result c.message_of.ensures.meant c.message_of.ensures.fields
 
-pub returns-in-Ok-clause-only : goal.returns-in-Ok-clause-only
-returns-in-Ok-clause-only c = λ m is. decodes_only c.args.text.now (parts_at c.in-Ok.parts) c.in-Ok.ensures.only m is c.message_of.result c.message_of.ensures
+pub returns-clause-only : goal.returns-clause-only
+returns-clause-only c = decodes_only c.args.text.now c.message_of.result c.message_of.ensures.meant
 
-pub returns-in-Ok-clause-fault : goal.returns-in-Ok-clause-fault
-returns-in-Ok-clause-fault c = decodes_fault c.args.text.now (parts_at c.in-Ok.parts) c.in-Ok.ensures.read c.message_of.result c.message_of.ensures
+pub returns-clause-fault : goal.returns-clause-fault
+returns-clause-fault c = decodes_fault c.args.text.now c.message_of.result c.message_of.ensures.meant c.message_of.ensures.fields
+
+pub returns-clause-memory : goal.returns-clause-memory
+returns-clause-memory c = decodes_memory c.args.text.now c.message_of.result c.message_of.ensures.meant c.message_of.ensures.fields

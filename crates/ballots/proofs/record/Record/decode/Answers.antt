@@ -1,12 +1,14 @@
-use Rattle.ballots.specs.RecordParts.{record_parts_at}
-use Rattle.ballots.proofs.RecordDecodes.{decodes_read, decodes_fault, decodes_only}
+use Rattle.ballots.proofs.RecordDecodes.{decodes_read, decodes_only, decodes_fault, decodes_memory}
 use Rattle.ballots.proofs.record.Record.decode.Goals as goal
 
-pub returns-in-Ok-clause-read : goal.returns-in-Ok-clause-read
-returns-in-Ok-clause-read c = decodes_read c.args.text.now (record_parts_at c.in-Ok.parts) c.in-Ok.ensures.read c.record_of.result c.record_of.ensures
+pub returns-clause-read : goal.returns-clause-read
+returns-clause-read c = decodes_read c.args.text.now c.record_of.result c.record_of.ensures.meant c.record_of.ensures.fields
 
-pub returns-in-Ok-clause-only : goal.returns-in-Ok-clause-only
-returns-in-Ok-clause-only c = λ r is. decodes_only c.args.text.now (record_parts_at c.in-Ok.parts) c.in-Ok.ensures.only r is c.record_of.result c.record_of.ensures
+pub returns-clause-only : goal.returns-clause-only
+returns-clause-only c = decodes_only c.args.text.now c.record_of.result c.record_of.ensures.meant
 
-pub returns-in-Ok-clause-fault : goal.returns-in-Ok-clause-fault
-returns-in-Ok-clause-fault c = decodes_fault c.args.text.now (record_parts_at c.in-Ok.parts) c.in-Ok.ensures.read c.record_of.result c.record_of.ensures
+pub returns-clause-fault : goal.returns-clause-fault
+returns-clause-fault c = decodes_fault c.args.text.now c.record_of.result c.record_of.ensures.meant c.record_of.ensures.fields
+
+pub returns-clause-memory : goal.returns-clause-memory
+returns-clause-memory c = decodes_memory c.args.text.now c.record_of.result c.record_of.ensures.meant c.record_of.ensures.fields
