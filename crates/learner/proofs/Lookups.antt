@@ -9,12 +9,12 @@ use Rattle.indexmap.specs.IndexMap.{get}
 use Rattle.ballots.specs.Ballot.{Ballot, is_same_ballot}
 use Rattle.ballots.specs.Majority.{NodeSet, contains, members_in, tally, IsMajority}
 use Rattle.ballots.specs.declared.value.Value.{Value}
-use Rattle.ballots.proofs.CallerLemmas.{same_ballot_is, tally_same}
+use Rattle.ballots.proofs.CallerLemmas.{same_ballot_is, tally_same, majority_same}
 use Rattle.learner.specs.declared.tally.Tally.{Tally}
 use Rattle.learner.specs.Calls.{Call, Accepted, is_vote_of, first_counted}
 use Rattle.learner.specs.State.{LearnerState, Tallies, tally_in, has_vote, decided_at, tally_at, voted_at, first_at, HasRoomForTally}
 use Rattle.learner.specs.Learned.{IsSame}
-use Rattle.learner.specs.Changes.{Counts, CountsIn, Drops, Puts, IsChosenWith}
+use Rattle.learner.specs.Changes.{Counts, CountsIn, Drops, Puts, IsChosenWith, LearnsNow}
 use Rattle.learner.proofs.Settling.{other_apart, or_none, vote_there, vote_other_ballot, counted_there, counted_other_ballot, first_alone, none_alone}
 
 pub none_is : {A : Type 0} (o : Option A) → is_some o ≡ false → o ≡ None
@@ -183,3 +183,26 @@ read_or (Some x) r = refl
 pub learned_is_kept : (old : Option Value) (value : Value) → (old ≡ None → ⊥) → old ≡ option_or old (Some value)
 learned_is_kept None value some = absurd (some refl)
 learned_is_kept (Some v) value some = refl
+
+-- ---- what a vote makes the slot learn
+
+pub chosen_same : (old new : LearnerState) (a slot : ℕ) (b : Ballot) → IsSame old new → IsChosenWith new a slot b → IsChosenWith old a slot b
+chosen_same old new a slot b same chosen =
+    subst (λ (k : ℕ). IsMajority k (tally k (λ m. voted_at old slot b m || (a == m)))) same.members
+    (majority_same new.members (λ m. voted_at new slot b m || (a == m)) (λ m. voted_at old slot b m || (a == m)) (λ m lt. ap (λ (x : Bool). x || (a == m)) (same.votes slot b m)) chosen)
+
+pub chosen_back : (old new : LearnerState) (a slot : ℕ) (b : Ballot) → IsSame old new → IsChosenWith old a slot b → IsChosenWith new a slot b
+chosen_back old new a slot b same chosen =
+    subst (λ (k : ℕ). IsMajority k (tally k (λ m. voted_at new slot b m || (a == m)))) (sym same.members)
+    (majority_same old.members (λ m. voted_at old slot b m || (a == m)) (λ m. voted_at new slot b m || (a == m)) (λ m lt. ap (λ (x : Bool). x || (a == m)) (sym (same.votes slot b m))) chosen)
+
+pub nothing_now : (old new : LearnerState) (a slot : ℕ) (b : Ballot) (value : Value) (told : Option Value) → decided_at new slot ≡ decided_at old slot
+    → (a < old.members → decided_at old slot ≡ None → IsChosenWith old a slot b → ⊥) → LearnsNow old a slot b value told → decided_at new slot ≡ option_or (decided_at old slot) told
+nothing_now old new a slot b value None same not learns = same ∙ sym (or_none (decided_at old slot))
+nothing_now old new a slot b value (Some v) same not learns = absurd (not learns.0 learns.1 learns.2)
+
+pub something_now : (old new : LearnerState) (a slot : ℕ) (b : Ballot) (value : Value) (told : Option Value) → a < old.members → decided_at old slot ≡ None → IsChosenWith old a slot b
+    → decided_at new slot ≡ Some (unwrap_or (first_at old slot b) value) → LearnsNow old a slot b value told → decided_at new slot ≡ option_or (decided_at old slot) told
+something_now old new a slot b value None member none chosen is learns = absurd (learns member none chosen)
+something_now old new a slot b value (Some v) member none chosen is learns =
+    is ∙ ap Some (sym learns.3) ∙ sym (ap (λ (o : Option Value). option_or o (Some v)) none)

@@ -1,5 +1,5 @@
 -- What the steps of a call change in what a learner holds.
-use Rattle.std.specs.Prelude.{◌≡◌, ◌≢◌, ℕ, ◌<◌, ◌==◌, false, ◌||◌, [], ◌∷◌, Option, Some, None}
+use Rattle.std.specs.Prelude.{◌≡◌, ◌≢◌, ℕ, ◌<◌, ◌==◌, false, ◌||◌, [], ◌∷◌, Option, Some, None, unwrap_or}
 use Rattle.std.specs.Option.{option_map, option_map_or, option_or}
 use Rattle.ballots.specs.Ballot.{Ballot}
 use Rattle.ballots.specs.Majority.{tally, IsMajority}
@@ -12,6 +12,15 @@ use Rattle.learner.specs.State.{LearnerState, has_vote, decided_at, tally_at, vo
 abbrev pub IsChosenWith : LearnerState → ℕ → ℕ → Ballot → Type 0
 IsChosenWith state acceptor slot ballot =
     IsMajority state.members (tally state.members (λ member. voted_at state slot ballot member || (acceptor == member)))
+
+-- the value that this vote makes the slot learn: that of the first counted at the ballot, or its own; none where the
+-- acceptor is no member, the slot has learned, or those counted with it are no majority
+abbrev pub LearnsNow : LearnerState → ℕ → ℕ → Ballot → Value → Option Value → Type 0
+LearnsNow state acceptor slot ballot value (Some learned) =
+    (acceptor < state.members) × (decided_at state slot ≡ None) × IsChosenWith state acceptor slot ballot
+    × (learned ≡ unwrap_or (first_at state slot ballot) value)
+LearnsNow state acceptor slot ballot value None =
+    acceptor < state.members → decided_at state slot ≡ None → IsChosenWith state acceptor slot ballot → ⊥
 
 -- the acceptor is counted in a ballot's tally, which stands from then on; its value is that of the first
 pub record CountsIn (old new : Option Tally) (acceptor : ℕ) (value : Value) : Type 0 where

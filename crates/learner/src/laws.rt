@@ -53,8 +53,8 @@ pub fn first_counted_comes_first()
         × ((m : ℕ) → m < members → HasAccepted before m slot ballot → ⊥) }
 {}
 
-/// A learner has of each slot what its calls made it learn, and learners of the same calls answer every look-up alike. A
-/// look, which leaves every look-up as before, is no call.
+/// A learner has of each slot what its calls made it learn, and learners of the same calls answer every look-up alike.
+/// A look, which leaves every look-up as before, is no call.
 pub fn states_are_what_was_learned()
     ensures decided { (members : ℕ) (calls : List Call) (state : LearnerState) (slot : ℕ) (v : Value)
         → StateAfter members calls state → decided_at state slot ≡ Some v ↔ IsLearned members calls slot v }

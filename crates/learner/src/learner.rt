@@ -1,4 +1,4 @@
-ghost use Rattle.std.specs.Prelude.{false, IsSome, ◌≡◌, ℕ, ◌<◌, ◌↔◌, [], ◌∷◌, ◌++◌, List, None, Some};
+ghost use Rattle.std.specs.Prelude.{false, IsSome, ◌≡◌, ℕ, ◌<◌, ◌↔◌, [], ◌∷◌, ◌++◌, List, Option, None, Some};
 ghost use Rattle.std.specs.Prelude.{IsTrue, IfOk, OnOk, OnErr, nat_eq};
 ghost use Rattle.std.specs.Option.{option_map, option_or};
 ghost use Rattle.indexmap.specs.IndexMap.{get, spare, IsUnchanged};
@@ -10,7 +10,7 @@ ghost use Rattle.learner.specs.Calls.{Call, Accepted, Decided, Learns};
 ghost use Rattle.learner.specs.State.{decided_at, first_at, tally_in, tally_at, voted_at};
 ghost use Rattle.learner.specs.State.{HasRoomToLearn, HasRoomToCount, HasRoomForTally, HasRoomForVote};
 ghost use Rattle.learner.specs.Learned.{StateAfter, IsSame};
-ghost use Rattle.learner.specs.Changes.{Counts, CountsIn, Drops, Puts, IsChosenWith};
+ghost use Rattle.learner.specs.Changes.{Counts, CountsIn, Drops, Puts, IsChosenWith, LearnsNow};
 
 use crate::tally::Tally;
 use ballots::{Ballot, Members, NodeId, NodeSet, OutOfMemory, Slot, Value};
@@ -70,6 +70,8 @@ impl Learner {
         ensures room { OnOk result (HasRoomToLearn self.new slot) }
         ensures told { IfOk result (λ told. (n : ℕ) (calls : List Call) → StateAfter n calls self.old
             → Learns n calls (Decided slot value.now) slot told) }
+        ensures now { IfOk result (λ told. option_or (decided_at self.old slot) told
+            ≡ option_or (decided_at self.old slot) (Some value.now)) }
         ensures same { IsSame self.old self.new }
         ensures memory { OnErr result (decided_at self.old slot ≡ None) }
     {
@@ -105,6 +107,7 @@ impl Learner {
         ensures room { OnOk result (HasRoomForVote self.new acceptor slot ballot) }
         ensures told { IfOk result (λ told. (n : ℕ) (calls : List Call) → StateAfter n calls self.old
             → Learns n calls (Accepted acceptor slot ballot value.now) slot told) }
+        ensures now { IfOk result (λ told. LearnsNow self.old acceptor slot ballot value.now told) }
         ensures same { IsSame self.old self.new }
         ensures memory { OnErr result ((acceptor < self.old.members) × (decided_at self.old slot ≡ None)) }
     {
@@ -125,6 +128,8 @@ impl Learner {
         requires { HasRoomForVote self.old acceptor slot ballot }
         ensures learned { (n : ℕ) (calls : List Call) → StateAfter n calls self.old
             → StateAfter n (calls ++ Accepted acceptor slot ballot value ∷ []) self.new }
+        ensures here { (told : Option Held) → LearnsNow self.old acceptor slot ballot value told
+            → decided_at self.new slot ≡ option_or (decided_at self.old slot) told }
         ensures stays { (v : Held) → decided_at self.old slot ≡ Some v → decided_at self.new slot ≡ Some v }
         ensures others { OthersStay (decided_at self.old) (decided_at self.new) slot }
     {

@@ -1,6 +1,6 @@
 use Rattle.std.proofs.Common.{◌≡◌, Some, None, subst, ap, sym, refl, ◌∙◌, unwrap_or}
 use Rattle.learner.specs.Changes.{Puts}
-use Rattle.learner.proofs.Lookups.{not_both, puts_after_drops}
+use Rattle.learner.proofs.Lookups.{not_both, puts_after_drops, nothing_now, something_now}
 use Rattle.learner.proofs.Learning.{learnt_closed, learnt_chooses, learnt_counts}
 use Rattle.learner.proofs.learner.Learner.on_accepted.Goals as goal
 
@@ -40,3 +40,21 @@ returns-else-is_chosen_with-clause-stays c = λ v is. c.count.ensures.decided c.
 
 pub returns-else-is_chosen_with-clause-others : goal.returns-else-is_chosen_with-clause-others
 returns-else-is_chosen_with-clause-others c = λ other differs. c.count.ensures.decided other
+
+pub returns-then-not-is_open_to-clause-here : goal.returns-then-not-is_open_to-clause-here
+returns-then-not-is_open_to-clause-here c = λ told learns.
+    nothing_now c.args.self.now c.args.self.now c.args.acceptor c.args.slot c.args.ballot c.args.value told refl
+    (λ member none chosen. not_both _ (c.is_open_to.ensures.1 (member, none)) c.if-not-is_open_to.true) learns
+
+pub returns-then-is_chosen_with-clause-here : goal.returns-then-is_chosen_with-clause-here
+returns-then-is_chosen_with-clause-here c = λ told learns.
+    let is = c.is_open_to.ensures.0 c.if-not-is_open_to.false in
+    let puts : Puts c.args.self.now c.learn.new.self c.args.slot _ =
+    subst (Puts c.args.self.now c.learn.new.self c.args.slot) (c.unwrap_or-first.ensures ∙ ap (λ o. unwrap_or o c.args.value) c.take_first.ensures.value)
+    (puts_after_drops _ _ _ c.args.slot _ c.take_first.ensures.drops c.learn.ensures) in
+    something_now c.args.self.now c.learn.new.self c.args.acceptor c.args.slot c.args.ballot c.args.value told is.0 is.1 (c.is_chosen_with.ensures.0 c.if-is_chosen_with.true) puts.here learns
+
+pub returns-else-is_chosen_with-clause-here : goal.returns-else-is_chosen_with-clause-here
+returns-else-is_chosen_with-clause-here c = λ told learns.
+    nothing_now c.args.self.now c.count.new.self c.args.acceptor c.args.slot c.args.ballot c.args.value told (c.count.ensures.decided c.args.slot)
+    (λ member none chosen. not_both _ (c.is_chosen_with.ensures.1 chosen) c.if-is_chosen_with.false) learns
