@@ -103,7 +103,9 @@ impl Proposer {
               ballot = ballot;
             }) ∷ []) self.new) }
         ensures opens { IfOk result (λ ballot. attempt_of self.new ≡ Some (slot, ballot)) }
+        ensures limit { IsErr result ↔ (max_round ≤ max seen_round self.old.highest_round) }
         ensures next { IfOk result (λ ballot. ballot ≡ next_ballot self.old.me self.old.highest_round seen_round) }
+        ensures node { self.new.me ≡ self.old.me }
         ensures round { IfOk result (λ ballot. self.new.highest_round ≡ ballot.round) }
         ensures err { OnErr result (self.new ≡ self.old) }
     {
@@ -124,6 +126,8 @@ impl Proposer {
             → IsErr result ↔ (max_round ≤ max seen_round (highest_begun start.highest_round calls)) }
         ensures ballot { IfOk result (λ ballot. (start : Start) (calls : List Call) → StateAfter start calls self.now
             → ballot ≡ next_ballot start.me (highest_begun start.highest_round calls) seen_round) }
+        ensures limit { IsErr result ↔ (max_round ≤ max seen_round self.now.highest_round) }
+        ensures next { IfOk result (λ ballot. ballot ≡ next_ballot self.now.me self.now.highest_round seen_round) }
     {
         self.next(seen_round)
     }
@@ -146,6 +150,8 @@ impl Proposer {
             → StateAfter start (calls ++ Promises
             (record { sender = sender; slot = slot; ballot = ballot; report = report }) ∷ []) self.new }
         ensures attempt { attempt_of self.new ≡ attempt_of self.old }
+        ensures node { self.new.me ≡ self.old.me }
+        ensures round { self.new.highest_round ≡ self.old.highest_round }
     {
         let members = self.members;
         count_in(&mut self.attempt, members, sender, slot, ballot, report)
@@ -176,6 +182,8 @@ impl Proposer {
     pub fn on_nack(&mut self, slot: Slot, ballot: Ballot)
         ensures stands { (start : Start) (calls : List Call) → StateAfter start calls self.old
             → StateAfter start (calls ++ Nacks slot ballot ∷ []) self.new }
+        ensures node { self.new.me ≡ self.old.me }
+        ensures round { self.new.highest_round ≡ self.old.highest_round }
         ensures ends { attempt_of self.old ≡ Some (slot, ballot) → attempt_of self.new ≡ None }
         ensures stays { (attempt_of self.old ≡ Some (slot, ballot) → ⊥) → attempt_of self.new ≡ attempt_of self.old }
     {
