@@ -105,7 +105,20 @@ fn zoned(alloc: Global, ty: Ty, timezone: Option<&str>) -> Result<Ty, MetaFault>
             let timezone = owned(alloc, timezone)?;
             Ok(Ty::Timestamp { unit, timezone })
         }
-        ty => Ok(ty),
+        Ty::Null
+        | Ty::Int { .. }
+        | Ty::FloatingPoint { .. }
+        | Ty::Binary
+        | Ty::Utf8
+        | Ty::Bool
+        | Ty::Decimal { .. }
+        | Ty::Date { .. }
+        | Ty::Time { .. }
+        | Ty::List
+        | Ty::Struct
+        | Ty::FixedSizeBinary { .. }
+        | Ty::FixedSizeList { .. }
+        | Ty::Duration { .. } => Ok(ty),
     }
 }
 

@@ -10,7 +10,7 @@
 //! schema is read and counted in one pass, so that no memory is asked for beyond these limits. Where memory was
 //! refused, the text is looked at once more without any: memory is refused only of a text that shows a header.
 //!
-//! `Schema::same_shape` tells whether two schemas are equal but for metadata (`DataType` in `specs/`), and
+//! `Schema::same_shape` tells whether two schemas are equal but for metadata (`SameShape` in `specs/`), and
 //! `Schema::in_profile` whether a schema can be written and read back (`Profile`); without memory.
 //!
 //! `write_schema` and `write_batch` append the one text of a header, which `Objects` lays out and `Canonical` says what
