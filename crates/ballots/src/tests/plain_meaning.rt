@@ -61,7 +61,7 @@ fn last_bytes<'a>(number: u32, fields: &[Field<'a>]) -> Option<&'a [u8]>
 }
 
 /// What each field of a message means: the last one given or its default, `None` after one of another wire type.
-#[derive(Clone, Copy, Debug)]
+#[derive(Drop)]
 pub(crate) struct PartsMeant<'a> {
     pub kind: Option<u64>,
     pub sender: Option<u64>,
