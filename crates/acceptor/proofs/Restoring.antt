@@ -10,7 +10,7 @@ use Rattle.ballots.specs.declared.value.Value.{Value}
 use Rattle.ballots.specs.declared.record.Record.{Record}
 use Rattle.ballots.specs.declared.record.Record.TheVariants.{Began, Promised, Accepted}
 use Rattle.acceptor.specs.Standing.{Standing, IsSame}
-use Rattle.acceptor.specs.Raising.{Raises}
+use Rattle.acceptor.specs.Raising.{Raises, Applies}
 use Rattle.acceptor.specs.Restored.{promise_in, acceptance_in, IsHighest, IsLastHighest, IsRestored, round_in, IsHighestRound}
 use Rattle.ballots.proofs.CallerLemmas.{below_or_at_least, not_below_itself, not_below_more}
 use Rattle.acceptor.proofs.Lists.{nothing_in, one_in, only_one}
@@ -176,6 +176,12 @@ restored_as_before records old new same is = record {
   promises = λ s. subst (IsHighest (filter_map (promise_in s) records)) (sym (same.promises s)) (is.promises s);
   acceptances = λ s. subst (IsLastHighest (filter_map (acceptance_in s) records)) (sym (same.acceptances s)) (is.acceptances s);
 }
+
+-- a record that is applied
+pub restored_with : (records : List Record) (old new : Standing) (told : Record) → IsRestored records old → Applies old new told → IsRestored (records ++ told ∷ []) new
+restored_with records old new (Began ballot) is same = began_more records ballot new (restored_as_before records old new same is)
+restored_with records old new (Promised slot ballot) is (raises, same) = promised_more records slot ballot old new is raises same
+restored_with records old new (Accepted slot ballot value) is (raises, accepts) = accepted_more records slot ballot value old new is raises accepts
 
 -- ---- rounds
 

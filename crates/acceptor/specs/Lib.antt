@@ -1,5 +1,6 @@
 pub mod Standing
-pub mod Holding
+pub mod AcceptorState
 pub mod Answering
-pub mod Restored
 pub mod Raising
+pub mod Restored
+pub mod Turns

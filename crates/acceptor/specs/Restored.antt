@@ -1,6 +1,7 @@
--- What the records of a node leave: Lamport, "Paxos Made Simple", section 2.2, where an acceptor remembers the highest number that
--- it has promised and the highest-numbered proposal that it has accepted, and section 2.4, where it has them back from stable
--- storage. A record of an acceptance tells a promise of its ballot too: what is accepted at a ballot is granted from it on.
+-- What the records of a node leave: Lamport, "Paxos Made Simple", section 2.2, where an acceptor remembers the highest
+-- number that it has promised and the highest-numbered proposal that it has accepted, and section 2.4, where it has
+-- them back from stable storage. A record of an acceptance tells a promise of its ballot too: what is accepted at a
+-- ballot is granted from it on.
 use Rattle.std.specs.Prelude.{◌≡◌, ◌≤◌, ◌⊎◌, ℕ, List, [], ◌∷◌, ◌++◌, Option, Some, None, nat_eq, if◌then◌else◌}
 use Rattle.std.specs.List.{Contains, filter_map}
 use Rattle.ballots.specs.Ballot.{Ballot, IsBelow}
@@ -24,10 +25,11 @@ acceptance_in slot (Accepted of ballot value) = if nat_eq slot of then Some (bal
 -- the highest of these ballots, none where there are none
 abbrev pub IsHighest : List Ballot → Option Ballot → Type 0
 IsHighest ballots None = ballots ≡ []
-IsHighest ballots (Some ballot) = Contains ballots ballot × ((other : Ballot) → Contains ballots other → ¬ IsBelow ballot other)
+IsHighest ballots (Some ballot) =
+    Contains ballots ballot × ((other : Ballot) → Contains ballots other → ¬ IsBelow ballot other)
 
--- the acceptance at the highest ballot, the last one where ballots are equal: none before it is above it, and all behind it are
--- below it
+-- the acceptance at the highest ballot, the last one where ballots are equal: none before it is above it, and all
+-- behind it are below it
 abbrev pub IsLastHighest : List (Ballot × Value) → Option (Ballot × Value) → Type 0
 IsLastHighest acceptances None = acceptances ≡ []
 IsLastHighest acceptances (Some highest) =

@@ -1,9 +1,11 @@
-ghost use Rattle.std.specs.Prelude.{◌≡◌, ◌↔◌, ◌<◌, ◌≤◌, ◌+◌, ◌∷◌, ◌++◌, [], List, Some, IsTrue, IfOk, OnOk, OnErr, option_map};
+ghost use Rattle.std.specs.Prelude.{◌≡◌, ◌↔◌, ◌<◌, ◌≤◌, ◌+◌, ◌∷◌, ◌++◌, [], List, Some, option_map};
+ghost use Rattle.std.specs.Prelude.{IsTrue, IfOk, OnOk, OnErr};
 ghost use Rattle.ballots.specs.Ballot.{IsAbove, IsAtLeast};
 ghost use Rattle.ballots.specs.declared.record.Record.{Record as Kept};
 ghost use Rattle.acceptor.specs.Standing.{IsFresh, IsSame, Sets};
-ghost use Rattle.acceptor.specs.Holding.{HasRoomFor, promised_at, accepted_at, standing};
+ghost use Rattle.acceptor.specs.AcceptorState.{HasRoomFor, promised_at, accepted_at, standing};
 ghost use Rattle.acceptor.specs.Answering.{Prepares, Accepts};
+ghost use Rattle.acceptor.specs.Raising.{Applies};
 ghost use Rattle.acceptor.specs.Restored.{IsRestored};
 
 use crate::answer::Answer;
@@ -24,9 +26,9 @@ pub struct Acceptor {
 }
 
 impl Model for Acceptor {
-    ghost use Rattle.acceptor.specs.Holding.{Holding};
+    ghost use Rattle.acceptor.specs.AcceptorState.{AcceptorState};
 
-    ghost Value = { Holding };
+    ghost Value = { AcceptorState };
 
     ghost use Rattle.std.specs.Prelude.{min};
     ghost use Rattle.indexmap.specs.IndexMap.{spare};
@@ -50,8 +52,9 @@ impl Acceptor {
         }
     }
 
-    /// The acceptor that these records leave, the first of them kept first (section 2.4). Each slot has the highest ballot that
-    /// a record promises or accepts at, and the acceptance at the highest ballot, the last one where ballots are equal.
+    /// The acceptor that these records leave, the first of them kept first (section 2.4). Each slot has the highest
+    /// ballot that a record promises or accepts at, and the acceptance at the highest ballot, the last one where
+    /// ballots are equal.
     pub fn from_records(alloc: Global, records: &[Record]) -> Result<Acceptor, OutOfMemory>
         ensures { IfOk result (λ acceptor. IsRestored records.now (standing acceptor)) }
     {
@@ -97,11 +100,13 @@ impl Acceptor {
         }
     }
 
-    /// Answers a Prepare. A promise is kept before it is answered. Only a promise takes memory.
+    /// Answers a Prepare. A promise is kept before it is answered. Only a promise takes memory, its own: room that
+    /// [`Acceptor::make_room`] made stays.
     pub fn on_prepare(&mut self, slot: Slot, ballot: Ballot) -> Result<Answer, OutOfMemory>
         ensures answered { IfOk result (Prepares (standing self.old) (standing self.new) slot ballot) }
         ensures err { OnErr result (IsSame (standing self.old) (standing self.new)) }
         ensures memory { OnErr result (IsAbove ballot (promised_at self.old slot)) }
+        ensures room { 0 < self.old.room → 0 < self.new.room }
     {
         if let Some(promised) = self.promised(slot) {
             if !promised.is_below(ballot) {
@@ -109,13 +114,16 @@ impl Acceptor {
             }
         }
 
-        // The copy comes first: where memory is refused, nothing has changed.
+        // What takes memory comes first: where it is refused, nothing has changed. Room for one slot more stays, for a
+        // record.
         let report = self.accepted_copy(slot)?;
-        put_promise(&mut self.promises, slot, ballot)?;
+        self.promises.reserve(2)?;
+        put_promise(&mut self.promises, slot, ballot);
         Ok(Answer::Promise(report))
     }
 
-    /// Answers an Accept. What is accepted is kept before it is answered. Only a grant takes memory.
+    /// Answers an Accept. What is accepted is kept before it is answered. Only a grant takes memory, its own: room that
+    /// [`Acceptor::make_room`] made stays.
     pub fn on_accept(
         &mut self,
         slot: Slot,
@@ -125,6 +133,7 @@ impl Acceptor {
         ensures answered { IfOk result (Accepts (standing self.old) (standing self.new) slot ballot value) }
         ensures err { OnErr result (IsSame (standing self.old) (standing self.new)) }
         ensures memory { OnErr result (IsAtLeast ballot (promised_at self.old slot)) }
+        ensures room { 0 < self.old.room → 0 < self.new.room }
     {
         if let Some(promised) = self.promised(slot) {
             if ballot.is_below(promised) {
@@ -135,22 +144,25 @@ impl Acceptor {
         Ok(Answer::Granted)
     }
 
-    /// Makes room for a record of the slot, which [`Acceptor::apply`] then takes without memory. Nothing else changes, whatever
-    /// the answer. Memory can be refused only where there is no room yet.
+    /// Makes room for a record of the slot, which [`Acceptor::apply`] then takes without memory. Nothing else changes,
+    /// whatever the answer. Memory can be refused only where there is no room yet.
     pub fn make_room(&mut self, slot: Slot) -> Result<(), OutOfMemory>
         ensures ready { OnOk result (0 < self.new.room) }
         ensures same { IsSame (standing self.old) (standing self.new) }
         ensures room { self.old.room ≤ self.new.room }
         ensures memory { OnErr result (self.old.room ≡ 0) }
     {
-        self.reserve_one()
+        self.reserve(1)
     }
 
-    /// Takes a record as the last of those that the acceptor has. It takes no memory: [`Acceptor::make_room`] makes the room.
+    /// Takes a record as the last of those that the acceptor has: a promise raises what its slot has promised, and an
+    /// acceptance that and what its slot has accepted, unless that was at a higher ballot. It takes no memory:
+    /// [`Acceptor::make_room`] makes the room, of which this uses one place at most.
     pub fn apply(&mut self, told: Record)
         requires { HasRoomFor self.old told }
         ensures restored { (records : List Kept) → IsRestored records (standing self.old)
             → IsRestored (records ++ told ∷ []) (standing self.new) }
+        ensures applies { Applies (standing self.old) (standing self.new) told }
         ensures room { self.old.room ≤ self.new.room + 1 }
     {
         match told {
@@ -168,28 +180,31 @@ impl Acceptor {
             → OnOk result (IsRestored (records ++ told.now ∷ []) (standing self.new)) }
     {
         let copy = copied(told)?;
-        self.reserve_one()?;
+        self.reserve(1)?;
         self.apply(copy);
         Ok(())
     }
 
-    fn reserve_one(&mut self) -> Result<(), OutOfMemory>
-        ensures ready { OnOk result (0 < self.new.room) }
+    // Makes room for records of so many slots.
+    fn reserve(&mut self, slots: usize) -> Result<(), OutOfMemory>
+        ensures ready { OnOk result (slots ≤ self.new.room) }
         ensures same { IsSame (standing self.old) (standing self.new) }
         ensures room { self.old.room ≤ self.new.room }
-        ensures memory { OnErr result (self.old.room ≡ 0) }
+        ensures memory { OnErr result (self.old.room < slots) }
     {
-        self.promises.reserve(1)?;
-        self.acceptances.reserve(1)
+        self.promises.reserve(slots)?;
+        self.acceptances.reserve(slots)
     }
 
-    // Promises the ballot, and keeps the value as accepted at it. Where memory is refused, nothing has changed.
+    // Promises the ballot, and keeps the value as accepted at it. Where memory is refused, nothing has changed. Room
+    // for one slot more stays, for a record.
     fn set(&mut self, slot: Slot, granted: Ballot, value: Value) -> Result<(), OutOfMemory>
         ensures ok { OnOk result (Sets (standing self.old) (standing self.new) slot granted (Some (granted, value))) }
         ensures err { OnErr result (IsSame (standing self.old) (standing self.new)) }
+        ensures room { 0 < self.old.room → 0 < self.new.room }
     {
-        self.reserve_one()?;
-        put_promise(&mut self.promises, slot, granted)?;
+        self.reserve(2)?;
+        put_promise(&mut self.promises, slot, granted);
         put_acceptance(&mut self.acceptances, slot, granted, value);
         Ok(())
     }

@@ -1,14 +1,24 @@
 //! The acceptor of Paxos (Lamport, *Paxos Made Simple*, section 2.2): for each slot the highest ballot that it has
 //! promised, and the last value that it accepted with that value's ballot.
 //!
-//! A caller answers with what `on_prepare` and `on_accept` give, and keeps both before the answer goes out: a promise
-//! that is forgotten is broken. `would_promise` and `would_grant` tell beforehand, and change nothing. Where a record is kept
-//! first, `make_room` makes the room, and `apply` then takes the record without memory; `from_records` takes all records of a
-//! node that starts again.
+//! `on_prepare` and `on_accept` change the acceptor and give the answer at once. A node that starts again keeps a
+//! record before each answer goes out, since a promise that is forgotten is broken. It asks first, makes the room,
+//! keeps the record, and then applies it, which takes no memory and cannot fail:
+//!
+//! ```text
+//! let granted = acceptor.would_grant(slot, ballot);         // of a Prepare would_promise; changes nothing
+//! acceptor.make_room(slot)?;                                // the last step that memory can be refused to
+//! storage.keep(&Record::Accepted(slot, ballot, value))?;    // before anything is answered
+//! acceptor.apply(Record::Accepted(slot, ballot, value));    // of a Prepare Record::Promised(slot, ballot)
+//! let acceptor = Acceptor::from_records(alloc, &records)?;  // when the node starts again: it has back every promise
+//! ```
+//!
+//! `answers_are_as_recorded` in [`laws`] says that both ways leave the same.
 #![tactic(auto)]
 
 mod acceptor;
 mod answer;
+pub mod laws;
 mod maps;
 mod records;
 

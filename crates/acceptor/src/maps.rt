@@ -1,12 +1,12 @@
 //! The two maps of an acceptor, by slots: what is promised, and what is accepted.
 
-ghost use Rattle.std.specs.Prelude.{◌≡◌, ◌<◌, ◌≤◌, ◌+◌, Some, option_map, OnOk, OnErr};
+ghost use Rattle.std.specs.Prelude.{◌≡◌, ◌<◌, ◌≤◌, ◌+◌, Some, option_map};
 ghost use Rattle.indexmap.specs.IndexMap.{spare};
-ghost use Rattle.acceptor.specs.Holding.{at};
+ghost use Rattle.acceptor.specs.AcceptorState.{at};
 ghost use Rattle.ballots.specs.Slots.{SetsSlot};
 ghost use Rattle.acceptor.specs.Raising.{Raises};
 
-use ballots::{Ballot, OutOfMemory, Slot, Value};
+use ballots::{Ballot, Slot, Value};
 use indexmap::IndexMap;
 
 pub(crate) fn held_promise(promises: &IndexMap<Slot, Ballot>, slot: Slot) -> Option<Ballot>
@@ -27,19 +27,15 @@ pub(crate) fn held_acceptance(
     }
 }
 
-// Makes this the slot's promise. Memory can be refused only where the map has no room.
-pub(crate) fn put_promise(
-    promises: &mut IndexMap<Slot, Ballot>,
-    slot: Slot,
-    ballot: Ballot,
-) -> Result<(), OutOfMemory>
-    ensures puts { OnOk result (SetsSlot (at promises.old.entries) (at promises.new.entries) slot (Some ballot)) }
-    ensures err { OnErr result (promises.new.entries ≡ promises.old.entries) }
-    ensures succeeds { 0 < spare promises.old → OnErr result ⊥ }
+// Makes this the slot's promise, without memory.
+pub(crate) fn put_promise(promises: &mut IndexMap<Slot, Ballot>, slot: Slot, ballot: Ballot)
+    requires { 0 < spare promises.old }
+    ensures puts { SetsSlot (at promises.old.entries) (at promises.new.entries) slot (Some ballot) }
     ensures room { spare promises.old ≤ spare promises.new + 1 }
 {
-    promises.insert(slot, ballot)?;
-    Ok(())
+    let Ok(_) = promises.insert(slot, ballot) else {
+        unreachable!()
+    };
 }
 
 // Makes this what the slot has accepted, without memory.
@@ -69,9 +65,7 @@ pub(crate) fn raise_promise(promises: &mut IndexMap<Slot, Ballot>, slot: Slot, b
             return;
         }
     }
-    let Ok(()) = put_promise(promises, slot, ballot) else {
-        unreachable!()
-    };
+    put_promise(promises, slot, ballot);
 }
 
 // Makes this what the slot has accepted, unless it has accepted at a higher ballot, without memory.
@@ -82,7 +76,8 @@ pub(crate) fn raise_acceptance(
     value: Value,
 )
     requires { 0 < spare acceptances.old }
-    ensures raises { Raises (λ held. held.0) (at acceptances.old.entries) (at acceptances.new.entries) slot (ballot, value) }
+    ensures raises { Raises (λ held. held.0) (at acceptances.old.entries) (at acceptances.new.entries)
+        slot (ballot, value) }
     ensures room { spare acceptances.old ≤ spare acceptances.new + 1 }
 {
     if let Some((highest, _)) = held_acceptance(acceptances, slot) {

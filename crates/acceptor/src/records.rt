@@ -18,7 +18,8 @@ pub fn highest_begun_round(records: &[Record]) -> u32
 }
 
 fn higher_round(highest: u32, told: &Record) -> u32
-    ensures { (records : List Kept) → IsHighestRound records highest → IsHighestRound (records ++ told.now ∷ []) result }
+    ensures { (records : List Kept) → IsHighestRound records highest
+        → IsHighestRound (records ++ told.now ∷ []) result }
 {
     match told {
         Record::Began(ballot) => highest.max(ballot.round()),

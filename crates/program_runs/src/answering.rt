@@ -1,7 +1,7 @@
 //! What node 0 answers as an acceptor.
 
 ghost use Rattle.std.specs.Prelude.{◌≡◌, IfOk, OnErr};
-ghost use Rattle.acceptor.specs.Holding.{standing};
+ghost use Rattle.acceptor.specs.AcceptorState.{standing};
 ghost use Rattle.acceptor.specs.Standing.{IsSame};
 ghost use Rattle.program_runs.specs.Conversation.{Answers, RepliesToPrepare, RepliesToAccept};
 

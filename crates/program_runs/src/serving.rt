@@ -3,7 +3,7 @@
 ghost use Rattle.std.specs.Prelude.{◌≡◌, IfErr};
 ghost use Rattle.grpc_frames.specs.Frame.{IsFlag};
 ghost use Rattle.grpc_frames.specs.FrameFaults.{WhereKnown};
-ghost use Rattle.acceptor.specs.Holding.{standing};
+ghost use Rattle.acceptor.specs.AcceptorState.{standing};
 ghost use Rattle.program_runs.specs.Serving.{Sends, AnswersFrame, Steps, Runs};
 
 use crate::answering::reply_to;

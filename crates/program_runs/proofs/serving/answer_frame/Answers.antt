@@ -1,6 +1,6 @@
 use Rattle.std.proofs.Common.{ap, ◌∙◌, rules}
 use Rattle.grpc_frames.specs.Frame.{Frame}
-use Rattle.acceptor.specs.Holding.{standing}
+use Rattle.acceptor.specs.AcceptorState.{standing}
 use Rattle.program_runs.proofs.Replying.{message_flag, answered_none, answered_some}
 use Rattle.program_runs.proofs.serving.answer_frame.Goals as goal
 

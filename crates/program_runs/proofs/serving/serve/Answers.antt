@@ -1,5 +1,5 @@
 use Rattle.std.proofs.Common.{rules}
-use Rattle.acceptor.specs.Holding.{standing}
+use Rattle.acceptor.specs.AcceptorState.{standing}
 use Rattle.program_runs.proofs.Running.{run_starts, run_goes_on}
 use Rattle.program_runs.proofs.serving.serve.Goals as goal
 

@@ -1,4 +1,4 @@
-use Rattle.acceptor.specs.Holding.{standing}
+use Rattle.acceptor.specs.AcceptorState.{standing}
 use Rattle.program_runs.proofs.Running.{HasRun}
 use Rattle.program_runs.proofs.serving.serve.Given as goal
 

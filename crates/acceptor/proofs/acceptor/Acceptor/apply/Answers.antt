@@ -1,6 +1,6 @@
 use Rattle.std.proofs.Common.{sym, refl, subst, List, [], ◌∷◌, ◌++◌}
 use Rattle.ballots.specs.declared.record.Record.{Record}
-use Rattle.acceptor.specs.Holding.{Holding, standing}
+use Rattle.acceptor.specs.AcceptorState.{AcceptorState, standing}
 use Rattle.acceptor.specs.Restored.{IsRestored}
 use Rattle.acceptor.proofs.Restoring.{began_more, promised_more, accepted_more}
 use Rattle.acceptor.proofs.acceptor.Acceptor.apply.Goals as goal
@@ -12,11 +12,14 @@ returns-in-Began-clause-restored c records is =
 pub returns-in-Promised-clause-restored : goal.returns-in-Promised-clause-restored
 returns-in-Promised-clause-restored c records is =
     rw c.in-Promised.is
-    (promised_more records c.in-Promised.slot c.in-Promised.ballot _ _ (subst (λ (h : Holding). IsRestored records (standing h)) (sym c.self.view_is) is)
+    (promised_more records c.in-Promised.slot c.in-Promised.ballot _ _ (subst (λ (h : AcceptorState). IsRestored records (standing h)) (sym c.self.view_is) is)
     c.raise_promise.ensures.raises (λ s. refl))
 
 pub returns-in-Accepted-clause-restored : goal.returns-in-Accepted-clause-restored
 returns-in-Accepted-clause-restored c records is =
     rw c.in-Accepted.is
-    (accepted_more records c.in-Accepted.slot c.in-Accepted.ballot c.in-Accepted.value _ _ (subst (λ (h : Holding). IsRestored records (standing h)) (sym c.self.view_is) is)
+    (accepted_more records c.in-Accepted.slot c.in-Accepted.ballot c.in-Accepted.value _ _ (subst (λ (h : AcceptorState). IsRestored records (standing h)) (sym c.self.view_is) is)
     c.raise_promise-in-Accepted.ensures.raises c.raise_acceptance.ensures.raises)
+
+pub returns-in-Accepted-clause-applies : goal.returns-in-Accepted-clause-applies
+returns-in-Accepted-clause-applies c = rw (c.in-Accepted.is, ← c.self.view_is) (c.raise_promise-in-Accepted.ensures.raises, c.raise_acceptance.ensures.raises)

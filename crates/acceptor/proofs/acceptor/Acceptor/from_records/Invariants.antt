@@ -1,5 +1,5 @@
 use Rattle.std.proofs.Common.{take}
-use Rattle.acceptor.specs.Holding.{standing}
+use Rattle.acceptor.specs.AcceptorState.{standing}
 use Rattle.acceptor.specs.Restored.{IsRestored}
 use Rattle.acceptor.proofs.acceptor.Acceptor.from_records.Given as goal
 

@@ -20,14 +20,14 @@ returns-in_err-report-clause-err c = search rules steps 300000
 pub returns-in_err-report-clause-memory : goal.returns-in_err-report-clause-memory
 returns-in_err-report-clause-memory c = search rules steps 300000
 
-pub returns-in_err-put_promise-clause-answered : goal.returns-in_err-put_promise-clause-answered
-returns-in_err-put_promise-clause-answered c = grind (arith, common_steps) steps 600000
+pub returns-in_err-reserve-clause-answered : goal.returns-in_err-reserve-clause-answered
+returns-in_err-reserve-clause-answered c = grind (arith, common_steps) steps 600000
 
-pub returns-in_err-put_promise-clause-err : goal.returns-in_err-put_promise-clause-err
-returns-in_err-put_promise-clause-err c = grind (arith, common_steps) steps 600000
+pub returns-in_err-reserve-clause-err : goal.returns-in_err-reserve-clause-err
+returns-in_err-reserve-clause-err c = grind (arith, common_steps) steps 600000
 
-pub returns-in_err-put_promise-clause-memory : goal.returns-in_err-put_promise-clause-memory
-returns-in_err-put_promise-clause-memory c = grind (arith, common_steps) steps 600000
+pub returns-in_err-reserve-clause-memory : goal.returns-in_err-reserve-clause-memory
+returns-in_err-reserve-clause-memory c = grind (arith, common_steps) steps 600000
 
 pub returns-clause-answered : goal.returns-clause-answered
 returns-clause-answered c = grind (arith, common_steps) steps 600000
@@ -37,3 +37,6 @@ returns-clause-err c = search rules steps 300000
 
 pub returns-clause-memory : goal.returns-clause-memory
 returns-clause-memory c = search rules steps 300000
+
+pub returns-clause-room : goal.returns-clause-room
+returns-clause-room c = grind (arith, common_steps) steps 600000

@@ -1,5 +1,5 @@
 use Rattle.std.proofs.Common.{rules}
-use Rattle.acceptor.proofs.acceptor.Acceptor.reserve_one.Goals as goal
+use Rattle.acceptor.proofs.acceptor.Acceptor.reserve.Goals as goal
 
 pub returns-in_err-reserve-clause-ready : goal.returns-in_err-reserve-clause-ready
 returns-in_err-reserve-clause-ready c = search rules steps 300000

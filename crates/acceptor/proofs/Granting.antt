@@ -1,0 +1,70 @@
+-- What is granted is at least all that its slot has accepted.
+use Rattle.std.proofs.Common.{ℕ, nat_eq, true, false, Bool, if◌then◌else◌, inl, inr, List, [], ◌∷◌, Option, Some, None, sym, subst}
+use Rattle.std.specs.Option.{option_map}
+use Rattle.std.specs.List.{Contains, filter_map, cons_option}
+use Rattle.std.proofs.lemmas.List.Elements.{Contains-append_left, Contains-append_right, Contains-append_cases}
+use Rattle.ballots.specs.Ballot.{Ballot, IsAbove, IsAtLeast}
+use Rattle.ballots.specs.Slots.{SetsSlot}
+use Rattle.ballots.specs.declared.value.Value.{Value}
+use Rattle.ballots.specs.declared.record.Record.{Record}
+use Rattle.ballots.specs.declared.record.Record.TheVariants.{Began, Promised, Accepted}
+use Rattle.ballots.proofs.CallerLemmas.{at_least_where_not_below, not_below_more}
+use Rattle.acceptor.specs.Raising.{Raises}
+use Rattle.acceptor.specs.Restored.{promise_in, acceptance_in, IsHighest, IsLastHighest}
+use Rattle.acceptor.proofs.Lists.{nothing_in, one_in, only_one}
+use Rattle.acceptor.proofs.Highest.{in_middle}
+
+-- the ballot of an acceptance is among those that are promised
+pub promised_with : (slot : ℕ) (records : List Record) (a : Ballot × Value) → Contains (filter_map (acceptance_in slot) records) a
+    → Contains (filter_map (promise_in slot) records) a.0
+promised_with slot [] a has = absurd (nothing_in a has)
+promised_with slot (Began ballot ∷ records) a has = promised_with slot records a has
+promised_with slot (Promised of ballot ∷ records) a has = behind (promised_with slot records a has) (nat_eq slot of)
+  where
+    behind : Contains (filter_map (promise_in slot) records) a.0 → (here : Bool)
+        → Contains (cons_option (let o : Option Ballot = if here then Some ballot else None in o) (filter_map (promise_in slot) records)) a.0
+    behind there true = Contains-append_right (ballot ∷ []) (filter_map (promise_in slot) records) a.0 there
+    behind there false = there
+promised_with slot (Accepted of ballot value ∷ records) a has = either (λ behind. promised_with slot records a behind) (nat_eq slot of) has
+  where
+    either : (Contains (filter_map (acceptance_in slot) records) a → Contains (filter_map (promise_in slot) records) a.0) → (here : Bool)
+        → Contains (cons_option (let o : Option (Ballot × Value) = if here then Some (ballot, value) else None in o) (filter_map (acceptance_in slot) records)) a
+        → Contains (cons_option (let o : Option Ballot = if here then Some ballot else None in o) (filter_map (promise_in slot) records)) a.0
+    either rest true has = elim (Contains-append_cases ((ballot, value) ∷ []) (filter_map (acceptance_in slot) records) a has)
+        as (λ _. Contains (ballot ∷ filter_map (promise_in slot) records) a.0) [
+          | inl here ↦ subst (λ (x : Ballot × Value). Contains (ballot ∷ filter_map (promise_in slot) records) x.0) (sym (only_one (ballot, value) a here))
+              (Contains-append_left (ballot ∷ []) (filter_map (promise_in slot) records) ballot (one_in ballot))
+          | inr behind ↦ Contains-append_right (ballot ∷ []) (filter_map (promise_in slot) records) a.0 (rest behind)
+        ]
+    either rest false has = rest has
+
+-- what is at least the highest promise is at least the highest acceptance
+pub at_least_accepted : (slot : ℕ) (records : List Record) (ballot : Ballot) (promised : Option Ballot) (accepted : Option (Ballot × Value))
+    → IsHighest (filter_map (promise_in slot) records) promised → IsLastHighest (filter_map (acceptance_in slot) records) accepted
+    → IsAtLeast ballot promised → IsAtLeast ballot (option_map (λ (held : Ballot × Value). held.0) accepted)
+at_least_accepted slot records ballot promised None is_promised is_accepted more = tt
+at_least_accepted slot records ballot None (Some a) is_promised (before, after, split, not_above, below) more =
+    let has = promised_with slot records a (subst (λ (l : List (Ballot × Value)). Contains l a) (sym split) (in_middle before a after)) in
+    absurd (nothing_in a.0 (subst (λ (l : List Ballot). Contains l a.0) is_promised has))
+at_least_accepted slot records ballot (Some p) (Some a) is_promised (before, after, split, not_above, below) more =
+    let has = promised_with slot records a (subst (λ (l : List (Ballot × Value)). Contains l a) (sym split) (in_middle before a after)) in
+    (at_least_where_not_below a.0 ballot).1 (not_below_more p ballot a.0 more (is_promised.1 a.0 has))
+
+-- a ballot above what may be none is at least that
+pub above_at_least : (ballot : Ballot) (o : Option Ballot) → IsAbove ballot o → IsAtLeast ballot (option_map (λ held. held) o)
+above_at_least ballot None above = tt
+above_at_least ballot (Some held) above = inl above
+
+pub at_least_same : (ballot : Ballot) (o : Option Ballot) → IsAtLeast ballot o → IsAtLeast ballot (option_map (λ held. held) o)
+at_least_same ballot None more = tt
+at_least_same ballot (Some held) more = more
+
+-- an entry that is set at such a ballot is raised
+pub sets_raised : {X : Type 0} (ballot_of : X → Ballot) (old new : ℕ → Option X) (slot : ℕ) (entry : X) → SetsSlot old new slot (Some entry)
+    → IsAtLeast (ballot_of entry) (option_map ballot_of (old slot)) → Raises ballot_of old new slot entry
+sets_raised {X} ballot_of old new slot entry sets more = record {
+  kept = λ held is below. absurd ((at_least_where_not_below (ballot_of held) (ballot_of entry)).0
+      (subst (λ (o : Option X). IsAtLeast (ballot_of entry) (option_map ballot_of o)) is more) below);
+  raised = λ at_least. sets.here;
+  others = sets.others;
+}

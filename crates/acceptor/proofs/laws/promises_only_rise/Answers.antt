@@ -1,0 +1,8 @@
+use Rattle.std.proofs.Common.{rules}
+use Rattle.acceptor.proofs.laws.promises_only_rise.Goals as goal
+
+pub returns-clause-prepare : goal.returns-clause-prepare
+returns-clause-prepare c = search rules steps 300000
+
+pub returns-clause-accept : goal.returns-clause-accept
+returns-clause-accept c = search rules steps 300000
