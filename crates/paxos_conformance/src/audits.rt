@@ -4,4 +4,5 @@ mod clauses;
 mod comparison;
 mod histories;
 mod lawful;
+mod long;
 mod plain;

@@ -6,7 +6,9 @@ use Rattle.ballots.specs.Ballot.{Ballot, IsBelow}
 use Rattle.ballots.proofs.CallerLemmas.{either_below, not_below_carried}
 use Rattle.ballots.specs.declared.value.Value.{Value}
 use Rattle.schedule_runner.specs.Saying.{Report, Saying, Promise, Accept, Accepted, told}
-use Rattle.schedule_runner.specs.Lawful.{Said, SaidBefore, MajorityOf, IsLawfulSlot, IsUpTo, PromisedUpTo, IsOfHighestReport, IsChosenBefore, OneValue, ChosenValueStays}
+use Rattle.schedule_runner.specs.Majorities.{MajorityOf}
+use Rattle.schedule_runner.specs.Saying.{IsUpTo}
+use Rattle.schedule_runner.specs.Lawful.{Said, SaidBefore, IsLawfulSlot, PromisedUpTo, IsOfHighestReport, IsChosenBefore, OneValue, ChosenValueStays}
 use Rattle.schedule_runner.proofs.Majorities.{majorities_meet}
 
 -- ---- one slot

@@ -7,7 +7,8 @@ use Rattle.ballots.specs.declared.value.Value.{Value}
 use Rattle.ballots.specs.declared.message.Message.{Message}
 use Rattle.ballots.specs.declared.message.Message.TheVariants as message
 use Rattle.schedule_runner.specs.Saying.{Report, Saying, Silent, Prepare, Promise, Accept, Accepted, Decided, of_one, says, told}
-use Rattle.schedule_runner.specs.Lawful.{Said, SaidBefore, IsUpTo, IsOfHighestReport, IsLawful, IsLawfulSlot}
+use Rattle.schedule_runner.specs.Saying.{IsUpTo}
+use Rattle.schedule_runner.specs.Lawful.{Said, SaidBefore, IsOfHighestReport, IsLawful, IsLawfulSlot}
 use Rattle.schedule_runner.specs.Messages.{Sent, SentBefore, IsSaidBy, HasHighestReport, KeepsTheRules}
 use Rattle.schedule_runner.proofs.Places.{blank, within_sent, said_by, said_there}
 

@@ -2,5 +2,5 @@ pub mod Majorities
 pub mod Agreement
 pub mod Places
 pub mod Slots
-pub mod Following
+pub mod Judged
 pub mod ByMessages

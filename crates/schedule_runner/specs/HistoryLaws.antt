@@ -28,12 +28,14 @@ DecidedIsChosen = (n : ℕ) (sent : List Message) (k p s : ℕ) (v : Value) → 
 
 -- A later Promise of an acceptor is above what it accepted (section 2.2, P1a).
 abbrev pub PromisesAboveItsVotes : Type 0
-PromisesAboveItsVotes = (n : ℕ) (sent : List Message) (j k a s : ℕ) (b c : Ballot) (v : Value) (r : Report) → IsLawful n sent → j < k
+PromisesAboveItsVotes = (n : ℕ) (sent : List Message) (j k a s : ℕ) (b c : Ballot) (v : Value) (r : Report)
+    → IsLawful n sent → j < k
     → Sent sent j (message.Accepted a s b v) → Sent sent k (message.Promise a s c r) → IsBelow b c
 
 -- It reports a ballot no lower than that.
 abbrev pub ReportsItsVotes : Type 0
-ReportsItsVotes = (n : ℕ) (sent : List Message) (j k a s : ℕ) (b c : Ballot) (v : Value) (r : Report) → IsLawful n sent → j < k
+ReportsItsVotes = (n : ℕ) (sent : List Message) (j k a s : ℕ) (b c : Ballot) (v : Value) (r : Report)
+    → IsLawful n sent → j < k
     → Sent sent j (message.Accepted a s b v) → Sent sent k (message.Promise a s c r)
     → (d : Ballot) × (w : Value) × (r ≡ Some (d, w)) × (IsBelow d b → ⊥)
 
@@ -53,4 +55,5 @@ NothingIsLawful = (n : ℕ) → IsLawful n []
 
 -- Each beginning of a lawful history is lawful.
 abbrev pub BeginningsAreLawful : Type 0
-BeginningsAreLawful = (n : ℕ) (sent : List Message) (k : ℕ) → k ≤ length sent → IsLawful n sent → IsLawful n (take k sent)
+BeginningsAreLawful = (n : ℕ) (sent : List Message) (k : ℕ) → k ≤ length sent
+    → IsLawful n sent → IsLawful n (take k sent)

@@ -3,12 +3,13 @@
 use Rattle.std.specs.Prelude.{◌≡◌, ℕ, ◌<◌, ◌≤◌, ◌⊎◌, Bool, IsTrue, List, length, take, slice_index_or, Some, None, ◌↔◌, Option, IfSome, ◌==◌, if◌then◌else◌}
 use Rattle.std.specs.List.{All, Any}
 use Rattle.ballots.specs.Ballot.{Ballot, IsBelow}
-use Rattle.ballots.specs.Majority.{tally}
+use Rattle.ballots.specs.Majority.{NodeSet, contains}
 use Rattle.ballots.specs.declared.value.Value.{Value}
 use Rattle.ballots.specs.declared.message.Message.{Message}
 use Rattle.ballots.specs.declared.message.Message.TheVariants as message
 use Rattle.schedule_runner.specs.Saying.{Report, Saying, Silent, Prepare, Promise, Accept, Accepted, Decided, says}
-use Rattle.schedule_runner.specs.Lawful.{MajorityOf, IsUpTo}
+use Rattle.schedule_runner.specs.Majorities.{MajorityOf}
+use Rattle.schedule_runner.specs.Saying.{IsUpTo}
 
 -- one of these messages says this of the slot
 abbrev pub AnySaid : ℕ → List Message → Saying → Type 0
@@ -109,34 +110,31 @@ MayReport s before b None = Unit {0}
 MayReport s before b (Some report) = IsBelow report.0 b × AnySaid s before (Accept report.0 report.1)
 
 -- the messages before let this be said of the slot
-abbrev pub FollowsAt : ℕ → ℕ → List Message → Saying → Type 0
-FollowsAt n s before Silent = Unit {0}
-FollowsAt n s before (Prepare b) = Unit {0}
-FollowsAt n s before (Promise a b r) = AllSaid s before (PromisedBelow a b) × MayReport s before b r × AllSaid s before (IsReported a r)
-FollowsAt n s before (Accept b v) = AllSaid s before (HasValueAt b v) × MayPropose n s before b v
-FollowsAt n s before (Accepted a b v) = AnySaid s before (Accept b v) × AllSaid s before (PromisedAtMost a b)
-FollowsAt n s before (Decided v) = MayDecide n s before v
+abbrev pub MayBeSaid : ℕ → ℕ → List Message → Saying → Type 0
+MayBeSaid n s before Silent = Unit {0}
+MayBeSaid n s before (Prepare b) = Unit {0}
+MayBeSaid n s before (Promise a b r) = AllSaid s before (PromisedBelow a b) × MayReport s before b r × AllSaid s before (IsReported a r)
+MayBeSaid n s before (Accept b v) = AllSaid s before (HasValueAt b v) × MayPropose n s before b v
+MayBeSaid n s before (Accepted a b v) = AnySaid s before (Accept b v) × AllSaid s before (PromisedAtMost a b)
+MayBeSaid n s before (Decided v) = MayDecide n s before v
 
 -- the messages before let this one follow
-abbrev pub Follows : ℕ → List Message → Message → Type 0
-Follows n before (message.Prepare sender slot ballot) = Unit {0}
-Follows n before (message.Promise sender slot ballot report) = FollowsAt n slot before (Promise sender ballot report)
-Follows n before (message.Nack sender slot ballot promised) = Unit {0}
-Follows n before (message.Accept sender slot ballot value) = FollowsAt n slot before (Accept ballot value)
-Follows n before (message.Accepted sender slot ballot value) = FollowsAt n slot before (Accepted sender ballot value)
-Follows n before (message.Ask sender slot) = Unit {0}
-Follows n before (message.Decided sender slot value) = FollowsAt n slot before (Decided value)
+abbrev pub MayBeSent : ℕ → List Message → Message → Type 0
+MayBeSent n before (message.Prepare sender slot ballot) = Unit {0}
+MayBeSent n before (message.Promise sender slot ballot report) = MayBeSaid n slot before (Promise sender ballot report)
+MayBeSent n before (message.Nack sender slot ballot promised) = Unit {0}
+MayBeSent n before (message.Accept sender slot ballot value) = MayBeSaid n slot before (Accept ballot value)
+MayBeSent n before (message.Accepted sender slot ballot value) = MayBeSaid n slot before (Accepted sender ballot value)
+MayBeSent n before (message.Ask sender slot) = Unit {0}
+MayBeSent n before (message.Decided sender slot value) = MayBeSaid n slot before (Decided value)
 
 -- so it is of the messages up to a place, and of all
-abbrev pub AllFollowUpTo : ℕ → List Message → ℕ → Type 0
-AllFollowUpTo n sent end = (k : ℕ) (d : Message) → k < end → Follows n (take k sent) (slice_index_or sent k d)
+abbrev pub AllMayBeSentUpTo : ℕ → List Message → ℕ → Type 0
+AllMayBeSentUpTo n sent end = (k : ℕ) (d : Message) → k < end → MayBeSent n (take k sent) (slice_index_or sent k d)
 
-abbrev pub AllFollow : ℕ → List Message → Type 0
-AllFollow n sent = AllFollowUpTo n sent (length sent)
+abbrev pub AllMayBeSent : ℕ → List Message → Type 0
+AllMayBeSent n sent = AllMayBeSentUpTo n sent (length sent)
 
--- So many members pass, and the test is exact.
-pub record Counted (n : ℕ) (count : ℕ) (P : ℕ → Type 0) : Type 0 where
-  pub test : ℕ → Bool
-  pub exact : (a : ℕ) → a < n → (IsTrue (test a) ↔ P a)
-  pub size : tally n test ≡ count
-  pub within : count ≤ n
+-- the set has exactly the nodes of whom this holds
+abbrev pub IsSetOf : NodeSet → (ℕ → Type 0) → Type 0
+IsSetOf nodes P = (a : ℕ) → (IsTrue (contains nodes a) ↔ P a)

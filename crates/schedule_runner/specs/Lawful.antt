@@ -1,12 +1,12 @@
 -- Which histories of messages correct nodes may have sent, and what they chose: Lamport, "Paxos Made Simple", section 2.
 -- A history is a number of members and the list of all messages that were sent, in their order. It speaks of nothing that
 -- a node keeps: a sent message stays for good, whoever received it.
-use Rattle.std.specs.Prelude.{◌≡◌, ℕ, ◌<◌, ◌⊎◌, Bool, IsTrue, List, length, get_or, Some, None}
+use Rattle.std.specs.Prelude.{◌≡◌, ℕ, ◌<◌, ◌⊎◌, IsTrue, List, length, get_or, Some, None}
 use Rattle.ballots.specs.Ballot.{Ballot, IsBelow}
-use Rattle.ballots.specs.Majority.{tally, IsMajority}
 use Rattle.ballots.specs.declared.value.Value.{Value}
 use Rattle.ballots.specs.declared.message.Message.{Message}
-use Rattle.schedule_runner.specs.Saying.{Report, Saying, Silent, Promise, Accept, Accepted, Decided, told}
+use Rattle.schedule_runner.specs.Majorities.{MajorityOf}
+use Rattle.schedule_runner.specs.Saying.{IsUpTo, Report, Saying, Silent, Promise, Accept, Accepted, Decided, told}
 
 -- this is said in that place
 abbrev pub Said : List Saying → ℕ → Saying → Type 0
@@ -15,12 +15,6 @@ Said xs k x = (k < length xs) × (get_or xs k Silent ≡ x)
 -- this is said in an earlier place
 abbrev pub SaidBefore : List Saying → ℕ → Saying → Type 0
 SaidBefore xs k x = (j : ℕ) × (j < k) × Said xs j x
-
--- so it is of each member of some majority
-pub record MajorityOf (n : ℕ) (P : ℕ → Type 0) : Type 0 where
-  pub is_in : ℕ → Bool
-  pub majority : IsMajority n (tally n is_in)
-  pub each : (a : ℕ) → a < n → IsTrue (is_in a) → P a
 
 -- ---- the six clauses, for what is said of one slot
 
@@ -55,11 +49,6 @@ pub record ReportsItsHighest (xs : List Saying) : Type 0 where
 -- At one ballot one value is proposed (section 2.2: proposals have numbers of their own).
 abbrev pub OneValueABallot : List Saying → Type 0
 OneValueABallot xs = (j k : ℕ) (b : Ballot) (v w : Value) → Said xs j (Accept b v) → Said xs k (Accept b w) → v ≡ w
-
--- the report is of no ballot above this one
-abbrev pub IsUpTo : Report → Ballot → Type 0
-IsUpTo None c = Unit {0}
-IsUpTo (Some report) c = IsBelow c report.0 → ⊥
 
 -- the acceptor promised this ballot before that place, and its report goes up to the other
 abbrev pub PromisedUpTo : List Saying → ℕ → Ballot → Ballot → ℕ → Type 0

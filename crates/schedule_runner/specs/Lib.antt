@@ -1,4 +1,6 @@
+pub mod Majorities
 pub mod Saying
+pub mod Recorded
 pub mod Lawful
 pub mod Messages
 pub mod HistoryLaws

@@ -1,7 +1,7 @@
 -- What a message says of a slot: Lamport, "Paxos Made Simple", section 2.2, the messages of the two phases, and section
 -- 2.3, what is told of a chosen value.
-use Rattle.std.specs.Prelude.{ℕ, ◌==◌, List, map, Option, if◌then◌else◌}
-use Rattle.ballots.specs.Ballot.{Ballot}
+use Rattle.std.specs.Prelude.{ℕ, ◌==◌, List, map, Option, Some, None, if◌then◌else◌}
+use Rattle.ballots.specs.Ballot.{Ballot, IsBelow}
 use Rattle.ballots.specs.declared.value.Value.{Value}
 use Rattle.ballots.specs.declared.message.Message.{Message}
 use Rattle.ballots.specs.declared.message.Message.TheVariants as message
@@ -9,6 +9,11 @@ use Rattle.ballots.specs.declared.message.Message.TheVariants as message
 -- what an acceptor reports with a promise: the ballot at which it last accepted, with the value
 abbrev pub Report : Type 0
 Report = Option (Ballot × Value)
+
+-- the report is of no ballot above this one
+abbrev pub IsUpTo : Report → Ballot → Type 0
+IsUpTo None c = Unit {0}
+IsUpTo (Some report) c = IsBelow c report.0 → ⊥
 
 -- Promise and Accepted name their sender, which the other sayings need not.
 pub data Saying : Type 0 where

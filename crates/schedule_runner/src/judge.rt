@@ -2,18 +2,21 @@
 
 ghost use Rattle.std.specs.Prelude.{◌↔◌, ℕ, IsTrue};
 ghost use Rattle.std.specs.List.{Any};
-ghost use Rattle.schedule_runner.specs.Saying.{says, Accept, Accepted, Decided};
-ghost use Rattle.schedule_runner.specs.Judging.{AnySaid, AllSaid, PromisedAtMost, PromisedBelow, IsReported, HasValueAt, PromisesWithin, MostPromise, LetsPropose, MayPropose, MostAccepted, ShowsChosen, MayDecide, MayReport, Follows};
+ghost use Rattle.schedule_runner.specs.Saying.{says, Accept, Decided};
+ghost use Rattle.schedule_runner.specs.Judging.{AnySaid, AllSaid, PromisedAtMost, PromisedBelow, IsReported};
+ghost use Rattle.schedule_runner.specs.Judging.{HasValueAt, IsSetOf, HasPromised, HasAccepted, MostPromise};
+ghost use Rattle.schedule_runner.specs.Judging.{LetsPropose, MayPropose, MostAccepted, ShowsChosen, MayDecide};
+ghost use Rattle.schedule_runner.specs.Judging.{MayReport, MayBeSent};
 
 use crate::sayings::{
-    accepts, decides, has_value_at, is_reported, promised_at_most, promised_below, promises_within,
-    proposes, reports,
+    acceptor_in, decides, has_value_at, is_reported, promised_at_most, promised_below,
+    promiser_within, proposes, reports,
 };
-use ballots::{Ballot, Members, Message, NodeId, Slot, Value};
+use ballots::{Ballot, Members, Message, NodeId, NodeSet, Slot, Value};
 
 /// Whether the messages before let this one follow.
-pub(crate) fn follows(members: Members, before: &[Message], message: &Message) -> bool
-    ensures { IsTrue result ↔ Follows members before.now message.now }
+pub(crate) fn may_be_sent(members: Members, before: &[Message], message: &Message) -> bool
+    ensures { IsTrue result ↔ MayBeSent members before.now message.now }
 {
     match message {
         Message::Promise {
@@ -169,7 +172,7 @@ fn lets_propose(
             report,
         } => {
             *slot == at
-                && sender.number() < members.count()
+                && members.have(*sender)
                 && *ballot == promised
                 && reports(report, wanted)
                 && most_promise(members, before, at, promised, report)
@@ -188,25 +191,25 @@ fn most_promise(
 ) -> bool
     ensures { IsTrue result ↔ MostPromise members slot before.now ballot bound.now }
 {
-    let mut count = 0;
-    for number in 0..members.count() {
-        if has_promised(before, slot, number, ballot, bound) {
-            count += 1;
-        }
-    }
-    members.is_majority(count)
+    members.are_majority(promisers(before, slot, ballot, bound))
 }
 
-fn has_promised(
+// The nodes that promised the ballot with reports within this one.
+fn promisers(
     before: &[Message],
     slot: Slot,
-    number: u8,
     ballot: Ballot,
     bound: &Option<(Ballot, Value)>,
-) -> bool
-    ensures { IsTrue result ↔ Any (λ m. PromisesWithin number ballot bound.now (says m slot)) before.now }
+) -> NodeSet
+    ensures { IsSetOf result (HasPromised slot before.now ballot bound.now) }
 {
-    before.iter().any(|message| promises_within(message, slot, number, ballot, bound))
+    let mut nodes = NodeSet::new();
+    for place in 0..before.len() {
+        if let Some(node) = promiser_within(&before[place], slot, ballot, bound) {
+            nodes = nodes.with(node);
+        }
+    }
+    nodes
 }
 
 // Whether the value may be told as decided. A value that was told before needs no second look at the votes.
@@ -256,19 +259,18 @@ fn most_accepted(
 ) -> bool
     ensures { IsTrue result ↔ MostAccepted members slot before.now ballot value.now }
 {
-    let mut count = 0;
-    for number in 0..members.count() {
-        if has_accepted(before, slot, number, ballot, value) {
-            count += 1;
-        }
-    }
-    members.is_majority(count)
+    members.are_majority(acceptors_of(before, slot, ballot, value))
 }
 
-fn has_accepted(before: &[Message], slot: Slot, number: u8, ballot: Ballot, value: &Value) -> bool
-    ensures { IsTrue result ↔ AnySaid slot before.now (Accepted number ballot value.now) }
+// The nodes that accepted the value at the ballot.
+fn acceptors_of(before: &[Message], slot: Slot, ballot: Ballot, value: &Value) -> NodeSet
+    ensures { IsSetOf result (HasAccepted slot before.now ballot value.now) }
 {
-    before
-        .iter()
-        .any(|message| accepts(message, slot, number, ballot, value))
+    let mut nodes = NodeSet::new();
+    for place in 0..before.len() {
+        if let Some(node) = acceptor_in(&before[place], slot, ballot, value) {
+            nodes = nodes.with(node);
+        }
+    }
+    nodes
 }

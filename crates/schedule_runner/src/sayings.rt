@@ -37,15 +37,14 @@ pub(crate) fn has_value_at(message: &Message, at: Slot, proposed: Ballot, wanted
     }
 }
 
-/// Whether it is the Accepted of the member with this number, at this ballot, of this value.
-pub(crate) fn accepts(
+/// The sender, where it is an Accepted of this value at this ballot.
+pub(crate) fn acceptor_in(
     message: &Message,
     at: Slot,
-    number: u8,
     accepted: Ballot,
     wanted: &Value,
-) -> bool
-    ensures { IsTrue result ↔ (says message.now at ≡ Accepted number accepted wanted.now) }
+) -> Option<NodeId>
+    ensures { (a : ℕ) → (result ≡ Some a) ↔ (says message.now at ≡ Accepted a accepted wanted.now) }
 {
     match message {
         Message::Accepted {
@@ -53,10 +52,8 @@ pub(crate) fn accepts(
             slot,
             ballot,
             value,
-        } => {
-            *slot == at && sender.number() == number && *ballot == accepted && *value == *wanted
-        }
-        _ => false,
+        } if *slot == at && *ballot == accepted && *value == *wanted => Some(*sender),
+        _ => None,
     }
 }
 
@@ -141,16 +138,15 @@ fn report_covers(report: &Option<(Ballot, Value)>, ballot: Ballot) -> bool
     }
 }
 
-/// Whether it is the promise of the member with this number, of this ballot, and reports nothing above this report, or
-/// nothing at all where that reports nothing.
-pub(crate) fn promises_within(
+/// The sender, where it is a promise of this ballot that reports nothing above this report, or nothing at all where
+/// that reports nothing.
+pub(crate) fn promiser_within(
     message: &Message,
     at: Slot,
-    number: u8,
     promised: Ballot,
     bound: &Option<(Ballot, Value)>,
-) -> bool
-    ensures { IsTrue result ↔ PromisesWithin number promised bound.now (says message.now at) }
+) -> Option<NodeId>
+    ensures { (a : ℕ) → (result ≡ Some a) ↔ PromisesWithin a promised bound.now (says message.now at) }
 {
     match message {
         Message::Promise {
@@ -158,13 +154,8 @@ pub(crate) fn promises_within(
             slot,
             ballot,
             report,
-        } => {
-            *slot == at
-                && sender.number() == number
-                && *ballot == promised
-                && is_within(report, bound)
-        }
-        _ => false,
+        } if *slot == at && *ballot == promised && is_within(report, bound) => Some(*sender),
+        _ => None,
     }
 }
 

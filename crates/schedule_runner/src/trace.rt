@@ -1,17 +1,50 @@
-ghost use Rattle.std.specs.Prelude.{◌↔◌, IsTrue};
+ghost use Rattle.std.specs.Prelude.{◌≡◌, ◌↔◌, IsTrue};
+ghost use Rattle.schedule_runner.specs.Recorded.{members_of, sent_of};
 ghost use Rattle.schedule_runner.specs.Lawful.{IsLawful};
-ghost use Rattle.schedule_runner.specs.Judging.{AllFollow};
+ghost use Rattle.schedule_runner.specs.Judging.{AllMayBeSent};
 
-use crate::judge::follows;
+use crate::judge::may_be_sent;
 use ballots::{Members, Message};
+use std::marker::Model;
 
-/// A run of nodes as it can be told from outside.
+/// A run of nodes as it can be told from outside: how many nodes agree, and all messages that were sent, by whichever
+/// node, in the order of sending.
 #[derive(Debug, Drop)]
 pub struct Trace {
+    members: Members,
+    sent: Vec<Message>,
+}
+
+impl Model for Trace {
+    ghost use Rattle.schedule_runner.specs.Recorded.{Recorded};
+
+    ghost Value = { Recorded };
+
+    ghost view = { λ t. record { members = t.members; sent = t.sent.items } };
+}
+
+impl Trace {
+    /// The run of so many members that sent these messages, in this order. It takes no memory.
+    pub fn new(members: Members, sent: Vec<Message>) -> Trace
+        ensures members { members_of result ≡ members }
+        ensures sent { sent_of result ≡ sent.items }
+    {
+        Trace { members, sent }
+    }
+
     /// How many nodes agree.
-    pub members: Members,
-    /// All messages that were sent, by whichever node, in the order of sending.
-    pub sent: Vec<Message>,
+    pub fn members(&self) -> Members
+        ensures { result ≡ members_of self.now }
+    {
+        self.members
+    }
+
+    /// All messages that were sent, in the order of sending.
+    pub fn sent(&self) -> &[Message]
+        ensures { result.now ≡ sent_of self.now }
+    {
+        &self.sent
+    }
 }
 
 /// Whether what was sent is lawful: every message is one that a correct node may have sent after those before it (Lamport,
@@ -20,17 +53,17 @@ pub struct Trace {
 ///
 /// It takes no memory. Its time grows at most with the square of the number of messages.
 pub fn audit(trace: &Trace) -> bool
-    ensures { IsTrue result ↔ IsLawful trace.now.members trace.now.sent.items }
+    ensures { IsTrue result ↔ IsLawful (members_of trace.now) (sent_of trace.now) }
 {
-    all_follow(trace.members, &trace.sent)
+    all_may_be_sent(trace.members(), trace.sent())
 }
 
 // Whether those before each message let it follow.
-fn all_follow(members: Members, sent: &[Message]) -> bool
-    ensures { IsTrue result ↔ AllFollow members sent.now }
+fn all_may_be_sent(members: Members, sent: &[Message]) -> bool
+    ensures { IsTrue result ↔ AllMayBeSent members sent.now }
 {
     for place in 0..sent.len() {
-        if !follows(members, &sent[..place], &sent[place]) {
+        if !may_be_sent(members, &sent[..place], &sent[place]) {
             return false;
         }
     }

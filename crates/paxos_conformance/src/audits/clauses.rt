@@ -66,6 +66,8 @@ const DECISIONS: &str = "\
 1||Decided 1
 1|Promise 0 1.0, Accept 1.0 1|Decided 1
 1|Promise 0 1.0, Accept 1.0 1, Accepted 0 1.0 1|Decided 2
+# Nor is another value where one was decided.
+1|Promise 0 1.0, Accept 1.0 1, Accepted 0 1.0 1, Decided 1|Decided 2, Decided 0
 # One sender twice, and a sender who is no member, are no majority of two.
 2|Promise 0 1.0, Promise 1 1.0, Accept 1.0 1, Accepted 0 1.0 1, Accepted 0 1.0 1, Accepted 6 1.0 1|Decided 1
 2|Promise 0 1.0, Promise 1 1.0, Accept 1.0 1, Accepted 0 1.0 1, Accepted 0 1.0 1, Accepted 6 1.0 1, \

@@ -221,7 +221,7 @@ fn messages(alloc: Global, sent: &[(u32, Said)]) -> Result<Vec<Message>, Fail> {
 pub(super) fn is_lawful(alloc: Global, members: u8, sent: &[(u32, Said)]) -> Result<bool, Fail> {
     let members = Members::new(members).ok_or("no members")?;
     let sent = messages(alloc, sent)?;
-    Ok(audit(&Trace { members, sent }))
+    Ok(audit(&Trace::new(members, sent)))
 }
 
 /// Whether the message makes the history unlawful, sent as its last.
@@ -238,7 +238,7 @@ fn breaks(
 }
 
 /// Whether each of the messages does.
-fn each_breaks(
+pub(super) fn each_breaks(
     alloc: Global,
     members: u8,
     sent: &mut Vec<(u32, Said)>,

@@ -1,12 +1,14 @@
-use Rattle.std.proofs.Common.{subst, sym}
-use Rattle.schedule_runner.specs.Judging.{AllFollow}
-use Rattle.schedule_runner.proofs.Following.{lawful_from_following, following_from_lawful}
+use Rattle.std.proofs.Common.{ℕ, List, subst, sym}
+use Rattle.ballots.specs.declared.message.Message.{Message}
+use Rattle.schedule_runner.specs.Recorded.{members_of, sent_of}
+use Rattle.schedule_runner.specs.Judging.{AllMayBeSent}
+use Rattle.schedule_runner.proofs.Judged.{lawful_from_judged, judged_from_lawful}
 use Rattle.schedule_runner.proofs.trace.audit.Goals as goal
 
 pub returns : goal.returns
 returns g =
-    let members = g.args.trace.now.members in
-    let sent = g.args.trace.now.sent.items in (
-      (λ e. lawful_from_following members sent (subst (AllFollow members) g.deref.ensures.value (g.all_follow.ensures.0 e))),
-      (λ h. g.all_follow.ensures.1 (subst (AllFollow members) (sym g.deref.ensures.value) (following_from_lawful members sent h))),
+    let n = members_of g.args.trace.now in
+    let sent = sent_of g.args.trace.now in (
+      (λ e. lawful_from_judged n sent (subst (λ (k : ℕ). AllMayBeSent k sent) g.members.ensures (subst (AllMayBeSent g.members.result) g.sent.ensures (g.all_may_be_sent.ensures.0 e)))),
+      (λ h. g.all_may_be_sent.ensures.1 (subst (AllMayBeSent g.members.result) (sym g.sent.ensures) (subst (λ (k : ℕ). AllMayBeSent k sent) (sym g.members.ensures) (judged_from_lawful n sent h)))),
     )

@@ -7,10 +7,10 @@ use Rattle.ballots.specs.declared.value.Value.{Value}
 use Rattle.ballots.specs.declared.message.Message.{Message}
 use Rattle.schedule_runner.specs.Saying.{Report, Saying, Silent, Prepare, Promise, Accept, Accepted, Decided, says, told}
 use Rattle.schedule_runner.specs.Lawful.{Said, SaidBefore, AcceptsWhatWasProposed, BindsAt, ReportsItsHighest, OneValueABallot, PromisedUpTo, IsOfHighestReport, IsSafe, ProposesWhatIsSafe, IsChosenBefore, DecidesWhatWasChosen, IsLawfulSlot, IsLawful}
-use Rattle.schedule_runner.specs.Judging.{PromisedAtMost, PromisedBelow, IsReported, HasValueAt, IsWithin, PromisesWithin, HasPromised, LetsPropose, MayPropose, HasAccepted, ShowsChosen, MayDecide, MayReport, FollowsAt, AllFollow}
+use Rattle.schedule_runner.specs.Judging.{PromisedAtMost, PromisedBelow, IsReported, HasValueAt, IsWithin, PromisesWithin, HasPromised, LetsPropose, MayPropose, HasAccepted, ShowsChosen, MayDecide, MayReport, MayBeSaid, AllMayBeSent}
 use Rattle.schedule_runner.proofs.Majorities.{most_weaker, most_with, majorities_meet}
 use Rattle.schedule_runner.proofs.Places.{blank, within_sent, said_by, said_there, any_before, before_any, all_before, before_all, any_said, said_any}
-use Rattle.schedule_runner.proofs.Slots.{follows_at, at_follows}
+use Rattle.schedule_runner.proofs.Slots.{said_of_sent, sent_of_said}
 
 not_below : (b : Ballot) → IsBelow b b → ⊥
 not_below b (inl lt) = omega (arith, lt)
@@ -35,8 +35,8 @@ module _ (n : ℕ) (sent : List Message) (s : ℕ) where
   before k = take k sent
 
   -- what is said of the slot at each place follows
-  abbrev pub EachFollowsAt : Type 0
-  EachFollowsAt = (k : ℕ) (x : Saying) → Said xs k x → FollowsAt n s (before k) x
+  abbrev pub EachMayBeSaid : Type 0
+  EachMayBeSaid = (k : ℕ) (x : Saying) → Said xs k x → MayBeSaid n s (before k) x
 
   -- the places of what is said
   place : (k : ℕ) (x : Saying) → Said xs k x → k ≤ length sent
@@ -44,7 +44,7 @@ module _ (n : ℕ) (sent : List Message) (s : ℕ) where
 
   -- ---- from each place to the clauses
 
-  module _ (each : EachFollowsAt) where
+  module _ (each : EachMayBeSaid) where
     accepts_what_was_proposed : AcceptsWhatWasProposed xs
     accepts_what_was_proposed k a b v said = any_said sent s k (place k (Accepted a b v) said) (Accept b v) (each k (Accepted a b v) said).0
 
@@ -239,7 +239,7 @@ module _ (n : ℕ) (sent : List Message) (s : ℕ) where
     may_report k le a b (Some (c, v)) said =
         (lawful.reports_its_highest.below k a b c v said, said_any sent s k le (Accept c v) (lawful.reports_its_highest.proposed k a b c v said))
 
-    pub each_from_slot : EachFollowsAt
+    pub each_from_slot : EachMayBeSaid
     each_from_slot k Silent said = tt
     each_from_slot k (Prepare b) said = tt
     each_from_slot k (Promise a b r) said =
@@ -255,14 +255,14 @@ module _ (n : ℕ) (sent : List Message) (s : ℕ) where
 
 -- ---- whole histories
 
-pub lawful_from_following : (n : ℕ) (sent : List Message) → AllFollow n sent → IsLawful n sent
-lawful_from_following n sent h s = slot_from_each n sent s each
+pub lawful_from_judged : (n : ℕ) (sent : List Message) → AllMayBeSent n sent → IsLawful n sent
+lawful_from_judged n sent h s = slot_from_each n sent s each
   where
-    each : EachFollowsAt n sent s
+    each : EachMayBeSaid n sent s
     each k x said =
         let lt = within_sent sent s k x said in
-        subst (λ (y : Saying). FollowsAt n s (take k sent) y) (said_by sent s k blank x said) (follows_at n (take k sent) (get_or sent k blank) s (h k blank lt))
+        subst (λ (y : Saying). MayBeSaid n s (take k sent) y) (said_by sent s k blank x said) (said_of_sent n (take k sent) (get_or sent k blank) s (h k blank lt))
 
-pub following_from_lawful : (n : ℕ) (sent : List Message) → IsLawful n sent → AllFollow n sent
-following_from_lawful n sent lawful k d lt =
-    at_follows n (take k sent) (get_or sent k d) (λ s. each_from_slot n sent s (lawful s) k (says (get_or sent k d) s) (said_there sent s k d lt))
+pub judged_from_lawful : (n : ℕ) (sent : List Message) → IsLawful n sent → AllMayBeSent n sent
+judged_from_lawful n sent lawful k d lt =
+    sent_of_said n (take k sent) (get_or sent k d) (λ s. each_from_slot n sent s (lawful s) k (says (get_or sent k d) s) (said_there sent s k d lt))

@@ -1,9 +1,9 @@
 use Rattle.std.proofs.Common.{rules, arith}
 use Rattle.std.proofs.lemmas.Grind.{common_steps}
-use Rattle.schedule_runner.proofs.trace.all_follow.Goals as goal
+use Rattle.schedule_runner.proofs.trace.all_may_be_sent.Goals as goal
 
-pub returns-then-not-follows : goal.returns-then-not-follows
-returns-then-not-follows c = search rules steps 300000
+pub returns-then-not-may_be_sent : goal.returns-then-not-may_be_sent
+returns-then-not-may_be_sent c = search rules steps 300000
 
 pub loop-place-preserved : goal.loop-place-preserved
 loop-place-preserved c = grind (arith, common_steps) steps 3000000

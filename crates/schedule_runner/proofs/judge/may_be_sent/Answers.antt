@@ -1,5 +1,5 @@
 use Rattle.std.proofs.Common.{rules}
-use Rattle.schedule_runner.proofs.judge.follows.Goals as goal
+use Rattle.schedule_runner.proofs.judge.may_be_sent.Goals as goal
 
 pub returns-in-Promise : goal.returns-in-Promise
 returns-in-Promise c = search rules steps 300000
