@@ -5,7 +5,7 @@ use crate::plain_runs::{PlainRun, Room, run_of};
 use crate::streams::Narrow;
 use crate::support::{digits_of, spelled, tells};
 use ballots::MessageFault;
-use program_runs::{RunFault, acceptor_run, serve};
+use program_runs::{ServeFault, acceptor_run, answer_frames};
 use proto_wire::{FrameFault, WireFault};
 use std::alloc::{AllocError, Global};
 use std::process::Abort;
@@ -63,7 +63,7 @@ const ENOUGH: Room = Room {
 };
 
 /// How the runs of a sweep ended, apart from the frame's number.
-pub(crate) type Ending = Result<(), RunFault>;
+pub(crate) type Ending = Result<(), ServeFault>;
 
 /// What was met in a sweep.
 #[derive(Drop)]
@@ -86,22 +86,22 @@ pub(crate) fn new_tally(alloc: Global) -> Tally {
 }
 
 /// What the line says of a run that ends so, with the name by which docs/FORMATS.md has the fault, and nothing where it ends well.
-fn line_of(alloc: Global, ending: Result<(), (u32, RunFault)>) -> Result<String, AllocError> {
+fn line_of(alloc: Global, ending: Result<(), (u32, ServeFault)>) -> Result<String, AllocError> {
     let Err((number, fault)) = ending else {
         return Ok(String::new(alloc));
     };
     let name = match fault {
-        RunFault::Frame(FrameFault::Truncated) => "Truncated",
-        RunFault::Frame(FrameFault::Compressed) => "Compressed",
-        RunFault::Frame(FrameFault::BadFlag) | RunFault::EndFlag => "BadFlag",
-        RunFault::Frame(FrameFault::TooLong) | RunFault::AnswerTooLong => "TooLong",
-        RunFault::Frame(FrameFault::Io) | RunFault::FrameLimit | RunFault::Write => "Io",
-        RunFault::Message(MessageFault::Wire(WireFault::BadVarint)) => "BadVarint",
-        RunFault::Message(MessageFault::Wire(WireFault::BadKey)) => "BadKey",
-        RunFault::Message(MessageFault::Wire(WireFault::BadWireType)) => "BadWireType",
-        RunFault::Message(MessageFault::Wire(WireFault::CutShort)) => "CutShort",
-        RunFault::Message(MessageFault::BadKind) => "BadKind",
-        RunFault::Message(MessageFault::OutOfRange) => "OutOfRange",
+        ServeFault::Frame(FrameFault::Truncated) => "Truncated",
+        ServeFault::Frame(FrameFault::Compressed) => "Compressed",
+        ServeFault::Frame(FrameFault::BadFlag) | ServeFault::EndFlag => "BadFlag",
+        ServeFault::Frame(FrameFault::TooLong) | ServeFault::AnswerTooLong => "TooLong",
+        ServeFault::Frame(FrameFault::Io) | ServeFault::FrameLimit | ServeFault::Write => "Io",
+        ServeFault::Message(MessageFault::Wire(WireFault::BadVarint)) => "BadVarint",
+        ServeFault::Message(MessageFault::Wire(WireFault::BadKey)) => "BadKey",
+        ServeFault::Message(MessageFault::Wire(WireFault::BadWireType)) => "BadWireType",
+        ServeFault::Message(MessageFault::Wire(WireFault::CutShort)) => "CutShort",
+        ServeFault::Message(MessageFault::BadKind) => "BadKind",
+        ServeFault::Message(MessageFault::OutOfRange) => "OutOfRange",
         _ => "another fault",
     };
     format!(in alloc; "frame {number}: {name}")
@@ -111,7 +111,7 @@ fn line_of(alloc: Global, ending: Result<(), (u32, RunFault)>) -> Result<String,
 fn note(
     tally: &mut Tally,
     run: &PlainRun<'_>,
-    ended: Result<(), (u32, RunFault)>,
+    ended: Result<(), (u32, ServeFault)>,
 ) -> Result<(), Fail> {
     tally.runs = tally.runs.saturating_add(1);
     if run.outcomes.len() > 1 {
@@ -139,10 +139,10 @@ fn ends_as_it_may(
     run: &PlainRun<'_>,
     input: &[u8],
     room: Room,
-) -> Result<Option<Result<(), (u32, RunFault)>>, Fail> {
+) -> Result<Option<Result<(), (u32, ServeFault)>>, Fail> {
     let mut reader = input;
     let mut served = Narrow::new(alloc, room.bytes, room.flushes);
-    let ending = serve(alloc, &mut reader, &mut served);
+    let ending = answer_frames(alloc, &mut reader, &mut served);
     for outcome in run.outcomes.iter() {
         let written = run.written.get(..outcome.written);
         if outcome.ending == ending && written == Some(served.written.as_slice()) {
@@ -233,15 +233,15 @@ fn ends_as_it_may_over_short_texts(rt: HostRuntime) -> Result<(), Fail> {
     assert_eq!(rt; tally.open, 3);
     let endings = [
         Ok(()),
-        Err(RunFault::Frame(FrameFault::Truncated)),
-        Err(RunFault::Frame(FrameFault::Compressed)),
-        Err(RunFault::Frame(FrameFault::BadFlag)),
-        Err(RunFault::Frame(FrameFault::TooLong)),
-        Err(RunFault::EndFlag),
-        Err(RunFault::Message(MessageFault::BadKind)),
-        Err(RunFault::Message(MessageFault::Wire(WireFault::BadKey))),
-        Err(RunFault::Message(MessageFault::Wire(WireFault::BadWireType))),
-        Err(RunFault::Message(MessageFault::Wire(WireFault::CutShort))),
+        Err(ServeFault::Frame(FrameFault::Truncated)),
+        Err(ServeFault::Frame(FrameFault::Compressed)),
+        Err(ServeFault::Frame(FrameFault::BadFlag)),
+        Err(ServeFault::Frame(FrameFault::TooLong)),
+        Err(ServeFault::EndFlag),
+        Err(ServeFault::Message(MessageFault::BadKind)),
+        Err(ServeFault::Message(MessageFault::Wire(WireFault::BadKey))),
+        Err(ServeFault::Message(MessageFault::Wire(WireFault::BadWireType))),
+        Err(ServeFault::Message(MessageFault::Wire(WireFault::CutShort))),
     ];
     expect_met(&rt, &tally, &endings, &[]);
     Ok(())
@@ -268,10 +268,10 @@ fn ends_as_it_may_over_payloads(rt: HostRuntime) -> Result<(), Fail> {
     assert_eq!(rt; tally.open, 24_430);
     let endings = [
         Ok(()),
-        Err(RunFault::Message(MessageFault::BadKind)),
-        Err(RunFault::Message(MessageFault::OutOfRange)),
-        Err(RunFault::Message(MessageFault::Wire(WireFault::BadKey))),
-        Err(RunFault::Message(MessageFault::Wire(WireFault::CutShort))),
+        Err(ServeFault::Message(MessageFault::BadKind)),
+        Err(ServeFault::Message(MessageFault::OutOfRange)),
+        Err(ServeFault::Message(MessageFault::Wire(WireFault::BadKey))),
+        Err(ServeFault::Message(MessageFault::Wire(WireFault::CutShort))),
     ];
     // A Promise without a report and with one, a Nack, and an Accepted.
     let replies = [(2, false), (2, true), (3, true), (5, false)];
@@ -321,18 +321,18 @@ fn ends_as_it_may_over_pieces(rt: HostRuntime) -> Result<(), Fail> {
     assert_eq!(rt; tally.open, 2_539);
     let endings = [
         Ok(()),
-        Err(RunFault::Frame(FrameFault::Truncated)),
-        Err(RunFault::Frame(FrameFault::Compressed)),
-        Err(RunFault::Frame(FrameFault::BadFlag)),
-        Err(RunFault::Frame(FrameFault::TooLong)),
-        Err(RunFault::EndFlag),
-        Err(RunFault::Message(MessageFault::BadKind)),
-        Err(RunFault::Message(MessageFault::OutOfRange)),
-        Err(RunFault::Message(MessageFault::Wire(WireFault::BadVarint))),
-        Err(RunFault::Message(MessageFault::Wire(WireFault::BadKey))),
-        Err(RunFault::Message(MessageFault::Wire(WireFault::BadWireType))),
-        Err(RunFault::Message(MessageFault::Wire(WireFault::CutShort))),
-        Err(RunFault::Write),
+        Err(ServeFault::Frame(FrameFault::Truncated)),
+        Err(ServeFault::Frame(FrameFault::Compressed)),
+        Err(ServeFault::Frame(FrameFault::BadFlag)),
+        Err(ServeFault::Frame(FrameFault::TooLong)),
+        Err(ServeFault::EndFlag),
+        Err(ServeFault::Message(MessageFault::BadKind)),
+        Err(ServeFault::Message(MessageFault::OutOfRange)),
+        Err(ServeFault::Message(MessageFault::Wire(WireFault::BadVarint))),
+        Err(ServeFault::Message(MessageFault::Wire(WireFault::BadKey))),
+        Err(ServeFault::Message(MessageFault::Wire(WireFault::BadWireType))),
+        Err(ServeFault::Message(MessageFault::Wire(WireFault::CutShort))),
+        Err(ServeFault::Write),
     ];
     let replies = [(2, false), (2, true), (3, true), (5, false)];
     expect_met(&rt, &tally, &endings, &replies);

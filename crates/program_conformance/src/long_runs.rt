@@ -4,7 +4,7 @@
 use crate::all_runs::{compare, expect_met, new_tally};
 use crate::plain_runs::Room;
 use crate::support::{run_over, spelled, tells};
-use program_runs::RunFault;
+use program_runs::ServeFault;
 use std::alloc::Global;
 use std::test::Fail;
 
@@ -43,7 +43,11 @@ fn ends_as_it_may_about_the_limit_of_frames(rt: HostRuntime) -> Result<(), Fail>
         compare(&rt, alloc, &text, enough, &mut tally)?;
     }
     assert_eq!(rt; tally.runs, 6);
-    let endings = [Ok(()), Err(RunFault::EndFlag), Err(RunFault::FrameLimit)];
+    let endings = [
+        Ok(()),
+        Err(ServeFault::EndFlag),
+        Err(ServeFault::FrameLimit),
+    ];
     expect_met(&rt, &tally, &endings, &[]);
     Ok(())
 }
@@ -104,7 +108,11 @@ fn ends_as_it_may_about_the_limit_of_payloads(rt: HostRuntime) -> Result<(), Fai
         }
     }
     assert_eq!(rt; tally.runs, 10);
-    let endings = [Ok(()), Err(RunFault::Write), Err(RunFault::AnswerTooLong)];
+    let endings = [
+        Ok(()),
+        Err(ServeFault::Write),
+        Err(ServeFault::AnswerTooLong),
+    ];
     // The Accepted, and the Promise that reports the value.
     expect_met(&rt, &tally, &endings, &[(5, false), (2, true)]);
     Ok(())

@@ -1,9 +1,9 @@
 //! A plain program for everything that a run of the acceptor over a whole input may give, by the definitions `Turns`,
-//! `RunsToTheEnd` and `RunsInto`: gRPC over HTTP/2, "Length-Prefixed-Message", and Lamport, *Paxos Made Simple*, section
+//! `ServesToTheEnd` and `ServesUpTo`: gRPC over HTTP/2, "Length-Prefixed-Message", and Lamport, *Paxos Made Simple*, section
 //! 2.2, phases 1b and 2b. It is for inputs in memory, where no read fails and memory is there.
 
 use crate::plain_requests::{Ballot, Payload, payload_of};
-use program_runs::RunFault;
+use program_runs::ServeFault;
 use proto_wire::FrameFault;
 use std::alloc::{AllocError, Global};
 
@@ -23,7 +23,7 @@ pub(crate) struct Room {
 /// How a run may end, and how much of what it wrote had gone out by then.
 #[derive(Drop)]
 pub(crate) struct Outcome {
-    pub(crate) ending: Result<(), (u32, RunFault)>,
+    pub(crate) ending: Result<(), (u32, ServeFault)>,
     pub(crate) written: usize,
 }
 
@@ -214,7 +214,7 @@ fn frame_of(alloc: Global, reply: &Reply<'_>) -> Result<Option<Vec<u8>>, AllocEr
 
 impl<'a> PlainRun<'a> {
     /// The run may end so here, where this is wrong with the next frame, if anything.
-    fn may_end(&mut self, fault: Option<RunFault>) -> Result<(), AllocError> {
+    fn may_end(&mut self, fault: Option<ServeFault>) -> Result<(), AllocError> {
         self.outcomes.push(Outcome {
             ending: match fault {
                 Some(fault) => Err((self.frames, fault)),
@@ -229,14 +229,14 @@ impl<'a> PlainRun<'a> {
     /// fails, a beginning of it has gone out.
     fn send(&mut self, alloc: Global, room: Room, reply: Reply<'a>) -> Result<bool, AllocError> {
         let Some(text) = frame_of(alloc, &reply)? else {
-            self.may_end(Some(RunFault::AnswerTooLong))?;
+            self.may_end(Some(ServeFault::AnswerTooLong))?;
             return Ok(false);
         };
         let left = room.bytes.saturating_sub(self.written.len());
         let fitting = text.get(..left).unwrap_or(text.as_slice());
         self.written.extend_from_slice(fitting)?;
         if fitting.len() < text.len() || self.replies.len() >= room.flushes {
-            self.may_end(Some(RunFault::Write))?;
+            self.may_end(Some(ServeFault::Write))?;
             return Ok(false);
         }
         self.replies.push(reply)?;
@@ -248,7 +248,7 @@ impl<'a> PlainRun<'a> {
         match payload_of(alloc, payload)? {
             Payload::Faulty(faults) => {
                 for fault in faults.iter() {
-                    self.may_end(Some(RunFault::Message(*fault)))?;
+                    self.may_end(Some(ServeFault::Message(*fault)))?;
                 }
                 Ok(false)
             }
@@ -278,7 +278,7 @@ pub(crate) fn run_of(alloc: Global, text: &[u8], room: Room) -> Result<PlainRun<
     for _ in 0..=text.len() {
         // From the limit on a run may have ended before.
         if run.frames == MOST_FRAMES {
-            run.may_end(Some(RunFault::FrameLimit))?;
+            run.may_end(Some(ServeFault::FrameLimit))?;
         }
         match front_of(rest) {
             Front::Frame(0, payload, after) => {
@@ -289,8 +289,8 @@ pub(crate) fn run_of(alloc: Global, text: &[u8], room: Room) -> Result<PlainRun<
                 rest = after;
                 continue;
             }
-            Front::Frame(_, _, _) => run.may_end(Some(RunFault::EndFlag))?,
-            Front::Faulty(fault) => run.may_end(Some(RunFault::Frame(fault)))?,
+            Front::Frame(_, _, _) => run.may_end(Some(ServeFault::EndFlag))?,
+            Front::Faulty(fault) => run.may_end(Some(ServeFault::Frame(fault)))?,
             Front::End if run.frames < MOST_FRAMES => run.may_end(None)?,
             Front::End => {}
         }

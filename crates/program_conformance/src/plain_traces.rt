@@ -181,8 +181,8 @@ fn object_of(
 /// What a trace means.
 fn meaning_of(alloc: Global, trace: &Trace) -> Result<Vec<u8>, Fail> {
     let mut meaning = Vec::new(alloc);
-    meaning.push(trace.members.count())?;
-    for message in trace.sent.iter() {
+    meaning.push(trace.members().count())?;
+    for message in trace.sent() {
         let mut text = Vec::new(alloc);
         message.encode(&mut text)?;
         push_message(&mut meaning, &text)?;

@@ -1,3 +1,4 @@
 pub mod Replying
 pub mod Running
 pub mod TraceReading
+pub mod Telling

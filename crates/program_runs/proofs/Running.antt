@@ -5,10 +5,10 @@ use Rattle.std.proofs.lemmas.List.{length_push, flat_map_more}
 use Rattle.grpc_frames.specs.Frame.{Frame, frame_text}
 use Rattle.grpc_frames.specs.FrameFaults.{WhereKnown}
 use Rattle.acceptor.specs.Standing.{Standing, IsFresh}
-use Rattle.program_runs.specs.declared.fault.RunFault.{RunFault}
-use Rattle.program_runs.specs.declared.fault.RunFault.TheVariants as faults
+use Rattle.program_runs.specs.declared.fault.ServeFault.{ServeFault}
+use Rattle.program_runs.specs.declared.fault.ServeFault.TheVariants as faults
 use Rattle.program_runs.specs.Conversation.{Turn, Turns}
-use Rattle.program_runs.specs.Serving.{frame_limit, SoFar, FrontTurn, Steps, Ends, Runs}
+use Rattle.program_runs.specs.Serving.{frame_limit, SoFar, FrontTurn, Steps, Ends, Serves}
 
 turns_push : (start mid next : Standing) (frames : List Frame) (texts : List (List ℕ)) (f : Frame) (text : List ℕ) → Turns start frames texts mid → Turn mid f text next
     → Turns start (frames ++ f ∷ []) (texts ++ text ∷ []) next
@@ -41,7 +41,7 @@ so_far_more n now next text rest after old mid new h t =
 abbrev pub HasRun : ℕ → Standing → Option (List ℕ) → Option (List ℕ) → Option (List ℕ) → Option (List ℕ) → Type 0
 HasRun n now text rest old new = WhereKnown text rest (λ x y. WhereKnown old new (SoFar n now x y))
 
-abbrev pub HasStepped : Result Bool RunFault → Standing → Standing → Option (List ℕ) → Option (List ℕ) → Option (List ℕ) → Option (List ℕ) → Type 0
+abbrev pub HasStepped : Result Bool ServeFault → Standing → Standing → Option (List ℕ) → Option (List ℕ) → Option (List ℕ) → Option (List ℕ) → Type 0
 HasStepped r now next rest after old new = WhereKnown rest after (λ x y. WhereKnown old new (Steps r now next x y))
 
 pub run_starts : (now : Standing) (text held : Option (List ℕ)) → IsFresh now → HasRun 0 now text text held held
@@ -66,8 +66,8 @@ run_goes_on n now next (Some text) (Some rest) (Some after) (Some old) (Some mid
 
 -- ---- how a run ends
 
-abbrev pub HasEnded : Result (Unit {0}) (ℕ × RunFault) → Option (List ℕ) → Option (List ℕ) → Option (List ℕ) → Option (List ℕ) → Type 0
-HasEnded r text rest old new = WhereKnown text rest (λ x y. WhereKnown old new (Runs r x))
+abbrev pub HasEnded : Result (Unit {0}) (ℕ × ServeFault) → Option (List ℕ) → Option (List ℕ) → Option (List ℕ) → Option (List ℕ) → Type 0
+HasEnded r text rest old new = WhereKnown text rest (λ x y. WhereKnown old new (Serves r x y))
 
 pub run_is_over : (n : ℕ) (now next : Standing) (text rest after old mid new : Option (List ℕ)) → n < frame_limit → HasRun n now text rest old mid → HasStepped (Ok false) now next rest after mid new → HasEnded (Ok tt) text after old new
 run_is_over n now next None rest after old mid new lt h t = tt
@@ -80,20 +80,21 @@ run_is_over n now next (Some text) (Some rest) (Some after) (Some old) (Some mid
     record {
       n = n;
       now = now;
-      all = subst (λ (l : List ℕ). SoFar n now text [] old l) (sym t.1) (subst (λ (l : List ℕ). SoFar n now text l old mid) t.0 h);
+      all = subst (λ (l : List ℕ). SoFar n now text [] old l) (sym t.2) (subst (λ (l : List ℕ). SoFar n now text l old mid) t.0 h);
+      left = t.1;
       within = lt;
     }
 
-ends_at : (fault : RunFault) (n : ℕ) (now : Standing) (rest old new : List ℕ) → Ends fault 0 now rest old new → Ends fault n now rest old new
-ends_at faults.EndFlag n now rest old new h = h
-ends_at (faults.Message fault) n now rest old new h = h
-ends_at faults.AnswerTooLong n now rest old new h = h
-ends_at faults.Write n now rest old new h = h
-ends_at faults.OutOfMemory n now rest old new h = h
-ends_at (faults.Frame fault) n now rest old new h = h
-ends_at faults.FrameLimit n now rest old new h = absurd (omega (arith, h.0))
+ends_at : (fault : ServeFault) (n : ℕ) (now : Standing) (rest after old new : List ℕ) → Ends fault 0 now rest after old new → Ends fault n now rest after old new
+ends_at faults.EndFlag n now rest after old new h = h
+ends_at (faults.Message fault) n now rest after old new h = h
+ends_at faults.AnswerTooLong n now rest after old new h = h
+ends_at faults.Write n now rest after old new h = h
+ends_at faults.OutOfMemory n now rest after old new h = h
+ends_at (faults.Frame fault) n now rest after old new h = h
+ends_at faults.FrameLimit n now rest after old new h = absurd (omega (arith, h.0))
 
-pub run_fails : (fault : RunFault) (n : ℕ) (now next : Standing) (text rest after old mid new : Option (List ℕ)) → n < frame_limit → HasRun n now text rest old mid → HasStepped (Err fault) now next rest after mid new → HasEnded (Err (n, fault)) text after old new
+pub run_fails : (fault : ServeFault) (n : ℕ) (now next : Standing) (text rest after old mid new : Option (List ℕ)) → n < frame_limit → HasRun n now text rest old mid → HasStepped (Err fault) now next rest after mid new → HasEnded (Err (n, fault)) text after old new
 run_fails fault n now next None rest after old mid new lt h t = tt
 run_fails fault n now next (Some text) None after old mid new lt h t = absurd h
 run_fails fault n now next (Some text) (Some rest) None old mid new lt h t = absurd t
@@ -101,11 +102,11 @@ run_fails fault n now next (Some text) (Some rest) (Some after) None mid new lt 
 run_fails fault n now next (Some text) (Some rest) (Some after) (Some old) None new lt h t = absurd h
 run_fails fault n now next (Some text) (Some rest) (Some after) (Some old) (Some mid) None lt h t = absurd t
 run_fails fault n now next (Some text) (Some rest) (Some after) (Some old) (Some mid) (Some new) lt h t =
-    record { now = now; rest = rest; mid = mid; before = h; ends = ends_at fault n now rest mid new t; within = inr lt }
+    record { now = now; rest = rest; mid = mid; before = h; ends = ends_at fault n now rest after mid new t; within = inr lt }
 
 pub run_is_full : (n : ℕ) (now : Standing) (text rest old new : Option (List ℕ)) → n ≡ frame_limit → HasRun n now text rest old new → HasEnded (Err (n, faults.FrameLimit)) text rest old new
 run_is_full n now None rest old new e h = tt
 run_is_full n now (Some text) None old new e h = absurd h
 run_is_full n now (Some text) (Some rest) None new e h = tt
 run_is_full n now (Some text) (Some rest) (Some old) None e h = absurd h
-run_is_full n now (Some text) (Some rest) (Some old) (Some new) e h = record { now = now; rest = rest; mid = new; before = h; ends = (e, refl); within = inl refl }
+run_is_full n now (Some text) (Some rest) (Some old) (Some new) e h = record { now = now; rest = rest; mid = new; before = h; ends = (e, refl, refl); within = inl refl }

@@ -1,11 +1,11 @@
 -- What node 0 answers as an acceptor, over a whole list of frames: Lamport, "Paxos Made Simple", section 2.2. A standing
 -- says what each slot has promised and accepted; this is about no code's lists.
-use Rattle.std.specs.Prelude.{◌≡◌, ℕ, List, [], ◌∷◌, Option, Some, None}
+use Rattle.std.specs.Prelude.{◌≡◌, ℕ, ◌⊎◌, List, [], ◌∷◌, Option, Some, None}
 use Rattle.grpc_frames.specs.Frame.{Frame, frame_text}
 use Rattle.ballots.specs.declared.value.Value.{Value}
 use Rattle.ballots.specs.declared.message.Message.{Message}
 use Rattle.ballots.specs.declared.message.Message.TheVariants as says
-use Rattle.ballots.specs.Ballot.{Ballot}
+use Rattle.ballots.specs.Ballot.{Ballot, IsAbove, IsAtLeast}
 use Rattle.ballots.specs.Message.{IsMessageText, canonical}
 use Rattle.acceptor.specs.declared.answer.Answer.{Answer}
 use Rattle.acceptor.specs.declared.answer.Answer.TheVariants.{Promise, Granted, Nack}
@@ -44,6 +44,30 @@ Answers old (says.Nack sender slot ballot promised) reply new = (reply ≡ None)
 Answers old (says.Accepted sender slot ballot value) reply new = (reply ≡ None) × IsSame old new
 Answers old (says.Ask sender slot) reply new = (reply ≡ None) × IsSame old new
 Answers old (says.Decided sender slot value) reply new = (reply ≡ None) × IsSame old new
+
+-- a Prepare that is promised, or an Accept that is granted
+abbrev pub IsGranted : Standing → Message → Type 0
+IsGranted old (says.Prepare sender slot ballot) = IsAbove ballot (old.promised slot)
+IsGranted old (says.Accept sender slot ballot value) = IsAtLeast ballot (old.promised slot)
+IsGranted old (says.Promise sender slot ballot report) = ⊥
+IsGranted old (says.Nack sender slot ballot promised) = ⊥
+IsGranted old (says.Accepted sender slot ballot value) = ⊥
+IsGranted old (says.Ask sender slot) = ⊥
+IsGranted old (says.Decided sender slot value) = ⊥
+
+-- this message answers that one: its slot and ballot are the same, and its sender is the node that answers
+abbrev pub IsReplyTo : Message → Message → Type 0
+IsReplyTo (says.Prepare sender slot ballot) reply =
+    ((report : Option (Ballot × Value)) × (reply ≡ says.Promise own_number slot ballot report))
+    ⊎ ((promised : Ballot) × (reply ≡ says.Nack own_number slot ballot promised))
+IsReplyTo (says.Accept sender slot ballot value) reply =
+    (reply ≡ says.Accepted own_number slot ballot value)
+    ⊎ ((promised : Ballot) × (reply ≡ says.Nack own_number slot ballot promised))
+IsReplyTo (says.Promise sender slot ballot report) reply = ⊥
+IsReplyTo (says.Nack sender slot ballot promised) reply = ⊥
+IsReplyTo (says.Accepted sender slot ballot value) reply = ⊥
+IsReplyTo (says.Ask sender slot) reply = ⊥
+IsReplyTo (says.Decided sender slot value) reply = ⊥
 
 abbrev pub message_frame : Message → Frame
 message_frame m = record { flag = 0; payload = canonical m }

@@ -6,6 +6,7 @@ use Rattle.serde_json.specs.Data.{Data, Items, no_items, item}
 use Rattle.serde_json.specs.Read.{read as read_text}
 use Rattle.serde_json.specs.Find.{get, as_number, as_u64, as_str, as_array}
 use Rattle.hex.specs.Hex.{decode_of}
+use Rattle.grpc_frames.specs.FrameFaults.{IsBeginning}
 use Rattle.ballots.specs.Majority.{IsMembers}
 use Rattle.ballots.specs.declared.message.Message.{Message}
 use Rattle.ballots.specs.Message.{IsMessageText}
@@ -81,12 +82,20 @@ abbrev pub judgement_line : Bool → List ℕ
 judgement_line true = codes "lawful\n"
 judgement_line false = codes "unlawful\n"
 
--- this is what the judgement adds to what its writer holds; where a write failed, nothing is claimed
-abbrev pub Tells : Result Bool AuditFault → Option (List ℕ) → Option (List ℕ) → Type 0
-Tells (Ok lawful) old new = Appends old new (judgement_line lawful)
-Tells (Err BadTrace) old new = Keeps old new
-Tells (Err OutOfMemory) old new = Keeps old new
-Tells (Err Io) old new = Unit {0}
+-- A write failed: what went out is a beginning of the line of this file's own judgement.
+pub record TellsInPart (file : List ℕ) (old new : Option (List ℕ)) : Type 0 where
+  pub lawful : Bool
+  pub judges : Judges (Ok lawful) file
+  pub written : List ℕ
+  pub beginning : IsBeginning written (judgement_line lawful)
+  pub out : Appends old new written
+
+-- this is what the judgement of the file adds to what its writer holds
+abbrev pub Tells : List ℕ → Result Bool AuditFault → Option (List ℕ) → Option (List ℕ) → Type 0
+Tells file (Ok lawful) old new = Appends old new (judgement_line lawful)
+Tells file (Err BadTrace) old new = Keeps old new
+Tells file (Err OutOfMemory) old new = Keeps old new
+Tells file (Err Io) old new = TellsInPart file old new
 
 -- a fault is said, and a judgement is not
 abbrev pub KeepsUnlessFault : Result Bool AuditFault → Option (List ℕ) → Option (List ℕ) → Type 0
@@ -98,5 +107,5 @@ pub record AuditFails (file : List ℕ) (old new said_old said_new : Option (Lis
   pub outcome : Result Bool AuditFault
   pub not_lawful : outcome ≢ Ok true
   pub judges : Judges outcome file
-  pub tells : Tells outcome old new
+  pub tells : Tells file outcome old new
   pub says : KeepsUnlessFault outcome said_old said_new

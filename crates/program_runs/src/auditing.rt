@@ -1,11 +1,13 @@
 //! The judgement of a recorded run, and where it is written.
 
-ghost use Rattle.std.specs.Prelude.{◌≡◌, IfErr, OnOk};
+ghost use Rattle.std.specs.Prelude.{◌≡◌, ℕ, List, IfErr, OnOk, OnErr};
 ghost use Rattle.std.specs.Io.KnownBytes.{Appends};
+ghost use Rattle.grpc_frames.specs.FrameFaults.{IsBeginning};
 ghost use Rattle.program_runs.specs.TraceFile.{Judges, Tells, judgement_line};
 ghost use Rattle.program_runs.specs.declared.auditing.AuditFault.TheVariants.{Io};
 
 use crate::trace_file::{TraceFault, read_trace};
+use grpc_frames::transfer::put;
 use schedule_runner::audit;
 use std::alloc::Global;
 use std::io::Write;
@@ -35,10 +37,10 @@ pub enum AuditFault {
 /// to `w`, which is flushed. The result is whether it is lawful.
 ///
 /// On [`AuditFault::BadTrace`] and [`AuditFault::OutOfMemory`] nothing was written; on [`AuditFault::Io`] a write or the
-/// flush failed, and part of the line may have gone out.
+/// flush failed or was interrupted, and a beginning of the line of the file's own judgement has gone out, or all of it.
 pub fn audit_file<W: Write>(alloc: Global, file: &[u8], w: &mut W) -> Result<bool, AuditFault>
     ensures judged { Judges result file.now }
-    ensures told { Tells result (W.contents w.old) (W.contents w.new) }
+    ensures told { Tells file.now result (W.contents w.old) (W.contents w.new) }
 {
     let trace = match read_trace(alloc, file) {
         Ok(trace) => trace,
@@ -50,16 +52,23 @@ pub fn audit_file<W: Write>(alloc: Global, file: &[u8], w: &mut W) -> Result<boo
     Ok(is_lawful)
 }
 
-fn tell<W: Write>(is_lawful: bool, w: &mut W) -> Result<(), AuditFault>
-    ensures written { OnOk result (Appends (W.contents w.old) (W.contents w.new) (judgement_line is_lawful)) }
-    ensures io { IfErr result (λ fault. fault ≡ Io) }
+fn line_of(is_lawful: bool) -> &'static [u8]
+    ensures { result.now ≡ judgement_line is_lawful }
 {
-    let line = if is_lawful {
+    if is_lawful {
         LAWFUL_LINE
     } else {
         UNLAWFUL_LINE
-    };
-    if w.write_all(line).is_err() {
+    }
+}
+
+fn tell<W: Write>(is_lawful: bool, w: &mut W) -> Result<(), AuditFault>
+    ensures written { OnOk result (Appends (W.contents w.old) (W.contents w.new) (judgement_line is_lawful)) }
+    ensures part { OnErr result ((written : List ℕ) × IsBeginning written (judgement_line is_lawful)
+        × Appends (W.contents w.old) (W.contents w.new) written) }
+    ensures io { IfErr result (λ fault. fault ≡ Io) }
+{
+    if put(w, line_of(is_lawful)).is_err() {
         return Err(AuditFault::Io);
     }
     if w.flush().is_err() {

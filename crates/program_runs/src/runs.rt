@@ -3,11 +3,11 @@
 ghost use Rattle.std.specs.Prelude.{◌≡◌, ◌⊎◌, ℕ, true, Ok, Err};
 ghost use Rattle.std.specs.Io.KnownBytes.{Appends, Keeps};
 ghost use Rattle.grpc_frames.specs.FrameFaults.{WhereKnown};
-ghost use Rattle.program_runs.specs.Serving.{RunsToTheEnd, RunsIntoSome};
+ghost use Rattle.program_runs.specs.Serving.{ServesToTheEnd, ServesUpToSome};
 ghost use Rattle.program_runs.specs.TraceFile.{MeansLawful, AuditFails, judgement_line};
 
 use crate::auditing::audit_file;
-use crate::serving::serve;
+use crate::serving::answer_frames;
 use std::alloc::Global;
 use std::io::{Read, Write};
 
@@ -31,13 +31,13 @@ pub fn acceptor_run<R: Read, W: Write, E: Write>(
     ensures status { (result ≡ 0) ⊎ (result ≡ 1) }
     // Status 0 is told exactly where there is no fault.
     ensures done { result ≡ 0 → WhereKnown (R.remaining r.old) (R.remaining r.new)
-        (λ text rest. WhereKnown (W.contents w.old) (W.contents w.new) (RunsToTheEnd text)) }
+        (λ text rest. WhereKnown (W.contents w.old) (W.contents w.new) (ServesToTheEnd text rest)) }
     ensures failed { result ≡ 1 → WhereKnown (R.remaining r.old) (R.remaining r.new)
-        (λ text rest. WhereKnown (W.contents w.old) (W.contents w.new) (RunsIntoSome text)) }
+        (λ text rest. WhereKnown (W.contents w.old) (W.contents w.new) (ServesUpToSome text rest)) }
     // Without a fault nothing is said.
     ensures silent { result ≡ 0 → Keeps (E.contents e.old) (E.contents e.new) }
 {
-    match serve(alloc, r, w) {
+    match answer_frames(alloc, r, w) {
         Ok(()) => SUCCESS,
         Err((number, fault)) => {
             // Where this fails too, the status alone tells.

@@ -4,10 +4,10 @@ ghost use Rattle.std.specs.Prelude.{◌≡◌, IfErr};
 ghost use Rattle.grpc_frames.specs.Frame.{IsFlag};
 ghost use Rattle.grpc_frames.specs.FrameFaults.{WhereKnown};
 ghost use Rattle.acceptor.specs.AcceptorState.{standing};
-ghost use Rattle.program_runs.specs.Serving.{Sends, AnswersFrame, Steps, Runs};
+ghost use Rattle.program_runs.specs.Serving.{Sends, AnswersFrame, Steps, Serves};
 
 use crate::answering::reply_to;
-use crate::fault::RunFault;
+use crate::fault::ServeFault;
 use acceptor::Acceptor;
 use ballots::Message;
 use proto_wire::{END_FLAG, Frame, MAX_FRAME_PAYLOAD, MESSAGE_FLAG, read_frame, write_frame};
@@ -21,28 +21,35 @@ pub const FRAME_LIMIT: u32 = 1_000_000;
 /// is answered, and its answer has gone out before the next frame is read.
 ///
 /// The fault comes with the number of its frame, from 0. After [`FRAME_LIMIT`] frames nothing more is read.
-pub fn serve<R: Read, W: Write>(alloc: Global, r: &mut R, w: &mut W) -> Result<(), (u32, RunFault)>
+///
+/// Where the input ended without a fault, nothing of it is left. A frame that could not be read leaves what `read_frame`
+/// says, and one that was read and ended the run is the last that was taken from the reader.
+pub fn answer_frames<R: Read, W: Write>(
+    alloc: Global,
+    r: &mut R,
+    w: &mut W,
+) -> Result<(), (u32, ServeFault)>
     ensures { WhereKnown (R.remaining r.old) (R.remaining r.new)
-        (λ text rest. WhereKnown (W.contents w.old) (W.contents w.new) (Runs result text)) }
+        (λ text rest. WhereKnown (W.contents w.old) (W.contents w.new) (Serves result text rest)) }
 {
     let mut acceptor = Acceptor::new(alloc);
     for number in 0..FRAME_LIMIT {
-        match serve_next(alloc, &mut acceptor, r, w) {
+        match answer_next(alloc, &mut acceptor, r, w) {
             Ok(true) => {}
             Ok(false) => return Ok(()),
             Err(fault) => return Err((number, fault)),
         }
     }
-    Err((FRAME_LIMIT, RunFault::FrameLimit))
+    Err((FRAME_LIMIT, ServeFault::FrameLimit))
 }
 
 // Answers the next frame, and says whether there was one.
-fn serve_next<R: Read, W: Write>(
+fn answer_next<R: Read, W: Write>(
     alloc: Global,
     acceptor: &mut Acceptor,
     r: &mut R,
     w: &mut W,
-) -> Result<bool, RunFault>
+) -> Result<bool, ServeFault>
     ensures { WhereKnown (R.remaining r.old) (R.remaining r.new)
         (λ rest after. WhereKnown (W.contents w.old) (W.contents w.new)
         (Steps result (standing acceptor.old) (standing acceptor.new) rest after)) }
@@ -53,7 +60,7 @@ fn serve_next<R: Read, W: Write>(
             answer_frame(alloc, acceptor, &frame, w)?;
             Ok(true)
         }
-        Err(fault) => Err(RunFault::Frame(fault)),
+        Err(fault) => Err(ServeFault::Frame(fault)),
     }
 }
 
@@ -62,40 +69,40 @@ fn answer_frame<W: Write>(
     acceptor: &mut Acceptor,
     frame: &Frame,
     w: &mut W,
-) -> Result<(), RunFault>
+) -> Result<(), ServeFault>
     requires { IsFlag frame.now.flag }
     ensures { WhereKnown (W.contents w.old) (W.contents w.new)
         (AnswersFrame result (standing acceptor.old) (standing acceptor.new) frame.now) }
 {
     if frame.flag == END_FLAG {
-        return Err(RunFault::EndFlag);
+        return Err(ServeFault::EndFlag);
     }
     let message = match Message::decode(alloc, &frame.payload) {
         Ok(message) => message,
-        Err(fault) => return Err(RunFault::Message(fault)),
+        Err(fault) => return Err(ServeFault::Message(fault)),
     };
     match reply_to(acceptor, message) {
         Ok(None) => Ok(()),
         Ok(Some(reply)) => send(alloc, &reply, w),
-        Err(_) => Err(RunFault::OutOfMemory),
+        Err(_) => Err(ServeFault::OutOfMemory),
     }
 }
 
-fn send<W: Write>(alloc: Global, reply: &Message, w: &mut W) -> Result<(), RunFault>
+fn send<W: Write>(alloc: Global, reply: &Message, w: &mut W) -> Result<(), ServeFault>
     ensures { WhereKnown (W.contents w.old) (W.contents w.new) (Sends result reply.now) }
 {
     let mut text = Vec::new(alloc);
     if reply.encode(&mut text).is_err() {
-        return Err(RunFault::OutOfMemory);
+        return Err(ServeFault::OutOfMemory);
     }
     if text.len() > MAX_FRAME_PAYLOAD {
-        return Err(RunFault::AnswerTooLong);
+        return Err(ServeFault::AnswerTooLong);
     }
     if write_frame(w, MESSAGE_FLAG, &text).is_err() {
-        return Err(RunFault::Write);
+        return Err(ServeFault::Write);
     }
     if w.flush().is_err() {
-        return Err(RunFault::Write);
+        return Err(ServeFault::Write);
     }
     Ok(())
 }

@@ -7,10 +7,11 @@ ghost use Rattle.serde_json.specs.View.{view, items_view};
 ghost use Rattle.ballots.specs.Majority.{IsMembers};
 ghost use Rattle.ballots.specs.declared.message.Message.{Message as Meant};
 ghost use Rattle.ballots.specs.declared.fault.MessageFault.TheVariants as MessageFault;
+ghost use Rattle.schedule_runner.specs.Recorded.{members_of, sent_of};
 ghost use Rattle.program_runs.specs.declared.trace_file.TraceFault.TheVariants.{OutOfMemory};
 ghost use Rattle.program_runs.specs.TraceFile.{MeansTrace, SpellsMessage, IsMessageHex, members_at, sent_at};
 
-use ballots::{MAX_MEMBERS, Members, Message, MessageFault, messages_are_one};
+use ballots::{MAX_MEMBERS, Members, Message, MessageFault};
 use hex::FromHexError;
 use schedule_runner::Trace;
 use serde_json::Value;
@@ -35,9 +36,9 @@ pub enum TraceFault {
 /// members of the object are passed over, and of two members of one name the last one counts. Any other file is a
 /// [`TraceFault::BadTrace`]. The only other fault is [`TraceFault::OutOfMemory`].
 pub fn read_trace(alloc: Global, file: &[u8]) -> Result<Trace, TraceFault>
-    ensures read { IfOk result (λ trace. MeansTrace file.now trace.members trace.sent.items) }
+    ensures read { IfOk result (λ trace. MeansTrace file.now (members_of trace) (sent_of trace)) }
     ensures only { (members : ℕ) (sent : List Meant) → MeansTrace file.now members sent
-        → MatchResult result (λ trace. (trace.members ≡ members) × (trace.sent.items ≡ sent)) (λ fault. fault ≡ OutOfMemory) }
+        → MatchResult result (λ trace. (members_of trace ≡ members) × (sent_of trace ≡ sent)) (λ fault. fault ≡ OutOfMemory) }
 {
     let value = value_of(alloc, file)?;
     let members = members_of(&value)?;
@@ -45,14 +46,7 @@ pub fn read_trace(alloc: Global, file: &[u8]) -> Result<Trace, TraceFault>
         return Err(TraceFault::BadTrace);
     };
     let sent = messages_of(alloc, items)?;
-    Ok(Trace { members, sent })
-}
-
-/// A file tells one recorded run at most, so none is lawful and unlawful.
-pub fn traces_are_one()
-    ensures { (file : List ℕ) (m n : ℕ) (s t : List Meant) → MeansTrace file m s → MeansTrace file n t → (m ≡ n) × (s ≡ t) }
-{
-    messages_are_one();
+    Ok(Trace::new(members, sent))
 }
 
 fn value_of(alloc: Global, file: &[u8]) -> Result<Value, TraceFault>

@@ -15,7 +15,7 @@ pub returns-in-Ok-true-clause-silent : goal.returns-in-Ok-true-clause-silent
 returns-in-Ok-true-clause-silent g c = search rules steps 300000
 
 pub returns-in-Ok-true-clause-failed : goal.returns-in-Ok-true-clause-failed
-returns-in-Ok-true-clause-failed g c = search rules steps 300000
+returns-in-Ok-true-clause-failed g c = λ e. absurd (omega (arith, e))
 
 pub returns-in-Ok-false-clause-status : goal.returns-in-Ok-false-clause-status
 returns-in-Ok-false-clause-status g c = search rules steps 300000

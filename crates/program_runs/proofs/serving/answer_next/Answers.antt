@@ -1,6 +1,6 @@
 use Rattle.std.proofs.Common.{rules, arith}
 use Rattle.std.proofs.lemmas.Grind.{common_steps}
-use Rattle.program_runs.proofs.serving.serve_next.Goals as goal
+use Rattle.program_runs.proofs.serving.answer_next.Goals as goal
 
 pub returns-in_err-answer_frame-in-Ok-Some : goal.returns-in_err-answer_frame-in-Ok-Some
 returns-in_err-answer_frame-in-Ok-Some g c = search rules steps 2000000

@@ -1,6 +1,6 @@
 use Rattle.acceptor.specs.AcceptorState.{standing}
 use Rattle.program_runs.proofs.Running.{HasRun}
-use Rattle.program_runs.proofs.serving.serve.Given as goal
+use Rattle.program_runs.proofs.serving.answer_frames.Given as goal
 
 abbrev pub invariant-loop-number : goal.invariant-loop-number
 invariant-loop-number g l =
