@@ -14,6 +14,8 @@ mod command_line;
 #[cfg(test)]
 mod conversations;
 #[cfg(test)]
+mod left_behind;
+#[cfg(test)]
 mod long_runs;
 #[cfg(test)]
 mod plain;

@@ -183,6 +183,12 @@ fn expect_sent(
     assert!(rt; left == flushes, "at {room}, {flushes}");
     let is_written = spelled.answers.get(..written) == Some(writer.written.as_slice());
     assert!(rt; is_written, "at {room}, {flushes}");
+    // The frame whose answer is lost is the last that was read.
+    let read = ENDS.get(sent).map_or(spelled.input.len(), |ends| ends.0);
+    assert!(rt;
+        spelled.input.get(read..) == Some(reader),
+        "at {room}, {flushes}"
+    );
     Ok(())
 }
 

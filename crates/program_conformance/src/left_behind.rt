@@ -1,0 +1,85 @@
+//! Where the reader stands after a run, and runs over thousands of frames.
+
+use crate::support::spelled;
+use program_runs::answer_frames;
+use std::alloc::Global;
+use std::process::Abort;
+use std::test::Fail;
+
+/// Inputs, each behind how many bytes of it a run reads: an end frame, with and without a payload; a flag that is none of
+/// the three, a compressed frame and one that is too long, of which five bytes are read; frames that carry no message,
+/// the second one behind an Ask.
+const STOPS: [(usize, &str); 7] = [
+    (5, "80 00000000"),
+    (7, "80 00000002 0806"),
+    (5, "02 00000002 0806"),
+    (5, "01 00000002 0806"),
+    (5, "00 00400001 0806"),
+    (7, "00 00000002 0809"),
+    (14, "00 00000002 0806 00 00000002 0809"),
+];
+
+/// What stands behind each of them: Asks.
+const BEHIND: &str = "00 00000002 0806 00 00000002 0806 00 00000002 0806";
+
+/// A run over the bytes fails, and has read so many of them.
+fn expect_read(rt: &impl Abort, alloc: Global, input: &[u8], read: usize) {
+    let mut reader = input;
+    let mut output = Vec::new(alloc);
+    let ending = answer_frames(alloc, &mut reader, &mut output);
+    assert!(rt; ending.is_err(), "{read} bytes");
+    assert!(rt; input.get(read..) == Some(reader), "{read} bytes");
+    assert!(rt; output.is_empty(), "{read} bytes");
+}
+
+#[test]
+fn reads_no_more_than_the_frame_that_ends_it(rt: HostRuntime) -> Result<(), Fail> {
+    let alloc = rt.alloc();
+    for (read, stop) in STOPS {
+        let mut input = spelled(alloc, stop)?;
+        input.extend_from_slice(&spelled(alloc, BEHIND)?)?;
+        expect_read(&rt, alloc, &input, read);
+    }
+    Ok(())
+}
+
+/// Behind thousands of Asks too.
+#[test]
+fn reads_no_more_behind_thousands_of_frames(rt: HostRuntime) -> Result<(), Fail> {
+    let alloc = rt.alloc();
+    let ask = spelled(alloc, "00 00000002 0806")?;
+    let mut input = Vec::new(alloc);
+    for _ in 0..5_000 {
+        input.extend_from_slice(&ask)?;
+    }
+    input.extend_from_slice(&spelled(alloc, "80 00000000")?)?;
+    input.extend_from_slice(&ask)?;
+    expect_read(&rt, alloc, &input, 35_005);
+    Ok(())
+}
+
+/// The frame of a message of this kind, about ballot (1, 0) and a slot of two digits to the base 128.
+fn frame_of(kind: u8, low: u8, high: u8) -> [u8; 12] {
+    [0, 0, 0, 0, 7, 8, kind, 0x18, low | 0x80, high, 0x28, 1]
+}
+
+/// A Prepare of each of 5,000 slots is promised, in the order of asking, and nothing of the input is left.
+#[test]
+fn promises_thousands_of_slots(rt: HostRuntime) -> Result<(), Fail> {
+    let alloc = rt.alloc();
+    let mut input = Vec::new(alloc);
+    let mut wanted = Vec::new(alloc);
+    for high in 1..=40 {
+        for low in 0..125 {
+            input.extend_from_slice(&frame_of(1, low, high))?;
+            wanted.extend_from_slice(&frame_of(2, low, high))?;
+        }
+    }
+    let mut reader = input.as_slice();
+    let mut output = Vec::new(alloc);
+    let ending = answer_frames(alloc, &mut reader, &mut output);
+    assert!(rt; ending == Ok(()));
+    assert!(rt; reader.is_empty());
+    assert!(rt; output == wanted);
+    Ok(())
+}
