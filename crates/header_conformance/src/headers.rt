@@ -1,5 +1,5 @@
-//! The calls of `flatbuf_meta` against texts from outside, which are spelled here, written from the format alone, or made by
-//! the FlatBuffers compiler.
+//! The calls of `flatbuf_meta` against texts from outside, which are spelled here, written from the format alone, or
+//! made by the FlatBuffers compiler.
 
 mod canonical;
 mod compiled;

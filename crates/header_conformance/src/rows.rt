@@ -49,7 +49,8 @@ fn put_zeros(bytes: &mut Vec<u8>, count: u8) -> Result<(), AllocError> {
     Ok(())
 }
 
-// Puts what the digit makes with the one before it, if that is the first of a byte, and gives the first of the next byte.
+// Puts what the digit makes with the one before it, if that is the first of a byte, and gives the first of the next
+// byte.
 fn put_digit(bytes: &mut Vec<u8>, first: Option<u8>, value: u8) -> Result<Option<u8>, AllocError> {
     if value > 15 {
         put_zeros(bytes, value - 15)?;
@@ -74,8 +75,8 @@ fn put_spelled(bytes: &mut Vec<u8>, digits: &str) -> Result<(), Fail> {
     Ok(())
 }
 
-/// The bytes that hexadecimal digits spell, spaces passed over. Behind a whole byte, a letter from `g` on stands for zero
-/// bytes: `g` for one, `h` for two, and `z` for twenty.
+/// The bytes that hexadecimal digits spell, spaces passed over. Behind a whole byte, a letter from `g` on stands for
+/// zero bytes: `g` for one, `h` for two, and `z` for twenty.
 pub(crate) fn spelled(alloc: Global, digits: &str) -> Result<Vec<u8>, Fail> {
     let mut bytes = Vec::new(alloc);
     put_spelled(&mut bytes, digits)?;

@@ -1,4 +1,4 @@
-//! The types of columns by their numbers (Apache Arrow, "Schema.fbs", the union `Type`), for rows that spell them so.
+//! The types of fields by their numbers (Apache Arrow, "Schema.fbs", the union `Type`), for rows that spell them so.
 
 use flatbuf_meta::{BitWidth, DateUnit, DecimalWidth, Precision, TimeUnit, Ty};
 

@@ -18,7 +18,7 @@ const BATCH: &str =
     "10000000 0c001800 04000600 08001000 0c000000 04000300 20000000 00000000 10000000 00000000 000000000000 0a001800080004001000 0a000000 18000000 03000000 00000000 24000000 00000000 00000000 01000000 03000000 00000000 01000000 00000000 00000000 02000000 00000000 00000000 01000000 00000000 08000000 00000000 03000000 00000000";
 
 /// What the first says.
-const COLUMN: &str =
+const FIELD: &str =
     "Ok(Schema(Schema { fields: [Field { name: \"a\", nullable: true, ty: Int { bit_width: Eight, is_signed: true }, children: [], metadata: [] }], metadata: [] }))";
 
 /// What the second says.
@@ -27,12 +27,12 @@ const ROWS: &str =
 
 /// A message, the place of a change, what stands there instead, what is told, and how many bytes that needs.
 const CHANGES: &str = "\
-SCHEMA|0||COLUMN|152
-SCHEMA|152|aaaaaaaaaaaaaaaa|COLUMN|152
+SCHEMA|0||FIELD|152
+SCHEMA|152|aaaaaaaaaaaaaaaa|FIELD|152
 # No vector of children; then no metadata, as the vtable is shorter; then a vtable without children too.
-SCHEMA|92|00|COLUMN|145
-SCHEMA|78|10|COLUMN|152
-SCHEMA|78|0e|COLUMN|145
+SCHEMA|92|00|FIELD|145
+SCHEMA|78|10|FIELD|152
+SCHEMA|78|0e|FIELD|145
 # No table of the type, and no bits in it.
 SCHEMA|88|00|Err(BadHeader)|0
 SCHEMA|132|00|Err(BadHeader)|0
@@ -56,7 +56,7 @@ SCHEMA|12|00|Err(BadHeader)|0
 BATCH|12|00|Err(BadHeader)|0
 # The schema's byte order: the count of its fields, 1, and then a 0.
 SCHEMA|50|0c|Err(Endianness)|0
-SCHEMA|50|08|COLUMN|152
+SCHEMA|50|08|FIELD|152
 SCHEMA|90|04|Err(Dictionary)|0
 SCHEMA|124|ff|Err(NotUtf8)|0
 # References out of the text, and vectors with 2^32 - 1 elements.
@@ -83,16 +83,16 @@ SCHEMA|78|02|Err(BadHeader)|0
 SCHEMA|128|02|Err(BadHeader)|0
 BATCH|4|02|Err(BadHeader)|0
 BATCH|46|03|Err(BadHeader)|0
-# No columns, and no name.
+# No fields, and no name.
 SCHEMA|52|00|Ok(Schema(Schema { fields: [], metadata: [] }))|60
 SCHEMA|82|00|Ok(Schema(Schema { fields: [Field { name: \"\", nullable: true, ty: Int { bit_width: Eight, is_signed: true }, children: [], metadata: [] }], metadata: [] }))|152
 # Whether there may be nulls: 2, 0, and nothing.
-SCHEMA|104|02|COLUMN|152
+SCHEMA|104|02|FIELD|152
 SCHEMA|104|00|Ok(Schema(Schema { fields: [Field { name: \"a\", nullable: false, ty: Int { bit_width: Eight, is_signed: true }, children: [], metadata: [] }], metadata: [] }))|152
 SCHEMA|84|00|Ok(Schema(Schema { fields: [Field { name: \"a\", nullable: false, ty: Int { bit_width: Eight, is_signed: true }, children: [], metadata: [] }], metadata: [] }))|152
 # Neither the byte behind a name nor a vtable's second size is looked at.
-SCHEMA|125|ffffff|COLUMN|152
-SCHEMA|80|ffff|COLUMN|152
+SCHEMA|125|ffffff|FIELD|152
+SCHEMA|80|ffff|FIELD|152
 BATCH|0||ROWS|144
 BATCH|144|aaaaaaaaaaaaaaaa|ROWS|144
 # The compression's slot is where the table begins, which holds 10.
@@ -164,7 +164,7 @@ fn meant(name: &str) -> &str {
     match name {
         "SCHEMA" => SCHEMA,
         "BATCH" => BATCH,
-        "COLUMN" => COLUMN,
+        "FIELD" => FIELD,
         "ROWS" => ROWS,
         _ => name,
     }

@@ -1,21 +1,22 @@
-//! Schemas that can be written and read back, and schemas of the same shape. A schema is spelled by how many entries of metadata
-//! it has, and words that make its columns, of which each changes a pile of columns:
+//! Schemas that can be written and read back, and schemas of the same shape. A schema is spelled by how many entries of
+//! metadata it has, and words that make its fields, of which each changes a pile of fields:
 //!
-//! - `K12,0,0,0` puts on a column of the type of that number with those parameters, `B-1` and `L-1` one of so many bytes or with so
-//!   many elements, and `ZUTC` a point in time with that time zone;
-//! - `.a` gives the topmost column that name, `#9` one of so many bytes, `!` lets it hold nulls, and `@2` gives it so many entries;
-//! - `^2` puts the two columns below the topmost one into it, `[3` stands the topmost one in so many lists inside one another, and
-//!   `*3` puts on so many columns without values.
+//! - `K12,0,0,0` puts on a field of the type of that number with those parameters, `B-1` and `L-1` one of so many bytes
+//!   or with so many elements, and `ZUTC` a point in time with that time zone;
+//! - `.a` gives the topmost field that name, `#9` one of so many bytes, `!` lets it hold nulls, and `@2` gives it so
+//!   many entries;
+//! - `^2` puts the two fields below the topmost one into it, `[3` stands the topmost one in so many lists inside one
+//!   another, and `*3` puts on so many fields without values.
 
 use crate::headers::kinds::type_of;
 use crate::headers::writing::listed;
 use crate::rows::{cells, is_row, number, numbers};
-use flatbuf_meta::{Field, Schema, TimeUnit, Ty};
+use flatbuf_meta::{Field, Header, Schema, TimeUnit, Ty, read_message, write_schema};
 use std::alloc::{AllocError, Global};
 use std::process::Abort;
 use std::test::Fail;
 
-/// Whether the schema can be written and read back, how many entries of metadata it has, and its columns.
+/// Whether the schema can be written and is read back, how many entries of metadata it has, and its fields.
 const PROFILES: &str = "\
 yes|0|
 yes|1|
@@ -28,14 +29,14 @@ no|0|K1,0,0,0 [40
 no|0|K1,0,0,0 K1,0,0,0 [16
 yes|0|K13,0,0,0 [15
 no|0|K13,0,0,0 [16
-# Columns, side by side and inside others.
+# Fields, side by side and inside others.
 yes|0|*512
 no|0|*513
 yes|0|*511 K13,0,0,0 ^511
 no|0|*512 K13,0,0,0 ^512
 no|0|*511 K13,0,0,0 ^511 K1,0,0,0
 yes|0|*256 *255 K13,0,0,0 ^255
-# Entries of metadata, a column's and the schema's.
+# Entries of metadata, a field's and the schema's.
 yes|4096|
 no|4097|
 yes|4095|K1,0,0,0 @1
@@ -56,7 +57,7 @@ no|0|K1,0,0,0 #1048575 @1
 yes|0|ZUTC #1048573
 no|0|ZUTC #1048574
 yes|0|Z #1048576
-# How many columns a type has inside it.
+# How many fields a type has inside it.
 no|0|K12,0,0,0
 yes|0|*1 K12,0,0,0 ^1
 no|0|*2 K12,0,0,0 ^2
@@ -95,7 +96,7 @@ yes|1||2|
 yes|0|K1,0,0,0|0|K1,0,0,0
 no|0||0|K1,0,0,0
 no|0|K1,0,0,0|0|
-# Metadata of the schema, of a column, and of one inside others.
+# Metadata of the schema, of a field, and of one inside others.
 yes|1|K1,0,0,0|2|K1,0,0,0
 yes|0|K1,0,0,0 @1|0|K1,0,0,0
 yes|0|K1,0,0,0 @1|0|K1,0,0,0 @2
@@ -138,7 +139,7 @@ no|0|B-4|0|B4
 yes|0|*1 L4 ^1|0|*1 L4 ^1
 no|0|*1 L4 ^1|0|*1 L5 ^1
 no|0|*1 L4 ^1|0|K1,0,0,0 [1
-# How many columns there are, in which order, and inside which.
+# How many fields there are, in which order, and inside which.
 no|0|*2|0|*3
 no|0|*3|0|*2
 no|0|K4,0,0,0 K5,0,0,0|0|K5,0,0,0 K4,0,0,0
@@ -154,8 +155,8 @@ yes|0|B-1 K12,0,0,0|9|B-1 K12,0,0,0
 yes|0|K1,0,0,0 [40|9|K1,0,0,0 [40
 no|0|K1,0,0,0 [40|9|K1,0,0,0 [41";
 
-// A column of this type.
-fn column(alloc: Global, ty: Ty) -> Field {
+// A field of this type.
+fn field_of(alloc: Global, ty: Ty) -> Field {
     Field {
         name: String::new(alloc),
         nullable: false,
@@ -209,9 +210,9 @@ fn size(text: &str) -> Result<i32, Fail> {
     }
 }
 
-// Puts on a column of this type.
+// Puts on a field of this type.
 fn put(alloc: Global, pile: &mut Vec<Field>, ty: Ty) -> Result<(), Fail> {
-    Ok(pile.push(column(alloc, ty))?)
+    Ok(pile.push(field_of(alloc, ty))?)
 }
 
 fn put_bytes(alloc: Global, pile: &mut Vec<Field>, rest: &str) -> Result<(), Fail> {
@@ -236,37 +237,37 @@ fn put_point_in_time(alloc: Global, pile: &mut Vec<Field>, zone: &str) -> Result
     )
 }
 
-// The column in so many lists inside one another.
+// The field in so many lists inside one another.
 fn nested(alloc: Global, inmost: Field, levels: usize) -> Result<Field, AllocError> {
     let mut field = inmost;
     for _ in 0..levels {
-        let mut list = column(alloc, Ty::List);
+        let mut list = field_of(alloc, Ty::List);
         list.children.push(field)?;
         field = list;
     }
     Ok(field)
 }
 
-// Takes so many columns from the pile.
+// Takes so many fields from the pile.
 fn taken(alloc: Global, pile: &mut Vec<Field>, count: usize) -> Result<Vec<Field>, Fail> {
     let mut taken = Vec::new(alloc);
     for _ in 0..count {
-        taken.push(pile.pop().ok_or("no column")?)?;
+        taken.push(pile.pop().ok_or("no field")?)?;
     }
     Ok(taken)
 }
 
-// Puts on so many columns without values.
+// Puts on so many fields without values.
 fn put_nulls(alloc: Global, pile: &mut Vec<Field>, count: usize) -> Result<(), Fail> {
     for _ in 0..count {
-        pile.push(column(alloc, Ty::Null))?;
+        pile.push(field_of(alloc, Ty::Null))?;
     }
     Ok(())
 }
 
-// Takes the topmost column from the pile.
+// Takes the topmost field from the pile.
 fn top(pile: &mut Vec<Field>) -> Result<Field, Fail> {
-    Ok(pile.pop().ok_or("no column")?)
+    Ok(pile.pop().ok_or("no field")?)
 }
 
 fn name_top(pile: &mut Vec<Field>, name: String) -> Result<(), Fail> {
@@ -297,7 +298,7 @@ fn nest_top(alloc: Global, pile: &mut Vec<Field>, levels: usize) -> Result<(), F
     Ok(pile.push(nested(alloc, field, levels)?)?)
 }
 
-// What a word that changes the topmost column does.
+// What a word that changes the topmost field does.
 fn change(alloc: Global, pile: &mut Vec<Field>, letter: u8, rest: &str) -> Result<(), Fail> {
     match letter {
         b'.' => name_top(pile, String::from_str(alloc, rest)?),
@@ -334,13 +335,25 @@ fn schema(alloc: Global, metadata: &str, words: &str) -> Result<Schema, Fail> {
     Ok(Schema { fields, metadata })
 }
 
+// The schema is read back from what is written of it, where it can be written.
+fn is_read_back(alloc: Global, schema: Schema) -> Result<bool, Fail> {
+    if !schema.in_profile() {
+        return Ok(true);
+    }
+    let mut text = Vec::new(alloc);
+    write_schema(&schema, &mut text)?;
+    Ok(read_message(alloc, &text)? == Header::Schema(schema))
+}
+
 fn expect_profile(rt: &impl Abort, alloc: Global, row: &str) -> Result<(), Fail> {
     let cells = cells(alloc, row)?;
     let [want, metadata, words] = cells.as_slice() else {
         return Err(Fail::from("no row"));
     };
-    let fits = schema(alloc, metadata, words)?.in_profile();
-    assert!(rt; fits == (*want == "yes"), "{row}");
+    let schema = schema(alloc, metadata, words)?;
+    assert!(rt; schema.in_profile() == (*want == "yes"), "{row}");
+    let is_same = is_read_back(alloc, schema)?;
+    assert!(rt; is_same, "{row}, read back");
     Ok(())
 }
 

@@ -1,8 +1,8 @@
 //! Headers as one line of text, and the headers that the FlatBuffers compiler made.
 //!
-//! A schema is `schema`, its metadata in braces and its columns in brackets; a column is its name, its type, `?` where it may
-//! hold nulls, its metadata and its columns. Types and their parameters have their names of Schema.fbs. Names, keys, values and
-//! time zones are hexadecimal, and an absent time zone is `-`.
+//! A schema is `schema`, its metadata in braces and its fields in brackets; a field is its name, its type, `?` where it
+//! may hold nulls, its metadata and its fields. Types and their parameters have their names of Schema.fbs. Names, keys,
+//! values and time zones are hexadecimal, and an absent time zone is `-`.
 
 use crate::headers::compiled::COMPILED;
 use crate::rows::{cells, spelled};
@@ -163,30 +163,30 @@ fn push_type(shown: &mut String, alloc: Global, ty: &Ty) -> Result<(), AllocErro
     shown.push_str(ty.as_str())
 }
 
-// A column, but for those inside it.
-fn push_column(shown: &mut String, alloc: Global, column: &Field) -> Result<(), AllocError> {
-    push_hexadecimal(shown, alloc, column.name.as_str())?;
+// A field, but for those inside it.
+fn push_field(shown: &mut String, alloc: Global, field: &Field) -> Result<(), AllocError> {
+    push_hexadecimal(shown, alloc, field.name.as_str())?;
     shown.push_str(":")?;
-    push_type(shown, alloc, &column.ty)?;
-    shown.push_str(if column.nullable { "?" } else { "" })?;
-    push_entries(shown, alloc, column.metadata.as_slice())
+    push_type(shown, alloc, &field.ty)?;
+    shown.push_str(if field.nullable { "?" } else { "" })?;
+    push_entries(shown, alloc, field.metadata.as_slice())
 }
 
-// Columns that stand no deeper than so many levels.
-fn push_columns(
+// Fields that stand no deeper than so many levels.
+fn push_fields(
     shown: &mut String,
     alloc: Global,
-    columns: &[Field],
+    fields: &[Field],
     levels: usize,
 ) -> Result<(), Fail> {
     shown.push_str("[")?;
-    for (index, column) in columns.iter().enumerate() {
+    for (index, field) in fields.iter().enumerate() {
         if levels == 0 {
             return Err(Fail::from("too deep"));
         }
         shown.push_str(comma(index))?;
-        push_column(shown, alloc, column)?;
-        push_columns(shown, alloc, column.children.as_slice(), levels - 1)?;
+        push_field(shown, alloc, field)?;
+        push_fields(shown, alloc, field.children.as_slice(), levels - 1)?;
     }
     shown.push_str("]")?;
     Ok(())
@@ -221,7 +221,7 @@ fn push_batch(shown: &mut String, alloc: Global, head: &BatchHead) -> Result<(),
 fn push_schema(shown: &mut String, alloc: Global, schema: &Schema) -> Result<(), Fail> {
     shown.push_str("schema")?;
     push_entries(shown, alloc, schema.metadata.as_slice())?;
-    push_columns(shown, alloc, schema.fields.as_slice(), MAX_DEPTH)
+    push_fields(shown, alloc, schema.fields.as_slice(), MAX_DEPTH)
 }
 
 fn push_header(shown: &mut String, alloc: Global, header: &Header) -> Result<(), Fail> {

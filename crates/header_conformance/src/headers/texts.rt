@@ -8,8 +8,8 @@ use std::alloc::{AllocError, Global};
 use std::process::Abort;
 use std::test::Fail;
 
-/// How often the schema names one column, which has a time zone; how often that names one entry of metadata, and the schema
-/// does; the lengths of the name, the time zone, the key and the value; and 1 where that is too much.
+/// How often the schema names one field, which has a time zone; how often that names one entry of metadata, and the
+/// schema does; the lengths of the name, the time zone, the key and the value; and 1 where that is too much.
 const SIZES: &str = "\
 1|1|1|1|1|1|1|0
 2|2|3|1|2|3|4|0
@@ -45,8 +45,8 @@ fn put_entry(text: &mut Vec<u8>, key_len: usize, value_len: usize) -> Result<u64
     table(text, &[('>', key), ('>', value)])
 }
 
-// Writes a column whose name and time zone have these lengths.
-fn put_column(
+// Writes a field whose name and time zone have these lengths.
+fn put_sized_field(
     text: &mut Vec<u8>,
     entries: u64,
     name_len: usize,
@@ -66,10 +66,10 @@ fn put_sized(text: &mut Vec<u8>, sizes: [usize; 7]) -> Result<(), AllocError> {
     let [tops, inner, outer, name_len, zone_len, key_len, value_len] = sizes;
     let entry = put_entry(text, key_len, value_len)?;
     let inside = repeated(text, entry, inner)?;
-    let column = put_column(text, inside, name_len, zone_len)?;
-    let columns = repeated(text, column, tops)?;
+    let field = put_sized_field(text, inside, name_len, zone_len)?;
+    let fields = repeated(text, field, tops)?;
     let beside = repeated(text, entry, outer)?;
-    put_message(text, columns, beside)
+    put_message(text, fields, beside)
 }
 
 // The text of the schema of these sizes.
@@ -101,26 +101,26 @@ fn are_sized(entries: &[(String, String)], count: usize, key_len: usize, value_l
     entries.len() == count
 }
 
-// A column of these sizes.
-fn is_sized(column: &Field, sizes: [usize; 7]) -> bool {
+// A field of these sizes.
+fn is_sized(field: &Field, sizes: [usize; 7]) -> bool {
     let [_, inner, _, name_len, zone_len, key_len, value_len] = sizes;
-    let zone = match &column.ty {
+    let zone = match &field.ty {
         Ty::Timestamp {
             timezone: Some(zone),
             ..
         } => zone.as_str(),
         _ => "no time zone",
     };
-    is_repeated(column.name.as_str(), 'n', name_len)
+    is_repeated(field.name.as_str(), 'n', name_len)
         && is_repeated(zone, 'z', zone_len)
-        && are_sized(column.metadata.as_slice(), inner, key_len, value_len)
+        && are_sized(field.metadata.as_slice(), inner, key_len, value_len)
 }
 
 // A schema of these sizes.
 fn says(schema: &Schema, sizes: [usize; 7]) -> bool {
     let [tops, _, outer, _, _, key_len, value_len] = sizes;
-    for column in schema.fields.as_slice() {
-        if !is_sized(column, sizes) {
+    for field in schema.fields.as_slice() {
+        if !is_sized(field, sizes) {
             return false;
         }
     }
@@ -184,26 +184,26 @@ fn put_text(text: &mut Vec<u8>, alloc: Global, digits: &str) -> Result<(char, u6
     Ok(('>', string(text, bytes.as_slice())?))
 }
 
-// The entry in the metadata of the schema's column, behind one without a key and a value.
+// The entry in the metadata of the schema's field, behind one without a key and a value.
 fn put_inside(text: &mut Vec<u8>, named: u64) -> Result<(), AllocError> {
     let bare = table(text, &[])?;
     let entries = pair(text, bare, named)?;
-    let column = table(
+    let field = table(
         text,
         &[NONE, NONE, ('=', 1), NONE, NONE, NONE, ('>', entries)],
     )?;
-    let columns = repeated(text, column, 1)?;
+    let fields = repeated(text, field, 1)?;
     let beside = repeated(text, named, 0)?;
-    put_message(text, columns, beside)
+    put_message(text, fields, beside)
 }
 
 // The entry in the schema's metadata, before one without a key and a value.
 fn put_beside(text: &mut Vec<u8>, named: u64) -> Result<(), AllocError> {
     let bare = table(text, &[])?;
-    let column = table(text, &[NONE, NONE, ('=', 1)])?;
-    let columns = repeated(text, column, 1)?;
+    let field = table(text, &[NONE, NONE, ('=', 1)])?;
+    let fields = repeated(text, field, 1)?;
     let beside = pair(text, named, bare)?;
-    put_message(text, columns, beside)
+    put_message(text, fields, beside)
 }
 
 fn put_schema(
@@ -223,7 +223,7 @@ fn put_schema(
     Ok(())
 }
 
-// The text of the schema with this entry in the metadata of its column, or in its own.
+// The text of the schema with this entry in the metadata of its field, or in its own.
 fn entry_text(alloc: Global, key: &str, value: &str, is_inside: bool) -> Result<Vec<u8>, Fail> {
     let mut text = Vec::new(alloc);
     put_schema(&mut text, alloc, key, value, is_inside)?;
@@ -235,14 +235,14 @@ fn entry_told(alloc: Global, want: &str, is_inside: bool) -> Result<String, Allo
     if want.starts_with("Err") {
         return String::from_str(alloc, want);
     }
-    let column = "Field { name: \"\", nullable: false, ty: Null, children: [], metadata: [";
+    let field = "Field { name: \"\", nullable: false, ty: Null, children: [], metadata: [";
     if is_inside {
         return format!(in alloc;
-            "Ok(Schema(Schema {{ fields: [{column}(\"\", \"\"), {want}] }}], metadata: [] }}))"
+            "Ok(Schema(Schema {{ fields: [{field}(\"\", \"\"), {want}] }}], metadata: [] }}))"
         );
     }
     format!(in alloc;
-        "Ok(Schema(Schema {{ fields: [{column}] }}], metadata: [{want}, (\"\", \"\")] }}))"
+        "Ok(Schema(Schema {{ fields: [{field}] }}], metadata: [{want}, (\"\", \"\")] }}))"
     )
 }
 

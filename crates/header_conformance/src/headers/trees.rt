@@ -1,4 +1,4 @@
-//! Columns inside columns, and how many of all there may be.
+//! Fields inside fields, and how many of all there may be.
 
 use crate::headers::told::tells;
 use crate::headers::writing::{NONE, forward, listed, put_message, repeated, table};
@@ -7,9 +7,9 @@ use std::alloc::{AllocError, Global};
 use std::process::Abort;
 use std::test::Fail;
 
-/// The number and the name of the type of the columns that have others inside, how many levels there are with the whole
-/// numbers inside them, how often each names the column inside it, how often the schema names the top one, and what is told
-/// but for a schema.
+/// The number and the name of the type of the fields that have others inside, how many levels there are with the whole
+/// numbers inside them, how often each names the field inside it, how often the schema names the top one, and what is
+/// told but for a schema.
 const TREES: &str = "\
 12|List|1|1|0|
 12|List|1|1|1|
@@ -21,7 +21,7 @@ const TREES: &str = "\
 13|Struct|17|1|1|Err(TooDeep)
 16|FixedSizeList { list_size: 0 }|16|1|1|
 16|FixedSizeList { list_size: 0 }|17|1|1|Err(TooDeep)
-# One table, to which the schema or a column refers more than once.
+# One table, to which the schema or a field refers more than once.
 12|List|1|1|2|
 12|List|3|1|2|
 13|Struct|3|2|2|
@@ -61,7 +61,7 @@ fn put_lowest(text: &mut Vec<u8>) -> Result<u64, AllocError> {
     table(text, &[NONE, NONE, ('=', 2), ('>', whole_number)])
 }
 
-// Writes a column of this type, which refers to the one inside it so many times.
+// Writes a field of this type, which refers to the one inside it so many times.
 fn put_around(text: &mut Vec<u8>, kind: u64, inside: u64, width: usize) -> Result<u64, AllocError> {
     let children = repeated(text, inside, width)?;
     table(
@@ -70,20 +70,20 @@ fn put_around(text: &mut Vec<u8>, kind: u64, inside: u64, width: usize) -> Resul
     )
 }
 
-// Writes the columns, and gives the top one.
-fn put_columns(text: &mut Vec<u8>, tree: Tree) -> Result<u64, AllocError> {
-    let mut column = put_lowest(text)?;
+// Writes the fields, and gives the top one.
+fn put_fields(text: &mut Vec<u8>, tree: Tree) -> Result<u64, AllocError> {
+    let mut field = put_lowest(text)?;
     for _ in 1..tree.levels {
-        column = put_around(text, tree.kind, column, tree.width)?;
+        field = put_around(text, tree.kind, field, tree.width)?;
     }
-    Ok(column)
+    Ok(field)
 }
 
 fn put_tree(text: &mut Vec<u8>, tree: Tree) -> Result<(), AllocError> {
-    let column = put_columns(text, tree)?;
-    let columns = repeated(text, column, tree.tops)?;
-    let entries = repeated(text, column, 0)?;
-    put_message(text, columns, entries)
+    let field = put_fields(text, tree)?;
+    let fields = repeated(text, field, tree.tops)?;
+    let entries = repeated(text, field, 0)?;
+    put_message(text, fields, entries)
 }
 
 // The text of the schema.
@@ -93,7 +93,7 @@ fn tree_text(alloc: Global, tree: Tree) -> Result<Vec<u8>, AllocError> {
     forward(alloc, text.as_slice())
 }
 
-// A column of the type of this name around so many that are shown so.
+// A field of the type of this name around so many that are shown so.
 fn around(alloc: Global, name: &str, inside: &str, width: usize) -> Result<String, AllocError> {
     let inside = listed(alloc, inside, width, ", ")?;
     format!(in alloc;
@@ -101,8 +101,8 @@ fn around(alloc: Global, name: &str, inside: &str, width: usize) -> Result<Strin
     )
 }
 
-// The top column, as it is shown.
-fn column_shown(alloc: Global, name: &str, tree: Tree) -> Result<String, AllocError> {
+// The top field, as it is shown.
+fn field_shown(alloc: Global, name: &str, tree: Tree) -> Result<String, AllocError> {
     let mut shown = String::from_str(alloc, LOWEST)?;
     for _ in 1..tree.levels {
         shown = around(alloc, name, shown.as_str(), tree.width)?;
@@ -112,9 +112,9 @@ fn column_shown(alloc: Global, name: &str, tree: Tree) -> Result<String, AllocEr
 
 // What is told of the schema.
 fn tree_shown(alloc: Global, name: &str, tree: Tree) -> Result<String, AllocError> {
-    let column = column_shown(alloc, name, tree)?;
-    let columns = listed(alloc, column.as_str(), tree.tops, ", ")?;
-    format!(in alloc; "Ok(Schema(Schema {{ fields: [{columns}], metadata: [] }}))")
+    let field = field_shown(alloc, name, tree)?;
+    let fields = listed(alloc, field.as_str(), tree.tops, ", ")?;
+    format!(in alloc; "Ok(Schema(Schema {{ fields: [{fields}], metadata: [] }}))")
 }
 
 // The text of the schema tells what is wanted, or the schema where nothing is named.
@@ -139,7 +139,7 @@ fn expect_tree(rt: &impl Abort, alloc: Global, row: &str) -> Result<(), Fail> {
 }
 
 #[test]
-fn reads_columns_inside_columns(rt: HostRuntime) -> Result<(), Fail> {
+fn reads_fields_inside_fields(rt: HostRuntime) -> Result<(), Fail> {
     for row in TREES.lines() {
         if is_row(row) {
             expect_tree(&rt, rt.alloc(), row)?;

@@ -1,4 +1,4 @@
-//! Columns of each type, with each parameter.
+//! Fields of each type, with each parameter.
 
 use crate::headers::told::tells;
 use crate::headers::writing::{NONE, forward, listed, put_bytes, put_message, repeated, table};
@@ -7,11 +7,11 @@ use std::alloc::{AllocError, Global};
 use std::process::Abort;
 use std::test::Fail;
 
-/// A column of no values, as it is shown.
+/// A field of no values, as it is shown.
 const NULL: &str = "Field { name: \"\", nullable: false, ty: Null, children: [], metadata: [] }";
 
-/// A type's number, its vtable and then its table, if it has one, how many columns are inside it, and what is told: the type
-/// or the fault.
+/// A type's number, its vtable and then its table, if it has one, how many fields are inside it, and what is told: the
+/// type or the fault.
 const TYPES: &str = "\
 1||0|Null
 1|04000400 04000000|0|Null
@@ -139,8 +139,8 @@ const TYPES: &str = "\
 26|04000400 04000000|0|Err(Unsupported(26))
 255|04000400 04000000|0|Err(Unsupported(255))";
 
-// Writes what the vtable and the table of a type spell, and gives the reference to that table, where there is one. The vtable's
-// first number is its size, behind which its table stands.
+// Writes what the vtable and the table of a type spell, and gives the reference to that table, where there is one. The
+// vtable's first number is its size, behind which its table stands.
 fn put_type(text: &mut Vec<u8>, bytes: &[u8]) -> Result<(char, u64), AllocError> {
     put_bytes(text, bytes)?;
     match bytes.first() {
@@ -149,15 +149,15 @@ fn put_type(text: &mut Vec<u8>, bytes: &[u8]) -> Result<(char, u64), AllocError>
     }
 }
 
-// Writes a schema of one column of the type, with so many Null columns inside it.
+// Writes a schema of one field of the type, with so many Null fields inside it.
 fn put_schema(text: &mut Vec<u8>, kind: u64, bytes: &[u8], count: usize) -> Result<(), AllocError> {
     let null = table(text, &[NONE, NONE, ('=', 1)])?;
     let children = repeated(text, null, count)?;
     let ty = put_type(text, bytes)?;
-    let column = table(text, &[NONE, NONE, ('=', kind), ty, NONE, ('>', children)])?;
-    let columns = repeated(text, column, 1)?;
-    let entries = repeated(text, column, 0)?;
-    put_message(text, columns, entries)
+    let field = table(text, &[NONE, NONE, ('=', kind), ty, NONE, ('>', children)])?;
+    let fields = repeated(text, field, 1)?;
+    let entries = repeated(text, field, 0)?;
+    put_message(text, fields, entries)
 }
 
 // The text of that schema.

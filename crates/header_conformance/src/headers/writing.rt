@@ -1,6 +1,6 @@
-//! Texts, written from the format alone (FlatBuffers, "FlatBuffer Internals"). A text is written from its last byte to its
-//! first, as references lead forward, and the last byte stands first in the `Vec`. What has been written is named by how many
-//! bytes there are from its first byte to the end.
+//! Texts, written from the format alone (FlatBuffers, "FlatBuffer Internals"). A text is written from its last byte to
+//! its first, as references lead forward, and the last byte stands first in the `Vec`. What has been written is named
+//! by how many bytes there are from its first byte to the end.
 
 use std::alloc::{AllocError, Global};
 
@@ -60,8 +60,8 @@ fn put_slots(text: &mut Vec<u8>, fields: &[(char, u64)], size: u64) -> Result<()
     Ok(())
 }
 
-/// Writes a table, whose vtable stands before it. Each field is absent with `-`, has a number with `=`, and refers to what
-/// has been written with `>`. It has eight bytes, of which a reader uses the first few.
+/// Writes a table, whose vtable stands before it. Each field is absent with `-`, has a number with `=`, and refers to
+/// what has been written with `>`. It has eight bytes, of which a reader uses the first few.
 pub(super) fn table(text: &mut Vec<u8>, fields: &[(char, u64)]) -> Result<u64, AllocError> {
     for field in fields.iter().rev() {
         put_field(text, *field)?;
@@ -126,13 +126,9 @@ pub(super) fn letters(text: &mut Vec<u8>, letter: u8, len: usize) -> Result<u64,
     Ok(text.len() as u64)
 }
 
-/// Writes the rest of a schema's message, whose vectors of columns and of entries of metadata have been written.
-pub(super) fn put_message(
-    text: &mut Vec<u8>,
-    columns: u64,
-    entries: u64,
-) -> Result<(), AllocError> {
-    let schema = table(text, &[NONE, ('>', columns), ('>', entries)])?;
+/// Writes the rest of a schema's message, whose vectors of fields and of entries of metadata have been written.
+pub(super) fn put_message(text: &mut Vec<u8>, fields: u64, entries: u64) -> Result<(), AllocError> {
+    let schema = table(text, &[NONE, ('>', fields), ('>', entries)])?;
     let message = table(text, &[('=', 4), ('=', 1), ('>', schema)])?;
     put_reference(text, message)
 }

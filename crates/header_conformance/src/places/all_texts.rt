@@ -1,5 +1,5 @@
-//! What stands at a place by a plain program beside what is read there, over all short texts of a few telling pieces and
-//! all places in and behind them.
+//! What stands at a place by a plain program beside what is read there, over all short texts of a few telling pieces
+//! and all places in and behind them.
 
 ghost use Rattle.flat_places.specs.Number.{IsNumberSize};
 

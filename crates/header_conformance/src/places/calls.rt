@@ -1,5 +1,5 @@
-//! Calls in the rows of a table: a text in hexadecimal or by its name, the call, its place, its number or 0 where it has none,
-//! and what it gives.
+//! Calls in the rows of a table: a text in hexadecimal or by its name, the call, its place, its number or 0 where it
+//! has none, and what it gives.
 
 use crate::rows::{cells, is_row, number, spelled};
 use flat_places::{follow, slot, text, uint, vector};

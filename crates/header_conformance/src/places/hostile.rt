@@ -24,8 +24,8 @@ fn prints_a_fault_as_its_name(rt: HostRuntime) -> Result<(), Fail> {
 }
 
 /// A text, a table and a field in it, how many of the text's bytes are used, and what is found then: the vtable's three
-/// numbers and the table's first four bytes are used, and the field is not. Of field 1 in the last text the vtable's own size
-/// says that it is absent: nothing behind that size is used.
+/// numbers and the table's first four bytes are used, and the field is not. Of field 1 in the last text the vtable's
+/// own size says that it is absent: nothing behind that size is used.
 const CUTS: &str = "\
 0600080004000600 00002a000000|6|0|10|Ok(Some(10))
 f8ffffff2a000000 060008000400|0|0|14|Ok(Some(4))
