@@ -1,4 +1,4 @@
--- Runs, turn by turn: what is promised only rises, and what is kept of each turn leaves what the run leaves.
+-- Turns of an acceptor, one by one: what is promised only rises, and what is kept of each turn leaves what the run leaves.
 use Rattle.std.proofs.Common.{◌≡◌, ℕ, inl, inr, List, [], ◌∷◌, ◌++◌, Option, Some, None, refl, sym, ap, subst, ◌∙◌}
 use Rattle.std.specs.List.{filter_map, cons_option}
 use Rattle.std.proofs.lemmas.Bool.Decides.{eqb_tells}
@@ -12,7 +12,7 @@ use Rattle.ballots.proofs.CallerLemmas.{below_carried}
 use Rattle.acceptor.specs.declared.answer.Answer.TheVariants.{Promise, Granted, Nack}
 use Rattle.acceptor.specs.Standing.{Standing, Sets}
 use Rattle.acceptor.specs.Restored.{IsRestored}
-use Rattle.acceptor.specs.Turns.{Turn, PrepareTurn, AcceptTurn, Takes, Runs, record_of}
+use Rattle.acceptor.specs.Turns.{Turn, PrepareTurn, AcceptTurn, Takes, IsStandingAfter, record_of}
 use Rattle.acceptor.proofs.Restoring.{promised_more, accepted_more, restored_as_before}
 use Rattle.acceptor.proofs.Granting.{at_least_accepted, above_at_least, at_least_same, sets_raised}
 
@@ -50,7 +50,7 @@ turn_rises old new (AcceptTurn slot ballot value Granted) (more, sets) = set_ris
 turn_rises old new (AcceptTurn slot ballot value (Nack promised)) (is, below, same) = same_rises old.promised new.promised same.promises
 turn_rises old new (AcceptTurn slot ballot value (Promise report)) never = absurd never
 
-pub run_rises : (old : Standing) (turns : List Turn) (new : Standing) → Runs old turns new → Rises old.promised new.promised
+pub run_rises : (old : Standing) (turns : List Turn) (new : Standing) → IsStandingAfter old turns new → Rises old.promised new.promised
 run_rises old [] new same = same_rises old.promised new.promised same.promises
 run_rises old (turn ∷ turns) new (mid, takes, runs) = λ other held is.
     let first = turn_rises old mid turn takes other held is in
@@ -104,7 +104,7 @@ turn_restored records old new (AcceptTurn slot ballot value Granted) is (more, s
 turn_restored records old new (AcceptTurn slot ballot value (Nack promised)) is (held, below, same) = rw append-nil (restored_as_before records old new same is)
 turn_restored records old new (AcceptTurn slot ballot value (Promise report)) is never = absurd never
 
-pub run_restored : (records : List Record) (old : Standing) (turns : List Turn) (new : Standing) → IsRestored records old → Runs old turns new
+pub run_restored : (records : List Record) (old : Standing) (turns : List Turn) (new : Standing) → IsRestored records old → IsStandingAfter old turns new
     → IsRestored (records ++ filter_map record_of turns) new
 run_restored records old [] new is same = rw append-nil (restored_as_before records old new same is)
 run_restored records old (turn ∷ turns) new is (mid, takes, runs) =

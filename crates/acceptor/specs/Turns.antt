@@ -1,4 +1,4 @@
--- Runs of an acceptor, turn by turn: Lamport, "Paxos Made Simple", section 2.2.
+-- Turns of an acceptor, one after the other: Lamport, "Paxos Made Simple", section 2.2.
 use Rattle.std.specs.Prelude.{ℕ, List, [], ◌∷◌, Option, Some, None}
 use Rattle.ballots.specs.Ballot.{Ballot}
 use Rattle.ballots.specs.declared.value.Value.{Value}
@@ -20,9 +20,9 @@ Takes old new (PrepareTurn slot ballot answer) = Prepares old new slot ballot an
 Takes old new (AcceptTurn slot ballot value answer) = Accepts old new slot ballot value answer
 
 -- these turns, one after the other
-abbrev pub Runs : Standing → List Turn → Standing → Type 0
-Runs old [] new = IsSame old new
-Runs old (turn ∷ turns) new = (mid : Standing) × Takes old mid turn × Runs mid turns new
+abbrev pub IsStandingAfter : Standing → List Turn → Standing → Type 0
+IsStandingAfter old [] new = IsSame old new
+IsStandingAfter old (turn ∷ turns) new = (mid : Standing) × Takes old mid turn × IsStandingAfter mid turns new
 
 -- the record that is kept before the answer goes out: of a refusal there is none
 abbrev pub record_of : Turn → Option Record

@@ -12,7 +12,7 @@ ghost use Rattle.acceptor.specs.Standing.{Standing, IsFresh};
 ghost use Rattle.acceptor.specs.Answering.{Prepares, Accepts};
 ghost use Rattle.acceptor.specs.Raising.{Applies};
 ghost use Rattle.acceptor.specs.Restored.{IsRestored, IsHighestRound};
-ghost use Rattle.acceptor.specs.Turns.{Turn, Runs, record_of};
+ghost use Rattle.acceptor.specs.Turns.{Turn, IsStandingAfter, record_of};
 
 /// What an acceptor answers to a Prepare, and to an Accept, is one answer.
 pub fn answers_are_one()
@@ -63,10 +63,10 @@ pub fn promises_are_kept()
         → Accepts old new slot ballot value Granted
         → (new.promised slot ≡ Some ballot) × (new.accepted slot ≡ Some (ballot, value)) }
     ensures no_prepare { (old later new : Standing) (turns : List Turn) (slot : ℕ) (held ballot : Pair)
-        (report : Option (Pair × Value)) → old.promised slot ≡ Some held → Runs old turns later
+        (report : Option (Pair × Value)) → old.promised slot ≡ Some held → IsStandingAfter old turns later
         → Prepares later new slot ballot (Promise report) → IsBelow held ballot }
     ensures no_accept { (old later new : Standing) (turns : List Turn) (slot : ℕ) (held ballot : Pair) (value : Value)
-        → old.promised slot ≡ Some held → Runs old turns later
+        → old.promised slot ≡ Some held → IsStandingAfter old turns later
         → Accepts later new slot ballot value Granted → IsAtLeast ballot (Some held) }
 {}
 
@@ -103,5 +103,5 @@ pub fn answers_are_as_recorded()
         (value : Value) → IsRestored records old → Accepts old new slot ballot value (Nack promised)
         → IsRestored records new }
     ensures run { (records : List Kept) (old new : Standing) (turns : List Turn) → IsRestored records old
-        → Runs old turns new → IsRestored (records ++ filter_map record_of turns) new }
+        → IsStandingAfter old turns new → IsRestored (records ++ filter_map record_of turns) new }
 {}
