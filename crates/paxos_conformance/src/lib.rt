@@ -13,6 +13,8 @@ mod learning;
 #[cfg(test)]
 mod log;
 #[cfg(test)]
+mod long_runs;
+#[cfg(test)]
 mod proposing;
 #[cfg(test)]
 mod restored;
