@@ -2,10 +2,11 @@
 //! sample, which has numbers and words.
 
 use proto_fields::{
-    ContentRef, ProtoMessage, WireFault, append_bool, append_bytes, append_enum, append_int64,
-    append_messages, append_one, append_string, append_strings, append_uint64, bool_of, bytes_of,
-    check_bytes, check_embedded, check_number, check_string, enum_of, int64_of, merge_one,
-    push_message, push_string, string_of, uint64_of,
+    CanonicalMessage, ContentRef, ProtoMessage, WireFault, append_bool, append_bytes, append_enum,
+    append_int64, append_messages, append_one, append_string, append_strings, append_uint64,
+    bool_of, bytes_of, check_bytes, check_embedded, check_number, check_string, enum_of, int64_of,
+    merge_one, push_message, push_string, string_of, strip_bool, strip_bytes, strip_enum,
+    strip_int64, strip_messages, strip_one, strip_string, strip_strings, strip_uint64, uint64_of,
 };
 use std::alloc::{AllocError, Global};
 
@@ -95,6 +96,16 @@ impl ProtoMessage for Numbers {
     ghost rises = { Prim.search rules };
 }
 
+impl CanonicalMessage for Numbers {
+    #[tactic(auto, using(proto_fields::proofs::CallerLemmas::strips))]
+    fn strip<'a>(&self, bytes: &'a [u8]) -> Option<&'a [u8]> {
+        let bytes = strip_enum(bytes, 1, self.kind)?;
+        let bytes = strip_int64(bytes, 2, self.change)?;
+        let bytes = strip_uint64(bytes, 3, self.count)?;
+        strip_bool(bytes, 4, self.is_last)
+    }
+}
+
 impl ProtoMessage for Words {
     ghost use Rattle.std.proofs.Common.{rules};
     ghost use Rattle.wire_conformance.specs.Sample.{words_descriptor};
@@ -146,6 +157,15 @@ impl ProtoMessage for Words {
     ghost rises = { Prim.search rules };
 }
 
+impl CanonicalMessage for Words {
+    #[tactic(auto, using(proto_fields::proofs::CallerLemmas::strips))]
+    fn strip<'a>(&self, bytes: &'a [u8]) -> Option<&'a [u8]> {
+        let bytes = strip_bytes(bytes, 1, &self.payload)?;
+        let bytes = strip_string(bytes, 2, &self.name)?;
+        strip_strings(bytes, 3, &self.tags)
+    }
+}
+
 impl ProtoMessage for Sample {
     ghost use Rattle.std.proofs.Common.{rules};
     ghost use Rattle.wire_conformance.specs.Sample.{sample_descriptor};
@@ -191,4 +211,12 @@ impl ProtoMessage for Sample {
     }
 
     ghost rises = { Prim.search rules };
+}
+
+impl CanonicalMessage for Sample {
+    #[tactic(auto, using(proto_fields::proofs::CallerLemmas::strips))]
+    fn strip<'a>(&self, bytes: &'a [u8]) -> Option<&'a [u8]> {
+        let bytes = strip_one(bytes, 1, &self.numbers)?;
+        strip_messages(bytes, 2047, &self.words)
+    }
 }

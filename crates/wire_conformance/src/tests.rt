@@ -9,6 +9,7 @@ mod fields;
 mod flight;
 mod frame_streams;
 mod frames;
+mod one_encoding;
 mod plain_fields;
 mod plain_frames;
 mod plain_message_faults;
