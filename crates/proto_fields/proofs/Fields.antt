@@ -5,11 +5,11 @@ use Rattle.std.proofs.lemmas.Bool.{ltb-true, ltb-false, le-ltb, lt-ltb, eqb-true
 use Rattle.std.proofs.lemmas.List.{take_at, drop_at, take-append-drop, length-take, length-append}
 use Rattle.proto_fields.specs.declared.fault.WireFault.{WireFault}
 use Rattle.proto_fields.specs.declared.fault.WireFault.TheVariants.{BadVarint, BadKey, BadWireType, CutShort, NotUtf8, OutOfMemory}
-use Rattle.proto_fields.specs.Varint.{IsVarint, IsCutVarint, IsBadVarint}
+use Rattle.proto_fields.specs.Varint.{IsVarint, IsCutVarint, IsBadVarint, VarintFault}
 use Rattle.proto_fields.specs.Field.{Held, Varint, Eight, Bytes, Four, Field, wire_type, IsFieldNumber, EncodesHeld, EncodesField, KeyThen, IsCutBytes, FieldFault, max_field_number}
 use Rattle.proto_fields.specs.Reading.{IsBytes, ◌>>=◌, varint_at, bytes_at, held_read, number_of_key, field_read}
 use Rattle.proto_fields.proofs.Steps.{IsBytes-right, bind_ok, bind_err, chosen, ok_is, err_is, not_ok, not_err}
-use Rattle.proto_fields.proofs.Numbers.{varint_takes, varint_again, VarintFault, varint_faults}
+use Rattle.proto_fields.proofs.Numbers.{varint_takes, varint_again, varint_faults}
 
 -- ---- a number of bytes
 

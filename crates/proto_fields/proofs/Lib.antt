@@ -6,11 +6,4 @@ pub mod FaultsApart
 pub mod Texts
 pub mod Meanings
 pub mod Lookups
-pub mod MessageFaults
-pub mod Merging
-pub mod MessageTaking
-pub mod MessageWriting
-pub mod Embedding
-pub mod CallerLemmas
-pub mod Sound
-pub mod Strips
+pub mod Scalars

@@ -1,10 +1,11 @@
 -- A varint that is read is encoded so, what is encoded so is read, and each fault stands where it is told.
-use Rattle.std.proofs.Common.{◌≡◌, ℕ, ◌+◌, ◌-◌, ◌*◌, ◌^◌, ◌<◌, ◌≤◌, true, false, cond, ltb, eqb, List, [], ◌∷◌, ◌++◌, length, Ok, Err, refl, sym, ap, subst, arith, ◌⊎◌, inl, inr}
+use Rattle.std.proofs.Common.{◌≡◌, ℕ, ◌+◌, ◌-◌, ◌*◌, ◌^◌, ◌<◌, ◌≤◌, true, false, cond, ltb, eqb, List, [], ◌∷◌, ◌++◌, length, Result, Ok, Err, refl, sym, ap, subst, ◌∙◌, arith, ◌⊎◌, inl, inr}
+use Rattle.std.specs.Prelude.{IfOk, IfErr, IsOkAnd}
 use Rattle.std.proofs.lemmas.Bool.{ltb-true, ltb-false, le-ltb, lt-ltb, eqb-true, eqb-false, ne_eqb}
 use Rattle.proto_fields.specs.declared.fault.WireFault.{WireFault}
 use Rattle.proto_fields.specs.declared.fault.WireFault.TheVariants.{BadVarint, BadKey, BadWireType, CutShort, NotUtf8, OutOfMemory}
-use Rattle.proto_fields.specs.Varint.{EncodesNumber, IsVarint, AllGoOn, IsCutVarint, IsBadVarint}
-use Rattle.proto_fields.specs.Reading.{IsBytes, joined, number_at, varint_at}
+use Rattle.proto_fields.specs.Varint.{EncodesNumber, IsVarint, AllGoOn, IsCutVarint, IsBadVarint, VarintFault, VarintThen}
+use Rattle.proto_fields.specs.Reading.{IsBytes, Gives, joined, number_at, varint_at}
 use Rattle.proto_fields.proofs.Steps.{IsBytes-rest, bind_ok, bind_err, chosen, ok_is, err_is, not_ok, not_err}
 
 -- what a text begins with when this number was read and this is left
@@ -160,15 +161,6 @@ pub varint_again : (bytes : List ℕ) (n : ℕ) (rest : List ℕ) → IsVarint b
 unfolding varint_at
 varint_again bytes n rest is = number_again bytes 10 n rest is.encodes is.short is.fits
 
--- what is wrong with a text that begins with no varint
-abbrev pub VarintFault : WireFault → List ℕ → Type 0
-VarintFault CutShort text = IsCutVarint text
-VarintFault BadVarint text = IsBadVarint text
-VarintFault BadKey text = ⊥
-VarintFault BadWireType text = ⊥
-VarintFault NotUtf8 text = ⊥
-VarintFault OutOfMemory text = ⊥
-
 pub varint_faults : (text : List ℕ) (fault : WireFault) → IsBytes text → varint_at text ≡ Err fault → VarintFault fault text
 unfolding varint_at
 varint_faults text CutShort fits e = number_faults 10 text CutShort fits e
@@ -177,3 +169,21 @@ varint_faults text BadKey fits e = number_faults 10 text BadKey fits e
 varint_faults text BadWireType fits e = number_faults 10 text BadWireType fits e
 varint_faults text NotUtf8 fits e = number_faults 10 text NotUtf8 fits e
 varint_faults text OutOfMemory fits e = number_faults 10 text OutOfMemory fits e
+
+-- ---- the clauses of reading one varint
+
+module _ {X : Type 0} (view : X → ℕ × List ℕ) (text : List ℕ) (fits : IsBytes text) where
+  pub is_number : (r : Result X WireFault) → Gives view r (varint_at text) → IfOk r (λ x. VarintThen text (view x).0 (view x).1)
+  is_number (Ok x) e = varint_takes text (view x).0 (view x).1 fits e
+  is_number (Err fault) e = tt
+
+  pub is_only_number : (r : Result X WireFault) → Gives view r (varint_at text) → (n : ℕ) (rest : List ℕ) → VarintThen text n rest
+      → IsOkAnd r (λ x. ((view x).0 ≡ n) × ((view x).1 ≡ rest))
+  is_only_number (Ok x) e n rest h =
+      let same : view x ≡ (n, rest) = ok_is (view x) (n, rest) (sym e ∙ ap varint_at h.2 ∙ varint_again h.0 n rest h.1) in
+      (ap (λ (p : ℕ × List ℕ). p.0) same, ap (λ (p : ℕ × List ℕ). p.1) same)
+  is_only_number (Err fault) e n rest h = not_ok (n, rest) fault (sym (ap varint_at h.2 ∙ varint_again h.0 n rest h.1) ∙ e)
+
+  pub is_number_fault : (r : Result X WireFault) → Gives view r (varint_at text) → IfErr r (λ fault. VarintFault fault text)
+  is_number_fault (Ok x) e = tt
+  is_number_fault (Err fault) e = varint_faults text fault fits e

@@ -4,7 +4,4 @@ pub mod Meaning
 pub mod Lookup
 pub mod Reading
 pub mod Writing
-pub mod Descriptor
-pub mod Canonical
-pub mod Taking
-pub mod Stripping
+pub mod Scalar

@@ -1,6 +1,8 @@
 -- Numbers as bytes: Protocol Buffers, "Encoding", "Base 128 Varints".
 use Rattle.std.specs.Prelude.{◌≡◌, ℕ, zero, suc, ◌+◌, ◌*◌, ◌/◌, ◌%◌, ◌^◌, ◌<◌, ◌≤◌, ◌⊎◌, List, [], ◌∷◌, ◌++◌, length, nat_lt, if◌then◌else◌}
 use Rattle.std.specs.List.{AllByRecursion}
+use Rattle.proto_fields.specs.declared.fault.WireFault.{WireFault}
+use Rattle.proto_fields.specs.declared.fault.WireFault.TheVariants.{BadVarint, BadKey, BadWireType, CutShort, NotUtf8, OutOfMemory}
 
 -- The bytes encode the number, seven bits in each, the lowest first: a byte below 128 is the last, and after one from
 -- 128 on the others encode what is above its seven bits. A number may take more bytes than it needs.
@@ -33,6 +35,19 @@ abbrev pub IsBadVarint : List ℕ → Type 0
 IsBadVarint text =
     (bytes rest : List ℕ) × (text ≡ bytes ++ rest) × (length bytes ≤ max_varint_bytes)
     × ((AllGoOn bytes × (length bytes ≡ max_varint_bytes)) ⊎ ((n : ℕ) × EncodesNumber bytes n × (2 ^ 64 ≤ n)))
+
+-- what is wrong with a text that does not begin with a number
+abbrev pub VarintFault : WireFault → List ℕ → Type 0
+VarintFault BadVarint text = IsBadVarint text
+VarintFault BadKey text = ⊥
+VarintFault BadWireType text = ⊥
+VarintFault CutShort text = IsCutVarint text
+VarintFault NotUtf8 text = ⊥
+VarintFault OutOfMemory text = ⊥
+
+-- the text is an encoding of the number, and then the rest
+abbrev pub VarintThen : List ℕ → ℕ → List ℕ → Type 0
+VarintThen text n rest = (bytes : List ℕ) × IsVarint bytes n × (text ≡ bytes ++ rest)
 
 -- the seven lowest bits of n with the mark that bytes follow, then those of what is above them, at most k bytes
 abbrev pub digits : ℕ → ℕ → List ℕ

@@ -10,7 +10,7 @@ ghost use Rattle.proto_fields.specs.Meaning.{number_in, bytes_in};
 ghost use Rattle.proto_fields.specs.Reading.{Gives, held_read, bytes_at, number_of_key, field_read};
 
 use crate::fault::WireFault;
-use crate::varint::split_varint;
+use crate::varint::split_number;
 use std::alloc::{AllocError, Global};
 
 /// The greatest field number of Protocol Buffers, 2^29 - 1. The least is 1.
@@ -83,7 +83,7 @@ fn split_content(wire_type: u64, buf: &[u8]) -> Result<(ContentRef<'_>, &[u8]), 
 {
     match wire_type {
         0 => {
-            let (number, rest) = split_varint(buf)?;
+            let (number, rest) = split_number(buf)?;
             Ok((ContentRef::Varint(number), rest))
         }
         1 => {
@@ -91,7 +91,7 @@ fn split_content(wire_type: u64, buf: &[u8]) -> Result<(ContentRef<'_>, &[u8]), 
             Ok((ContentRef::Eight(bytes), rest))
         }
         2 => {
-            let (count, rest) = split_varint(buf)?;
+            let (count, rest) = split_number(buf)?;
             let (bytes, rest) = split_bytes(rest, count)?;
             Ok((ContentRef::Bytes(bytes), rest))
         }
@@ -120,7 +120,7 @@ fn number_of(key: u64) -> Result<u32, WireFault>
 fn split_front(buf: &[u8]) -> Result<(u32, ContentRef<'_>, &[u8]), WireFault>
     ensures { Gives (λ x. (field_at x.0 x.1, x.2.now)) result (field_read buf.now) }
 {
-    let (key, rest) = split_varint(buf)?;
+    let (key, rest) = split_number(buf)?;
     let number = number_of(key)?;
     let (content, rest) = split_content(key % 8, rest)?;
     Ok((number, content, rest))

@@ -11,8 +11,6 @@ ghost use Rattle.proto_fields.specs.Field.{fields_text, max_field_number, presen
 ghost use Rattle.proto_fields.specs.Meaning.{number_in, bytes_in, all_hold, things_of, number_meant, bytes_meant};
 ghost use Rattle.proto_fields.specs.Meaning.{after};
 ghost use Rattle.proto_fields.specs.Reading.{IsBytes, field_read};
-ghost use Rattle.proto_fields.specs.Descriptor.{Descriptor, Values, IsMessage, TextFault, FieldIsAtFault};
-ghost use Rattle.proto_fields.specs.Canonical.{RisesFrom, Fits, canonical};
 
 /// The program's limits are those of the definitions: the greatest field number is 2^29 - 1, and a varint has at most
 /// ten bytes.
@@ -71,32 +69,11 @@ pub fn defaults_are_left_out()
         → bytes_meant n (present fields) ≡ bytes_meant n fields }
 {}
 
-/// A text means at most one message of a descriptor.
-pub fn messages_are_one()
-    ensures { (descriptor : Descriptor) (text : List ℕ) (v w : Values descriptor)
-        → IsMessage descriptor text v → IsMessage descriptor text w → v ≡ w }
-{}
-
-/// Where a fault stands, nothing else does: no field at the front of the text, no list of fields, and no message. So a
-/// reader that tells a fault has refused what nobody can read.
+/// Where a fault stands, nothing else does: no field at the front of the text, and no list of fields. So a reader that
+/// tells a fault has refused what nobody can read.
 pub fn faults_stand_apart()
     ensures field { (text : List ℕ) (fault : WireFault) (f : Field) (rest : List ℕ)
         → FieldFault fault text → ¬ BeginsWith text f rest }
     ensures fields { (text : List ℕ) (fault : WireFault) (fields : List Field)
         → FieldsFault fault text → ¬ IsFields text fields }
-    ensures message { (descriptor : Descriptor) (text : List ℕ) (fault : WireFault) (v : Values descriptor)
-        → TextFault (FieldIsAtFault descriptor) fault text → ¬ IsMessage descriptor text v }
-{}
-
-/// What is written for a message is read as that message, for every descriptor whose fields stand by rising numbers.
-pub fn canonical_messages_are_messages()
-    ensures { (descriptor : Descriptor) (v : Values descriptor)
-        → RisesFrom 0 descriptor → Fits descriptor v → IsMessage descriptor (canonical descriptor v) v }
-{}
-
-/// Bytes are what is written for at most one message, of every descriptor whose fields stand by rising numbers. So
-/// whoever is given an encoding that is told to be the one knows its message by its bytes.
-pub fn canonical_messages_are_one()
-    ensures { (descriptor : Descriptor) (v w : Values descriptor) → RisesFrom 0 descriptor
-        → Fits descriptor v → Fits descriptor w → canonical descriptor v ≡ canonical descriptor w → v ≡ w }
 {}

@@ -1,52 +1,31 @@
-//! Messages of numbered fields (Protocol Buffers, "Encoding"), read from bytes that nobody has checked and written in
-//! one encoding each.
+//! Numbered fields (Protocol Buffers, "Encoding"), read from bytes that nobody has checked and written in one encoding
+//! each.
 //!
-//! What bytes encode is defined in `specs/`, apart from how they are read: `Varint` and `Field` for numbers and fields,
-//! and `Descriptor` for what a list of fields means as a message, one definition for all messages, each of which is the
-//! list of its fields. A call that reads is `Ok` exactly where such bytes stand, memory apart, and a fault is told only
-//! where it stands. A call that writes appends exactly the one canonical encoding, and leaves its vector as it was
-//! where memory is refused.
+//! What bytes encode is defined in `specs/`, apart from how they are read: `Varint` for numbers, `Field` for fields and
+//! lists of fields, `Meaning` for what the fields of one number mean together, and `Scalar` for what one field holds as
+//! a value of its type. A call that reads is `Ok` exactly where such bytes stand, memory apart, and a fault is told only
+//! where it stands. A call that writes appends exactly the one canonical encoding; those named `write_..` leave their
+//! vector as it was where memory is refused.
 //!
-//! A message of a caller's own is a struct with an `impl` of [`ProtoMessage`]: its fields as a descriptor, and a line a
-//! field in `check_field`, `take` and `append`, each of them a call of one of the functions below. It then has `decode`
-//! and `encode`. Proofs of such an `impl` need nothing but these contracts and the lemmas of `proofs/CallerLemmas`,
-//! where `#[tactic(auto, using(proto_fields::proofs::CallerLemmas::chains))]` stands on `append`.
-//!
-//! Whoever has to tell the one encoding from the others adds an `impl` of [`CanonicalMessage`]: beside each line of
-//! `append` one of `strip`, under `#[tactic(auto, using(proto_fields::proofs::CallerLemmas::strips))]`. The message then
-//! has `is_encoded_as`, which takes no memory.
+//! Messages of such fields, each with its own descriptor, are those of `proto_messages`.
 #![tactic(auto)]
 
-mod appending;
-mod canonical;
 mod fault;
 mod field;
 pub mod laws;
 mod lookup;
-mod message;
-mod repeated;
 mod scalar;
-mod stripping;
 mod varint;
 mod writing;
 
-pub use appending::{
-    append_bool, append_bytes, append_enum, append_int64, append_lent, append_messages, append_one,
-    append_string, append_strings, append_uint64,
-};
-pub use canonical::CanonicalMessage;
 pub use fault::WireFault;
 pub use field::{Content, ContentRef, MAX_FIELD_NUMBER, read_fields, split_field};
 pub use lookup::{bytes_at, number_at};
-pub use message::ProtoMessage;
-pub use repeated::{check_embedded, merge_one, push_message, push_string};
 pub use scalar::{
     bool_of, bytes_of, check_bytes, check_number, check_string, enum_of, int64_of, string_of,
     uint64_of,
 };
-pub use stripping::{
-    strip_bool, strip_bytes, strip_enum, strip_int64, strip_messages, strip_one, strip_string,
-    strip_strings, strip_uint64,
+pub use varint::{MAX_VARINT_BYTES, split_varint};
+pub use writing::{
+    append_number, write_bytes, write_nonempty_bytes, write_nonzero_varint, write_varint,
 };
-pub use varint::MAX_VARINT_BYTES;
-pub use writing::{write_bytes, write_nonempty_bytes, write_nonzero_varint, write_varint};

@@ -6,8 +6,8 @@ ghost use Rattle.std.specs.String.{string_bytes};
 ghost use Rattle.proto_fields.specs.declared.fault.WireFault.{WireFault as Fault};
 ghost use Rattle.proto_fields.specs.declared.fault.WireFault.TheVariants.{BadWireType, OutOfMemory};
 ghost use Rattle.proto_fields.specs.Field.{wire_type, held_at};
-ghost use Rattle.proto_fields.specs.Descriptor.{TypeEnum, TypeInt64, TypeUint64, TypeBool, TypeBytes, TypeString};
-ghost use Rattle.proto_fields.specs.Descriptor.{scalar_in, ScalarFault};
+ghost use Rattle.proto_fields.specs.Scalar.{TypeEnum, TypeInt64, TypeUint64, TypeBool, TypeBytes, TypeString};
+ghost use Rattle.proto_fields.specs.Scalar.{scalar_in, ScalarFault};
 
 use crate::fault::WireFault;
 use crate::field::ContentRef;
@@ -15,7 +15,7 @@ use std::alloc::Global;
 
 /// Whether a field holds a number, as an enumeration, an int64, a uint64 and a bool do: [`WireFault::BadWireType`]
 /// where it does not.
-#[tactic(auto, using(crate::proofs::Sound::sound_scalars))]
+#[tactic(auto, using(crate::proofs::Scalars::sound_scalars))]
 pub fn check_number(content: ContentRef<'_>) -> Result<(), WireFault>
     ensures enumeration { OnOk result ((fault : Fault) → ¬ ScalarFault TypeEnum fault (held_at content.entry)) }
     ensures int64 { OnOk result ((fault : Fault) → ¬ ScalarFault TypeInt64 fault (held_at content.entry)) }
@@ -30,7 +30,7 @@ pub fn check_number(content: ContentRef<'_>) -> Result<(), WireFault>
 }
 
 /// Whether a field holds bytes: [`WireFault::BadWireType`] where it does not.
-#[tactic(auto, using(crate::proofs::Sound::sound_scalars))]
+#[tactic(auto, using(crate::proofs::Scalars::sound_scalars))]
 pub fn check_bytes(content: ContentRef<'_>) -> Result<(), WireFault>
     ensures ok { OnOk result ((fault : Fault) → ¬ ScalarFault TypeBytes fault (held_at content.entry)) }
     ensures fault { IfErr result (λ fault. ScalarFault TypeBytes fault (held_at content.entry)) }
@@ -43,7 +43,7 @@ pub fn check_bytes(content: ContentRef<'_>) -> Result<(), WireFault>
 
 /// Whether a field holds a string: [`WireFault::BadWireType`] where it does not hold bytes, and [`WireFault::NotUtf8`]
 /// where these are not UTF-8.
-#[tactic(auto, using(crate::proofs::Sound::sound_scalars))]
+#[tactic(auto, using(crate::proofs::Scalars::sound_scalars))]
 pub fn check_string(content: ContentRef<'_>) -> Result<(), WireFault>
     ensures ok { OnOk result ((fault : Fault) → ¬ ScalarFault TypeString fault (held_at content.entry)) }
     ensures fault { IfErr result (λ fault. ScalarFault TypeString fault (held_at content.entry)) }

@@ -1,6 +1,7 @@
 //! Numbers of 64 bits at the front of some bytes (Protocol Buffers, "Base 128 Varints").
 
-ghost use Rattle.std.specs.Prelude.{◌≡◌, ℕ, ◌<◌, ◌≤◌, List, length, IfOk};
+ghost use Rattle.std.specs.Prelude.{◌≡◌, ℕ, List, IfOk, IfErr, IsOkAnd};
+ghost use Rattle.proto_fields.specs.Varint.{VarintThen, VarintFault};
 ghost use Rattle.proto_fields.specs.Reading.{Gives, number_at, varint_at};
 
 use crate::fault::WireFault;
@@ -35,13 +36,25 @@ fn number_within(buf: &[u8], most: usize) -> Result<(u64, &[u8]), WireFault>
     }
 }
 
-/// The number at the front, and the bytes after it. It need not be in its shortest encoding.
-///
-/// The faults are `BadVarint`, where it goes on past ten bytes or takes more than 64 bits, and `CutShort`, where the
-/// bytes end before it does.
+/// The number at the front and the bytes after it, or the fault that is met first from left to right.
 #[tactic(auto, unfolding(crate::specs::Reading::varint_at))]
-pub(crate) fn split_varint(buf: &[u8]) -> Result<(u64, &[u8]), WireFault>
+pub(crate) fn split_number(buf: &[u8]) -> Result<(u64, &[u8]), WireFault>
     ensures { Gives (λ x. (x.0, x.1.now)) result (varint_at buf.now) }
 {
     number_within(buf, MAX_VARINT_BYTES)
+}
+
+/// The number of 64 bits at the front, and the bytes after it (Protocol Buffers, "Base 128 Varints"). It need not be in
+/// its shortest encoding. No memory is taken.
+///
+/// Bytes that do not begin with a number are refused with what is wrong there: [`WireFault::BadVarint`] where it goes
+/// on past [`MAX_VARINT_BYTES`] or takes more than 64 bits, and [`WireFault::CutShort`] where the bytes end before it
+/// does.
+pub fn split_varint(bytes: &[u8]) -> Result<(u64, &[u8]), WireFault>
+    ensures read { IfOk result (λ x. VarintThen bytes.now x.0 x.1.now) }
+    ensures only { (n : ℕ) (rest : List ℕ) → VarintThen bytes.now n rest
+        → IsOkAnd result (λ x. (x.0 ≡ n) × (x.1.now ≡ rest)) }
+    ensures fault { IfErr result (λ fault. VarintFault fault bytes.now) }
+{
+    split_number(bytes)
 }

@@ -1,9 +1,9 @@
 //! Fields written at the end of a vector, each in its one canonical encoding (Protocol Buffers, "Encoding").
 
-ghost use Rattle.std.specs.Prelude.{◌≡◌, ◌+◌, ◌*◌, ◌≤◌, ◌<◌, ◌^◌, ◌++◌, ◌∷◌, [], length, take, drop, IfOk, OnOk, OnErr};
+ghost use Rattle.std.specs.Prelude.{◌≡◌, ◌++◌, ◌∷◌, [], OnOk, OnErr};
 ghost use Rattle.proto_fields.specs.Varint.{varint_text};
 ghost use Rattle.proto_fields.specs.Field.{Varint, Bytes, IsFieldNumber, field_text, fields_text, present};
-ghost use Rattle.proto_fields.specs.Writing.{Grows, with_length};
+ghost use Rattle.proto_fields.specs.Writing.{Grows};
 
 use std::alloc::AllocError;
 
@@ -13,9 +13,10 @@ const VARINT: u64 = 0;
 /// The wire type of bytes behind their length.
 const LENGTH_DELIMITED: u64 = 2;
 
-/// Appends the shortest varint of the number. Where memory is refused, a beginning of it may stay.
+/// Appends a number of 64 bits as its shortest varint (Protocol Buffers, "Base 128 Varints"). [`AllocError`] says that
+/// memory was refused, and a beginning of it may then stay behind what the vector held.
 #[tactic(auto, using(crate::proofs::Texts::texts))]
-fn append_number(out: &mut Vec<u8>, number: u64) -> Result<(), AllocError>
+pub fn append_number(out: &mut Vec<u8>, number: u64) -> Result<(), AllocError>
     ensures ok { OnOk result (out.new.items ≡ out.old.items ++ varint_text number) }
     ensures err { Grows out.old.items out.new.items }
 {
@@ -41,11 +42,7 @@ fn append_varint(out: &mut Vec<u8>, number: u32, value: u64) -> Result<(), Alloc
 }
 
 /// Appends a field with bytes behind their length. Where memory is refused, a beginning of it may stay.
-pub(crate) fn append_bytes_field(
-    out: &mut Vec<u8>,
-    number: u32,
-    bytes: &[u8],
-) -> Result<(), AllocError>
+fn append_bytes_field(out: &mut Vec<u8>, number: u32, bytes: &[u8]) -> Result<(), AllocError>
     ensures ok { OnOk result
         (out.new.items ≡ out.old.items ++ field_text (record { number = number; held = Bytes bytes.now })) }
     ensures err { Grows out.old.items out.new.items }
@@ -55,50 +52,6 @@ pub(crate) fn append_bytes_field(
     append_number(out, bytes.len() as u64)?;
     out.extend_from_slice(bytes)?;
     Ok(())
-}
-
-/// Appends the key of a field with bytes and a byte for their length, which [`set_length`] puts there.
-pub(crate) fn append_open_key(out: &mut Vec<u8>, number: u32) -> Result<(), AllocError>
-    ensures ok { OnOk result (out.new.items ≡ (out.old.items ++ varint_text (8 * number + 2)) ++ 0 ∷ []) }
-    ensures err { Grows out.old.items out.new.items }
-{
-    append_number(out, 8 * u64::from(number) + LENGTH_DELIMITED)?;
-    out.push(0)?;
-    Ok(())
-}
-
-/// Puts the length of what follows a byte in its place. What follows is moved only where its length takes more bytes.
-pub(crate) fn set_length(out: &mut Vec<u8>, place: usize) -> Result<(), AllocError>
-    requires { place < length out.old.items }
-    ensures ok { OnOk result (out.new.items ≡ with_length place out.old.items) }
-    ensures err { OnErr result (Grows (take place out.old.items) out.new.items) }
-{
-    let length = out.len() - place - 1;
-    if length < 128 {
-        out[place] = length as u8;
-        return Ok(());
-    }
-    move_behind_length(out, place)
-}
-
-/// Puts the length of what follows a byte in its place, and what follows behind it.
-fn move_behind_length(out: &mut Vec<u8>, place: usize) -> Result<(), AllocError>
-    requires { place < length out.old.items }
-    ensures ok { OnOk result (out.new.items ≡ with_length place out.old.items) }
-    ensures err { OnErr result (Grows (take place out.old.items) out.new.items) }
-{
-    let follows = copied_from(out, place + 1)?;
-    out.truncate(place);
-    append_number(out, follows.len() as u64)?;
-    out.extend_from_slice(&follows)
-}
-
-/// A copy of the bytes from a place on.
-fn copied_from(bytes: &Vec<u8>, place: usize) -> Result<Vec<u8>, AllocError>
-    requires { place ≤ length bytes.now.items }
-    ensures { IfOk result (λ copy. copy.items ≡ drop place bytes.now.items) }
-{
-    Vec::from_slice(*bytes.allocator(), &bytes[place..])
 }
 
 /// Appends a field with a number of 64 bits, wire type 0, its key and the number as the shortest varints.

@@ -1,6 +1,7 @@
 -- The messages of Arrow Flight, each as the list of its fields: Apache Arrow, "Flight.proto".
 use Rattle.std.specs.Prelude.{ℤ, pos}
-use Rattle.proto_fields.specs.Descriptor.{TypeEnum, TypeInt64, TypeBool, TypeBytes, TypeString, Descriptor, NoMore, One, Strings, Message, Messages}
+use Rattle.proto_fields.specs.Scalar.{TypeEnum, TypeInt64, TypeBool, TypeBytes, TypeString}
+use Rattle.proto_messages.specs.Descriptor.{Descriptor, NoMore, One, Strings, Message, Messages}
 
 -- the numbers of the types of a descriptor: "enum DescriptorType"
 abbrev pub unknown_type : ℤ

@@ -12,7 +12,7 @@ use Rattle.proto_wire.specs.declared.flight.info.Criteria.{Criteria}
 use Rattle.proto_wire.specs.declared.flight.data.FlightData.{FlightData}
 use Rattle.proto_wire.specs.declared.flight.data.FlightDataRef.{FlightDataRef}
 use Rattle.proto_wire.specs.declared.flight.data.PutResult.{PutResult}
-use Rattle.proto_fields.specs.Descriptor.{Values}
+use Rattle.proto_messages.specs.Descriptor.{Values}
 use Rattle.proto_wire.specs.Flight.{flight_descriptor_descriptor, ticket_descriptor, location_descriptor, endpoint_descriptor, info_descriptor, schema_result_descriptor, criteria_descriptor, data_descriptor, put_result_descriptor}
 
 abbrev pub descriptor_values : FlightDescriptor → Values flight_descriptor_descriptor

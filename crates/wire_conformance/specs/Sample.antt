@@ -1,5 +1,6 @@
 -- A message with a field of every kind: Protocol Buffers, "Language Guide (proto3)".
-use Rattle.proto_fields.specs.Descriptor.{TypeEnum, TypeInt64, TypeUint64, TypeBool, TypeBytes, TypeString, Descriptor, NoMore, One, Strings, Message, Messages}
+use Rattle.proto_fields.specs.Scalar.{TypeEnum, TypeInt64, TypeUint64, TypeBool, TypeBytes, TypeString}
+use Rattle.proto_messages.specs.Descriptor.{Descriptor, NoMore, One, Strings, Message, Messages}
 
 -- kind, change, count, is_last
 abbrev pub numbers_descriptor : Descriptor

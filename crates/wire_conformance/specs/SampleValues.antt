@@ -5,7 +5,7 @@ use Rattle.std.specs.String.{string_bytes}
 use Rattle.wire_conformance.specs.declared.sample.Numbers.{Numbers}
 use Rattle.wire_conformance.specs.declared.sample.Words.{Words}
 use Rattle.wire_conformance.specs.declared.sample.Sample.{Sample}
-use Rattle.proto_fields.specs.Descriptor.{Values}
+use Rattle.proto_messages.specs.Descriptor.{Values}
 use Rattle.wire_conformance.specs.Sample.{numbers_descriptor, words_descriptor, sample_descriptor}
 
 abbrev pub numbers_values : Numbers → Values numbers_descriptor

@@ -2,11 +2,14 @@
 //! sample, which has numbers and words.
 
 use proto_fields::{
-    CanonicalMessage, ContentRef, ProtoMessage, WireFault, append_bool, append_bytes, append_enum,
-    append_int64, append_messages, append_one, append_string, append_strings, append_uint64,
-    bool_of, bytes_of, check_bytes, check_embedded, check_number, check_string, enum_of, int64_of,
-    merge_one, push_message, push_string, string_of, strip_bool, strip_bytes, strip_enum,
-    strip_int64, strip_messages, strip_one, strip_string, strip_strings, strip_uint64, uint64_of,
+    ContentRef, WireFault, bool_of, bytes_of, check_bytes, check_number, check_string, enum_of,
+    int64_of, string_of, uint64_of,
+};
+use proto_messages::{
+    CanonicalMessage, ProtoMessage, append_bool, append_bytes, append_enum, append_int64,
+    append_messages, append_one, append_string, append_strings, append_uint64, check_embedded,
+    merge_one, push_message, push_string, strip_bool, strip_bytes, strip_enum, strip_int64,
+    strip_messages, strip_one, strip_string, strip_strings, strip_uint64,
 };
 use std::alloc::{AllocError, Global};
 
@@ -84,7 +87,7 @@ impl ProtoMessage for Numbers {
         Ok(())
     }
 
-    #[tactic(auto, using(proto_fields::proofs::CallerLemmas::chains))]
+    #[tactic(auto, using(proto_messages::proofs::CallerLemmas::chains))]
     fn append(&self, out: &mut Vec<u8>) -> Result<(), AllocError> {
         append_enum(out, 1, self.kind)?;
         append_int64(out, 2, self.change)?;
@@ -97,7 +100,7 @@ impl ProtoMessage for Numbers {
 }
 
 impl CanonicalMessage for Numbers {
-    #[tactic(auto, using(proto_fields::proofs::CallerLemmas::strips))]
+    #[tactic(auto, using(proto_messages::proofs::CallerLemmas::strips))]
     fn strip<'a>(&self, bytes: &'a [u8]) -> Option<&'a [u8]> {
         let bytes = strip_enum(bytes, 1, self.kind)?;
         let bytes = strip_int64(bytes, 2, self.change)?;
@@ -146,7 +149,7 @@ impl ProtoMessage for Words {
         Ok(())
     }
 
-    #[tactic(auto, using(proto_fields::proofs::CallerLemmas::chains))]
+    #[tactic(auto, using(proto_messages::proofs::CallerLemmas::chains))]
     fn append(&self, out: &mut Vec<u8>) -> Result<(), AllocError> {
         append_bytes(out, 1, &self.payload)?;
         append_string(out, 2, &self.name)?;
@@ -158,7 +161,7 @@ impl ProtoMessage for Words {
 }
 
 impl CanonicalMessage for Words {
-    #[tactic(auto, using(proto_fields::proofs::CallerLemmas::strips))]
+    #[tactic(auto, using(proto_messages::proofs::CallerLemmas::strips))]
     fn strip<'a>(&self, bytes: &'a [u8]) -> Option<&'a [u8]> {
         let bytes = strip_bytes(bytes, 1, &self.payload)?;
         let bytes = strip_string(bytes, 2, &self.name)?;
@@ -203,7 +206,7 @@ impl ProtoMessage for Sample {
         }
     }
 
-    #[tactic(auto, using(proto_fields::proofs::CallerLemmas::chains))]
+    #[tactic(auto, using(proto_messages::proofs::CallerLemmas::chains))]
     fn append(&self, out: &mut Vec<u8>) -> Result<(), AllocError> {
         append_one(out, 1, &self.numbers)?;
         append_messages(out, 2047, &self.words)?;
@@ -214,7 +217,7 @@ impl ProtoMessage for Sample {
 }
 
 impl CanonicalMessage for Sample {
-    #[tactic(auto, using(proto_fields::proofs::CallerLemmas::strips))]
+    #[tactic(auto, using(proto_messages::proofs::CallerLemmas::strips))]
     fn strip<'a>(&self, bytes: &'a [u8]) -> Option<&'a [u8]> {
         let bytes = strip_one(bytes, 1, &self.numbers)?;
         strip_messages(bytes, 2047, &self.words)

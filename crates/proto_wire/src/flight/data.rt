@@ -1,11 +1,9 @@
 //! What streams of batches are made of, and the answer to an upload.
 
 use crate::flight::descriptor::FlightDescriptor;
-use proto_fields::laws::canonical_messages_are_messages;
-use proto_fields::{
-    ContentRef, ProtoMessage, WireFault, append_bytes, append_lent, bytes_of, check_bytes,
-    check_embedded, merge_one,
-};
+use proto_fields::{ContentRef, WireFault, bytes_of, check_bytes};
+use proto_messages::laws::canonical_messages_are_messages;
+use proto_messages::{ProtoMessage, append_bytes, append_lent, check_embedded, merge_one};
 use std::alloc::{AllocError, Global};
 
 /// A schema or a batch on its way.
@@ -110,8 +108,8 @@ impl FlightData {
 impl FlightDataRef<'_> {
     ghost use Rattle.std.specs.Prelude.{◌≡◌, ◌++◌, IfErr, OnOk, OnErr};
     ghost use Rattle.proto_fields.specs.declared.fault.WireFault.TheVariants.{OutOfMemory};
-    ghost use Rattle.proto_fields.specs.Canonical.{Fits, canonical};
-    ghost use Rattle.proto_fields.specs.Descriptor.{IsMessage};
+    ghost use Rattle.proto_messages.specs.Canonical.{Fits, canonical};
+    ghost use Rattle.proto_messages.specs.Descriptor.{IsMessage};
     ghost use Rattle.proto_fields.specs.Writing.{Grows};
     ghost use Rattle.proto_wire.specs.Flight.{data_descriptor};
     ghost use Rattle.proto_wire.specs.FlightValues.{data_ref_values};
@@ -138,7 +136,7 @@ impl FlightDataRef<'_> {
     }
 
     /// Appends its canonical encoding. Where memory is refused, a beginning of it may stay.
-    #[tactic(auto, using(proto_fields::proofs::CallerLemmas::chains))]
+    #[tactic(auto, using(proto_messages::proofs::CallerLemmas::chains))]
     fn append(&self, out: &mut Vec<u8>) -> Result<(), AllocError>
         ensures ok { OnOk result
             (out.new.items ≡ out.old.items ++ canonical data_descriptor (data_ref_values self.now)) }
@@ -187,7 +185,7 @@ impl ProtoMessage for PutResult {
         Ok(())
     }
 
-    #[tactic(auto, using(proto_fields::proofs::CallerLemmas::chains))]
+    #[tactic(auto, using(proto_messages::proofs::CallerLemmas::chains))]
     fn append(&self, out: &mut Vec<u8>) -> Result<(), AllocError> {
         append_bytes(out, 1, &self.app_metadata)
     }

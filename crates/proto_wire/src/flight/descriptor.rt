@@ -1,9 +1,9 @@
 //! What names a flight.
 
 use proto_fields::{
-    ContentRef, ProtoMessage, WireFault, append_bytes, append_enum, append_strings, bytes_of,
-    check_bytes, check_number, check_string, enum_of, push_string,
+    ContentRef, WireFault, bytes_of, check_bytes, check_number, check_string, enum_of,
 };
+use proto_messages::{ProtoMessage, append_bytes, append_enum, append_strings, push_string};
 use std::alloc::{AllocError, Global};
 
 /// How a descriptor names its flight. An enumeration of proto3 is open: a number that is none of the named ones is
@@ -73,7 +73,7 @@ impl ProtoMessage for FlightDescriptor {
         Ok(())
     }
 
-    #[tactic(auto, using(proto_fields::proofs::CallerLemmas::chains))]
+    #[tactic(auto, using(proto_messages::proofs::CallerLemmas::chains))]
     fn append(&self, out: &mut Vec<u8>) -> Result<(), AllocError> {
         append_enum(out, 1, self.descriptor_type.0)?;
         append_bytes(out, 2, &self.cmd)?;

@@ -1,9 +1,9 @@
 //! Where the batches of a flight are, and the ticket that asks for them.
 
-use proto_fields::{
-    CanonicalMessage, ContentRef, ProtoMessage, WireFault, append_bytes, append_messages,
-    append_one, append_string, bytes_of, check_bytes, check_embedded, check_string, merge_one,
-    push_message, string_of, strip_bytes, strip_messages, strip_one, strip_string,
+use proto_fields::{ContentRef, WireFault, bytes_of, check_bytes, check_string, string_of};
+use proto_messages::{
+    CanonicalMessage, ProtoMessage, append_bytes, append_messages, append_one, append_string,
+    check_embedded, merge_one, push_message, strip_bytes, strip_messages, strip_one, strip_string,
 };
 use std::alloc::{AllocError, Global};
 
@@ -64,7 +64,7 @@ impl ProtoMessage for Ticket {
         Ok(())
     }
 
-    #[tactic(auto, using(proto_fields::proofs::CallerLemmas::chains))]
+    #[tactic(auto, using(proto_messages::proofs::CallerLemmas::chains))]
     fn append(&self, out: &mut Vec<u8>) -> Result<(), AllocError> {
         append_bytes(out, 1, &self.ticket)
     }
@@ -73,7 +73,7 @@ impl ProtoMessage for Ticket {
 }
 
 impl CanonicalMessage for Ticket {
-    #[tactic(auto, using(proto_fields::proofs::CallerLemmas::strips))]
+    #[tactic(auto, using(proto_messages::proofs::CallerLemmas::strips))]
     fn strip<'a>(&self, bytes: &'a [u8]) -> Option<&'a [u8]> {
         strip_bytes(bytes, 1, &self.ticket)
     }
@@ -113,7 +113,7 @@ impl ProtoMessage for Location {
         Ok(())
     }
 
-    #[tactic(auto, using(proto_fields::proofs::CallerLemmas::chains))]
+    #[tactic(auto, using(proto_messages::proofs::CallerLemmas::chains))]
     fn append(&self, out: &mut Vec<u8>) -> Result<(), AllocError> {
         append_string(out, 1, &self.uri)
     }
@@ -122,7 +122,7 @@ impl ProtoMessage for Location {
 }
 
 impl CanonicalMessage for Location {
-    #[tactic(auto, using(proto_fields::proofs::CallerLemmas::strips))]
+    #[tactic(auto, using(proto_messages::proofs::CallerLemmas::strips))]
     fn strip<'a>(&self, bytes: &'a [u8]) -> Option<&'a [u8]> {
         strip_string(bytes, 1, &self.uri)
     }
@@ -165,7 +165,7 @@ impl ProtoMessage for FlightEndpoint {
         }
     }
 
-    #[tactic(auto, using(proto_fields::proofs::CallerLemmas::chains))]
+    #[tactic(auto, using(proto_messages::proofs::CallerLemmas::chains))]
     fn append(&self, out: &mut Vec<u8>) -> Result<(), AllocError> {
         append_one(out, 1, &self.ticket)?;
         append_messages(out, 2, &self.location)?;
@@ -176,7 +176,7 @@ impl ProtoMessage for FlightEndpoint {
 }
 
 impl CanonicalMessage for FlightEndpoint {
-    #[tactic(auto, using(proto_fields::proofs::CallerLemmas::strips))]
+    #[tactic(auto, using(proto_messages::proofs::CallerLemmas::strips))]
     fn strip<'a>(&self, bytes: &'a [u8]) -> Option<&'a [u8]> {
         let bytes = strip_one(bytes, 1, &self.ticket)?;
         strip_messages(bytes, 2, &self.location)

@@ -2,10 +2,10 @@
 
 use crate::flight::descriptor::FlightDescriptor;
 use crate::flight::endpoint::FlightEndpoint;
-use proto_fields::{
-    ContentRef, ProtoMessage, WireFault, append_bool, append_bytes, append_int64, append_messages,
-    append_one, bool_of, bytes_of, check_bytes, check_embedded, check_number, int64_of, merge_one,
-    push_message,
+use proto_fields::{ContentRef, WireFault, bool_of, bytes_of, check_bytes, check_number, int64_of};
+use proto_messages::{
+    ProtoMessage, append_bool, append_bytes, append_int64, append_messages, append_one,
+    check_embedded, merge_one, push_message,
 };
 use std::alloc::{AllocError, Global};
 
@@ -88,7 +88,7 @@ impl ProtoMessage for FlightInfo {
         Ok(())
     }
 
-    #[tactic(auto, using(proto_fields::proofs::CallerLemmas::chains))]
+    #[tactic(auto, using(proto_messages::proofs::CallerLemmas::chains))]
     fn append(&self, out: &mut Vec<u8>) -> Result<(), AllocError> {
         append_bytes(out, 1, &self.schema)?;
         append_one(out, 2, &self.flight_descriptor)?;
@@ -136,7 +136,7 @@ impl ProtoMessage for SchemaResult {
         Ok(())
     }
 
-    #[tactic(auto, using(proto_fields::proofs::CallerLemmas::chains))]
+    #[tactic(auto, using(proto_messages::proofs::CallerLemmas::chains))]
     fn append(&self, out: &mut Vec<u8>) -> Result<(), AllocError> {
         append_bytes(out, 1, &self.schema)
     }
@@ -178,7 +178,7 @@ impl ProtoMessage for Criteria {
         Ok(())
     }
 
-    #[tactic(auto, using(proto_fields::proofs::CallerLemmas::chains))]
+    #[tactic(auto, using(proto_messages::proofs::CallerLemmas::chains))]
     fn append(&self, out: &mut Vec<u8>) -> Result<(), AllocError> {
         append_bytes(out, 1, &self.expression)
     }

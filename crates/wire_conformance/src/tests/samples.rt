@@ -3,7 +3,7 @@
 use super::texts::{are_equal, cells, is_told, number, spelled, two_cells};
 use super::told_fields::name_of;
 use crate::sample::{Numbers, Sample, Words};
-use proto_fields::ProtoMessage;
+use proto_messages::ProtoMessage;
 use std::alloc::{AllocError, Global};
 use std::process::Abort;
 use std::test::Fail;

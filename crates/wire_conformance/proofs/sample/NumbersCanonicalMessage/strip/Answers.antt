@@ -1,5 +1,5 @@
 use Rattle.std.proofs.Common.{rules, None, w32, w64, FitsSigned, to_z-of_z}
-use Rattle.proto_fields.proofs.CallerLemmas.{gave_up, then_stripped, not_stripped, last_stripped}
+use Rattle.proto_messages.proofs.CallerLemmas.{gave_up, then_stripped, not_stripped, last_stripped}
 use Rattle.wire_conformance.proofs.sample.NumbersCanonicalMessage.strip.Goals as goal
 
 pub returns-in_err-bytes-2 : goal.returns-in_err-bytes-2

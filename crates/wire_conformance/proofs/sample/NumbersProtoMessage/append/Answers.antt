@@ -1,4 +1,4 @@
-use Rattle.proto_fields.proofs.CallerLemmas.{then_grows, on_err}
+use Rattle.proto_messages.proofs.CallerLemmas.{then_grows, on_err}
 use Rattle.wire_conformance.proofs.sample.NumbersProtoMessage.append.Goals as goal
 
 pub returns-in_err-append_uint64-clause-err : goal.returns-in_err-append_uint64-clause-err

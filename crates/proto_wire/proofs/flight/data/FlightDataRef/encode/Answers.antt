@@ -1,5 +1,5 @@
 use Rattle.std.proofs.Common.{rules}
-use Rattle.proto_fields.specs.Canonical.{RisesFrom}
+use Rattle.proto_messages.specs.Canonical.{RisesFrom}
 use Rattle.proto_wire.specs.Flight.{data_descriptor}
 use Rattle.proto_wire.specs.FlightValues.{data_ref_values}
 use Rattle.proto_wire.proofs.flight.data.FlightDataRef.encode.Goals as goal

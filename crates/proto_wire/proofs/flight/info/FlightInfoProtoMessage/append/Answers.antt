@@ -1,6 +1,6 @@
 use Rattle.std.proofs.Common.{rules, arith}
 use Rattle.std.proofs.lemmas.Grind.{common_steps}
-use Rattle.proto_fields.proofs.CallerLemmas.{then_grows, on_err, chains}
+use Rattle.proto_messages.proofs.CallerLemmas.{then_grows, on_err, chains}
 use Rattle.proto_wire.proofs.flight.info.FlightInfoProtoMessage.append.Goals as goal
 
 pub returns-in_err-append_int64-2-clause-err : goal.returns-in_err-append_int64-2-clause-err

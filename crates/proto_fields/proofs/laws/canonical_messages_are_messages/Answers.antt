@@ -1,5 +1,0 @@
-use Rattle.proto_fields.proofs.MessageWriting.{canonical_is_message}
-use Rattle.proto_fields.proofs.laws.canonical_messages_are_messages.Goals as goal
-
-pub returns : goal.returns
-returns c = canonical_is_message

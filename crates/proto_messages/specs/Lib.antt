@@ -1,0 +1,5 @@
+pub mod Descriptor
+pub mod Canonical
+pub mod Taking
+pub mod Stripping
+pub mod LengthPrefix
