@@ -6,3 +6,4 @@ pub mod Embedding
 pub mod CallerLemmas
 pub mod Sound
 pub mod Strips
+pub mod EndToEnd

@@ -3,3 +3,4 @@ pub mod Canonical
 pub mod Taking
 pub mod Stripping
 pub mod LengthPrefix
+pub mod Merged
