@@ -5,7 +5,7 @@ use Rattle.std.specs.List.{Contains, filter_map, cons_option}
 use Rattle.std.proofs.lemmas.List.Elements.{Contains-append_left, Contains-append_right, Contains-append_cases}
 use Rattle.ballots.specs.Ballot.{Ballot, IsAbove, IsAtLeast}
 use Rattle.ballots.specs.Slots.{SetsSlot}
-use Rattle.ballots.specs.declared.value.Value.{Value}
+use Rattle.ballots.specs.declared.acceptance.Acceptance.{Acceptance}
 use Rattle.ballots.specs.declared.record.Record.{Record}
 use Rattle.ballots.specs.declared.record.Record.TheVariants.{Began, Promised, Accepted}
 use Rattle.ballots.proofs.CallerLemmas.{at_least_where_not_below, not_below_more}
@@ -15,40 +15,40 @@ use Rattle.acceptor.proofs.Lists.{nothing_in, one_in, only_one}
 use Rattle.acceptor.proofs.Highest.{in_middle}
 
 -- the ballot of an acceptance is among those that are promised
-pub promised_with : (slot : ℕ) (records : List Record) (a : Ballot × Value) → Contains (filter_map (acceptance_in slot) records) a
-    → Contains (filter_map (promise_in slot) records) a.0
+pub promised_with : (slot : ℕ) (records : List Record) (a : Acceptance) → Contains (filter_map (acceptance_in slot) records) a
+    → Contains (filter_map (promise_in slot) records) a.ballot
 promised_with slot [] a has = absurd (nothing_in a has)
 promised_with slot (Began ballot ∷ records) a has = promised_with slot records a has
 promised_with slot (Promised of ballot ∷ records) a has = behind (promised_with slot records a has) (nat_eq slot of)
   where
-    behind : Contains (filter_map (promise_in slot) records) a.0 → (here : Bool)
-        → Contains (cons_option (let o : Option Ballot = if here then Some ballot else None in o) (filter_map (promise_in slot) records)) a.0
-    behind there true = Contains-append_right (ballot ∷ []) (filter_map (promise_in slot) records) a.0 there
+    behind : Contains (filter_map (promise_in slot) records) a.ballot → (here : Bool)
+        → Contains (cons_option (let o : Option Ballot = if here then Some ballot else None in o) (filter_map (promise_in slot) records)) a.ballot
+    behind there true = Contains-append_right (ballot ∷ []) (filter_map (promise_in slot) records) a.ballot there
     behind there false = there
-promised_with slot (Accepted of ballot value ∷ records) a has = either (λ behind. promised_with slot records a behind) (nat_eq slot of) has
+promised_with slot (Accepted of b ∷ records) a has = either (λ behind. promised_with slot records a behind) (nat_eq slot of) has
   where
-    either : (Contains (filter_map (acceptance_in slot) records) a → Contains (filter_map (promise_in slot) records) a.0) → (here : Bool)
-        → Contains (cons_option (let o : Option (Ballot × Value) = if here then Some (ballot, value) else None in o) (filter_map (acceptance_in slot) records)) a
-        → Contains (cons_option (let o : Option Ballot = if here then Some ballot else None in o) (filter_map (promise_in slot) records)) a.0
-    either rest true has = elim (Contains-append_cases ((ballot, value) ∷ []) (filter_map (acceptance_in slot) records) a has)
-        as (λ _. Contains (ballot ∷ filter_map (promise_in slot) records) a.0) [
-          | inl here ↦ subst (λ (x : Ballot × Value). Contains (ballot ∷ filter_map (promise_in slot) records) x.0) (sym (only_one (ballot, value) a here))
-              (Contains-append_left (ballot ∷ []) (filter_map (promise_in slot) records) ballot (one_in ballot))
-          | inr behind ↦ Contains-append_right (ballot ∷ []) (filter_map (promise_in slot) records) a.0 (rest behind)
+    either : (Contains (filter_map (acceptance_in slot) records) a → Contains (filter_map (promise_in slot) records) a.ballot) → (here : Bool)
+        → Contains (cons_option (let o : Option Acceptance = if here then Some b else None in o) (filter_map (acceptance_in slot) records)) a
+        → Contains (cons_option (let o : Option Ballot = if here then Some b.ballot else None in o) (filter_map (promise_in slot) records)) a.ballot
+    either rest true has = elim (Contains-append_cases (b ∷ []) (filter_map (acceptance_in slot) records) a has)
+        as (λ _. Contains (b.ballot ∷ filter_map (promise_in slot) records) a.ballot) [
+          | inl here ↦ subst (λ (x : Acceptance). Contains (b.ballot ∷ filter_map (promise_in slot) records) x.ballot) (sym (only_one b a here))
+              (Contains-append_left (b.ballot ∷ []) (filter_map (promise_in slot) records) b.ballot (one_in b.ballot))
+          | inr behind ↦ Contains-append_right (b.ballot ∷ []) (filter_map (promise_in slot) records) a.ballot (rest behind)
         ]
     either rest false has = rest has
 
 -- what is at least the highest promise is at least the highest acceptance
-pub at_least_accepted : (slot : ℕ) (records : List Record) (ballot : Ballot) (promised : Option Ballot) (accepted : Option (Ballot × Value))
+pub at_least_accepted : (slot : ℕ) (records : List Record) (ballot : Ballot) (promised : Option Ballot) (accepted : Option Acceptance)
     → IsHighest (filter_map (promise_in slot) records) promised → IsLastHighest (filter_map (acceptance_in slot) records) accepted
-    → IsAtLeast ballot promised → IsAtLeast ballot (option_map (λ (held : Ballot × Value). held.0) accepted)
+    → IsAtLeast ballot promised → IsAtLeast ballot (option_map (λ (held : Acceptance). held.ballot) accepted)
 at_least_accepted slot records ballot promised None is_promised is_accepted more = tt
 at_least_accepted slot records ballot None (Some a) is_promised (before, after, split, not_above, below) more =
-    let has = promised_with slot records a (subst (λ (l : List (Ballot × Value)). Contains l a) (sym split) (in_middle before a after)) in
-    absurd (nothing_in a.0 (subst (λ (l : List Ballot). Contains l a.0) is_promised has))
+    let has = promised_with slot records a (subst (λ (l : List Acceptance). Contains l a) (sym split) (in_middle before a after)) in
+    absurd (nothing_in a.ballot (subst (λ (l : List Ballot). Contains l a.ballot) is_promised has))
 at_least_accepted slot records ballot (Some p) (Some a) is_promised (before, after, split, not_above, below) more =
-    let has = promised_with slot records a (subst (λ (l : List (Ballot × Value)). Contains l a) (sym split) (in_middle before a after)) in
-    (at_least_where_not_below a.0 ballot).1 (not_below_more p ballot a.0 more (is_promised.1 a.0 has))
+    let has = promised_with slot records a (subst (λ (l : List Acceptance). Contains l a) (sym split) (in_middle before a after)) in
+    (at_least_where_not_below a.ballot ballot).1 (not_below_more p ballot a.ballot more (is_promised.1 a.ballot has))
 
 -- a ballot above what may be none is at least that
 pub above_at_least : (ballot : Ballot) (o : Option Ballot) → IsAbove ballot o → IsAtLeast ballot (option_map (λ held. held) o)

@@ -3,7 +3,7 @@ use Rattle.std.proofs.Common.{◌≡◌, inl, inr, List, [], ◌∷◌, ◌++◌
 use Rattle.std.specs.List.{Contains}
 use Rattle.std.proofs.lemmas.List.Elements.{Contains-append_left, Contains-append_right}
 use Rattle.ballots.specs.Ballot.{Ballot, IsBelow}
-use Rattle.ballots.specs.declared.value.Value.{Value}
+use Rattle.ballots.specs.declared.acceptance.Acceptance.{Acceptance}
 use Rattle.ballots.proofs.CallerLemmas.{either_below}
 use Rattle.acceptor.proofs.Lists.{one_in}
 
@@ -26,21 +26,21 @@ module _ {X : Type 0} where
   behind_front x xs y has = Contains-append_right (x ∷ []) xs y has
 
 -- where a list is cut before its first entry and behind it, one of the cuts is not at the last of its highest entries
-front_and_behind : (x h k : Ballot × Value) (after before : List (Ballot × Value)) (rest : List (Ballot × Value)) → h ∷ after ≡ (x ∷ before) ++ k ∷ rest
-    → ((o : Ballot × Value) → Contains after o → IsBelow o.0 h.0) → ((o : Ballot × Value) → Contains (x ∷ before) o → ¬ IsBelow k.0 o.0) → ⊥
+front_and_behind : (x h k : Acceptance) (after before : List Acceptance) (rest : List Acceptance) → h ∷ after ≡ (x ∷ before) ++ k ∷ rest
+    → ((o : Acceptance) → Contains after o → IsBelow o.ballot h.ballot) → ((o : Acceptance) → Contains (x ∷ before) o → ¬ IsBelow k.ballot o.ballot) → ⊥
 front_and_behind x h k after before rest same below not_above =
-    let first : h ≡ x = ap (λ (l : List (Ballot × Value)). get_or l 0 h) same in
-    let others : after ≡ before ++ k ∷ rest = ap (λ (l : List (Ballot × Value)). drop 1 l) same in
-    let has : Contains after k = subst (λ (l : List (Ballot × Value)). Contains l k) (sym others) (in_middle before k rest) in
-    not_above h (subst (λ (o : Ballot × Value). Contains (x ∷ before) o) (sym first) (in_front x before)) (below k has)
+    let first : h ≡ x = ap (λ (l : List Acceptance). get_or l 0 h) same in
+    let others : after ≡ before ++ k ∷ rest = ap (λ (l : List Acceptance). drop 1 l) same in
+    let has : Contains after k = subst (λ (l : List Acceptance). Contains l k) (sym others) (in_middle before k rest) in
+    not_above h (subst (λ (o : Acceptance). Contains (x ∷ before) o) (sym first) (in_front x before)) (below k has)
 
 -- two entries that no entry before is above, and that all behind are below, are one
-pub one_last : (before before' : List (Ballot × Value)) (h k : Ballot × Value) (after after' : List (Ballot × Value)) → before ++ h ∷ after ≡ before' ++ k ∷ after'
-    → ((o : Ballot × Value) → Contains before o → ¬ IsBelow h.0 o.0) → ((o : Ballot × Value) → Contains after o → IsBelow o.0 h.0)
-    → ((o : Ballot × Value) → Contains before' o → ¬ IsBelow k.0 o.0) → ((o : Ballot × Value) → Contains after' o → IsBelow o.0 k.0) → h ≡ k
-one_last [] [] h k after after' same not_above below not_above' below' = ap (λ (l : List (Ballot × Value)). get_or l 0 h) same
+pub one_last : (before before' : List Acceptance) (h k : Acceptance) (after after' : List Acceptance) → before ++ h ∷ after ≡ before' ++ k ∷ after'
+    → ((o : Acceptance) → Contains before o → ¬ IsBelow h.ballot o.ballot) → ((o : Acceptance) → Contains after o → IsBelow o.ballot h.ballot)
+    → ((o : Acceptance) → Contains before' o → ¬ IsBelow k.ballot o.ballot) → ((o : Acceptance) → Contains after' o → IsBelow o.ballot k.ballot) → h ≡ k
+one_last [] [] h k after after' same not_above below not_above' below' = ap (λ (l : List Acceptance). get_or l 0 h) same
 one_last [] (x ∷ before') h k after after' same not_above below not_above' below' = absurd (front_and_behind x h k after before' after' same below not_above')
 one_last (x ∷ before) [] h k after after' same not_above below not_above' below' = absurd (front_and_behind x k h after' before after (sym same) below' not_above)
 one_last (x ∷ before) (y ∷ before') h k after after' same not_above below not_above' below' =
-    one_last before before' h k after after' (ap (λ (l : List (Ballot × Value)). drop 1 l) same) (λ o has. not_above o (behind_front x before o has)) below
+    one_last before before' h k after after' (ap (λ (l : List Acceptance). drop 1 l) same) (λ o has. not_above o (behind_front x before o has)) below
     (λ o has. not_above' o (behind_front y before' o has)) below'

@@ -6,7 +6,7 @@ use Rattle.std.proofs.lemmas.Bool.Decides.{eqb_tells}
 use Rattle.std.proofs.lemmas.List.{append_assoc, append-nil}
 use Rattle.std.proofs.lemmas.List.Elements.{filter_map-append, Contains-append_left, Contains-append_right, Contains-append_cases}
 use Rattle.ballots.specs.Ballot.{Ballot, IsBelow, IsAtLeast}
-use Rattle.ballots.specs.declared.value.Value.{Value}
+use Rattle.ballots.specs.declared.acceptance.Acceptance.{Acceptance}
 use Rattle.ballots.specs.declared.record.Record.{Record}
 use Rattle.ballots.specs.declared.record.Record.TheVariants.{Began, Promised, Accepted}
 use Rattle.acceptor.specs.Standing.{Standing, IsSame}
@@ -51,41 +51,41 @@ highest_of_more ballots (Some held) new b is kept raised =
 
 -- ---- the last of the highest acceptances, with one more
 
-none_above : (before after : List (Ballot × Value)) (held a other : Ballot × Value) → ((o : Ballot × Value) → Contains before o → ¬ IsBelow held.0 o.0)
-    → ((o : Ballot × Value) → Contains after o → IsBelow o.0 held.0) → IsAtLeast a.0 (Some held.0) → Contains (before ++ held ∷ after) other → ¬ IsBelow a.0 other.0
+none_above : (before after : List Acceptance) (held a other : Acceptance) → ((o : Acceptance) → Contains before o → ¬ IsBelow held.ballot o.ballot)
+    → ((o : Acceptance) → Contains after o → IsBelow o.ballot held.ballot) → IsAtLeast a.ballot (Some held.ballot) → Contains (before ++ held ∷ after) other → ¬ IsBelow a.ballot other.ballot
 none_above before after held a other not_above below more has =
-    not_below_more held.0 a.0 other.0 more (
-    elim (Contains-append_cases before (held ∷ after) other has) as (λ _. ¬ IsBelow held.0 other.0) [
+    not_below_more held.ballot a.ballot other.ballot more (
+    elim (Contains-append_cases before (held ∷ after) other has) as (λ _. ¬ IsBelow held.ballot other.ballot) [
       | inl there ↦ not_above other there
-      | inr from ↦ elim (Contains-append_cases (held ∷ []) after other from) as (λ _. ¬ IsBelow held.0 other.0) [
-        | inl here ↦ subst (λ (x : Ballot × Value). ¬ IsBelow held.0 x.0) (sym (only_one held other here)) (not_below_itself held.0)
-        | inr behind ↦ not_below_more other.0 held.0 other.0 (inl (below other behind)) (not_below_itself other.0)
+      | inr from ↦ elim (Contains-append_cases (held ∷ []) after other from) as (λ _. ¬ IsBelow held.ballot other.ballot) [
+        | inl here ↦ subst (λ (x : Acceptance). ¬ IsBelow held.ballot x.ballot) (sym (only_one held other here)) (not_below_itself held.ballot)
+        | inr behind ↦ not_below_more other.ballot held.ballot other.ballot (inl (below other behind)) (not_below_itself other.ballot)
       ]
     ])
 
-last_of_more : (list : List (Ballot × Value)) (old new : Option (Ballot × Value)) (a : Ballot × Value) → IsLastHighest list old
-    → ((held : Ballot × Value) → old ≡ Some held → IsBelow a.0 held.0 → new ≡ old) → (IsAtLeast a.0 (option_map (λ (held : Ballot × Value). held.0) old) → new ≡ Some a)
+last_of_more : (list : List Acceptance) (old new : Option Acceptance) (a : Acceptance) → IsLastHighest list old
+    → ((held : Acceptance) → old ≡ Some held → IsBelow a.ballot held.ballot → new ≡ old) → (IsAtLeast a.ballot (option_map (λ (held : Acceptance). held.ballot) old) → new ≡ Some a)
     → IsLastHighest (list ++ a ∷ []) new
 last_of_more list None new a is kept raised =
     subst (IsLastHighest (list ++ a ∷ [])) (sym (raised tt))
-    ([], [], ap (λ (l : List (Ballot × Value)). l ++ a ∷ []) is, (λ other has. absurd (nothing_in other has)), (λ other has. absurd (nothing_in other has)))
+    ([], [], ap (λ (l : List Acceptance). l ++ a ∷ []) is, (λ other has. absurd (nothing_in other has)), (λ other has. absurd (nothing_in other has)))
 last_of_more list (Some held) new a (before, after, is, not_above, below) kept raised =
-    elim (below_or_at_least a.0 held.0) as (λ _. IsLastHighest (list ++ a ∷ []) new) [
+    elim (below_or_at_least a.ballot held.ballot) as (λ _. IsLastHighest (list ++ a ∷ []) new) [
       | inl less ↦ subst (IsLastHighest (list ++ a ∷ [])) (sym (kept held refl less)) (
         before,
         after ++ a ∷ [],
-        ap (λ (l : List (Ballot × Value)). l ++ a ∷ []) is ∙ append_assoc before (held ∷ after) (a ∷ []),
+        ap (λ (l : List Acceptance). l ++ a ∷ []) is ∙ append_assoc before (held ∷ after) (a ∷ []),
         not_above,
-        (λ other has. elim (Contains-append_cases after (a ∷ []) other has) as (λ _. IsBelow other.0 held.0) [
+        (λ other has. elim (Contains-append_cases after (a ∷ []) other has) as (λ _. IsBelow other.ballot held.ballot) [
           | inl there ↦ below other there
-          | inr here ↦ subst (λ (x : Ballot × Value). IsBelow x.0 held.0) (sym (only_one a other here)) less
+          | inr here ↦ subst (λ (x : Acceptance). IsBelow x.ballot held.ballot) (sym (only_one a other here)) less
         ]),
       )
       | inr more ↦ subst (IsLastHighest (list ++ a ∷ [])) (sym (raised more)) (
         list,
         [],
         refl,
-        (λ other has. none_above before after held a other not_above below more (subst (λ (l : List (Ballot × Value)). Contains l other) is has)),
+        (λ other has. none_above before after held a other not_above below more (subst (λ (l : List Acceptance). Contains l other) is has)),
         (λ other has. absurd (nothing_in other has)),
       )
     ]
@@ -129,15 +129,15 @@ module _ (records : List Record) (r : Record) (slot : ℕ) where
             (subst (IsHighest (filter_map (promise_in s) records)) (sym (raises.others s differs.1)) (was s))
       ]
 
-  acceptances_more : (old new : ℕ → Option (Ballot × Value)) (a : Ballot × Value) → acceptance_in slot r ≡ Some a → ((s : ℕ) → s ≢ slot → acceptance_in s r ≡ None)
-      → ((s : ℕ) → IsLastHighest (filter_map (acceptance_in s) records) (old s)) → Raises (λ (held : Ballot × Value). held.0) old new slot a
+  acceptances_more : (old new : ℕ → Option Acceptance) (a : Acceptance) → acceptance_in slot r ≡ Some a → ((s : ℕ) → s ≢ slot → acceptance_in s r ≡ None)
+      → ((s : ℕ) → IsLastHighest (filter_map (acceptance_in s) records) (old s)) → Raises (λ (held : Acceptance). held.ballot) old new slot a
       → (s : ℕ) → IsLastHighest (filter_map (acceptance_in s) (records ++ r ∷ [])) (new s)
   acceptances_more old new a here elsewhere was raises s =
       elim (eqb_tells s slot) as (λ _. IsLastHighest (filter_map (acceptance_in s) (records ++ r ∷ [])) (new s)) [
         | inl same ↦ subst (λ (k : ℕ). IsLastHighest (filter_map (acceptance_in k) (records ++ r ∷ [])) (new k)) (sym same.1)
-            (subst (λ (l : List (Ballot × Value)). IsLastHighest l (new slot)) (sym (one_more (acceptance_in slot) records r a here))
+            (subst (λ (l : List Acceptance). IsLastHighest l (new slot)) (sym (one_more (acceptance_in slot) records r a here))
             (last_of_more (filter_map (acceptance_in slot) records) (old slot) (new slot) a (was slot) raises.kept raises.raised))
-        | inr differs ↦ subst (λ (l : List (Ballot × Value)). IsLastHighest l (new s)) (sym (nothing_more (acceptance_in s) records r (elsewhere s differs.1)))
+        | inr differs ↦ subst (λ (l : List Acceptance). IsLastHighest l (new s)) (sym (nothing_more (acceptance_in s) records r (elsewhere s differs.1)))
             (subst (IsLastHighest (filter_map (acceptance_in s) records)) (sym (raises.others s differs.1)) (was s))
       ]
 
@@ -146,7 +146,7 @@ module _ (records : List Record) (r : Record) (slot : ℕ) where
 pub began_more : (records : List Record) (ballot : Ballot) (now : Standing) → IsRestored records now → IsRestored (records ++ Began ballot ∷ []) now
 began_more records ballot now is = record {
   promises = λ s. subst (λ (l : List Ballot). IsHighest l (now.promised s)) (sym (nothing_more (promise_in s) records (Began ballot) refl)) (is.promises s);
-  acceptances = λ s. subst (λ (l : List (Ballot × Value)). IsLastHighest l (now.accepted s)) (sym (nothing_more (acceptance_in s) records (Began ballot) refl)) (is.acceptances s);
+  acceptances = λ s. subst (λ (l : List Acceptance). IsLastHighest l (now.accepted s)) (sym (nothing_more (acceptance_in s) records (Began ballot) refl)) (is.acceptances s);
 }
 
 pub promised_more : (records : List Record) (slot : ℕ) (ballot : Ballot) (old new : Standing) → IsRestored records old
@@ -156,19 +156,18 @@ promised_more records slot ballot old new is raises same =
     let r = Promised slot ballot in
     record {
       promises = promises_more records r slot old.promised new.promised ballot (given slot ballot) (λ s apart. skipped slot s ballot apart) is.promises raises;
-      acceptances = λ s. subst (λ (l : List (Ballot × Value)). IsLastHighest l (new.accepted s)) (sym (nothing_more (acceptance_in s) records r refl))
+      acceptances = λ s. subst (λ (l : List Acceptance). IsLastHighest l (new.accepted s)) (sym (nothing_more (acceptance_in s) records r refl))
           (subst (IsLastHighest (filter_map (acceptance_in s) records)) (sym (same s)) (is.acceptances s));
     }
 
-pub accepted_more : (records : List Record) (slot : ℕ) (ballot : Ballot) (value : Value) (old new : Standing) → IsRestored records old
-    → Raises (λ held. held) old.promised new.promised slot ballot → Raises (λ (held : Ballot × Value). held.0) old.accepted new.accepted slot (ballot, value)
-    → IsRestored (records ++ Accepted slot ballot value ∷ []) new
-accepted_more records slot ballot value old new is raises accepts =
-    let r = Accepted slot ballot value in
+pub accepted_more : (records : List Record) (slot : ℕ) (a : Acceptance) (old new : Standing) → IsRestored records old
+    → Raises (λ held. held) old.promised new.promised slot a.ballot → Raises (λ (held : Acceptance). held.ballot) old.accepted new.accepted slot a
+    → IsRestored (records ++ Accepted slot a ∷ []) new
+accepted_more records slot a old new is raises accepts =
+    let r = Accepted slot a in
     record {
-      promises = promises_more records r slot old.promised new.promised ballot (given slot ballot) (λ s apart. skipped slot s ballot apart) is.promises raises;
-      acceptances = acceptances_more records r slot old.accepted new.accepted (ballot, value) (given slot (ballot, value)) (λ s apart. skipped slot s (ballot, value) apart)
-          is.acceptances accepts;
+      promises = promises_more records r slot old.promised new.promised a.ballot (given slot a.ballot) (λ s apart. skipped slot s a.ballot apart) is.promises raises;
+      acceptances = acceptances_more records r slot old.accepted new.accepted a (given slot a) (λ s apart. skipped slot s a apart) is.acceptances accepts;
     }
 
 pub restored_as_before : (records : List Record) (old new : Standing) → IsSame old new → IsRestored records old → IsRestored records new
@@ -181,7 +180,7 @@ restored_as_before records old new same is = record {
 pub restored_with : (records : List Record) (old new : Standing) (told : Record) → IsRestored records old → Applies old new told → IsRestored (records ++ told ∷ []) new
 restored_with records old new (Began ballot) is same = began_more records ballot new (restored_as_before records old new same is)
 restored_with records old new (Promised slot ballot) is (raises, same) = promised_more records slot ballot old new is raises same
-restored_with records old new (Accepted slot ballot value) is (raises, accepts) = accepted_more records slot ballot value old new is raises accepts
+restored_with records old new (Accepted slot a) is (raises, accepts) = accepted_more records slot a old new is raises accepts
 
 -- ---- rounds
 

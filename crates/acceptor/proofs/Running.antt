@@ -5,7 +5,7 @@ use Rattle.std.proofs.lemmas.Bool.Decides.{eqb_tells}
 use Rattle.std.proofs.lemmas.List.{append_assoc, append-nil}
 use Rattle.ballots.specs.Ballot.{Ballot, IsBelow, IsAbove, IsAtLeast}
 use Rattle.ballots.specs.Slots.{SetsSlot}
-use Rattle.ballots.specs.declared.value.Value.{Value}
+use Rattle.ballots.specs.declared.acceptance.Acceptance.{Acceptance}
 use Rattle.ballots.specs.declared.record.Record.{Record}
 use Rattle.ballots.specs.declared.record.Record.TheVariants.{Promised, Accepted}
 use Rattle.ballots.proofs.CallerLemmas.{below_carried}
@@ -46,9 +46,9 @@ turn_rises old new (PrepareTurn slot ballot (Promise report)) (above, is, sets) 
     set_rises old.promised new.promised slot ballot sets.promises (at_least_of_above ballot (old.promised slot) above)
 turn_rises old new (PrepareTurn slot ballot (Nack promised)) (is, more, same) = same_rises old.promised new.promised same.promises
 turn_rises old new (PrepareTurn slot ballot Granted) never = absurd never
-turn_rises old new (AcceptTurn slot ballot value Granted) (more, sets) = set_rises old.promised new.promised slot ballot sets.promises more
-turn_rises old new (AcceptTurn slot ballot value (Nack promised)) (is, below, same) = same_rises old.promised new.promised same.promises
-turn_rises old new (AcceptTurn slot ballot value (Promise report)) never = absurd never
+turn_rises old new (AcceptTurn slot proposal Granted) (more, sets) = set_rises old.promised new.promised slot proposal.ballot sets.promises more
+turn_rises old new (AcceptTurn slot proposal (Nack promised)) (is, below, same) = same_rises old.promised new.promised same.promises
+turn_rises old new (AcceptTurn slot proposal (Promise report)) never = absurd never
 
 pub run_rises : (old : Standing) (turns : List Turn) (new : Standing) → IsStandingAfter old turns new → Rises old.promised new.promised
 run_rises old [] new same = same_rises old.promised new.promised same.promises
@@ -87,22 +87,22 @@ promise_restored records old new slot ballot is above sets =
     (sets_raised (λ held. held) old.promised new.promised slot ballot sets.promises (above_at_least ballot (old.promised slot) above))
     (set_to_itself old.accepted new.accepted slot sets.acceptances)
 
-pub grant_restored : (records : List Record) (old new : Standing) (slot : ℕ) (ballot : Ballot) (value : Value) → IsRestored records old → IsAtLeast ballot (old.promised slot)
-    → Sets old new slot ballot (Some (ballot, value)) → IsRestored (records ++ Accepted slot ballot value ∷ []) new
-grant_restored records old new slot ballot value is more sets =
-    accepted_more records slot ballot value old new is
-    (sets_raised (λ held. held) old.promised new.promised slot ballot sets.promises (at_least_same ballot (old.promised slot) more))
-    (sets_raised (λ (held : Ballot × Value). held.0) old.accepted new.accepted slot (ballot, value) sets.acceptances
-    (at_least_accepted slot records ballot (old.promised slot) (old.accepted slot) (is.promises slot) (is.acceptances slot) more))
+pub grant_restored : (records : List Record) (old new : Standing) (slot : ℕ) (a : Acceptance) → IsRestored records old → IsAtLeast a.ballot (old.promised slot)
+    → Sets old new slot a.ballot (Some a) → IsRestored (records ++ Accepted slot a ∷ []) new
+grant_restored records old new slot a is more sets =
+    accepted_more records slot a old new is
+    (sets_raised (λ held. held) old.promised new.promised slot a.ballot sets.promises (at_least_same a.ballot (old.promised slot) more))
+    (sets_raised (λ (held : Acceptance). held.ballot) old.accepted new.accepted slot a sets.acceptances
+    (at_least_accepted slot records a.ballot (old.promised slot) (old.accepted slot) (is.promises slot) (is.acceptances slot) more))
 
 turn_restored : (records : List Record) (old new : Standing) (turn : Turn) → IsRestored records old → Takes old new turn
     → IsRestored (records ++ cons_option (record_of turn) []) new
 turn_restored records old new (PrepareTurn slot ballot (Promise report)) is (above, reported, sets) = promise_restored records old new slot ballot is above sets
 turn_restored records old new (PrepareTurn slot ballot (Nack promised)) is (held, more, same) = rw append-nil (restored_as_before records old new same is)
 turn_restored records old new (PrepareTurn slot ballot Granted) is never = absurd never
-turn_restored records old new (AcceptTurn slot ballot value Granted) is (more, sets) = grant_restored records old new slot ballot value is more sets
-turn_restored records old new (AcceptTurn slot ballot value (Nack promised)) is (held, below, same) = rw append-nil (restored_as_before records old new same is)
-turn_restored records old new (AcceptTurn slot ballot value (Promise report)) is never = absurd never
+turn_restored records old new (AcceptTurn slot proposal Granted) is (more, sets) = grant_restored records old new slot proposal is more sets
+turn_restored records old new (AcceptTurn slot proposal (Nack promised)) is (held, below, same) = rw append-nil (restored_as_before records old new same is)
+turn_restored records old new (AcceptTurn slot proposal (Promise report)) is never = absurd never
 
 pub run_restored : (records : List Record) (old : Standing) (turns : List Turn) (new : Standing) → IsRestored records old → IsStandingAfter old turns new
     → IsRestored (records ++ filter_map record_of turns) new

@@ -2,7 +2,7 @@
 use Rattle.std.specs.Prelude.{ℕ, ◌<◌, List, Option, nat_eq}
 use Rattle.std.specs.Map.{lookup}
 use Rattle.ballots.specs.Ballot.{Ballot}
-use Rattle.ballots.specs.declared.value.Value.{Value}
+use Rattle.ballots.specs.declared.acceptance.Acceptance.{Acceptance}
 use Rattle.ballots.specs.declared.record.Record.{Record}
 use Rattle.ballots.specs.declared.record.Record.TheVariants.{Began, Promised, Accepted}
 use Rattle.acceptor.specs.Standing.{Standing}
@@ -11,14 +11,14 @@ use Rattle.acceptor.specs.Standing.{Standing}
 -- memory, whatever their slots
 pub record AcceptorState : Type 0 where
   pub promises : List (ℕ × Ballot)
-  pub acceptances : List (ℕ × (Ballot × Value))
+  pub acceptances : List (ℕ × Acceptance)
   pub room : ℕ
 
 -- the record can be applied without memory: one of a slot wants room, and the begin of an attempt wants none
 abbrev pub HasRoomFor : AcceptorState → Record → Type 0
 HasRoomFor state (Began ballot) = Unit {0}
 HasRoomFor state (Promised slot ballot) = 0 < state.room
-HasRoomFor state (Accepted slot ballot value) = 0 < state.room
+HasRoomFor state (Accepted slot acceptance) = 0 < state.room
 
 -- a slot's entry in a map by slots
 abbrev pub at : {X : Type 0} → List (ℕ × X) → ℕ → Option X
@@ -27,7 +27,7 @@ at entries slot = lookup (nat_eq slot) entries
 abbrev pub promised_at : AcceptorState → ℕ → Option Ballot
 promised_at state slot = at state.promises slot
 
-abbrev pub accepted_at : AcceptorState → ℕ → Option (Ballot × Value)
+abbrev pub accepted_at : AcceptorState → ℕ → Option Acceptance
 accepted_at state slot = at state.acceptances slot
 
 abbrev pub standing : AcceptorState → Standing

@@ -1,7 +1,7 @@
 -- What an acceptor answers, and how it stands afterwards: Lamport, "Paxos Made Simple", section 2.2, phases 1b and 2b.
 use Rattle.std.specs.Prelude.{◌≡◌, ℕ, Some}
 use Rattle.ballots.specs.Ballot.{Ballot, IsBelow, IsAbove, IsAtLeast}
-use Rattle.ballots.specs.declared.value.Value.{Value}
+use Rattle.ballots.specs.declared.acceptance.Acceptance.{Acceptance}
 use Rattle.acceptor.specs.declared.answer.Answer.{Answer}
 use Rattle.acceptor.specs.declared.answer.Answer.TheVariants.{Promise, Granted, Nack}
 use Rattle.acceptor.specs.Standing.{Standing, IsSame, Sets}
@@ -16,10 +16,10 @@ Prepares old new slot ballot (Nack promised) =
 Prepares old new slot ballot Granted = ⊥
 
 -- An Accept is granted exactly where its ballot is what the slot has promised or above. The slot has then promised
--- this ballot, and accepted the value at it. Else the Nack names what the slot has promised.
-abbrev pub Accepts : Standing → Standing → ℕ → Ballot → Value → Answer → Type 0
-Accepts old new slot ballot value Granted =
-    IsAtLeast ballot (old.promised slot) × Sets old new slot ballot (Some (ballot, value))
-Accepts old new slot ballot value (Nack promised) =
-    (old.promised slot ≡ Some promised) × IsBelow ballot promised × IsSame old new
-Accepts old new slot ballot value (Promise report) = ⊥
+-- its ballot, and accepted its value at it. Else the Nack names what the slot has promised.
+abbrev pub Accepts : Standing → Standing → ℕ → Acceptance → Answer → Type 0
+Accepts old new slot proposal Granted =
+    IsAtLeast proposal.ballot (old.promised slot) × Sets old new slot proposal.ballot (Some proposal)
+Accepts old new slot proposal (Nack promised) =
+    (old.promised slot ≡ Some promised) × IsBelow proposal.ballot promised × IsSame old new
+Accepts old new slot proposal (Promise report) = ⊥

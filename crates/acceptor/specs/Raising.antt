@@ -21,6 +21,6 @@ Applies old new (Began ballot) = IsSame old new
 Applies old new (Promised slot ballot) =
     Raises (λ held. held) old.promised new.promised slot ballot
     × ((other : ℕ) → new.accepted other ≡ old.accepted other)
-Applies old new (Accepted slot ballot value) =
-    Raises (λ held. held) old.promised new.promised slot ballot
-    × Raises (λ held. held.0) old.accepted new.accepted slot (ballot, value)
+Applies old new (Accepted slot acceptance) =
+    Raises (λ held. held) old.promised new.promised slot acceptance.ballot
+    × Raises (λ held. held.ballot) old.accepted new.accepted slot acceptance

@@ -5,7 +5,7 @@
 use Rattle.std.specs.Prelude.{◌≡◌, ◌≤◌, ◌⊎◌, ℕ, List, [], ◌∷◌, ◌++◌, Option, Some, None, nat_eq, if◌then◌else◌}
 use Rattle.std.specs.List.{Contains, filter_map}
 use Rattle.ballots.specs.Ballot.{Ballot, IsBelow}
-use Rattle.ballots.specs.declared.value.Value.{Value}
+use Rattle.ballots.specs.declared.acceptance.Acceptance.{Acceptance}
 use Rattle.ballots.specs.declared.record.Record.{Record}
 use Rattle.ballots.specs.declared.record.Record.TheVariants.{Began, Promised, Accepted}
 use Rattle.acceptor.specs.Standing.{Standing}
@@ -14,13 +14,13 @@ use Rattle.acceptor.specs.Standing.{Standing}
 abbrev pub promise_in : ℕ → Record → Option Ballot
 promise_in slot (Began ballot) = None
 promise_in slot (Promised of ballot) = if nat_eq slot of then Some ballot else None
-promise_in slot (Accepted of ballot value) = if nat_eq slot of then Some ballot else None
+promise_in slot (Accepted of acceptance) = if nat_eq slot of then Some acceptance.ballot else None
 
 -- what a record says that the slot has accepted
-abbrev pub acceptance_in : ℕ → Record → Option (Ballot × Value)
+abbrev pub acceptance_in : ℕ → Record → Option Acceptance
 acceptance_in slot (Began ballot) = None
 acceptance_in slot (Promised of ballot) = None
-acceptance_in slot (Accepted of ballot value) = if nat_eq slot of then Some (ballot, value) else None
+acceptance_in slot (Accepted of acceptance) = if nat_eq slot of then Some acceptance else None
 
 -- the highest of these ballots, none where there are none
 abbrev pub IsHighest : List Ballot → Option Ballot → Type 0
@@ -30,13 +30,13 @@ IsHighest ballots (Some ballot) =
 
 -- the acceptance at the highest ballot, the last one where ballots are equal: none before it is above it, and all
 -- behind it are below it
-abbrev pub IsLastHighest : List (Ballot × Value) → Option (Ballot × Value) → Type 0
+abbrev pub IsLastHighest : List Acceptance → Option Acceptance → Type 0
 IsLastHighest acceptances None = acceptances ≡ []
 IsLastHighest acceptances (Some highest) =
-    (before after : List (Ballot × Value))
+    (before after : List Acceptance)
     × (acceptances ≡ before ++ highest ∷ after)
-    × ((other : Ballot × Value) → Contains before other → ¬ IsBelow highest.0 other.0)
-    × ((other : Ballot × Value) → Contains after other → IsBelow other.0 highest.0)
+    × ((other : Acceptance) → Contains before other → ¬ IsBelow highest.ballot other.ballot)
+    × ((other : Acceptance) → Contains after other → IsBelow other.ballot highest.ballot)
 
 -- So an acceptor stands that has these records.
 pub record IsRestored (records : List Record) (now : Standing) : Type 0 where
@@ -47,7 +47,7 @@ pub record IsRestored (records : List Record) (now : Standing) : Type 0 where
 abbrev pub round_in : Record → Option ℕ
 round_in (Began ballot) = Some ballot.round
 round_in (Promised of ballot) = None
-round_in (Accepted of ballot value) = None
+round_in (Accepted of acceptance) = None
 
 -- the highest round that was begun, 0 where none was: rounds begin at 1
 pub record IsHighestRound (records : List Record) (round : ℕ) : Type 0 where

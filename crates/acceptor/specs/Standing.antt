@@ -2,11 +2,11 @@
 use Rattle.std.specs.Prelude.{◌≡◌, ℕ, Option, Some, None}
 use Rattle.ballots.specs.Ballot.{Ballot}
 use Rattle.ballots.specs.Slots.{SetsSlot}
-use Rattle.ballots.specs.declared.value.Value.{Value}
+use Rattle.ballots.specs.declared.acceptance.Acceptance.{Acceptance}
 
 pub record Standing : Type 0 where
   pub promised : ℕ → Option Ballot
-  pub accepted : ℕ → Option (Ballot × Value)
+  pub accepted : ℕ → Option Acceptance
 
 -- nothing is promised or accepted
 pub record IsFresh (now : Standing) : Type 0 where
@@ -19,6 +19,6 @@ pub record IsSame (old new : Standing) : Type 0 where
   pub acceptances : (slot : ℕ) → new.accepted slot ≡ old.accepted slot
 
 -- the slot has this promise and this acceptance, and every other slot is as before
-pub record Sets (old new : Standing) (slot : ℕ) (ballot : Ballot) (held : Option (Ballot × Value)) : Type 0 where
+pub record Sets (old new : Standing) (slot : ℕ) (ballot : Ballot) (held : Option Acceptance) : Type 0 where
   pub promises : SetsSlot old.promised new.promised slot (Some ballot)
   pub acceptances : SetsSlot old.accepted new.accepted slot held

@@ -1,7 +1,7 @@
 -- Turns of an acceptor, one after the other: Lamport, "Paxos Made Simple", section 2.2.
 use Rattle.std.specs.Prelude.{ℕ, List, [], ◌∷◌, Option, Some, None}
 use Rattle.ballots.specs.Ballot.{Ballot}
-use Rattle.ballots.specs.declared.value.Value.{Value}
+use Rattle.ballots.specs.declared.acceptance.Acceptance.{Acceptance}
 use Rattle.ballots.specs.declared.record.Record.{Record}
 use Rattle.ballots.specs.declared.record.Record.TheVariants.{Promised, Accepted}
 use Rattle.acceptor.specs.declared.answer.Answer.{Answer}
@@ -9,15 +9,15 @@ use Rattle.acceptor.specs.declared.answer.Answer.TheVariants.{Promise, Granted, 
 use Rattle.acceptor.specs.Standing.{Standing, IsSame}
 use Rattle.acceptor.specs.Answering.{Prepares, Accepts}
 
--- what an acceptor is asked, and what it answers: a Prepare of a slot at a ballot, or an Accept of a value for a slot
--- at a ballot
+-- what an acceptor is asked, and what it answers: a Prepare of a slot at a ballot, or an Accept of a value at a
+-- ballot for a slot
 pub data Turn : Type 0 where
   PrepareTurn : ℕ → Ballot → Answer → Turn
-  AcceptTurn : ℕ → Ballot → Value → Answer → Turn
+  AcceptTurn : ℕ → Acceptance → Answer → Turn
 
 abbrev pub Takes : Standing → Standing → Turn → Type 0
 Takes old new (PrepareTurn slot ballot answer) = Prepares old new slot ballot answer
-Takes old new (AcceptTurn slot ballot value answer) = Accepts old new slot ballot value answer
+Takes old new (AcceptTurn slot proposal answer) = Accepts old new slot proposal answer
 
 -- these turns, one after the other
 abbrev pub IsStandingAfter : Standing → List Turn → Standing → Type 0
@@ -29,6 +29,6 @@ abbrev pub record_of : Turn → Option Record
 record_of (PrepareTurn slot ballot (Promise report)) = Some (Promised slot ballot)
 record_of (PrepareTurn slot ballot Granted) = None
 record_of (PrepareTurn slot ballot (Nack promised)) = None
-record_of (AcceptTurn slot ballot value Granted) = Some (Accepted slot ballot value)
-record_of (AcceptTurn slot ballot value (Promise report)) = None
-record_of (AcceptTurn slot ballot value (Nack promised)) = None
+record_of (AcceptTurn slot proposal Granted) = Some (Accepted slot proposal)
+record_of (AcceptTurn slot proposal (Promise report)) = None
+record_of (AcceptTurn slot proposal (Nack promised)) = None

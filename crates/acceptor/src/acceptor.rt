@@ -13,7 +13,7 @@ use crate::maps::{
     held_acceptance, held_promise, put_acceptance, put_promise, raise_acceptance, raise_promise,
 };
 use crate::records::copied;
-use ballots::{Ballot, OutOfMemory, Record, Slot, Value};
+use ballots::{Acceptance, Ballot, OutOfMemory, Record, Slot};
 use indexmap::IndexMap;
 use std::alloc::Global;
 use std::marker::Model;
@@ -22,7 +22,7 @@ use std::marker::Model;
 #[derive(Debug, Drop)]
 pub struct Acceptor {
     promises: IndexMap<Slot, Ballot>,
-    acceptances: IndexMap<Slot, (Ballot, Value)>,
+    acceptances: IndexMap<Slot, Acceptance>,
 }
 
 impl Model for Acceptor {
@@ -74,8 +74,8 @@ impl Acceptor {
 
     /// The value that the slot has last accepted, with the ballot that it was accepted at, `None` where it has
     /// accepted nothing.
-    pub fn accepted(&self, slot: Slot) -> Option<(Ballot, &Value)>
-        ensures { option_map (λ held. (held.0, held.1.now)) result ≡ accepted_at self.now slot }
+    pub fn accepted(&self, slot: Slot) -> Option<&Acceptance>
+        ensures { option_map (λ held. held.now) result ≡ accepted_at self.now slot }
     {
         held_acceptance(&self.acceptances, slot)
     }
@@ -124,23 +124,19 @@ impl Acceptor {
 
     /// Answers an Accept. What is accepted is kept before it is answered. Only a grant takes memory, its own: room that
     /// [`Acceptor::make_room`] made stays.
-    pub fn on_accept(
-        &mut self,
-        slot: Slot,
-        ballot: Ballot,
-        value: Value,
-    ) -> Result<Answer, OutOfMemory>
-        ensures answered { IfOk result (Accepts (standing self.old) (standing self.new) slot ballot value) }
+    pub fn on_accept(&mut self, slot: Slot, proposal: Acceptance) -> Result<Answer, OutOfMemory>
+        ensures answered { IfOk result (Accepts (standing self.old) (standing self.new) slot proposal) }
         ensures err { OnErr result (IsSame (standing self.old) (standing self.new)) }
-        ensures memory { OnErr result (IsAtLeast ballot (promised_at self.old slot)) }
+        ensures memory { OnErr result (IsAtLeast proposal.ballot (promised_at self.old slot)) }
         ensures room { 0 < self.old.room → 0 < self.new.room }
     {
+        let ballot = proposal.ballot;
         if let Some(promised) = self.promised(slot) {
             if ballot.is_below(promised) {
                 return Ok(Answer::Nack(promised));
             }
         }
-        self.set(slot, ballot, value)?;
+        self.set(slot, proposal)?;
         Ok(Answer::Granted)
     }
 
@@ -168,9 +164,9 @@ impl Acceptor {
         match told {
             Record::Began(_) => {}
             Record::Promised(slot, ballot) => raise_promise(&mut self.promises, slot, ballot),
-            Record::Accepted(slot, ballot, value) => {
-                raise_promise(&mut self.promises, slot, ballot);
-                raise_acceptance(&mut self.acceptances, slot, ballot, value);
+            Record::Accepted(slot, acceptance) => {
+                raise_promise(&mut self.promises, slot, acceptance.ballot);
+                raise_acceptance(&mut self.acceptances, slot, acceptance);
             }
         }
     }
@@ -196,25 +192,25 @@ impl Acceptor {
         self.acceptances.reserve(slots)
     }
 
-    // Promises the ballot, and keeps the value as accepted at it. Where memory is refused, nothing has changed. Room
+    // Promises the ballot of a proposal, and keeps that as accepted. Where memory is refused, nothing has changed. Room
     // for one slot more stays, for a record.
-    fn set(&mut self, slot: Slot, granted: Ballot, value: Value) -> Result<(), OutOfMemory>
-        ensures ok { OnOk result (Sets (standing self.old) (standing self.new) slot granted (Some (granted, value))) }
+    fn set(&mut self, slot: Slot, granted: Acceptance) -> Result<(), OutOfMemory>
+        ensures ok { OnOk result (Sets (standing self.old) (standing self.new) slot granted.ballot (Some granted)) }
         ensures err { OnErr result (IsSame (standing self.old) (standing self.new)) }
         ensures room { 0 < self.old.room → 0 < self.new.room }
     {
         self.reserve(2)?;
-        put_promise(&mut self.promises, slot, granted);
-        put_acceptance(&mut self.acceptances, slot, granted, value);
+        put_promise(&mut self.promises, slot, granted.ballot);
+        put_acceptance(&mut self.acceptances, slot, granted);
         Ok(())
     }
 
     // What the slot has accepted, for a report: the acceptor keeps the value, so the report has a copy.
-    fn accepted_copy(&self, slot: Slot) -> Result<Option<(Ballot, Value)>, OutOfMemory>
+    fn accepted_copy(&self, slot: Slot) -> Result<Option<Acceptance>, OutOfMemory>
         ensures { IfOk result (λ copy. copy ≡ accepted_at self.now slot) }
     {
         match self.accepted(slot) {
-            Some((ballot, value)) => Ok(Some((ballot, value.clone()?))),
+            Some(held) => Ok(Some(held.clone()?)),
             None => Ok(None),
         }
     }

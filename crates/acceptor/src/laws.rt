@@ -3,7 +3,7 @@
 ghost use Rattle.std.specs.Prelude.{◌≡◌, ◌≢◌, ℕ, List, ◌∷◌, ◌++◌, [], Option, Some, None};
 ghost use Rattle.std.specs.List.{filter_map};
 ghost use Rattle.ballots.specs.Ballot.{Ballot as Pair, IsBelow, IsAbove, IsAtLeast};
-ghost use Rattle.ballots.specs.declared.value.Value.{Value};
+ghost use Rattle.ballots.specs.declared.acceptance.Acceptance.{Acceptance};
 ghost use Rattle.ballots.specs.declared.record.Record.{Record as Kept};
 ghost use Rattle.ballots.specs.declared.record.Record.TheVariants.{Promised, Accepted};
 ghost use Rattle.acceptor.specs.declared.answer.Answer.{Answer};
@@ -18,8 +18,8 @@ ghost use Rattle.acceptor.specs.Turns.{Turn, IsStandingAfter, record_of};
 pub fn answers_are_one()
     ensures prepare { (old a b : Standing) (slot : ℕ) (ballot : Pair) (x y : Answer)
         → Prepares old a slot ballot x → Prepares old b slot ballot y → x ≡ y }
-    ensures accept { (old a b : Standing) (slot : ℕ) (ballot : Pair) (value : Value) (x y : Answer)
-        → Accepts old a slot ballot value x → Accepts old b slot ballot value y → x ≡ y }
+    ensures accept { (old a b : Standing) (slot : ℕ) (proposal : Acceptance) (x y : Answer)
+        → Accepts old a slot proposal x → Accepts old b slot proposal y → x ≡ y }
 {}
 
 /// What it has promised and accepted after an answer is one thing, slot by slot.
@@ -27,20 +27,20 @@ pub fn standings_are_one()
     ensures prepare { (old a b : Standing) (slot : ℕ) (ballot : Pair) (x : Answer)
         → Prepares old a slot ballot x → Prepares old b slot ballot x
         → (other : ℕ) → (a.promised other ≡ b.promised other) × (a.accepted other ≡ b.accepted other) }
-    ensures accept { (old a b : Standing) (slot : ℕ) (ballot : Pair) (value : Value) (x : Answer)
-        → Accepts old a slot ballot value x → Accepts old b slot ballot value x
+    ensures accept { (old a b : Standing) (slot : ℕ) (proposal : Acceptance) (x : Answer)
+        → Accepts old a slot proposal x → Accepts old b slot proposal x
         → (other : ℕ) → (a.promised other ≡ b.promised other) × (a.accepted other ≡ b.accepted other) }
 {}
 
 /// A Prepare is promised only above all that its slot has promised, an Accept granted only at that or above it, and a
 /// Promise reports what the slot has accepted (Lamport, *Paxos Made Simple*, section 2.2, phases 1b and 2b).
 pub fn answers_follow_the_promise()
-    ensures promised { (old new : Standing) (slot : ℕ) (ballot held : Pair) (report : Option (Pair × Value))
+    ensures promised { (old new : Standing) (slot : ℕ) (ballot held : Pair) (report : Option Acceptance)
         → Prepares old new slot ballot (Promise report) → old.promised slot ≡ Some held → IsBelow held ballot }
-    ensures reported { (old new : Standing) (slot : ℕ) (ballot : Pair) (report : Option (Pair × Value))
+    ensures reported { (old new : Standing) (slot : ℕ) (ballot : Pair) (report : Option Acceptance)
         → Prepares old new slot ballot (Promise report) → report ≡ old.accepted slot }
-    ensures granted { (old new : Standing) (slot : ℕ) (ballot held : Pair) (value : Value)
-        → Accepts old new slot ballot value Granted → old.promised slot ≡ Some held → IsBelow ballot held → ⊥ }
+    ensures granted { (old new : Standing) (slot : ℕ) (proposal : Acceptance) (held : Pair)
+        → Accepts old new slot proposal Granted → old.promised slot ≡ Some held → IsBelow proposal.ballot held → ⊥ }
 {}
 
 /// What a slot has promised only rises, whatever is asked, and every other slot stays as it is.
@@ -48,8 +48,8 @@ pub fn promises_only_rise()
     ensures prepare { (old new : Standing) (slot : ℕ) (ballot : Pair) (x : Answer) → Prepares old new slot ballot x
         → (other : ℕ) (held : Pair) → old.promised other ≡ Some held
         → (now : Pair) × (new.promised other ≡ Some now) × IsAtLeast now (Some held) }
-    ensures accept { (old new : Standing) (slot : ℕ) (ballot : Pair) (value : Value) (x : Answer)
-        → Accepts old new slot ballot value x → (other : ℕ) (held : Pair) → old.promised other ≡ Some held
+    ensures accept { (old new : Standing) (slot : ℕ) (proposal : Acceptance) (x : Answer)
+        → Accepts old new slot proposal x → (other : ℕ) (held : Pair) → old.promised other ≡ Some held
         → (now : Pair) × (new.promised other ≡ Some now) × IsAtLeast now (Some held) }
 {}
 
@@ -57,17 +57,17 @@ pub fn promises_only_rise()
 /// promised, and no Accept below it granted. A Promise and a grant are each at the ballot that the slot has then
 /// promised.
 pub fn promises_are_kept()
-    ensures promised { (old new : Standing) (slot : ℕ) (ballot : Pair) (report : Option (Pair × Value))
+    ensures promised { (old new : Standing) (slot : ℕ) (ballot : Pair) (report : Option Acceptance)
         → Prepares old new slot ballot (Promise report) → new.promised slot ≡ Some ballot }
-    ensures granted { (old new : Standing) (slot : ℕ) (ballot : Pair) (value : Value)
-        → Accepts old new slot ballot value Granted
-        → (new.promised slot ≡ Some ballot) × (new.accepted slot ≡ Some (ballot, value)) }
+    ensures granted { (old new : Standing) (slot : ℕ) (proposal : Acceptance)
+        → Accepts old new slot proposal Granted
+        → (new.promised slot ≡ Some proposal.ballot) × (new.accepted slot ≡ Some proposal) }
     ensures no_prepare { (old later new : Standing) (turns : List Turn) (slot : ℕ) (held ballot : Pair)
-        (report : Option (Pair × Value)) → old.promised slot ≡ Some held → IsStandingAfter old turns later
+        (report : Option Acceptance) → old.promised slot ≡ Some held → IsStandingAfter old turns later
         → Prepares later new slot ballot (Promise report) → IsBelow held ballot }
-    ensures no_accept { (old later new : Standing) (turns : List Turn) (slot : ℕ) (held ballot : Pair) (value : Value)
+    ensures no_accept { (old later new : Standing) (turns : List Turn) (slot : ℕ) (held : Pair) (proposal : Acceptance)
         → old.promised slot ≡ Some held → IsStandingAfter old turns later
-        → Accepts later new slot ballot value Granted → IsAtLeast ballot (Some held) }
+        → Accepts later new slot proposal Granted → IsAtLeast proposal.ballot (Some held) }
 {}
 
 /// Records leave one standing, slot by slot, and one highest round that was begun. No records leave a fresh start.
@@ -92,15 +92,15 @@ pub fn applied_is_restored()
 /// they leave (section 2.4). `run` says it of all answers from any start on, from a fresh one too.
 pub fn answers_are_as_recorded()
     ensures promised { (records : List Kept) (old new : Standing) (slot : ℕ) (ballot : Pair)
-        (report : Option (Pair × Value)) → IsRestored records old → Prepares old new slot ballot (Promise report)
+        (report : Option Acceptance) → IsRestored records old → Prepares old new slot ballot (Promise report)
         → IsRestored (records ++ Promised slot ballot ∷ []) new }
-    ensures granted { (records : List Kept) (old new : Standing) (slot : ℕ) (ballot : Pair) (value : Value)
-        → IsRestored records old → Accepts old new slot ballot value Granted
-        → IsRestored (records ++ Accepted slot ballot value ∷ []) new }
+    ensures granted { (records : List Kept) (old new : Standing) (slot : ℕ) (proposal : Acceptance)
+        → IsRestored records old → Accepts old new slot proposal Granted
+        → IsRestored (records ++ Accepted slot proposal ∷ []) new }
     ensures prepare_refused { (records : List Kept) (old new : Standing) (slot : ℕ) (ballot promised : Pair)
         → IsRestored records old → Prepares old new slot ballot (Nack promised) → IsRestored records new }
-    ensures accept_refused { (records : List Kept) (old new : Standing) (slot : ℕ) (ballot promised : Pair)
-        (value : Value) → IsRestored records old → Accepts old new slot ballot value (Nack promised)
+    ensures accept_refused { (records : List Kept) (old new : Standing) (slot : ℕ) (proposal : Acceptance)
+        (promised : Pair) → IsRestored records old → Accepts old new slot proposal (Nack promised)
         → IsRestored records new }
     ensures run { (records : List Kept) (old new : Standing) (turns : List Turn) → IsRestored records old
         → IsStandingAfter old turns new → IsRestored (records ++ filter_map record_of turns) new }

@@ -8,8 +8,8 @@
 //! ```text
 //! let granted = acceptor.would_grant(slot, ballot);         // of a Prepare would_promise; changes nothing
 //! acceptor.make_room(slot)?;                                // the last step that memory can be refused to
-//! storage.keep(&Record::Accepted(slot, ballot, value))?;    // before anything is answered
-//! acceptor.apply(Record::Accepted(slot, ballot, value));    // of a Prepare Record::Promised(slot, ballot)
+//! storage.keep(&Record::Accepted(slot, acceptance))?;       // before anything is answered
+//! acceptor.apply(Record::Accepted(slot, acceptance));       // of a Prepare Record::Promised(slot, ballot)
 //! let acceptor = Acceptor::from_records(alloc, &records)?;  // when the node starts again: it has back every promise
 //! ```
 //!

@@ -6,7 +6,7 @@ ghost use Rattle.acceptor.specs.AcceptorState.{at};
 ghost use Rattle.ballots.specs.Slots.{SetsSlot};
 ghost use Rattle.acceptor.specs.Raising.{Raises};
 
-use ballots::{Ballot, Slot, Value};
+use ballots::{Acceptance, Ballot, Slot};
 use indexmap::IndexMap;
 
 pub(crate) fn held_promise(promises: &IndexMap<Slot, Ballot>, slot: Slot) -> Option<Ballot>
@@ -16,15 +16,12 @@ pub(crate) fn held_promise(promises: &IndexMap<Slot, Ballot>, slot: Slot) -> Opt
 }
 
 pub(crate) fn held_acceptance(
-    acceptances: &IndexMap<Slot, (Ballot, Value)>,
+    acceptances: &IndexMap<Slot, Acceptance>,
     slot: Slot,
-) -> Option<(Ballot, &Value)>
-    ensures { option_map (λ held. (held.0, held.1.now)) result ≡ at acceptances.now.entries slot }
+) -> Option<&Acceptance>
+    ensures { option_map (λ held. held.now) result ≡ at acceptances.now.entries slot }
 {
-    match acceptances.get(&slot) {
-        Some((ballot, value)) => Some((*ballot, value)),
-        None => None,
-    }
+    acceptances.get(&slot)
 }
 
 // Makes this the slot's promise, without memory.
@@ -40,16 +37,15 @@ pub(crate) fn put_promise(promises: &mut IndexMap<Slot, Ballot>, slot: Slot, bal
 
 // Makes this what the slot has accepted, without memory.
 pub(crate) fn put_acceptance(
-    acceptances: &mut IndexMap<Slot, (Ballot, Value)>,
+    acceptances: &mut IndexMap<Slot, Acceptance>,
     slot: Slot,
-    ballot: Ballot,
-    value: Value,
+    acceptance: Acceptance,
 )
     requires { 0 < spare acceptances.old }
-    ensures puts { SetsSlot (at acceptances.old.entries) (at acceptances.new.entries) slot (Some (ballot, value)) }
+    ensures puts { SetsSlot (at acceptances.old.entries) (at acceptances.new.entries) slot (Some acceptance) }
     ensures room { spare acceptances.old ≤ spare acceptances.new + 1 }
 {
-    let Ok(_) = acceptances.insert(slot, (ballot, value)) else {
+    let Ok(_) = acceptances.insert(slot, acceptance) else {
         unreachable!()
     };
 }
@@ -70,20 +66,26 @@ pub(crate) fn raise_promise(promises: &mut IndexMap<Slot, Ballot>, slot: Slot, b
 
 // Makes this what the slot has accepted, unless it has accepted at a higher ballot, without memory.
 pub(crate) fn raise_acceptance(
-    acceptances: &mut IndexMap<Slot, (Ballot, Value)>,
+    acceptances: &mut IndexMap<Slot, Acceptance>,
     slot: Slot,
-    ballot: Ballot,
-    value: Value,
+    acceptance: Acceptance,
 )
     requires { 0 < spare acceptances.old }
-    ensures raises { Raises (λ held. held.0) (at acceptances.old.entries) (at acceptances.new.entries)
-        slot (ballot, value) }
+    ensures raises { Raises (λ held. held.ballot) (at acceptances.old.entries) (at acceptances.new.entries)
+        slot acceptance }
     ensures room { spare acceptances.old ≤ spare acceptances.new + 1 }
 {
-    if let Some((highest, _)) = held_acceptance(acceptances, slot) {
-        if ballot.is_below(highest) {
+    let ballot = acceptance.ballot;
+    if let Some(
+        Acceptance {
+            ballot: highest,
+            ..
+        },
+    ) = held_acceptance(acceptances, slot)
+    {
+        if ballot.is_below(*highest) {
             return;
         }
     }
-    put_acceptance(acceptances, slot, ballot, value);
+    put_acceptance(acceptances, slot, acceptance);
 }

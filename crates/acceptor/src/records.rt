@@ -24,7 +24,7 @@ fn higher_round(highest: u32, told: &Record) -> u32
     match told {
         Record::Began(ballot) => highest.max(ballot.round()),
         Record::Promised(_, _) => highest,
-        Record::Accepted(_, _, _) => highest,
+        Record::Accepted(_, _) => highest,
     }
 }
 
@@ -34,6 +34,6 @@ pub(crate) fn copied(told: &Record) -> Result<Record, OutOfMemory>
     Ok(match told {
         Record::Began(ballot) => Record::Began(*ballot),
         Record::Promised(slot, ballot) => Record::Promised(*slot, *ballot),
-        Record::Accepted(slot, ballot, value) => Record::Accepted(*slot, *ballot, value.clone()?),
+        Record::Accepted(slot, acceptance) => Record::Accepted(*slot, acceptance.clone()?),
     })
 }

@@ -14,9 +14,11 @@ use Rattle.ballots.specs.declared.message.numbers.TheConstants.{KIND, SENDER, SL
 use Rattle.ballots.specs.declared.value.Value.{Value}
 use Rattle.ballots.specs.declared.value.Value.TheVariants.{Noop, Upload}
 use Rattle.ballots.specs.declared.message.Message.{Message}
-use Rattle.ballots.specs.declared.message.Message.TheVariants.{Prepare, Promise, Nack, Accept, Accepted, Ask, Decided}
+use Rattle.ballots.specs.declared.acceptance.Acceptance.{Acceptance}
+use Rattle.ballots.specs.declared.message.Body.{Body}
+use Rattle.ballots.specs.declared.message.Body.TheVariants.{Prepare, Promise, Nack, Accept, Accepted, Ask, Decided}
 use Rattle.ballots.specs.Ballot.{Ballot, IsBallot}
-use Rattle.ballots.specs.Message.{Parts, parts_of, Means, IsInRange, IsValue, IsMessageText, value_bytes, number_field, head_fields, ballot_fields, second_fields, value_fields, all_fields, canonical}
+use Rattle.ballots.specs.Message.{message, kind_of, Parts, parts_of, MeansHead, MeansBody, Means, IsReportInRange, IsBodyInRange, IsInRange, IsValue, IsMessageText, value_bytes, number_field, head_fields, ballot_fields, second_fields, value_fields, report_fields, body_fields, all_fields, canonical}
 
 -- ---- each field has an encoding
 
@@ -54,30 +56,39 @@ value_is_short (Upload bytes) is = omega (arith, is.within)
 value_fits : (v : Value) → IsValue v → AllByRecursion FitsField (value_fields v)
 value_fits v is = (record { number = (omega arith, omega arith); held = value_is_short v is }, tt)
 
--- after the head, after a ballot, and after a second one
-after_head : (kind sender slot : ℕ) (fields : List Field) → kind ≤ DECIDED → sender ≤ MAX_NODE → slot ≤ MAX_SLOT → AllByRecursion FitsField fields → AllByRecursion FitsField (head_fields kind sender slot ++ fields)
-after_head kind sender slot fields a b c rest = all_fit-append (head_fields kind sender slot) fields (head_fits kind sender slot a b c) rest
-
+-- behind a ballot, and behind a second one
 after_ballot : (b : Ballot) (fields : List Field) → IsBallot b → AllByRecursion FitsField fields → AllByRecursion FitsField (ballot_fields b ++ fields)
 after_ballot b fields is rest = all_fit-append (ballot_fields b) fields (ballot_fits b is) rest
 
 after_second : (b : Ballot) (fields : List Field) → IsBallot b → AllByRecursion FitsField fields → AllByRecursion FitsField (second_fields b ++ fields)
 after_second b fields is rest = all_fit-append (second_fields b) fields (second_fits b is) rest
 
+report_fits : (o : Option Acceptance) → IsReportInRange o → AllByRecursion FitsField (report_fields o)
+report_fits None h = tt
+report_fits (Some r) h = after_second r.ballot (value_fields r.value) h.0 (value_fits r.value h.1)
+
+body_fits : (body : Body) → IsBodyInRange body → AllByRecursion FitsField (body_fields body)
+body_fits (Prepare b) h = ballot_fits b h
+body_fits (Promise b r) h = after_ballot b (report_fields r) h.0 (report_fits r h.1)
+body_fits (Nack b c) h = after_ballot b (second_fields c) h.0 (second_fits c h.1)
+body_fits (Accept a) h = after_ballot a.ballot (value_fields a.value) h.0 (value_fits a.value h.1)
+body_fits (Accepted a) h = after_ballot a.ballot (value_fields a.value) h.0 (value_fits a.value h.1)
+body_fits Ask h = tt
+body_fits (Decided v) h = value_fits v h
+
+kind_within : (body : Body) → kind_of body ≤ DECIDED
+kind_within (Prepare b) = omega arith
+kind_within (Promise b r) = omega arith
+kind_within (Nack b c) = omega arith
+kind_within (Accept a) = omega arith
+kind_within (Accepted a) = omega arith
+kind_within Ask = omega arith
+kind_within (Decided v) = omega arith
+
 all_fits : (m : Message) → IsInRange m → AllByRecursion FitsField (all_fields m)
-all_fits (Prepare sender slot b) h = after_head PREPARE sender slot (ballot_fields b) (omega arith) h.0 h.1 (ballot_fits b h.2)
-all_fits (Promise sender slot b None) h = after_head PROMISE sender slot (ballot_fields b) (omega arith) h.0 h.1 (ballot_fits b h.2)
-all_fits (Promise sender slot b (Some r)) h =
-    after_head PROMISE sender slot (ballot_fields b ++ (second_fields r.0 ++ value_fields r.1)) (omega arith) h.0 h.1
-    (after_ballot b (second_fields r.0 ++ value_fields r.1) h.2 (after_second r.0 (value_fields r.1) h.3 (value_fits r.1 h.4)))
-all_fits (Nack sender slot b c) h =
-    after_head NACK sender slot (ballot_fields b ++ second_fields c) (omega arith) h.0 h.1 (after_ballot b (second_fields c) h.2 (second_fits c h.3))
-all_fits (Accept sender slot b v) h =
-    after_head ACCEPT sender slot (ballot_fields b ++ value_fields v) (omega arith) h.0 h.1 (after_ballot b (value_fields v) h.2 (value_fits v h.3))
-all_fits (Accepted sender slot b v) h =
-    after_head ACCEPTED sender slot (ballot_fields b ++ value_fields v) (omega arith) h.0 h.1 (after_ballot b (value_fields v) h.2 (value_fits v h.3))
-all_fits (Ask sender slot) h = head_fits ASK sender slot (omega arith) h.0 h.1
-all_fits (Decided sender slot v) h = after_head DECIDED sender slot (value_fields v) (omega arith) h.0 h.1 (value_fits v h.2)
+all_fits m h =
+    all_fit-append (head_fields (kind_of m.body) m.sender m.slot) (body_fields m.body) (head_fits (kind_of m.body) m.sender m.slot (kind_within m.body) h.0 h.1)
+    (body_fits m.body h.2)
 
 -- ---- each field means what it says, written or left out
 
@@ -115,51 +126,49 @@ parts_of-present fields e =
     let h = and_true _ _ g.1 in
     rw (number_same KIND fields a.0, number_same SENDER fields b.0, number_same SLOT fields c.0, number_same ROUND fields d.0, number_same NODE fields f.0, number_same SECOND_ROUND fields g.0, number_same SECOND_NODE fields h.0, bytes_same VALUE fields h.1) refl
 
-fields_single : (m : Message) → are_single (all_fields m) ≡ true
-fields_single (Prepare sender slot b) = refl
-fields_single (Promise sender slot b None) = refl
-fields_single (Promise sender slot b (Some r)) = refl
-fields_single (Nack sender slot b c) = refl
-fields_single (Accept sender slot b v) = refl
-fields_single (Accepted sender slot b v) = refl
-fields_single (Ask sender slot) = refl
-fields_single (Decided sender slot v) = refl
+fields_single : (sender slot : ℕ) (body : Body) → are_single (all_fields (message sender slot body)) ≡ true
+fields_single sender slot (Prepare b) = refl
+fields_single sender slot (Promise b None) = refl
+fields_single sender slot (Promise b (Some r)) = refl
+fields_single sender slot (Nack b c) = refl
+fields_single sender slot (Accept a) = refl
+fields_single sender slot (Accepted a) = refl
+fields_single sender slot Ask = refl
+fields_single sender slot (Decided v) = refl
+
+head_means : (sender slot : ℕ) (body : Body) → sender ≤ MAX_NODE → slot ≤ MAX_SLOT
+    → MeansHead (parts_of (all_fields (message sender slot body))) (kind_of body) sender slot
+unfolding number_meant bytes_meant
+head_means sender slot (Prepare b) a c = record { kind_is = refl; sender_is = refl; slot_is = refl; sender_within = a; slot_within = c }
+head_means sender slot (Promise b None) a c = record { kind_is = refl; sender_is = refl; slot_is = refl; sender_within = a; slot_within = c }
+head_means sender slot (Promise b (Some r)) a c = record { kind_is = refl; sender_is = refl; slot_is = refl; sender_within = a; slot_within = c }
+head_means sender slot (Nack b d) a c = record { kind_is = refl; sender_is = refl; slot_is = refl; sender_within = a; slot_within = c }
+head_means sender slot (Accept p) a c = record { kind_is = refl; sender_is = refl; slot_is = refl; sender_within = a; slot_within = c }
+head_means sender slot (Accepted p) a c = record { kind_is = refl; sender_is = refl; slot_is = refl; sender_within = a; slot_within = c }
+head_means sender slot Ask a c = record { kind_is = refl; sender_is = refl; slot_is = refl; sender_within = a; slot_within = c }
+head_means sender slot (Decided v) a c = record { kind_is = refl; sender_is = refl; slot_is = refl; sender_within = a; slot_within = c }
+
+body_means : (sender slot : ℕ) (body : Body) → IsBodyInRange body → MeansBody (parts_of (all_fields (message sender slot body))) body
+unfolding number_meant bytes_meant
+body_means sender slot (Prepare b) h = record { round_is = refl; node_is = refl; within = h }
+body_means sender slot (Promise b None) h = (record { round_is = refl; node_is = refl; within = h.0 }, refl)
+body_means sender slot (Promise b (Some r)) h = (
+  record { round_is = refl; node_is = refl; within = h.0 },
+  (record { round_is = refl; node_is = refl; within = h.1.0 }, record { bytes_are = refl; within = h.1.1 }),
+)
+body_means sender slot (Nack b c) h = (record { round_is = refl; node_is = refl; within = h.0 }, record { round_is = refl; node_is = refl; within = h.1 })
+body_means sender slot (Accept a) h = (record { round_is = refl; node_is = refl; within = h.0 }, record { bytes_are = refl; within = h.1 })
+body_means sender slot (Accepted a) h = (record { round_is = refl; node_is = refl; within = h.0 }, record { bytes_are = refl; within = h.1 })
+body_means sender slot Ask h = tt
+body_means sender slot (Decided v) h = record { bytes_are = refl; within = h }
 
 all_fields-mean : (m : Message) → IsInRange m → Means (parts_of (all_fields m)) m
-unfolding number_meant bytes_meant
-all_fields-mean (Prepare sender slot b) h =
-    (record { kind_is = refl; sender_is = refl; slot_is = refl; sender_within = h.0; slot_within = h.1 }, record { round_is = refl; node_is = refl; within = h.2 })
-all_fields-mean (Promise sender slot b None) h =
-    (record { kind_is = refl; sender_is = refl; slot_is = refl; sender_within = h.0; slot_within = h.1 }, record { round_is = refl; node_is = refl; within = h.2 }, refl)
-all_fields-mean (Promise sender slot b (Some r)) h = (
-  record { kind_is = refl; sender_is = refl; slot_is = refl; sender_within = h.0; slot_within = h.1 },
-  record { round_is = refl; node_is = refl; within = h.2 },
-  record { round_is = refl; node_is = refl; within = h.3 },
-  record { bytes_are = refl; within = h.4 },
-)
-all_fields-mean (Nack sender slot b c) h = (
-  record { kind_is = refl; sender_is = refl; slot_is = refl; sender_within = h.0; slot_within = h.1 },
-  record { round_is = refl; node_is = refl; within = h.2 },
-  record { round_is = refl; node_is = refl; within = h.3 },
-)
-all_fields-mean (Accept sender slot b v) h = (
-  record { kind_is = refl; sender_is = refl; slot_is = refl; sender_within = h.0; slot_within = h.1 },
-  record { round_is = refl; node_is = refl; within = h.2 },
-  record { bytes_are = refl; within = h.3 },
-)
-all_fields-mean (Accepted sender slot b v) h = (
-  record { kind_is = refl; sender_is = refl; slot_is = refl; sender_within = h.0; slot_within = h.1 },
-  record { round_is = refl; node_is = refl; within = h.2 },
-  record { bytes_are = refl; within = h.3 },
-)
-all_fields-mean (Ask sender slot) h = record { kind_is = refl; sender_is = refl; slot_is = refl; sender_within = h.0; slot_within = h.1 }
-all_fields-mean (Decided sender slot v) h =
-    (record { kind_is = refl; sender_is = refl; slot_is = refl; sender_within = h.0; slot_within = h.1 }, record { bytes_are = refl; within = h.2 })
+all_fields-mean m h = (head_means m.sender m.slot m.body h.0 h.1, body_means m.sender m.slot m.body h.2)
 
 pub canonical_means : (m : Message) → IsInRange m → IsMessageText (canonical m) m
 unfolding canonical
 canonical_means m h = record {
   fields = present (all_fields m);
   encodes = fields_text-encodes (present (all_fields m)) (all_fit-filter (λ (f : Field). not (is_default f.held)) (all_fields m) (all_fits m h));
-  means = subst (λ (p : Parts). Means p m) (sym (parts_of-present (all_fields m) (fields_single m))) (all_fields-mean m h);
+  means = subst (λ (p : Parts). Means p m) (sym (parts_of-present (all_fields m) (fields_single m.sender m.slot m.body))) (all_fields-mean m h);
 }

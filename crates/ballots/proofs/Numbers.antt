@@ -10,10 +10,11 @@ use Rattle.ballots.specs.declared.ballot.TheConstants.{MAX_ROUND}
 use Rattle.ballots.specs.declared.value.TheConstants.{MAX_UPLOAD_BYTES}
 use Rattle.ballots.specs.declared.value.Value.{Value}
 use Rattle.ballots.specs.declared.value.Value.TheVariants.{Noop, Upload}
+use Rattle.ballots.specs.declared.acceptance.Acceptance.{Acceptance}
 use Rattle.ballots.specs.declared.fault.MessageFault.{MessageFault}
 use Rattle.ballots.specs.declared.fault.MessageFault.TheVariants.{Wire, BadKind, OutOfRange, OutOfMemory}
 use Rattle.ballots.specs.Ballot.{Ballot}
-use Rattle.ballots.specs.Message.{Parts, MeansBallot, MeansValue, Misfit, IsAbove, BallotFault, ValueFault}
+use Rattle.ballots.specs.Message.{Parts, MeansBallot, MeansValue, MeansAcceptance, MeansReport, Misfit, IsAbove, BallotFault, ValueFault}
 use Rattle.ballots.specs.MessageReading.{known, within, ballot_at, value_at, acceptance_at, report_at}
 
 -- a fault of a part is one of the whole
@@ -155,28 +156,28 @@ value_faults bytes fault e =
 
 -- ---- a ballot and a value
 
-pub acceptance_takes : (round node : Option ℕ) (bytes : Option (List ℕ)) (a : Ballot × Value) → acceptance_at round node bytes ≡ Ok a
-    → MeansBallot round node a.0 × MeansValue bytes a.1
+pub acceptance_takes : (round node : Option ℕ) (bytes : Option (List ℕ)) (a : Acceptance) → acceptance_at round node bytes ≡ Ok a
+    → MeansAcceptance round node bytes a
 unfolding acceptance_at
 acceptance_takes round node bytes a e =
-    let b = bind_ok (ballot_at round node) (λ b. value_at bytes >>= λ v. Ok (b, v)) a e in
-    let v = bind_ok (value_at bytes) (λ v. Ok (b.0, v)) a b.2 in
-    subst (λ (x : Ballot × Value). MeansBallot round node x.0 × MeansValue bytes x.1) (ok_is (b.0, v.0) a v.2)
+    let b = bind_ok (ballot_at round node) (λ b. value_at bytes >>= λ v. Ok (record { ballot = b; value = v })) a e in
+    let v = bind_ok (value_at bytes) (λ v. Ok (record { ballot = b.0; value = v })) a b.2 in
+    subst (MeansAcceptance round node bytes) (ok_is (record { ballot = b.0; value = v.0 }) a v.2)
     (ballot_takes _ _ b.0 b.1, value_takes _ v.0 v.1)
 
-pub acceptance_again : (round node : Option ℕ) (bytes : Option (List ℕ)) (b : Ballot) (v : Value) → MeansBallot round node b → MeansValue bytes v
-    → acceptance_at round node bytes ≡ Ok (b, v)
+pub acceptance_again : (round node : Option ℕ) (bytes : Option (List ℕ)) (a : Acceptance) → MeansAcceptance round node bytes a
+    → acceptance_at round node bytes ≡ Ok a
 unfolding acceptance_at
-acceptance_again round node bytes b v ballot value = rw (ballot_again round node b ballot, value_again bytes v value) refl
+acceptance_again round node bytes a h = rw (ballot_again round node a.ballot h.0, value_again bytes a.value h.1) refl
 
 pub acceptance_faults : (round node : Option ℕ) (bytes : Option (List ℕ)) (fault : MessageFault) → acceptance_at round node bytes ≡ Err fault
     → BallotFault round node fault ⊎ ValueFault bytes fault
 unfolding acceptance_at
 acceptance_faults round node bytes fault e =
-    elim (bind_err {B = Ballot × Value} (ballot_at round node) (λ b. value_at bytes >>= λ v. Ok (b, v)) fault e) [
+    elim (bind_err {B = Acceptance} (ballot_at round node) (λ b. value_at bytes >>= λ v. Ok (record { ballot = b; value = v })) fault e) [
       | inl h ↦ inl (ballot_faults _ _ fault h)
       | inr b ↦
-          elim (bind_err {B = Ballot × Value} (value_at bytes) (λ v. Ok (b.0, v)) fault b.2) [
+          elim (bind_err {B = Acceptance} (value_at bytes) (λ v. Ok (record { ballot = b.0; value = v })) fault b.2) [
             | inl h ↦ inr (value_faults _ fault h)
             | inr v ↦ not_ok _ _ v.2
           ]
@@ -184,14 +185,10 @@ acceptance_faults round node bytes fault e =
 
 -- ---- a report
 
-abbrev pub MeansReport : Parts → Option (Ballot × Value) → Type 0
-MeansReport p None = p.second_round ≡ Some 0
-MeansReport p (Some r) = MeansBallot p.second_round p.second_node r.0 × MeansValue p.value r.1
-
-abbrev later : Parts → Result (Option (Ballot × Value)) MessageFault
+abbrev later : Parts → Result (Option Acceptance) MessageFault
 later p = acceptance_at p.second_round p.second_node p.value >>= λ a. Ok (Some a)
 
-pub report_takes : (p : Parts) (o : Option (Ballot × Value)) → report_at p ≡ Ok o → MeansReport p o
+pub report_takes : (p : Parts) (o : Option Acceptance) → report_at p ≡ Ok o → MeansReport p o
 unfolding report_at
 report_takes p o e =
     let x = bind_ok (known p.second_round) (λ round. cond (eqb round 0) (Ok None) (later p)) o e in
@@ -202,13 +199,13 @@ report_takes p o e =
           subst (MeansReport p) (ok_is (Some a.0) o a.2) (acceptance_takes _ _ _ a.0 a.1)
     ]
 
-pub report_again : (p : Parts) (o : Option (Ballot × Value)) → MeansReport p o → report_at p ≡ Ok o
+pub report_again : (p : Parts) (o : Option Acceptance) → MeansReport p o → report_at p ≡ Ok o
 unfolding report_at known
 report_again p None h = rw h refl
 report_again p (Some r) h =
     let w = h.0.within in
-    let some : eqb r.0.round 0 ≡ false = ne_eqb r.0.round 0 (omega (arith, w.above_zero)) in
-    let acceptance = rw h.0.round_is at (acceptance_again p.second_round p.second_node p.value r.0 r.1 h.0 h.1) in
+    let some : eqb r.ballot.round 0 ≡ false = ne_eqb r.ballot.round 0 (omega (arith, w.above_zero)) in
+    let acceptance = rw h.0.round_is at (acceptance_again p.second_round p.second_node p.value r h) in
     rw (h.0.round_is, some, acceptance) refl
 
 abbrev pub ReportFault : Parts → MessageFault → Type 0
@@ -217,7 +214,7 @@ ReportFault p fault = (p.second_round ≢ Some 0) × (BallotFault p.second_round
 pub report_faults : (p : Parts) (fault : MessageFault) → report_at p ≡ Err fault → ReportFault p fault
 unfolding report_at
 report_faults p fault e =
-    elim (bind_err {B = Option (Ballot × Value)} (known p.second_round) (λ round. cond (eqb round 0) (Ok None) (later p)) fault e) [
+    elim (bind_err {B = Option Acceptance} (known p.second_round) (λ round. cond (eqb round 0) (Ok None) (later p)) fault e) [
       | inl h ↦
           let k = known_faults p.second_round fault h in
           (λ is. absurd (let no : None ≡ Some 0 = sym k.1 ∙ is in cc), inl (subst (BallotFault p.second_round p.second_node) k.0 (inl k.1)))
@@ -228,7 +225,7 @@ report_faults p fault e =
             | inr h ↦
                 let some : p.second_round ≢ Some 0 = λ is. eqb-false x.0 0 h.0 (some_is x.0 0 (sym there ∙ is)) in (
                   some,
-                  elim (bind_err {B = Option (Ballot × Value)} (acceptance_at p.second_round p.second_node p.value) (λ a. Ok (Some a)) fault h.1) [
+                  elim (bind_err {B = Option Acceptance} (acceptance_at p.second_round p.second_node p.value) (λ a. Ok (Some a)) fault h.1) [
                     | inl k ↦ acceptance_faults _ _ _ fault k
                     | inr a ↦ not_ok _ _ a.2
                   ],

@@ -20,7 +20,7 @@ Read = Result Record MessageFault
 -- ---- what is read for each kind
 
 abbrev then_acceptance : ℕ → RecordParts → Read
-then_acceptance slot p = acceptance_at p.round p.node p.value >>= λ a. Ok (Accepted slot a.0 a.1)
+then_acceptance slot p = acceptance_at p.round p.node p.value >>= λ a. Ok (Accepted slot a)
 
 abbrev then_promise : ℕ → RecordParts → Read
 then_promise slot p = ballot_at p.round p.node >>= λ b. Ok (Promised slot b)
@@ -53,9 +53,8 @@ takes_promised p r kind e =
 takes_accepted : (p : RecordParts) (r : Record) → p.kind ≡ Some ACCEPTED → accepted_at p ≡ Ok r → MeansRecord p r
 takes_accepted p r kind e =
     let s = bind_ok (within MAX_SLOT p.slot) (λ s. then_acceptance s p) r e in
-    let a = bind_ok (acceptance_at p.round p.node p.value) (λ a. Ok (Accepted s.0 a.0 a.1)) r s.2 in
-    let h = acceptance_takes _ _ _ a.0 a.1 in
-    subst (MeansRecord p) (ok_is (Accepted s.0 a.0.0 a.0.1) r a.2) (kind, slot_means p.slot s.0 s.1, h.0, h.1)
+    let a = bind_ok (acceptance_at p.round p.node p.value) (λ a. Ok (Accepted s.0 a)) r s.2 in
+    subst (MeansRecord p) (ok_is (Accepted s.0 a.0) r a.2) (kind, slot_means p.slot s.0 s.1, acceptance_takes _ _ _ a.0 a.1)
 
 is_kind : (p : RecordParts) (kind other : ℕ) → eqb kind other ≡ true → p.kind ≡ Some kind → p.kind ≡ Some other
 is_kind p kind other e is = is ∙ ap Some (eqb-true _ _ e)
@@ -93,7 +92,7 @@ slot_again number slot h = ap (within MAX_SLOT) h.slot_is ∙ within_again MAX_S
 pub record_again : (p : RecordParts) (r : Record) → MeansRecord p r → record_at p ≡ Ok r
 record_again p (Began b) h = kind_again p BEGAN h.0 ∙ rw (ballot_again _ _ b h.1) refl
 record_again p (Promised s b) h = kind_again p PROMISED h.0 ∙ rw (slot_again p.slot s h.1, ballot_again _ _ b h.2) refl
-record_again p (Accepted s b v) h = kind_again p ACCEPTED h.0 ∙ rw (slot_again p.slot s h.1, acceptance_again _ _ _ b v h.2 h.3) refl
+record_again p (Accepted s a) h = kind_again p ACCEPTED h.0 ∙ rw (slot_again p.slot s h.1, acceptance_again _ _ _ a h.2) refl
 
 -- ---- each fault stands
 
@@ -120,7 +119,7 @@ faults_accepted p fault kind e =
     elim (bind_err {B = Record} (within MAX_SLOT p.slot) (λ s. then_acceptance s p) fault e) [
       | inl h ↦ in_accepted kind (inl (within_faults MAX_SLOT p.slot fault h))
       | inr s ↦
-          elim (bind_err {B = Record} (acceptance_at p.round p.node p.value) (λ a. Ok (Accepted s.0 a.0 a.1)) fault s.2) [
+          elim (bind_err {B = Record} (acceptance_at p.round p.node p.value) (λ a. Ok (Accepted s.0 a)) fault s.2) [
             | inl h ↦ in_accepted kind (inr (acceptance_faults _ _ _ fault h))
             | inr a ↦ not_ok _ _ a.2
           ]

@@ -34,9 +34,9 @@ value_fits v is = (record { number = (omega arith, omega arith); held = value_is
 all_fits : (r : Record) → IsRecordInRange r → AllByRecursion FitsField (record_fields r)
 all_fits (Began b) h = all_fit-append began_fields (kept_ballot_fields b) began_fits (ballot_fits b h)
 all_fits (Promised s b) h = all_fit-append (slot_fields PROMISED s) (kept_ballot_fields b) (slot_fits PROMISED s (omega arith) h.0) (ballot_fits b h.1)
-all_fits (Accepted s b v) h =
-    all_fit-append (slot_fields ACCEPTED s) (kept_ballot_fields b ++ kept_value_fields v) (slot_fits ACCEPTED s (omega arith) h.0)
-    (all_fit-append (kept_ballot_fields b) (kept_value_fields v) (ballot_fits b h.1) (value_fits v h.2))
+all_fits (Accepted s a) h =
+    all_fit-append (slot_fields ACCEPTED s) (kept_ballot_fields a.ballot ++ kept_value_fields a.value) (slot_fits ACCEPTED s (omega arith) h.0)
+    (all_fit-append (kept_ballot_fields a.ballot) (kept_value_fields a.value) (ballot_fits a.ballot h.1.0) (value_fits a.value h.1.1))
 
 -- ---- each field means what it says, written or left out
 
@@ -56,17 +56,16 @@ parts_of-present fields e =
 fields_single : (r : Record) → are_single (record_fields r) ≡ true
 fields_single (Began b) = refl
 fields_single (Promised s b) = refl
-fields_single (Accepted s b v) = refl
+fields_single (Accepted s a) = refl
 
 fields_mean : (r : Record) → IsRecordInRange r → MeansRecord (record_parts_of (record_fields r)) r
 unfolding number_meant bytes_meant
 fields_mean (Began b) h = (refl, record { round_is = refl; node_is = refl; within = h })
 fields_mean (Promised s b) h = (refl, record { slot_is = refl; within = h.0 }, record { round_is = refl; node_is = refl; within = h.1 })
-fields_mean (Accepted s b v) h = (
+fields_mean (Accepted s a) h = (
   refl,
   record { slot_is = refl; within = h.0 },
-  record { round_is = refl; node_is = refl; within = h.1 },
-  record { bytes_are = refl; within = h.2 },
+  (record { round_is = refl; node_is = refl; within = h.1.0 }, record { bytes_are = refl; within = h.1.1 }),
 )
 
 pub canonical_means : (r : Record) → IsRecordInRange r → IsRecordText (canonical_record r) r

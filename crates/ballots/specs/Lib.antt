@@ -3,6 +3,7 @@ pub mod Ballot
 pub mod Majority
 pub mod Slots
 pub mod Value
+pub mod Acceptance
 pub mod Message
 pub mod MessageReading
 pub mod AllFields

@@ -12,8 +12,10 @@ use Rattle.ballots.specs.declared.value.TheConstants.{MAX_UPLOAD_BYTES}
 use Rattle.ballots.specs.declared.message.numbers.TheConstants.{KIND, SENDER, SLOT, ROUND, NODE, SECOND_ROUND, SECOND_NODE, VALUE, PREPARE, PROMISE, NACK, ACCEPT, ACCEPTED, ASK, DECIDED}
 use Rattle.ballots.specs.declared.value.Value.{Value}
 use Rattle.ballots.specs.declared.value.Value.TheVariants.{Noop, Upload}
+use Rattle.ballots.specs.declared.acceptance.Acceptance.{Acceptance}
 use Rattle.ballots.specs.declared.message.Message.{Message}
-use Rattle.ballots.specs.declared.message.Message.TheVariants.{Prepare, Promise, Nack, Accept, Accepted, Ask, Decided}
+use Rattle.ballots.specs.declared.message.Body.{Body}
+use Rattle.ballots.specs.declared.message.Body.TheVariants.{Prepare, Promise, Nack, Accept, Accepted, Ask, Decided}
 use Rattle.ballots.specs.declared.fault.MessageFault.{MessageFault}
 use Rattle.ballots.specs.declared.fault.MessageFault.TheVariants.{Wire, BadKind, OutOfRange, OutOfMemory}
 use Rattle.ballots.specs.Ballot.{Ballot, IsBallot}
@@ -42,7 +44,7 @@ parts_of fields = record {
   value = bytes_meant VALUE fields;
 }
 
--- ---- the messages
+-- ---- the messages, each an envelope: who sends it, for which slot, and what it says
 
 -- no bytes are a Noop
 abbrev pub value_bytes : Value → List ℕ
@@ -52,6 +54,20 @@ value_bytes (Upload bytes) = bytes
 abbrev pub IsValue : Value → Type 0
 IsValue Noop = Unit {0}
 IsValue (Upload bytes) = IsUploadBytes bytes
+
+-- what this node says of this slot
+abbrev pub message : (sender slot : ℕ) → Body → Message
+message sender slot body = record { sender = sender; slot = slot; body = body }
+
+-- the number of its kind
+abbrev pub kind_of : Body → ℕ
+kind_of (Prepare ballot) = PREPARE
+kind_of (Promise ballot report) = PROMISE
+kind_of (Nack ballot promised) = NACK
+kind_of (Accept proposal) = ACCEPT
+kind_of (Accepted acceptance) = ACCEPTED
+kind_of Ask = ASK
+kind_of (Decided value) = DECIDED
 
 -- what every message has
 pub record MeansHead (p : Parts) (kind sender slot : ℕ) : Type 0 where
@@ -70,50 +86,68 @@ pub record MeansValue (bytes : Option (List ℕ)) (v : Value) : Type 0 where
   pub bytes_are : bytes ≡ Some (value_bytes v)
   pub within : IsValue v
 
--- These fields mean the message. Fields that its kind doesn't have are passed over; a Promise reports exactly where its
--- second round is not 0.
+abbrev pub MeansAcceptance : Option ℕ → Option ℕ → Option (List ℕ) → Acceptance → Type 0
+MeansAcceptance round node bytes a = MeansBallot round node a.ballot × MeansValue bytes a.value
+
+-- a Promise reports exactly where its second round is not 0
+abbrev pub MeansReport : Parts → Option Acceptance → Type 0
+MeansReport p None = p.second_round ≡ Some 0
+MeansReport p (Some report) = MeansAcceptance p.second_round p.second_node p.value report
+
+-- what a message says, beside its head; fields that its kind doesn't have are passed over
+abbrev pub MeansBody : Parts → Body → Type 0
+MeansBody p (Prepare ballot) = MeansBallot p.round p.node ballot
+MeansBody p (Promise ballot report) = MeansBallot p.round p.node ballot × MeansReport p report
+MeansBody p (Nack ballot promised) = MeansBallot p.round p.node ballot × MeansBallot p.second_round p.second_node promised
+MeansBody p (Accept proposal) = MeansAcceptance p.round p.node p.value proposal
+MeansBody p (Accepted acceptance) = MeansAcceptance p.round p.node p.value acceptance
+MeansBody p Ask = Unit {0}
+MeansBody p (Decided value) = MeansValue p.value value
+
+-- these fields mean the message
 abbrev pub Means : Parts → Message → Type 0
-Means p (Prepare sender slot ballot) = MeansHead p PREPARE sender slot × MeansBallot p.round p.node ballot
-Means p (Promise sender slot ballot None) =
-    MeansHead p PROMISE sender slot × MeansBallot p.round p.node ballot × (p.second_round ≡ Some 0)
-Means p (Promise sender slot ballot (Some report)) =
-    MeansHead p PROMISE sender slot × MeansBallot p.round p.node ballot
-    × MeansBallot p.second_round p.second_node report.0 × MeansValue p.value report.1
-Means p (Nack sender slot ballot promised) =
-    MeansHead p NACK sender slot × MeansBallot p.round p.node ballot × MeansBallot p.second_round p.second_node promised
-Means p (Accept sender slot ballot value) =
-    MeansHead p ACCEPT sender slot × MeansBallot p.round p.node ballot × MeansValue p.value value
-Means p (Accepted sender slot ballot value) =
-    MeansHead p ACCEPTED sender slot × MeansBallot p.round p.node ballot × MeansValue p.value value
-Means p (Ask sender slot) = MeansHead p ASK sender slot
-Means p (Decided sender slot value) = MeansHead p DECIDED sender slot × MeansValue p.value value
+Means p m = MeansHead p (kind_of m.body) m.sender m.slot × MeansBody p m.body
 
 -- the messages that there are
+abbrev pub IsAcceptanceInRange : Acceptance → Type 0
+IsAcceptanceInRange a = IsBallot a.ballot × IsValue a.value
+
+abbrev pub IsReportInRange : Option Acceptance → Type 0
+IsReportInRange None = Unit {0}
+IsReportInRange (Some report) = IsAcceptanceInRange report
+
+abbrev pub IsBodyInRange : Body → Type 0
+IsBodyInRange (Prepare ballot) = IsBallot ballot
+IsBodyInRange (Promise ballot report) = IsBallot ballot × IsReportInRange report
+IsBodyInRange (Nack ballot promised) = IsBallot ballot × IsBallot promised
+IsBodyInRange (Accept proposal) = IsAcceptanceInRange proposal
+IsBodyInRange (Accepted acceptance) = IsAcceptanceInRange acceptance
+IsBodyInRange Ask = Unit {0}
+IsBodyInRange (Decided value) = IsValue value
+
 abbrev pub IsInRange : Message → Type 0
-IsInRange (Prepare sender slot ballot) = (sender ≤ MAX_NODE) × (slot ≤ MAX_SLOT) × IsBallot ballot
-IsInRange (Promise sender slot ballot None) = (sender ≤ MAX_NODE) × (slot ≤ MAX_SLOT) × IsBallot ballot
-IsInRange (Promise sender slot ballot (Some report)) =
-    (sender ≤ MAX_NODE) × (slot ≤ MAX_SLOT) × IsBallot ballot × IsBallot report.0 × IsValue report.1
-IsInRange (Nack sender slot ballot promised) = (sender ≤ MAX_NODE) × (slot ≤ MAX_SLOT) × IsBallot ballot × IsBallot promised
-IsInRange (Accept sender slot ballot value) = (sender ≤ MAX_NODE) × (slot ≤ MAX_SLOT) × IsBallot ballot × IsValue value
-IsInRange (Accepted sender slot ballot value) = (sender ≤ MAX_NODE) × (slot ≤ MAX_SLOT) × IsBallot ballot × IsValue value
-IsInRange (Ask sender slot) = (sender ≤ MAX_NODE) × (slot ≤ MAX_SLOT)
-IsInRange (Decided sender slot value) = (sender ≤ MAX_NODE) × (slot ≤ MAX_SLOT) × IsValue value
+IsInRange m = (m.sender ≤ MAX_NODE) × (m.slot ≤ MAX_SLOT) × IsBodyInRange m.body
 
 -- what is copied where such a message is read: the bytes of an upload
 abbrev pub IsUpload : Value → Type 0
 IsUpload Noop = ⊥
 IsUpload (Upload bytes) = Unit {0}
 
+abbrev pub ReportsUpload : Option Acceptance → Type 0
+ReportsUpload None = ⊥
+ReportsUpload (Some report) = IsUpload report.value
+
+abbrev pub CarriesUpload : Body → Type 0
+CarriesUpload (Prepare ballot) = ⊥
+CarriesUpload (Promise ballot report) = ReportsUpload report
+CarriesUpload (Nack ballot promised) = ⊥
+CarriesUpload (Accept proposal) = IsUpload proposal.value
+CarriesUpload (Accepted acceptance) = IsUpload acceptance.value
+CarriesUpload Ask = ⊥
+CarriesUpload (Decided value) = IsUpload value
+
 abbrev pub HasUpload : Message → Type 0
-HasUpload (Prepare sender slot ballot) = ⊥
-HasUpload (Promise sender slot ballot None) = ⊥
-HasUpload (Promise sender slot ballot (Some report)) = IsUpload report.1
-HasUpload (Nack sender slot ballot promised) = ⊥
-HasUpload (Accept sender slot ballot value) = IsUpload value
-HasUpload (Accepted sender slot ballot value) = IsUpload value
-HasUpload (Ask sender slot) = ⊥
-HasUpload (Decided sender slot value) = IsUpload value
+HasUpload m = CarriesUpload m.body
 
 -- the text is a list of fields that mean the message
 pub record IsMessageText (text : List ℕ) (m : Message) : Type 0 where
@@ -194,17 +228,23 @@ second_fields b = number_field SECOND_ROUND b.round ∷ number_field SECOND_NODE
 abbrev pub value_fields : Value → List Field
 value_fields v = record { number = VALUE; held = Bytes (value_bytes v) } ∷ []
 
--- all that a message says, by rising field numbers
+abbrev pub report_fields : Option Acceptance → List Field
+report_fields None = []
+report_fields (Some report) = second_fields report.ballot ++ value_fields report.value
+
+-- what a message says beside its head, by rising field numbers
+abbrev pub body_fields : Body → List Field
+body_fields (Prepare ballot) = ballot_fields ballot
+body_fields (Promise ballot report) = ballot_fields ballot ++ report_fields report
+body_fields (Nack ballot promised) = ballot_fields ballot ++ second_fields promised
+body_fields (Accept proposal) = ballot_fields proposal.ballot ++ value_fields proposal.value
+body_fields (Accepted acceptance) = ballot_fields acceptance.ballot ++ value_fields acceptance.value
+body_fields Ask = []
+body_fields (Decided value) = value_fields value
+
+-- all that a message says
 abbrev pub all_fields : Message → List Field
-all_fields (Prepare sender slot ballot) = head_fields PREPARE sender slot ++ ballot_fields ballot
-all_fields (Promise sender slot ballot None) = head_fields PROMISE sender slot ++ ballot_fields ballot
-all_fields (Promise sender slot ballot (Some report)) =
-    head_fields PROMISE sender slot ++ (ballot_fields ballot ++ (second_fields report.0 ++ value_fields report.1))
-all_fields (Nack sender slot ballot promised) = head_fields NACK sender slot ++ (ballot_fields ballot ++ second_fields promised)
-all_fields (Accept sender slot ballot value) = head_fields ACCEPT sender slot ++ (ballot_fields ballot ++ value_fields value)
-all_fields (Accepted sender slot ballot value) = head_fields ACCEPTED sender slot ++ (ballot_fields ballot ++ value_fields value)
-all_fields (Ask sender slot) = head_fields ASK sender slot
-all_fields (Decided sender slot value) = head_fields DECIDED sender slot ++ value_fields value
+all_fields m = head_fields (kind_of m.body) m.sender m.slot ++ body_fields m.body
 
 -- the text of these fields without those that hold their default
 abbrev pub written : List Field → List ℕ

@@ -11,12 +11,14 @@ use Rattle.ballots.specs.declared.value.TheConstants.{MAX_UPLOAD_BYTES}
 use Rattle.ballots.specs.declared.message.numbers.TheConstants.{PREPARE, PROMISE, NACK, ACCEPT, ACCEPTED, ASK, DECIDED}
 use Rattle.ballots.specs.declared.value.Value.{Value}
 use Rattle.ballots.specs.declared.value.Value.TheVariants.{Noop, Upload}
+use Rattle.ballots.specs.declared.acceptance.Acceptance.{Acceptance}
 use Rattle.ballots.specs.declared.message.Message.{Message}
-use Rattle.ballots.specs.declared.message.Message.TheVariants.{Prepare, Promise, Nack, Accept, Accepted, Ask, Decided}
+use Rattle.ballots.specs.declared.message.Body.{Body}
+use Rattle.ballots.specs.declared.message.Body.TheVariants.{Prepare, Promise, Nack, Accept, Accepted, Ask, Decided}
 use Rattle.ballots.specs.declared.fault.MessageFault.{MessageFault}
 use Rattle.ballots.specs.declared.fault.MessageFault.TheVariants.{Wire, BadKind, OutOfRange, OutOfMemory}
 use Rattle.ballots.specs.Ballot.{Ballot}
-use Rattle.ballots.specs.Message.{Parts, WireStands, IsUpload}
+use Rattle.ballots.specs.Message.{Parts, WireStands, message}
 
 -- Memory was refused only where reading gives something that takes some; a fault that is told is the one that is met first.
 abbrev pub Gives : {X : Type 0} → (X → Type 0) → Result X MessageFault → Result X MessageFault → Type 0
@@ -29,11 +31,6 @@ Gives TakesMemory (Err (Wire fault)) read = read ≡ Err (Wire fault)
 -- for what takes no memory
 abbrev pub TakesNone : {X : Type 0} → X → Type 0
 TakesNone x = ⊥
-
--- for a report
-abbrev pub ReportsUpload : Option (Ballot × Value) → Type 0
-ReportsUpload None = ⊥
-ReportsUpload (Some report) = IsUpload report.1
 
 -- this holds of every list of fields that the text is
 abbrev pub OfFields : List ℕ → (List Field → Type 0) → Type 0
@@ -62,50 +59,52 @@ value_at bytes = known bytes >>= λ b.
     if length b == 0 then Ok Noop else if nat_lt MAX_UPLOAD_BYTES (length b) then Err OutOfRange else Ok (Upload b)
 
 -- a ballot and a value that was accepted at it
-unfoldable pub acceptance_at : Option ℕ → Option ℕ → Option (List ℕ) → Result (Ballot × Value) MessageFault
+unfoldable pub acceptance_at : Option ℕ → Option ℕ → Option (List ℕ) → Result Acceptance MessageFault
 acceptance_at round node bytes = do
   b ← ballot_at round node
   v ← value_at bytes
-  Ok (b, v)
+  Ok (record { ballot = b; value = v })
 
-unfoldable pub report_at : Parts → Result (Option (Ballot × Value)) MessageFault
+unfoldable pub report_at : Parts → Result (Option Acceptance) MessageFault
 report_at p = known p.second_round >>= λ round. if round == 0 then Ok None else
     (acceptance_at p.second_round p.second_node p.value >>= λ a. Ok (Some a))
 
 -- ---- by kind
 
-abbrev pub prepare_at : ℕ → ℕ → Parts → Result Message MessageFault
-prepare_at sender slot p = ballot_at p.round p.node >>= λ b. Ok (Prepare sender slot b)
+abbrev pub prepare_at : Parts → Result Body MessageFault
+prepare_at p = ballot_at p.round p.node >>= λ b. Ok (Prepare b)
 
-abbrev pub promise_at : ℕ → ℕ → Parts → Result Message MessageFault
-promise_at sender slot p = ballot_at p.round p.node >>= λ b. report_at p >>= λ r. Ok (Promise sender slot b r)
+abbrev pub promise_at : Parts → Result Body MessageFault
+promise_at p = ballot_at p.round p.node >>= λ b. report_at p >>= λ r. Ok (Promise b r)
 
-abbrev pub nack_at : ℕ → ℕ → Parts → Result Message MessageFault
-nack_at sender slot p = ballot_at p.round p.node >>= λ b. ballot_at p.second_round p.second_node >>= λ c. Ok (Nack sender slot b c)
+abbrev pub nack_at : Parts → Result Body MessageFault
+nack_at p = ballot_at p.round p.node >>= λ b. ballot_at p.second_round p.second_node >>= λ c. Ok (Nack b c)
 
-abbrev pub accept_at : ℕ → ℕ → Parts → Result Message MessageFault
-accept_at sender slot p = acceptance_at p.round p.node p.value >>= λ a. Ok (Accept sender slot a.0 a.1)
+abbrev pub accept_at : Parts → Result Body MessageFault
+accept_at p = acceptance_at p.round p.node p.value >>= λ a. Ok (Accept a)
 
-abbrev pub accepted_at : ℕ → ℕ → Parts → Result Message MessageFault
-accepted_at sender slot p = acceptance_at p.round p.node p.value >>= λ a. Ok (Accepted sender slot a.0 a.1)
+abbrev pub accepted_at : Parts → Result Body MessageFault
+accepted_at p = acceptance_at p.round p.node p.value >>= λ a. Ok (Accepted a)
 
-abbrev pub decided_at : ℕ → ℕ → Parts → Result Message MessageFault
-decided_at sender slot p = value_at p.value >>= λ v. Ok (Decided sender slot v)
+abbrev pub decided_at : Parts → Result Body MessageFault
+decided_at p = value_at p.value >>= λ v. Ok (Decided v)
 
-unfoldable pub body_at : ℕ → ℕ → ℕ → Parts → Result Message MessageFault
-body_at kind sender slot p =
-    if kind == PREPARE then prepare_at sender slot p
-    else if kind == PROMISE then promise_at sender slot p
-    else if kind == NACK then nack_at sender slot p
-    else if kind == ACCEPT then accept_at sender slot p
-    else if kind == ACCEPTED then accepted_at sender slot p
-    else if kind == ASK then Ok (Ask sender slot)
-    else if kind == DECIDED then decided_at sender slot p
+unfoldable pub body_at : ℕ → Parts → Result Body MessageFault
+body_at kind p =
+    if kind == PREPARE then prepare_at p
+    else if kind == PROMISE then promise_at p
+    else if kind == NACK then nack_at p
+    else if kind == ACCEPT then accept_at p
+    else if kind == ACCEPTED then accepted_at p
+    else if kind == ASK then Ok Ask
+    else if kind == DECIDED then decided_at p
     else Err BadKind
 
+-- the head is read first, and then what its kind has
 unfoldable pub message_at : Parts → Result Message MessageFault
 message_at p = do
   kind ← known p.kind
   sender ← within MAX_NODE p.sender
   slot ← within MAX_SLOT p.slot
-  body_at kind sender slot p
+  body ← body_at kind p
+  Ok (message sender slot body)

@@ -13,7 +13,7 @@ use Rattle.ballots.specs.declared.record.Record.TheVariants.{Began, Promised, Ac
 use Rattle.ballots.specs.declared.fault.MessageFault.{MessageFault}
 use Rattle.ballots.specs.declared.fault.MessageFault.TheVariants.{Wire, BadKind, OutOfMemory}
 use Rattle.ballots.specs.Ballot.{Ballot, IsBallot}
-use Rattle.ballots.specs.Message.{value_bytes, IsValue, IsUpload, MeansBallot, MeansValue, Misfit, IsAbove, BallotFault, ValueFault, WireStands, number_field, written}
+use Rattle.ballots.specs.Message.{value_bytes, IsAcceptanceInRange, IsUpload, MeansBallot, MeansAcceptance, Misfit, IsAbove, BallotFault, ValueFault, WireStands, number_field, written}
 
 -- what each field of a record means: the last one given or its default, or nothing where one is of another wire type
 pub record RecordParts : Type 0 where
@@ -42,20 +42,20 @@ pub record MeansSlot (number : Option ℕ) (slot : ℕ) : Type 0 where
 abbrev pub MeansRecord : RecordParts → Record → Type 0
 MeansRecord p (Began ballot) = (p.kind ≡ Some BEGAN) × MeansBallot p.round p.node ballot
 MeansRecord p (Promised slot ballot) = (p.kind ≡ Some PROMISED) × MeansSlot p.slot slot × MeansBallot p.round p.node ballot
-MeansRecord p (Accepted slot ballot value) =
-    (p.kind ≡ Some ACCEPTED) × MeansSlot p.slot slot × MeansBallot p.round p.node ballot × MeansValue p.value value
+MeansRecord p (Accepted slot acceptance) =
+    (p.kind ≡ Some ACCEPTED) × MeansSlot p.slot slot × MeansAcceptance p.round p.node p.value acceptance
 
 -- the records that there are
 abbrev pub IsRecordInRange : Record → Type 0
 IsRecordInRange (Began ballot) = IsBallot ballot
 IsRecordInRange (Promised slot ballot) = (slot ≤ MAX_SLOT) × IsBallot ballot
-IsRecordInRange (Accepted slot ballot value) = (slot ≤ MAX_SLOT) × IsBallot ballot × IsValue value
+IsRecordInRange (Accepted slot acceptance) = (slot ≤ MAX_SLOT) × IsAcceptanceInRange acceptance
 
 -- what is copied where such a record is read: the bytes of an upload
 abbrev pub KeepsUpload : Record → Type 0
 KeepsUpload (Began ballot) = ⊥
 KeepsUpload (Promised slot ballot) = ⊥
-KeepsUpload (Accepted slot ballot value) = IsUpload value
+KeepsUpload (Accepted slot acceptance) = IsUpload acceptance.value
 
 -- the text is a list of fields that mean the record
 pub record IsRecordText (text : List ℕ) (r : Record) : Type 0 where
@@ -110,7 +110,8 @@ kept_value_fields v = record { number = VALUE; held = Bytes (value_bytes v) } �
 abbrev pub record_fields : Record → List Field
 record_fields (Began ballot) = began_fields ++ kept_ballot_fields ballot
 record_fields (Promised slot ballot) = slot_fields PROMISED slot ++ kept_ballot_fields ballot
-record_fields (Accepted slot ballot value) = slot_fields ACCEPTED slot ++ (kept_ballot_fields ballot ++ kept_value_fields value)
+record_fields (Accepted slot acceptance) =
+    slot_fields ACCEPTED slot ++ (kept_ballot_fields acceptance.ballot ++ kept_value_fields acceptance.value)
 
 -- the one encoding of a record: rising field numbers, shortest varints, defaults left out
 unfoldable pub canonical_record : Record → List ℕ

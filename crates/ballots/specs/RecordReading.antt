@@ -18,7 +18,7 @@ abbrev pub promised_at : RecordParts → Result Record MessageFault
 promised_at p = within MAX_SLOT p.slot >>= λ s. ballot_at p.round p.node >>= λ b. Ok (Promised s b)
 
 abbrev pub accepted_at : RecordParts → Result Record MessageFault
-accepted_at p = within MAX_SLOT p.slot >>= λ s. acceptance_at p.round p.node p.value >>= λ a. Ok (Accepted s a.0 a.1)
+accepted_at p = within MAX_SLOT p.slot >>= λ s. acceptance_at p.round p.node p.value >>= λ a. Ok (Accepted s a)
 
 unfoldable pub kept_at : ℕ → RecordParts → Result Record MessageFault
 kept_at kind p =

@@ -3,38 +3,31 @@
 ghost use Rattle.std.specs.Prelude.{◌≡◌, ◌⊎◌, IfOk, IfErr, Ok, Err};
 ghost use Rattle.ballots.specs.declared.message.Message.{Message as Meant};
 ghost use Rattle.ballots.specs.declared.fault.MessageFault.TheVariants.{OutOfMemory};
-ghost use Rattle.ballots.specs.Message.{parts_of, IsMessageText, IsFaultOf, HasUpload};
-ghost use Rattle.ballots.specs.MessageReading.{Gives, ReportsUpload, OfFields, TellsFields, prepare_at, promise_at, report_at, nack_at, accept_at, accepted_at, decided_at, body_at, message_at};
+ghost use Rattle.ballots.specs.Message.{parts_of, IsMessageText, IsFaultOf, ReportsUpload, CarriesUpload, HasUpload};
+ghost use Rattle.ballots.specs.MessageReading.{Gives, OfFields, TellsFields, prepare_at, promise_at, report_at, nack_at, accept_at, accepted_at, decided_at, body_at, message_at};
 
-use crate::ballot::Ballot;
+use crate::acceptance::Acceptance;
 use crate::fault::MessageFault;
-use crate::message::Message;
 use crate::message::numbers::{
     ACCEPT, ACCEPTED, ASK, DECIDED, KIND, NACK, NODE, PREPARE, PROMISE, ROUND, SECOND_NODE,
     SECOND_ROUND, SENDER, SLOT, VALUE,
 };
-use crate::node::NodeId;
+use crate::message::{Body, Message};
 use crate::reading::{acceptance_at, ballot_at, node_at, slot_at, value_at};
-use crate::slot::Slot;
-use crate::value::Value;
 use proto_fields::number_at;
 use std::alloc::Global;
 
 #[tactic(auto, using(crate::proofs::Steps::steps))]
-fn prepare_of(text: &[u8], sender: NodeId, slot: Slot) -> Result<Message, MessageFault>
-    ensures { OfFields text.now (λ fields. Gives HasUpload result (prepare_at sender slot (parts_of fields))) }
+fn prepare_of(text: &[u8]) -> Result<Body, MessageFault>
+    ensures { OfFields text.now (λ fields. Gives CarriesUpload result (prepare_at (parts_of fields))) }
 {
     let ballot = ballot_at(text, ROUND, NODE)?;
-    Ok(Message::Prepare {
-        sender,
-        slot,
-        ballot,
-    })
+    Ok(Body::Prepare { ballot })
 }
 
 /// What a Promise reports: nothing where its second round is 0, whatever else stands there.
 #[tactic(auto, using(crate::proofs::Steps::steps), unfolding(crate::specs::MessageReading::report_at, crate::specs::MessageReading::known))]
-fn report_of(alloc: Global, text: &[u8]) -> Result<Option<(Ballot, Value)>, MessageFault>
+fn report_of(alloc: Global, text: &[u8]) -> Result<Option<Acceptance>, MessageFault>
     ensures { OfFields text.now (λ fields. Gives ReportsUpload result (report_at (parts_of fields))) }
 {
     let second_round = number_at(text, SECOND_ROUND)?;
@@ -46,109 +39,59 @@ fn report_of(alloc: Global, text: &[u8]) -> Result<Option<(Ballot, Value)>, Mess
 }
 
 #[tactic(auto, using(crate::proofs::Steps::steps))]
-fn promise_of(
-    alloc: Global,
-    text: &[u8],
-    sender: NodeId,
-    slot: Slot,
-) -> Result<Message, MessageFault>
-    ensures { OfFields text.now (λ fields. Gives HasUpload result (promise_at sender slot (parts_of fields))) }
+fn promise_of(alloc: Global, text: &[u8]) -> Result<Body, MessageFault>
+    ensures { OfFields text.now (λ fields. Gives CarriesUpload result (promise_at (parts_of fields))) }
 {
     let ballot = ballot_at(text, ROUND, NODE)?;
     let report = report_of(alloc, text)?;
-    Ok(Message::Promise {
-        sender,
-        slot,
-        ballot,
-        report,
-    })
+    Ok(Body::Promise { ballot, report })
 }
 
 #[tactic(auto, using(crate::proofs::Steps::steps))]
-fn nack_of(text: &[u8], sender: NodeId, slot: Slot) -> Result<Message, MessageFault>
-    ensures { OfFields text.now (λ fields. Gives HasUpload result (nack_at sender slot (parts_of fields))) }
+fn nack_of(text: &[u8]) -> Result<Body, MessageFault>
+    ensures { OfFields text.now (λ fields. Gives CarriesUpload result (nack_at (parts_of fields))) }
 {
     let ballot = ballot_at(text, ROUND, NODE)?;
     let promised = ballot_at(text, SECOND_ROUND, SECOND_NODE)?;
-    Ok(Message::Nack {
-        sender,
-        slot,
-        ballot,
-        promised,
-    })
+    Ok(Body::Nack { ballot, promised })
 }
 
 #[tactic(auto, using(crate::proofs::Steps::steps))]
-fn accept_of(
-    alloc: Global,
-    text: &[u8],
-    sender: NodeId,
-    slot: Slot,
-) -> Result<Message, MessageFault>
-    ensures { OfFields text.now (λ fields. Gives HasUpload result (accept_at sender slot (parts_of fields))) }
+fn accept_of(alloc: Global, text: &[u8]) -> Result<Body, MessageFault>
+    ensures { OfFields text.now (λ fields. Gives CarriesUpload result (accept_at (parts_of fields))) }
 {
-    let (ballot, value) = acceptance_at(alloc, text, (ROUND, NODE), VALUE)?;
-    Ok(Message::Accept {
-        sender,
-        slot,
-        ballot,
-        value,
-    })
+    let proposal = acceptance_at(alloc, text, (ROUND, NODE), VALUE)?;
+    Ok(Body::Accept(proposal))
 }
 
 #[tactic(auto, using(crate::proofs::Steps::steps))]
-fn accepted_of(
-    alloc: Global,
-    text: &[u8],
-    sender: NodeId,
-    slot: Slot,
-) -> Result<Message, MessageFault>
-    ensures { OfFields text.now (λ fields. Gives HasUpload result (accepted_at sender slot (parts_of fields))) }
+fn accepted_of(alloc: Global, text: &[u8]) -> Result<Body, MessageFault>
+    ensures { OfFields text.now (λ fields. Gives CarriesUpload result (accepted_at (parts_of fields))) }
 {
-    let (ballot, value) = acceptance_at(alloc, text, (ROUND, NODE), VALUE)?;
-    Ok(Message::Accepted {
-        sender,
-        slot,
-        ballot,
-        value,
-    })
+    let acceptance = acceptance_at(alloc, text, (ROUND, NODE), VALUE)?;
+    Ok(Body::Accepted(acceptance))
 }
 
 #[tactic(auto, using(crate::proofs::Steps::steps))]
-fn decided_of(
-    alloc: Global,
-    text: &[u8],
-    sender: NodeId,
-    slot: Slot,
-) -> Result<Message, MessageFault>
-    ensures { OfFields text.now (λ fields. Gives HasUpload result (decided_at sender slot (parts_of fields))) }
+fn decided_of(alloc: Global, text: &[u8]) -> Result<Body, MessageFault>
+    ensures { OfFields text.now (λ fields. Gives CarriesUpload result (decided_at (parts_of fields))) }
 {
     let value = value_at(alloc, text, VALUE)?;
-    Ok(Message::Decided {
-        sender,
-        slot,
-        value,
-    })
+    Ok(Body::Decided { value })
 }
 
 #[tactic(auto, unfolding(crate::specs::MessageReading::body_at))]
-fn body_of(
-    alloc: Global,
-    kind: u64,
-    text: &[u8],
-    sender: NodeId,
-    slot: Slot,
-) -> Result<Message, MessageFault>
-    ensures { OfFields text.now (λ fields. Gives HasUpload result (body_at kind sender slot (parts_of fields))) }
+fn body_of(alloc: Global, kind: u64, text: &[u8]) -> Result<Body, MessageFault>
+    ensures { OfFields text.now (λ fields. Gives CarriesUpload result (body_at kind (parts_of fields))) }
 {
     match kind {
-        PREPARE => prepare_of(text, sender, slot),
-        PROMISE => promise_of(alloc, text, sender, slot),
-        NACK => nack_of(text, sender, slot),
-        ACCEPT => accept_of(alloc, text, sender, slot),
-        ACCEPTED => accepted_of(alloc, text, sender, slot),
-        ASK => Ok(Message::Ask { sender, slot }),
-        DECIDED => decided_of(alloc, text, sender, slot),
+        PREPARE => prepare_of(text),
+        PROMISE => promise_of(alloc, text),
+        NACK => nack_of(text),
+        ACCEPT => accept_of(alloc, text),
+        ACCEPTED => accepted_of(alloc, text),
+        ASK => Ok(Body::Ask),
+        DECIDED => decided_of(alloc, text),
         _ => Err(MessageFault::BadKind),
     }
 }
@@ -161,7 +104,8 @@ fn message_of(alloc: Global, text: &[u8]) -> Result<Message, MessageFault>
     let kind = number_at(text, KIND)?;
     let sender = node_at(text, SENDER)?;
     let slot = slot_at(text, SLOT)?;
-    body_of(alloc, kind, text, sender, slot)
+    let body = body_of(alloc, kind, text)?;
+    Ok(Message { sender, slot, body })
 }
 
 impl Message {

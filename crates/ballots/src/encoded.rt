@@ -4,7 +4,7 @@ ghost use Rattle.std.specs.Prelude.{◌≡◌, IfOk};
 ghost use Rattle.ballots.specs.Message.{value_bytes, canonical};
 ghost use Rattle.ballots.specs.AllFields.{all_fields_text};
 
-use crate::{Ballot, Message, NodeId, Slot, Value};
+use crate::{Acceptance, Ballot, Body, Message, NodeId, Slot, Value};
 use proto_fields::{write_nonempty_bytes, write_nonzero_varint};
 use std::alloc::{AllocError, Global};
 
@@ -56,10 +56,10 @@ pub(crate) fn prepare(
     ensures { IfOk result (λ made. made.text.items ≡ canonical made.message) }
 {
     let text = encoded(alloc, 1, (sender, slot), pair(ballot), (0, 0), &Value::Noop)?;
-    let message = Message::Prepare {
+    let message = Message {
         sender,
         slot,
-        ballot,
+        body: Body::Prepare { ballot },
     };
     Ok(Made { message, text })
 }
@@ -74,12 +74,11 @@ pub(crate) fn promise(
     ensures { IfOk result (λ made. made.text.items ≡ canonical made.message) }
 {
     let text = encoded(alloc, 2, (sender, slot), pair(ballot), (0, 0), &Value::Noop)?;
-    let message = Message::Promise {
-        sender,
-        slot,
+    let body = Body::Promise {
         ballot,
         report: None,
     };
+    let message = Message { sender, slot, body };
     Ok(Made { message, text })
 }
 
@@ -89,8 +88,7 @@ pub(crate) fn reporting_promise(
     sender: NodeId,
     slot: Slot,
     ballot: Ballot,
-    reported: Ballot,
-    value: Value,
+    report: Acceptance,
 ) -> Result<Made, AllocError>
     ensures { IfOk result (λ made. made.text.items ≡ canonical made.message) }
 {
@@ -99,15 +97,14 @@ pub(crate) fn reporting_promise(
         2,
         (sender, slot),
         pair(ballot),
-        pair(reported),
-        &value,
+        pair(report.ballot),
+        &report.value,
     )?;
-    let message = Message::Promise {
-        sender,
-        slot,
+    let body = Body::Promise {
         ballot,
-        report: Some((reported, value)),
+        report: Some(report),
     };
+    let message = Message { sender, slot, body };
     Ok(Made { message, text })
 }
 
@@ -129,11 +126,10 @@ pub(crate) fn nack(
         pair(promised),
         &Value::Noop,
     )?;
-    let message = Message::Nack {
+    let message = Message {
         sender,
         slot,
-        ballot,
-        promised,
+        body: Body::Nack { ballot, promised },
     };
     Ok(Made { message, text })
 }
@@ -143,17 +139,16 @@ pub(crate) fn accept(
     alloc: Global,
     sender: NodeId,
     slot: Slot,
-    ballot: Ballot,
-    value: Value,
+    proposal: Acceptance,
 ) -> Result<Made, AllocError>
     ensures { IfOk result (λ made. made.text.items ≡ canonical made.message) }
 {
-    let text = encoded(alloc, 4, (sender, slot), pair(ballot), (0, 0), &value)?;
-    let message = Message::Accept {
+    let first = pair(proposal.ballot);
+    let text = encoded(alloc, 4, (sender, slot), first, (0, 0), &proposal.value)?;
+    let message = Message {
         sender,
         slot,
-        ballot,
-        value,
+        body: Body::Accept(proposal),
     };
     Ok(Made { message, text })
 }
@@ -163,17 +158,16 @@ pub(crate) fn accepted(
     alloc: Global,
     sender: NodeId,
     slot: Slot,
-    ballot: Ballot,
-    value: Value,
+    acceptance: Acceptance,
 ) -> Result<Made, AllocError>
     ensures { IfOk result (λ made. made.text.items ≡ canonical made.message) }
 {
-    let text = encoded(alloc, 5, (sender, slot), pair(ballot), (0, 0), &value)?;
-    let message = Message::Accepted {
+    let first = pair(acceptance.ballot);
+    let text = encoded(alloc, 5, (sender, slot), first, (0, 0), &acceptance.value)?;
+    let message = Message {
         sender,
         slot,
-        ballot,
-        value,
+        body: Body::Accepted(acceptance),
     };
     Ok(Made { message, text })
 }
@@ -183,7 +177,11 @@ pub(crate) fn ask(alloc: Global, sender: NodeId, slot: Slot) -> Result<Made, All
     ensures { IfOk result (λ made. made.text.items ≡ canonical made.message) }
 {
     let text = encoded(alloc, 6, (sender, slot), (0, 0), (0, 0), &Value::Noop)?;
-    let message = Message::Ask { sender, slot };
+    let message = Message {
+        sender,
+        slot,
+        body: Body::Ask,
+    };
     Ok(Made { message, text })
 }
 
@@ -197,10 +195,10 @@ pub(crate) fn decided(
     ensures { IfOk result (λ made. made.text.items ≡ canonical made.message) }
 {
     let text = encoded(alloc, 7, (sender, slot), (0, 0), (0, 0), &value)?;
-    let message = Message::Decided {
+    let message = Message {
         sender,
         slot,
-        value,
+        body: Body::Decided { value },
     };
     Ok(Made { message, text })
 }

@@ -4,167 +4,156 @@ ghost use Rattle.std.specs.Prelude.{◌≡◌, ◌≤◌, ◌++◌, OnOk, OnErr}
 ghost use Rattle.proto_fields.specs.Writing.{Grows};
 ghost use Rattle.ballots.specs.declared.node.TheConstants.{MAX_NODE};
 ghost use Rattle.ballots.specs.declared.slot.TheConstants.{MAX_SLOT};
-ghost use Rattle.ballots.specs.Message.{head_fields, written, canonical, IsInRange, IsMessageText};
-ghost use Rattle.ballots.specs.AllFields.{all_fields_text};
+ghost use Rattle.ballots.specs.Ballot.{IsBallot};
+ghost use Rattle.ballots.specs.Message.{kind_of, head_fields, ballot_fields, second_fields, value_fields};
+ghost use Rattle.ballots.specs.Message.{report_fields, body_fields, written, canonical, IsValue, IsAcceptanceInRange};
+ghost use Rattle.ballots.specs.Message.{IsReportInRange, IsBodyInRange, IsInRange, IsMessageText};
 
-use crate::message::Message;
+use crate::acceptance::Acceptance;
+use crate::ballot::Ballot;
 use crate::message::numbers::{
     ACCEPT, ACCEPTED, ASK, DECIDED, KIND, NACK, NODE, PREPARE, PROMISE, ROUND, SECOND_NODE,
     SECOND_ROUND, SENDER, SLOT, VALUE,
 };
+use crate::message::{Body, Message};
 use crate::node::NodeId;
 use crate::slot::Slot;
-use crate::value::OutOfMemory;
-use crate::writing::{NO_BALLOT, append_pair, or_undone, pair};
+use crate::value::{OutOfMemory, Value};
+use crate::writing::{append_pair, or_undone, pair};
 use proto_fields::{write_nonempty_bytes, write_nonzero_varint};
 
-/// What every message has, as numbers.
-fn head(sender: NodeId, slot: Slot) -> (u8, u32)
-    ensures value { (result.0 ≡ sender) × (result.1 ≡ slot) }
+#[tactic(auto, using(crate::proofs::Written::written_rules))]
+fn append_head(out: &mut Vec<u8>, kind: u64, sender: NodeId, slot: Slot) -> Result<(), OutOfMemory>
+    ensures ok { OnOk result (out.new.items ≡ out.old.items ++ written (head_fields kind sender slot)) }
+    ensures err { Grows out.old.items out.new.items }
     ensures within { (sender ≤ MAX_NODE) × (slot ≤ MAX_SLOT) }
 {
-    (sender.number(), slot.number())
-}
-
-#[tactic(auto, using(crate::proofs::Written::written_rules))]
-fn append_head(out: &mut Vec<u8>, kind: u64, head: (u8, u32)) -> Result<(), OutOfMemory>
-    ensures ok { OnOk result (out.new.items ≡ out.old.items ++ written (head_fields kind head.0 head.1)) }
-    ensures err { Grows out.old.items out.new.items }
-{
     write_nonzero_varint(out, KIND, kind)?;
-    write_nonzero_varint(out, SENDER, u64::from(head.0))?;
-    write_nonzero_varint(out, SLOT, u64::from(head.1))?;
+    write_nonzero_varint(out, SENDER, u64::from(sender.number()))?;
+    write_nonzero_varint(out, SLOT, u64::from(slot.number()))?;
     Ok(())
 }
 
-/// Appends all fields of a message, those left out that are 0 or no bytes: its head, a first and a second ballot, and
-/// the bytes of a value.
+/// Appends the message's own ballot.
+fn append_ballot(out: &mut Vec<u8>, ballot: Ballot) -> Result<(), OutOfMemory>
+    ensures ok { OnOk result (out.new.items ≡ out.old.items ++ written (ballot_fields ballot)) }
+    ensures err { Grows out.old.items out.new.items }
+    ensures within { IsBallot ballot }
+{
+    append_pair(out, (ROUND, NODE), pair(ballot))
+}
+
+/// Appends the ballot that is reported, or that refused.
+fn append_second(out: &mut Vec<u8>, ballot: Ballot) -> Result<(), OutOfMemory>
+    ensures ok { OnOk result (out.new.items ≡ out.old.items ++ written (second_fields ballot)) }
+    ensures err { Grows out.old.items out.new.items }
+    ensures within { IsBallot ballot }
+{
+    append_pair(out, (SECOND_ROUND, SECOND_NODE), pair(ballot))
+}
+
+fn append_value(out: &mut Vec<u8>, value: &Value) -> Result<(), OutOfMemory>
+    ensures ok { OnOk result (out.new.items ≡ out.old.items ++ written (value_fields value.now)) }
+    ensures err { Grows out.old.items out.new.items }
+    ensures within { IsValue value.now }
+{
+    write_nonempty_bytes(out, VALUE, value.as_bytes())
+}
+
 #[tactic(auto, using(crate::proofs::Written::written_rules))]
-fn append_fields(
+fn append_acceptance(out: &mut Vec<u8>, acceptance: &Acceptance) -> Result<(), OutOfMemory>
+    ensures ok { OnOk result (out.new.items
+        ≡ out.old.items ++ written (ballot_fields acceptance.now.ballot ++ value_fields acceptance.now.value)) }
+    ensures err { Grows out.old.items out.new.items }
+    ensures within { OnOk result (IsAcceptanceInRange acceptance.now) }
+{
+    append_ballot(out, acceptance.ballot)?;
+    append_value(out, &acceptance.value)
+}
+
+/// Appends what a Promise reports.
+#[tactic(auto, using(crate::proofs::Written::written_rules))]
+fn append_report(out: &mut Vec<u8>, report: &Option<Acceptance>) -> Result<(), OutOfMemory>
+    ensures ok { OnOk result (out.new.items ≡ out.old.items ++ written (report_fields report.now)) }
+    ensures err { Grows out.old.items out.new.items }
+    ensures within { OnOk result (IsReportInRange report.now) }
+{
+    let Some(report) = report else {
+        return Ok(());
+    };
+    append_second(out, report.ballot)?;
+    append_value(out, &report.value)
+}
+
+#[tactic(auto, using(crate::proofs::Written::written_rules))]
+fn append_promise(
     out: &mut Vec<u8>,
-    kind: u64,
-    head: (u8, u32),
-    first: (u32, u8),
-    second: (u32, u8),
-    value: &[u8],
+    ballot: Ballot,
+    report: &Option<Acceptance>,
 ) -> Result<(), OutOfMemory>
     ensures ok { OnOk result (out.new.items
-        ≡ out.old.items ++ all_fields_text kind head.0 head.1 first.0 first.1 second.0 second.1 value.now) }
+        ≡ out.old.items ++ written (ballot_fields ballot ++ report_fields report.now)) }
     ensures err { Grows out.old.items out.new.items }
+    ensures within { OnOk result (IsBallot ballot × IsReportInRange report.now) }
 {
-    append_head(out, kind, head)?;
-    append_pair(out, (ROUND, NODE), first)?;
-    append_pair(out, (SECOND_ROUND, SECOND_NODE), second)?;
-    write_nonempty_bytes(out, VALUE, value)?;
-    Ok(())
+    append_ballot(out, ballot)?;
+    append_report(out, report)
+}
+
+#[tactic(auto, using(crate::proofs::Written::written_rules))]
+fn append_nack(out: &mut Vec<u8>, ballot: Ballot, promised: Ballot) -> Result<(), OutOfMemory>
+    ensures ok { OnOk result (out.new.items
+        ≡ out.old.items ++ written (ballot_fields ballot ++ second_fields promised)) }
+    ensures err { Grows out.old.items out.new.items }
+    ensures within { IsBallot ballot × IsBallot promised }
+{
+    append_ballot(out, ballot)?;
+    append_second(out, promised)
+}
+
+impl Body {
+    /// The number of its kind.
+    fn kind(&self) -> u64
+        ensures { result ≡ kind_of self.now }
+    {
+        match self {
+            Body::Prepare { .. } => PREPARE,
+            Body::Promise { .. } => PROMISE,
+            Body::Nack { .. } => NACK,
+            Body::Accept(_) => ACCEPT,
+            Body::Accepted(_) => ACCEPTED,
+            Body::Ask => ASK,
+            Body::Decided { .. } => DECIDED,
+        }
+    }
+
+    /// Appends what the message says beside its head.
+    fn append(&self, out: &mut Vec<u8>) -> Result<(), OutOfMemory>
+        ensures ok { OnOk result (out.new.items ≡ out.old.items ++ written (body_fields self.now)) }
+        ensures err { Grows out.old.items out.new.items }
+        ensures within { OnOk result (IsBodyInRange self.now) }
+    {
+        match self {
+            Body::Prepare { ballot } => append_ballot(out, *ballot),
+            Body::Promise { ballot, report } => append_promise(out, *ballot, report),
+            Body::Nack { ballot, promised } => append_nack(out, *ballot, *promised),
+            Body::Accept(proposal) => append_acceptance(out, proposal),
+            Body::Accepted(acceptance) => append_acceptance(out, acceptance),
+            Body::Ask => Ok(()),
+            Body::Decided { value } => append_value(out, value),
+        }
+    }
 }
 
 impl Message {
-    #[tactic(auto, using(crate::proofs::AllFields::all_fields))]
+    #[tactic(auto, using(crate::proofs::Written::written_rules), unfolding(crate::specs::Message::canonical))]
     fn append(&self, out: &mut Vec<u8>) -> Result<(), OutOfMemory>
         ensures ok { OnOk result (out.new.items ≡ out.old.items ++ canonical self.now) }
         ensures err { Grows out.old.items out.new.items }
         ensures within { OnOk result (IsInRange self.now) }
     {
-        match self {
-            Message::Prepare {
-                sender,
-                slot,
-                ballot,
-            } => append_fields(
-                out,
-                PREPARE,
-                head(*sender, *slot),
-                pair(*ballot),
-                NO_BALLOT,
-                &[],
-            ),
-            Message::Promise {
-                sender,
-                slot,
-                ballot,
-                report: None,
-            } => append_fields(
-                out,
-                PROMISE,
-                head(*sender, *slot),
-                pair(*ballot),
-                NO_BALLOT,
-                &[],
-            ),
-            Message::Promise {
-                sender,
-                slot,
-                ballot,
-                report: Some((reported, value)),
-            } => append_fields(
-                out,
-                PROMISE,
-                head(*sender, *slot),
-                pair(*ballot),
-                pair(*reported),
-                value.as_bytes(),
-            ),
-            Message::Nack {
-                sender,
-                slot,
-                ballot,
-                promised,
-            } => append_fields(
-                out,
-                NACK,
-                head(*sender, *slot),
-                pair(*ballot),
-                pair(*promised),
-                &[],
-            ),
-            Message::Accept {
-                sender,
-                slot,
-                ballot,
-                value,
-            } => append_fields(
-                out,
-                ACCEPT,
-                head(*sender, *slot),
-                pair(*ballot),
-                NO_BALLOT,
-                value.as_bytes(),
-            ),
-            Message::Accepted {
-                sender,
-                slot,
-                ballot,
-                value,
-            } => append_fields(
-                out,
-                ACCEPTED,
-                head(*sender, *slot),
-                pair(*ballot),
-                NO_BALLOT,
-                value.as_bytes(),
-            ),
-            Message::Ask { sender, slot } => append_fields(
-                out,
-                ASK,
-                head(*sender, *slot),
-                NO_BALLOT,
-                NO_BALLOT,
-                &[],
-            ),
-            Message::Decided {
-                sender,
-                slot,
-                value,
-            } => append_fields(
-                out,
-                DECIDED,
-                head(*sender, *slot),
-                NO_BALLOT,
-                NO_BALLOT,
-                value.as_bytes(),
-            ),
-        }
+        append_head(out, self.body.kind(), self.sender, self.slot)?;
+        self.body.append(out)
     }
 
     /// Appends the message's bytes: rising field numbers, shortest varints, defaults left out. A refused one leaves the

@@ -5,7 +5,8 @@ ghost use Rattle.std.specs.declared.cmp.Ordering.TheVariants.{Less, Equal, Great
 ghost use Rattle.ballots.specs.declared.value.Value.{Value};
 ghost use Rattle.ballots.specs.declared.value.Value.TheVariants.{Noop};
 ghost use Rattle.ballots.specs.declared.message.Message.{Message as Meant};
-ghost use Rattle.ballots.specs.declared.message.Message.TheVariants.{Prepare, Promise, Nack, Accept, Accepted, Ask, Decided};
+ghost use Rattle.ballots.specs.declared.acceptance.Acceptance.{Acceptance};
+ghost use Rattle.ballots.specs.declared.message.Body.TheVariants.{Prepare, Promise, Nack, Accept, Accepted, Ask, Decided};
 ghost use Rattle.ballots.specs.declared.ballot.TheConstants.{MAX_ROUND};
 ghost use Rattle.ballots.specs.declared.node.TheConstants.{MAX_NODE};
 ghost use Rattle.ballots.specs.declared.members.TheConstants.{MAX_MEMBERS};
@@ -15,7 +16,7 @@ ghost use Rattle.ballots.specs.Limits.{max_round, max_node, max_members, max_slo
 ghost use Rattle.ballots.specs.Ballot.{Ballot as Pair, IsBelow, IsAbove, IsAtLeast, ballot_cmp, is_same_ballot};
 ghost use Rattle.ballots.specs.Majority.{tally, IsMajority};
 ghost use Rattle.ballots.specs.Slots.{SetsSlot};
-ghost use Rattle.ballots.specs.Message.{IsMessageText, IsInRange, HasUpload, canonical, value_bytes};
+ghost use Rattle.ballots.specs.Message.{message, IsMessageText, IsInRange, CarriesUpload, HasUpload, canonical, value_bytes};
 ghost use Rattle.ballots.specs.AllFields.{all_fields_text, all_record_fields_text};
 ghost use Rattle.ballots.specs.declared.record.Record.{Record as Kept};
 ghost use Rattle.ballots.specs.declared.record.Record.TheVariants.{Began, Promised, Accepted as HasAccepted};
@@ -100,32 +101,34 @@ pub fn canonical_means_its_message()
 /// Prepare as kind 1, and so on up to a Decided as kind 7.
 #[tactic(auto, using(crate::proofs::AllFields::all_fields))]
 pub fn messages_write_all_fields()
-    ensures prepare { (s t : ℕ) (b : Pair) → canonical (Prepare s t b) ≡ all_fields_text 1 s t b.round b.node 0 0 [] }
-    ensures promise { (s t : ℕ) (b : Pair) → canonical (Promise s t b None) ≡ all_fields_text 2 s t b.round b.node 0 0 [] }
-    ensures report { (s t : ℕ) (b r : Pair) (v : Value) → canonical (Promise s t b (Some (r, v)))
-        ≡ all_fields_text 2 s t b.round b.node r.round r.node (value_bytes v) }
-    ensures nack { (s t : ℕ) (b c : Pair) → canonical (Nack s t b c) ≡ all_fields_text 3 s t b.round b.node c.round c.node [] }
-    ensures accept { (s t : ℕ) (b : Pair) (v : Value) → canonical (Accept s t b v)
-        ≡ all_fields_text 4 s t b.round b.node 0 0 (value_bytes v) }
-    ensures accepted { (s t : ℕ) (b : Pair) (v : Value) → canonical (Accepted s t b v)
-        ≡ all_fields_text 5 s t b.round b.node 0 0 (value_bytes v) }
-    ensures ask { (s t : ℕ) → canonical (Ask s t) ≡ all_fields_text 6 s t 0 0 0 0 [] }
-    ensures decided { (s t : ℕ) (v : Value) → canonical (Decided s t v) ≡ all_fields_text 7 s t 0 0 0 0 (value_bytes v) }
+    ensures prepare { (s t : ℕ) (b : Pair) → canonical (message s t (Prepare b)) ≡ all_fields_text 1 s t b.round b.node 0 0 [] }
+    ensures promise { (s t : ℕ) (b : Pair) → canonical (message s t (Promise b None)) ≡ all_fields_text 2 s t b.round b.node 0 0 [] }
+    ensures report { (s t : ℕ) (b : Pair) (r : Acceptance) → canonical (message s t (Promise b (Some r)))
+        ≡ all_fields_text 2 s t b.round b.node r.ballot.round r.ballot.node (value_bytes r.value) }
+    ensures nack { (s t : ℕ) (b c : Pair) → canonical (message s t (Nack b c)) ≡ all_fields_text 3 s t b.round b.node c.round c.node [] }
+    ensures accept { (s t : ℕ) (a : Acceptance) → canonical (message s t (Accept a))
+        ≡ all_fields_text 4 s t a.ballot.round a.ballot.node 0 0 (value_bytes a.value) }
+    ensures accepted { (s t : ℕ) (a : Acceptance) → canonical (message s t (Accepted a))
+        ≡ all_fields_text 5 s t a.ballot.round a.ballot.node 0 0 (value_bytes a.value) }
+    ensures ask { (s t : ℕ) → canonical (message s t Ask) ≡ all_fields_text 6 s t 0 0 0 0 [] }
+    ensures decided { (s t : ℕ) (v : Value) → canonical (message s t (Decided v)) ≡ all_fields_text 7 s t 0 0 0 0 (value_bytes v) }
 {}
 
-/// Reading takes memory for the bytes of an upload alone: whatever has no value, or a Noop, takes none.
+/// Reading takes memory for the bytes of an upload alone: whatever has no value, or a Noop, takes none, whoever sends it and
+/// for whichever slot.
 pub fn only_uploads_take_memory()
-    ensures prepare { (s t : ℕ) (b : Pair) → HasUpload (Prepare s t b) → ⊥ }
-    ensures promise { (s t : ℕ) (b : Pair) → HasUpload (Promise s t b None) → ⊥ }
-    ensures report { (s t : ℕ) (b r : Pair) → HasUpload (Promise s t b (Some (r, Noop))) → ⊥ }
-    ensures nack { (s t : ℕ) (b c : Pair) → HasUpload (Nack s t b c) → ⊥ }
-    ensures accept { (s t : ℕ) (b : Pair) → HasUpload (Accept s t b Noop) → ⊥ }
-    ensures accepted { (s t : ℕ) (b : Pair) → HasUpload (Accepted s t b Noop) → ⊥ }
-    ensures ask { (s t : ℕ) → HasUpload (Ask s t) → ⊥ }
-    ensures decided { (s t : ℕ) → HasUpload (Decided s t Noop) → ⊥ }
+    ensures message { (m : Meant) → HasUpload m → CarriesUpload m.body }
+    ensures prepare { (b : Pair) → CarriesUpload (Prepare b) → ⊥ }
+    ensures promise { (b : Pair) → CarriesUpload (Promise b None) → ⊥ }
+    ensures report { (b : Pair) (a : Acceptance) → a.value ≡ Noop → CarriesUpload (Promise b (Some a)) → ⊥ }
+    ensures nack { (b c : Pair) → CarriesUpload (Nack b c) → ⊥ }
+    ensures accept { (a : Acceptance) → a.value ≡ Noop → CarriesUpload (Accept a) → ⊥ }
+    ensures accepted { (a : Acceptance) → a.value ≡ Noop → CarriesUpload (Accepted a) → ⊥ }
+    ensures ask { CarriesUpload Ask → ⊥ }
+    ensures decided { CarriesUpload (Decided Noop) → ⊥ }
     ensures record_began { (b : Pair) → KeepsUpload (Began b) → ⊥ }
     ensures record_promised { (t : ℕ) (b : Pair) → KeepsUpload (Promised t b) → ⊥ }
-    ensures record_accepted { (t : ℕ) (b : Pair) → KeepsUpload (HasAccepted t b Noop) → ⊥ }
+    ensures record_accepted { (t : ℕ) (a : Acceptance) → a.value ≡ Noop → KeepsUpload (HasAccepted t a) → ⊥ }
 {}
 
 /// A text means one record at most.
@@ -144,6 +147,6 @@ pub fn canonical_means_its_record()
 pub fn records_write_all_fields()
     ensures began { (b : Pair) → canonical_record (Began b) ≡ all_record_fields_text 1 0 b.round b.node [] }
     ensures promised { (t : ℕ) (b : Pair) → canonical_record (Promised t b) ≡ all_record_fields_text 2 t b.round b.node [] }
-    ensures accepted { (t : ℕ) (b : Pair) (v : Value) → canonical_record (HasAccepted t b v)
-        ≡ all_record_fields_text 3 t b.round b.node (value_bytes v) }
+    ensures accepted { (t : ℕ) (a : Acceptance) → canonical_record (HasAccepted t a)
+        ≡ all_record_fields_text 3 t a.ballot.round a.ballot.node (value_bytes a.value) }
 {}

@@ -2,7 +2,8 @@
 //! their bytes.
 //!
 //! The nodes agree on one list of uploads, one decision for each slot. A ballot is a round and the node that began it,
-//! and ballots are ordered by round, then by node. What a message's bytes mean is defined in `specs/`, as a relation
+//! and ballots are ordered by round, then by node. A message is an envelope: its sender, its slot, and a body of one of
+//! seven kinds. What a message's bytes mean is defined in `specs/`, as a relation
 //! between a message and a list of protobuf fields; `decode` is `Ok` exactly where the bytes mean a message, memory
 //! apart, and `encode` appends the one canonical encoding. The same holds of a record, what a node keeps before it answers.
 //!
@@ -12,6 +13,7 @@
 //! laws, and of `proofs/` the module `CallerLemmas` alone: the order of ballots, and sizes of sets of members.
 #![tactic(auto)]
 
+mod acceptance;
 mod ballot;
 mod decoding;
 #[cfg(test)]
@@ -34,6 +36,7 @@ mod tests;
 mod value;
 mod writing;
 
+pub use acceptance::Acceptance;
 pub use ballot::{Ballot, MAX_ROUND};
 pub use fault::MessageFault;
 pub use laws::{
@@ -44,7 +47,7 @@ pub use laws::{
     sizes_count_each_member_once,
 };
 pub use members::{MAX_MEMBERS, Members};
-pub use message::Message;
+pub use message::{Body, Message};
 pub use node::{MAX_NODE, NodeId};
 pub use node_set::NodeSet;
 pub use printed::LineFault;

@@ -1,79 +1,53 @@
 //! The messages that nodes send each other (Lamport, *Paxos Made Simple*, sections 2.2 and 2.3).
 
+use crate::acceptance::Acceptance;
 use crate::ballot::Ballot;
 use crate::node::NodeId;
 use crate::slot::Slot;
 use crate::value::Value;
 
-/// A message. It names its sender and never its receiver: any node may be handed any message at any time.
+/// A message: who sends it, for which slot, and what it says. It names its sender and never its receiver: any node may
+/// be handed any message at any time.
 #[derive(Debug, PartialEq, Eq, Drop)]
-pub enum Message {
+pub struct Message {
+    /// Who sends it.
+    pub sender: NodeId,
+    /// For which slot; of an Ask the first slot that the sender does not know.
+    pub slot: Slot,
+    /// What it says.
+    pub body: Body,
+}
+
+/// What a message says of its slot.
+#[derive(Debug, PartialEq, Eq, Drop)]
+pub enum Body {
     /// Phase 1a: asks for a promise to take no Accept below the ballot for this slot.
     Prepare {
-        /// Who asks.
-        sender: NodeId,
-        /// For which slot.
-        slot: Slot,
         /// At which ballot.
         ballot: Ballot,
     },
     /// Phase 1b: the promise, with what the sender has accepted for the slot, if anything.
     Promise {
-        /// Who promises.
-        sender: NodeId,
-        /// For which slot.
-        slot: Slot,
         /// The ballot of the Prepare.
         ballot: Ballot,
         /// What the sender has accepted, and at which ballot.
-        report: Option<(Ballot, Value)>,
+        report: Option<Acceptance>,
     },
     /// The refusal of a Prepare or an Accept below what the sender has promised.
     Nack {
-        /// Who refuses.
-        sender: NodeId,
-        /// For which slot.
-        slot: Slot,
         /// The refused ballot.
         ballot: Ballot,
         /// What the sender has promised.
         promised: Ballot,
     },
-    /// Phase 2a: asks to accept a value.
-    Accept {
-        /// Who asks.
-        sender: NodeId,
-        /// For which slot.
-        slot: Slot,
-        /// At which ballot.
-        ballot: Ballot,
-        /// What is to be accepted.
-        value: Value,
-    },
-    /// Phase 2b: the value is accepted.
-    Accepted {
-        /// Who has accepted it.
-        sender: NodeId,
-        /// For which slot.
-        slot: Slot,
-        /// At which ballot.
-        ballot: Ballot,
-        /// What is accepted.
-        value: Value,
-    },
+    /// Phase 2a: asks to accept this value at this ballot.
+    Accept(Acceptance),
+    /// Phase 2b: this value is accepted at this ballot.
+    Accepted(Acceptance),
     /// Asks for the values decided from this slot on.
-    Ask {
-        /// Who asks.
-        sender: NodeId,
-        /// The first slot that the sender does not know.
-        slot: Slot,
-    },
-    /// The value that is decided for a slot.
+    Ask,
+    /// The value that is decided for the slot.
     Decided {
-        /// Who says so.
-        sender: NodeId,
-        /// For which slot.
-        slot: Slot,
         /// What is decided.
         value: Value,
     },

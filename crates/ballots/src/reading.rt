@@ -5,6 +5,7 @@ ghost use Rattle.proto_fields.specs.Meaning.{number_meant, bytes_meant};
 ghost use Rattle.ballots.specs.Message.{IsUpload};
 ghost use Rattle.ballots.specs.MessageReading.{Gives, TakesNone, OfFields, within, ballot_at as ballot_meant, value_at as value_meant, acceptance_at as acceptance_meant};
 
+use crate::acceptance::Acceptance;
 use crate::ballot::{Ballot, MAX_ROUND};
 use crate::fault::MessageFault;
 use crate::node::{MAX_NODE, NodeId};
@@ -86,11 +87,11 @@ pub(crate) fn acceptance_at(
     text: &[u8],
     ballot: (u32, u32),
     value: u32,
-) -> Result<(Ballot, Value), MessageFault>
-    ensures { OfFields text.now (λ fields. Gives (λ a. IsUpload a.1) result
+) -> Result<Acceptance, MessageFault>
+    ensures { OfFields text.now (λ fields. Gives (λ a. IsUpload a.value) result
         (acceptance_meant (number_meant ballot.0 fields) (number_meant ballot.1 fields) (bytes_meant value fields))) }
 {
     let ballot = ballot_at(text, ballot.0, ballot.1)?;
     let value = value_at(alloc, text, value)?;
-    Ok((ballot, value))
+    Ok(Acceptance { ballot, value })
 }

@@ -1,8 +1,8 @@
 //! What nodes keep so that a restart forgets no promise (Lamport, *Paxos Made Simple*, sections 2.2 and 2.4).
 
+use crate::acceptance::Acceptance;
 use crate::ballot::Ballot;
 use crate::slot::Slot;
-use crate::value::Value;
 
 /// What a node keeps before it answers (Lamport, *Paxos Made Simple*, section 2.4: an acceptor records its response in
 /// stable storage before it sends it, and a proposer the greatest number that it has begun with). A record does not say
@@ -14,7 +14,7 @@ pub enum Record {
     /// The slot has promised the ballot.
     Promised(Slot, Ballot),
     /// The slot has accepted the value at the ballot.
-    Accepted(Slot, Ballot, Value),
+    Accepted(Slot, Acceptance),
 }
 
 /// The numbers of a record's fields, and of its kinds.

@@ -36,8 +36,8 @@ fn accepted_of(alloc: Global, text: &[u8]) -> Result<Record, MessageFault>
     ensures { OfFields text.now (λ fields. Gives KeepsUpload result (accepted_at (record_parts_of fields))) }
 {
     let slot = slot_at(text, SLOT)?;
-    let (ballot, value) = acceptance_at(alloc, text, (ROUND, NODE), VALUE)?;
-    Ok(Record::Accepted(slot, ballot, value))
+    let acceptance = acceptance_at(alloc, text, (ROUND, NODE), VALUE)?;
+    Ok(Record::Accepted(slot, acceptance))
 }
 
 #[tactic(auto, unfolding(crate::specs::RecordReading::kept_at))]

@@ -43,12 +43,12 @@ impl Record {
             Record::Promised(slot, ballot) => {
                 append_record_fields(out, PROMISED, slot.number(), pair(*ballot), &[])
             }
-            Record::Accepted(slot, ballot, value) => append_record_fields(
+            Record::Accepted(slot, acceptance) => append_record_fields(
                 out,
                 ACCEPTED,
                 slot.number(),
-                pair(*ballot),
-                value.as_bytes(),
+                pair(acceptance.ballot),
+                acceptance.value.as_bytes(),
             ),
         }
     }

@@ -10,9 +10,6 @@ use crate::ballot::Ballot;
 use crate::value::{OutOfMemory, Value};
 use proto_fields::write_nonzero_varint;
 
-/// The pair of a message without a ballot.
-pub(crate) const NO_BALLOT: (u32, u8) = (0, 0);
-
 /// A ballot as its round and its node's number.
 pub(crate) fn pair(ballot: Ballot) -> (u32, u8)
     ensures value { (result.0 ≡ ballot.round) × (result.1 ≡ ballot.node) }

@@ -7,7 +7,6 @@ use Rattle.std.proofs.lemmas.Grind.{take_at_read}
 use Rattle.std.proofs.Math.ListN.{drop_of_length-le}
 use Rattle.ballots.specs.declared.value.Value.{Value}
 use Rattle.ballots.specs.declared.message.Message.{Message}
-use Rattle.ballots.specs.declared.message.Message.TheVariants.{Decided}
 use Rattle.decided_log.specs.Asked.{max_asked, decided_message, decided_messages, asked_of}
 use Rattle.decided_log.specs.Decided.{IsPrefix}
 use Rattle.decided_log.specs.LogState.{found}
@@ -17,7 +16,7 @@ use Rattle.decided_log.proofs.Gaining.{kept_prefix}
 
 messages_append : (node from place : ℕ) (xs ys : List Value) → place ≡ from + length xs → decided_messages node from (xs ++ ys) ≡ decided_messages node from xs ++ decided_messages node place ys
 messages_append node from place [] ys at = let same : from ≡ place = omega arith in rw same refl
-messages_append node from place (x ∷ xs) ys at = ap (λ rest. Decided node from x ∷ rest) (messages_append node (suc from) place xs ys (omega arith))
+messages_append node from place (x ∷ xs) ys at = ap (λ rest. decided_message node from x ∷ rest) (messages_append node (suc from) place xs ys (omega arith))
 
 length_messages : (node from : ℕ) (values : List Value) → length (decided_messages node from values) ≡ length values
 length_messages node from [] = refl

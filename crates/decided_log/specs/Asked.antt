@@ -3,7 +3,8 @@
 use Rattle.std.specs.Prelude.{ℕ, suc, List, [], ◌∷◌, take, drop}
 use Rattle.ballots.specs.declared.value.Value.{Value}
 use Rattle.ballots.specs.declared.message.Message.{Message}
-use Rattle.ballots.specs.declared.message.Message.TheVariants.{Decided}
+use Rattle.ballots.specs.declared.message.Body.TheVariants.{Decided}
+use Rattle.ballots.specs.Message.{message}
 
 -- the most messages of one answer
 abbrev pub max_asked : ℕ
@@ -11,7 +12,7 @@ max_asked = 16
 
 -- the node's message that the slot has the value
 abbrev pub decided_message : ℕ → ℕ → Value → Message
-decided_message node slot value = Decided node slot value
+decided_message node slot value = message node slot (Decided value)
 
 -- one message of the node for each of these values, the first for this slot, the next for the next
 abbrev pub decided_messages : ℕ → ℕ → List Value → List Message

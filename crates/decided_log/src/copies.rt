@@ -8,7 +8,7 @@ ghost use Rattle.decided_log.specs.Decided.{IsPrefix};
 ghost use Rattle.decided_log.specs.Asked.{decided_messages};
 ghost use Rattle.decided_log.specs.Keeping.{grown_at};
 
-use ballots::{Message, NodeId, OutOfMemory, Slot, Value};
+use ballots::{Body, Message, NodeId, OutOfMemory, Slot, Value};
 use indexmap::IndexMap;
 use std::alloc::Global;
 
@@ -51,10 +51,11 @@ fn decided(node: NodeId, number: u32, value: &Value) -> Result<Message, OutOfMem
     let Some(slot) = Slot::new(number) else {
         unreachable!()
     };
-    Ok(Message::Decided {
+    let value = value.clone()?;
+    Ok(Message {
         sender: node,
         slot,
-        value: value.clone()?,
+        body: Body::Decided { value },
     })
 }
 

@@ -2,7 +2,7 @@
 
 use crate::fault::RunFault;
 use acceptor::{Acceptor, Answer};
-use ballots::{Ballot, Members, NodeId, Slot, Value};
+use ballots::{Acceptance, Ballot, Members, NodeId, Slot, Value};
 use decided_log::DecidedLog;
 use learner::Learner;
 use std::alloc::{AllocError, Global};
@@ -64,7 +64,11 @@ fn grants(alloc: Global, slots: &[Slot]) -> Result<u64, AllocError> {
     let mut acceptor = Acceptor::new(alloc);
     let mut sum: u64 = 0;
     for slot in slots {
-        if let Answer::Granted = acceptor.on_accept(*slot, first_ballot(), Value::Noop)? {
+        let proposal = Acceptance {
+            ballot: first_ballot(),
+            value: Value::Noop,
+        };
+        if let Answer::Granted = acceptor.on_accept(*slot, proposal)? {
             sum = sum.wrapping_add(1);
         }
     }

@@ -2,7 +2,7 @@
 
 use crate::rows::{self, Number, upload};
 use acceptor::{Acceptor, Answer};
-use ballots::{Ballot, Slot, Value};
+use ballots::{Acceptance, Ballot, Slot, Value};
 use std::alloc::{AllocError, Global};
 use std::process::Abort;
 use std::test::Fail;
@@ -72,9 +72,9 @@ fn acceptance_words(alloc: Global, ballot: Ballot, value: &Value) -> Result<Stri
 }
 
 /// A promise in words, with what it reports.
-fn promise_words(alloc: Global, report: &Option<(Ballot, Value)>) -> Result<String, AllocError> {
+fn promise_words(alloc: Global, report: &Option<Acceptance>) -> Result<String, AllocError> {
     match report {
-        Some((ballot, value)) => {
+        Some(Acceptance { ballot, value }) => {
             let told = acceptance_words(alloc, *ballot, value)?;
             format!(in alloc; "Promise {told}")
         }
@@ -115,7 +115,11 @@ fn told_on_accept(
     slot: Slot,
     ballot: Ballot,
 ) -> Result<String, AllocError> {
-    let answer = acceptor.on_accept(slot, ballot, Value::Noop)?;
+    let proposal = Acceptance {
+        ballot,
+        value: Value::Noop,
+    };
+    let answer = acceptor.on_accept(slot, proposal)?;
     answer_words(alloc, &answer)
 }
 
@@ -130,7 +134,7 @@ fn told_promised(alloc: Global, acceptor: &Acceptor, slot: Slot) -> Result<Strin
 /// What the slot has accepted.
 fn told_accepted(alloc: Global, acceptor: &Acceptor, slot: Slot) -> Result<String, AllocError> {
     match acceptor.accepted(slot) {
-        Some((ballot, value)) => acceptance_words(alloc, ballot, value),
+        Some(Acceptance { ballot, value }) => acceptance_words(alloc, *ballot, value),
         None => String::from_str(alloc, "None"),
     }
 }
@@ -281,7 +285,10 @@ fn plain_answer(
         (true, _) => (Answer::Granted, Some((asked, byte))),
         (false, None) => (Answer::Promise(None), None),
         (false, Some((at, byte))) => {
-            let report = (ballot(at)?, upload(alloc, byte)?);
+            let report = Acceptance {
+                ballot: ballot(at)?,
+                value: upload(alloc, byte)?,
+            };
             (Answer::Promise(Some(report)), Some((at, byte)))
         }
     };
@@ -331,7 +338,8 @@ fn answer(
     let slot = slot(slot_of(request))?;
     let ballot = ballot(request.ballot)?;
     if request.is_accept {
-        Ok(acceptor.on_accept(slot, ballot, upload(alloc, byte)?)?)
+        let value = upload(alloc, byte)?;
+        Ok(acceptor.on_accept(slot, Acceptance { ballot, value })?)
     } else {
         Ok(acceptor.on_prepare(slot, ballot)?)
     }

@@ -1,7 +1,7 @@
 //! Logs of decided values: the gap that Lamport's paper tells of, and every short list of inserts beside that plain list.
 
 use crate::rows::upload;
-use ballots::{Message, NodeId, OutOfMemory, Slot, Value};
+use ballots::{Body, Message, NodeId, OutOfMemory, Slot, Value};
 use decided_log::DecidedLog;
 use std::process::Abort;
 use std::test::Fail;
@@ -108,12 +108,12 @@ fn are_values(values: &[Value], inserts: &[Insert], from: u32) -> bool {
 
 // Whether the message tells of the slot what was inserted first for it.
 fn tells(message: &Message, inserts: &[Insert], slot: u32) -> bool {
-    match message {
-        Message::Decided {
-            sender,
-            slot: place,
-            value,
-        } => { sender.number() == NODE && place.number() == slot && is_first(value, inserts, slot) }
+    match &message.body {
+        Body::Decided { value } => {
+            message.sender.number() == NODE
+                && message.slot.number() == slot
+                && is_first(value, inserts, slot)
+        }
         _ => false,
     }
 }

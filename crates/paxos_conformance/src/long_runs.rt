@@ -2,7 +2,7 @@
 
 use crate::rows;
 use acceptor::{Acceptor, Answer};
-use ballots::{Ballot, NodeId, Record, Slot, Value};
+use ballots::{Acceptance, Ballot, NodeId, Record, Slot, Value};
 use decided_log::DecidedLog;
 use std::alloc::Global;
 use std::test::Fail;
@@ -40,8 +40,10 @@ fn is_own(value: &Value, number: u32) -> bool {
 // Whether the slot has promised this ballot, and accepted its own value at it.
 fn has_accepted(acceptor: &Acceptor, slot: Slot, ballot: Ballot) -> bool {
     match acceptor.accepted(slot) {
-        Some((at, value)) => {
-            at == ballot && acceptor.promised(slot) == Some(ballot) && is_own(value, slot.number())
+        Some(held) => {
+            held.ballot == ballot
+                && acceptor.promised(slot) == Some(ballot)
+                && is_own(&held.value, slot.number())
         }
         None => false,
     }
@@ -68,7 +70,7 @@ fn promises_and_grants(
     let slot = slot(number)?;
     let value = own_value(alloc, number)?;
     let promised = acceptor.on_prepare(slot, ballot)?;
-    let granted = acceptor.on_accept(slot, ballot, value)?;
+    let granted = acceptor.on_accept(slot, Acceptance { ballot, value })?;
     Ok(promised == Answer::Promise(None) && granted == Answer::Granted)
 }
 
@@ -100,7 +102,8 @@ fn record(alloc: Global, number: u32) -> Result<Record, Fail> {
         return Ok(Record::Promised(slot, ballot(1)?));
     }
     let value = own_value(alloc, number % SLOTS)?;
-    Ok(Record::Accepted(slot, ballot(2)?, value))
+    let ballot = ballot(2)?;
+    Ok(Record::Accepted(slot, Acceptance { ballot, value }))
 }
 
 fn records(alloc: Global) -> Result<Vec<Record>, Fail> {

@@ -1,7 +1,7 @@
 //! Proposers: rows of calls with what they give, and every short list of promises beside the definition by plain counting.
 
 use crate::rows::{ballot, upload};
-use ballots::{Ballot, Members, NodeId, Slot, Value};
+use ballots::{Acceptance, Ballot, Members, NodeId, Slot, Value};
 use proposer::{Proposer, RoundsSpent};
 use std::alloc::Global;
 use std::test::Fail;
@@ -32,11 +32,12 @@ fn proposer_of(members: u8, round: u32) -> Option<Proposer> {
 }
 
 /// What a promise reports.
-fn report_of(alloc: Global, sent: Sent) -> Result<Option<(Ballot, Value)>, Fail> {
-    match ballot((sent.1, sent.2)) {
-        Some(at) => Ok(Some((at, upload(alloc, sent.3)?))),
-        None => Ok(None),
-    }
+fn report_of(alloc: Global, sent: Sent) -> Result<Option<Acceptance>, Fail> {
+    let Some(ballot) = ballot((sent.1, sent.2)) else {
+        return Ok(None);
+    };
+    let value = upload(alloc, sent.3)?;
+    Ok(Some(Acceptance { ballot, value }))
 }
 
 /// The byte of the upload that is to be accepted at this slot and ballot, 0 for a Noop.

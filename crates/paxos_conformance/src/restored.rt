@@ -2,7 +2,7 @@
 
 use crate::rows::{self, Number};
 use acceptor::{Acceptor, highest_begun_round};
-use ballots::{Ballot, MessageFault, Record, Slot, UploadBytes, Value};
+use ballots::{Acceptance, Ballot, MessageFault, Record, Slot, UploadBytes, Value};
 use bytes::Bytes;
 use std::alloc::Global;
 use std::test::Fail;
@@ -64,7 +64,8 @@ fn record_of(alloc: Global, told: Told) -> Option<Record> {
     let slot = Slot::new(number)?;
     if told.is_acceptance {
         let bytes = UploadBytes::new(Bytes::copy_from_slice(alloc, &[told.byte]).ok()?)?;
-        return Some(Record::Accepted(slot, ballot, Value::Upload(bytes)));
+        let value = Value::Upload(bytes);
+        return Some(Record::Accepted(slot, Acceptance { ballot, value }));
     }
     Some(Record::Promised(slot, ballot))
 }
@@ -135,7 +136,7 @@ fn stands(acceptor: &Acceptor, list: &[Told], number: u32) -> bool {
         None => None,
     };
     let accepted = match acceptor.accepted(slot) {
-        Some((ballot, value)) => Some((number_of(ballot), byte_of(value))),
+        Some(held) => Some((number_of(held.ballot), byte_of(&held.value))),
         None => None,
     };
     let wanted = match plain_acceptance(list, number) {

@@ -2,11 +2,12 @@
 -- says what each slot has promised and accepted; this is about no code's lists.
 use Rattle.std.specs.Prelude.{◌≡◌, ℕ, ◌⊎◌, List, [], ◌∷◌, Option, Some, None}
 use Rattle.grpc_frames.specs.Frame.{Frame, frame_text}
-use Rattle.ballots.specs.declared.value.Value.{Value}
+use Rattle.ballots.specs.declared.acceptance.Acceptance.{Acceptance}
 use Rattle.ballots.specs.declared.message.Message.{Message}
-use Rattle.ballots.specs.declared.message.Message.TheVariants as says
+use Rattle.ballots.specs.declared.message.Body.{Body}
+use Rattle.ballots.specs.declared.message.Body.TheVariants as says
 use Rattle.ballots.specs.Ballot.{Ballot, IsAbove, IsAtLeast}
-use Rattle.ballots.specs.Message.{IsMessageText, canonical}
+use Rattle.ballots.specs.Message.{message, IsMessageText, canonical}
 use Rattle.acceptor.specs.declared.answer.Answer.{Answer}
 use Rattle.acceptor.specs.declared.answer.Answer.TheVariants.{Promise, Granted, Nack}
 use Rattle.acceptor.specs.Standing.{Standing, IsSame}
@@ -16,58 +17,74 @@ use Rattle.acceptor.specs.Answering.{Prepares, Accepts}
 abbrev pub own_number : ℕ
 own_number = 0
 
+-- what the node that answers says of a slot
+abbrev pub own_message : ℕ → Body → Message
+own_message slot body = message own_number slot body
+
 -- the message that brings an acceptor's answer to a Prepare, and to an Accept
 abbrev pub prepare_reply : ℕ → Ballot → Answer → Option Message
-prepare_reply slot ballot (Promise report) = Some (says.Promise own_number slot ballot report)
-prepare_reply slot ballot (Nack promised) = Some (says.Nack own_number slot ballot promised)
+prepare_reply slot ballot (Promise report) = Some (own_message slot (says.Promise ballot report))
+prepare_reply slot ballot (Nack promised) = Some (own_message slot (says.Nack ballot promised))
 prepare_reply slot ballot Granted = None
 
-abbrev pub accept_reply : ℕ → Ballot → Value → Answer → Option Message
-accept_reply slot ballot value Granted = Some (says.Accepted own_number slot ballot value)
-accept_reply slot ballot value (Nack promised) = Some (says.Nack own_number slot ballot promised)
-accept_reply slot ballot value (Promise report) = None
+abbrev pub accept_reply : ℕ → Acceptance → Answer → Option Message
+accept_reply slot proposal Granted = Some (own_message slot (says.Accepted proposal))
+accept_reply slot proposal (Nack promised) = Some (own_message slot (says.Nack proposal.ballot promised))
+accept_reply slot proposal (Promise report) = None
 
 abbrev pub RepliesToPrepare : Standing → ℕ → Ballot → Option Message → Standing → Type 0
 RepliesToPrepare old slot ballot reply new =
     (answer : Answer) × Prepares old new slot ballot answer × (reply ≡ prepare_reply slot ballot answer)
 
-abbrev pub RepliesToAccept : Standing → ℕ → Ballot → Value → Option Message → Standing → Type 0
-RepliesToAccept old slot ballot value reply new =
-    (answer : Answer) × Accepts old new slot ballot value answer × (reply ≡ accept_reply slot ballot value answer)
+abbrev pub RepliesToAccept : Standing → ℕ → Acceptance → Option Message → Standing → Type 0
+RepliesToAccept old slot proposal reply new =
+    (answer : Answer) × Accepts old new slot proposal answer × (reply ≡ accept_reply slot proposal answer)
 
--- a Prepare and an Accept are answered as the acceptor does, and no other message is
+-- a Prepare and an Accept for the slot are answered as the acceptor does, and no other message is
+abbrev pub AnswersBody : Standing → ℕ → Body → Option Message → Standing → Type 0
+AnswersBody old slot (says.Prepare ballot) reply new = RepliesToPrepare old slot ballot reply new
+AnswersBody old slot (says.Accept proposal) reply new = RepliesToAccept old slot proposal reply new
+AnswersBody old slot (says.Promise ballot report) reply new = (reply ≡ None) × IsSame old new
+AnswersBody old slot (says.Nack ballot promised) reply new = (reply ≡ None) × IsSame old new
+AnswersBody old slot (says.Accepted acceptance) reply new = (reply ≡ None) × IsSame old new
+AnswersBody old slot says.Ask reply new = (reply ≡ None) × IsSame old new
+AnswersBody old slot (says.Decided value) reply new = (reply ≡ None) × IsSame old new
+
+-- whoever sends it
 abbrev pub Answers : Standing → Message → Option Message → Standing → Type 0
-Answers old (says.Prepare sender slot ballot) reply new = RepliesToPrepare old slot ballot reply new
-Answers old (says.Accept sender slot ballot value) reply new = RepliesToAccept old slot ballot value reply new
-Answers old (says.Promise sender slot ballot report) reply new = (reply ≡ None) × IsSame old new
-Answers old (says.Nack sender slot ballot promised) reply new = (reply ≡ None) × IsSame old new
-Answers old (says.Accepted sender slot ballot value) reply new = (reply ≡ None) × IsSame old new
-Answers old (says.Ask sender slot) reply new = (reply ≡ None) × IsSame old new
-Answers old (says.Decided sender slot value) reply new = (reply ≡ None) × IsSame old new
+Answers old m reply new = AnswersBody old m.slot m.body reply new
 
 -- a Prepare that is promised, or an Accept that is granted
-abbrev pub IsGranted : Standing → Message → Type 0
-IsGranted old (says.Prepare sender slot ballot) = IsAbove ballot (old.promised slot)
-IsGranted old (says.Accept sender slot ballot value) = IsAtLeast ballot (old.promised slot)
-IsGranted old (says.Promise sender slot ballot report) = ⊥
-IsGranted old (says.Nack sender slot ballot promised) = ⊥
-IsGranted old (says.Accepted sender slot ballot value) = ⊥
-IsGranted old (says.Ask sender slot) = ⊥
-IsGranted old (says.Decided sender slot value) = ⊥
+abbrev pub IsBodyGranted : Standing → ℕ → Body → Type 0
+IsBodyGranted old slot (says.Prepare ballot) = IsAbove ballot (old.promised slot)
+IsBodyGranted old slot (says.Accept proposal) = IsAtLeast proposal.ballot (old.promised slot)
+IsBodyGranted old slot (says.Promise ballot report) = ⊥
+IsBodyGranted old slot (says.Nack ballot promised) = ⊥
+IsBodyGranted old slot (says.Accepted acceptance) = ⊥
+IsBodyGranted old slot says.Ask = ⊥
+IsBodyGranted old slot (says.Decided value) = ⊥
 
--- this message answers that one: its slot and ballot are the same, and its sender is the node that answers
-abbrev pub IsReplyTo : Message → Message → Type 0
-IsReplyTo (says.Prepare sender slot ballot) reply =
-    ((report : Option (Ballot × Value)) × (reply ≡ says.Promise own_number slot ballot report))
-    ⊎ ((promised : Ballot) × (reply ≡ says.Nack own_number slot ballot promised))
-IsReplyTo (says.Accept sender slot ballot value) reply =
-    (reply ≡ says.Accepted own_number slot ballot value)
-    ⊎ ((promised : Ballot) × (reply ≡ says.Nack own_number slot ballot promised))
-IsReplyTo (says.Promise sender slot ballot report) reply = ⊥
-IsReplyTo (says.Nack sender slot ballot promised) reply = ⊥
-IsReplyTo (says.Accepted sender slot ballot value) reply = ⊥
-IsReplyTo (says.Ask sender slot) reply = ⊥
-IsReplyTo (says.Decided sender slot value) reply = ⊥
+abbrev pub IsGranted : Standing → Message → Type 0
+IsGranted old m = IsBodyGranted old m.slot m.body
+
+-- a Prepare is answered at its ballot by a Promise or a Nack, an Accept by an Accepted of the same or a Nack
+abbrev pub IsReplyBody : Body → Body → Type 0
+IsReplyBody (says.Prepare ballot) reply =
+    ((report : Option Acceptance) × (reply ≡ says.Promise ballot report))
+    ⊎ ((promised : Ballot) × (reply ≡ says.Nack ballot promised))
+IsReplyBody (says.Accept proposal) reply =
+    (reply ≡ says.Accepted proposal) ⊎ ((promised : Ballot) × (reply ≡ says.Nack proposal.ballot promised))
+IsReplyBody (says.Promise ballot report) reply = ⊥
+IsReplyBody (says.Nack ballot promised) reply = ⊥
+IsReplyBody (says.Accepted acceptance) reply = ⊥
+IsReplyBody says.Ask reply = ⊥
+IsReplyBody (says.Decided value) reply = ⊥
+
+-- this message answers that one: its slot is the same, and its sender is the node that answers
+pub record IsReplyTo (m reply : Message) : Type 0 where
+  pub sender_is : reply.sender ≡ own_number
+  pub slot_is : reply.slot ≡ m.slot
+  pub says_so : IsReplyBody m.body reply.body
 
 abbrev pub message_frame : Message → Frame
 message_frame m = record { flag = 0; payload = canonical m }

@@ -4,10 +4,10 @@ ghost use Rattle.std.specs.Prelude.{◌≡◌, IfOk, OnErr};
 ghost use Rattle.ballots.specs.Ballot.{IsAbove, IsAtLeast};
 ghost use Rattle.acceptor.specs.AcceptorState.{standing, promised_at};
 ghost use Rattle.acceptor.specs.Standing.{IsSame};
-ghost use Rattle.program_runs.specs.Conversation.{Answers, RepliesToPrepare, RepliesToAccept, IsGranted};
+ghost use Rattle.program_runs.specs.Conversation.{own_message, Answers, RepliesToPrepare, RepliesToAccept, IsGranted};
 
 use acceptor::{Acceptor, Answer};
-use ballots::{Ballot, Message, NodeId, OutOfMemory, Slot, Value};
+use ballots::{Acceptance, Ballot, Body, Message, NodeId, OutOfMemory, Slot, Value};
 
 /// The number of the node that answers.
 pub const NODE: u8 = 0;
@@ -29,19 +29,22 @@ pub fn reply_to(acceptor: &mut Acceptor, message: Message) -> Result<Option<Mess
     ensures err { OnErr result (IsSame (standing acceptor.old) (standing acceptor.new)) }
     ensures memory { OnErr result (IsGranted (standing acceptor.old) message) }
 {
-    match message {
-        Message::Prepare {
-            sender: _,
-            slot,
-            ballot,
-        } => reply_to_prepare(acceptor, slot, ballot),
-        Message::Accept {
-            sender: _,
-            slot,
-            ballot,
-            value,
-        } => reply_to_accept(acceptor, slot, ballot, value),
+    let Message { slot, body, .. } = message;
+    match body {
+        Body::Prepare { ballot } => reply_to_prepare(acceptor, slot, ballot),
+        Body::Accept(proposal) => reply_to_accept(acceptor, slot, proposal),
         _ => Ok(None),
+    }
+}
+
+/// What this node says of a slot.
+fn own_message(slot: Slot, body: Body) -> Message
+    ensures { result ≡ own_message slot body }
+{
+    Message {
+        sender: me(),
+        slot,
+        body,
     }
 }
 
@@ -54,54 +57,38 @@ fn reply_to_prepare(
     ensures err { OnErr result (IsSame (standing acceptor.old) (standing acceptor.new)) }
     ensures memory { OnErr result (IsAbove ballot (promised_at acceptor.old slot)) }
 {
-    let sender = me();
-    Ok(match acceptor.on_prepare(slot, ballot)? {
-        Answer::Promise(report) => Some(Message::Promise {
-            sender,
-            slot,
-            ballot,
-            report,
-        }),
-        Answer::Nack(promised) => Some(Message::Nack {
-            sender,
-            slot,
-            ballot,
-            promised,
-        }),
-        Answer::Granted => None,
-    })
+    let body = match acceptor.on_prepare(slot, ballot)? {
+        Answer::Promise(report) => Body::Promise { ballot, report },
+        Answer::Nack(promised) => Body::Nack { ballot, promised },
+        Answer::Granted => return Ok(None),
+    };
+    Ok(Some(own_message(slot, body)))
 }
 
 fn reply_to_accept(
     acceptor: &mut Acceptor,
     slot: Slot,
-    ballot: Ballot,
-    value: Value,
+    proposal: Acceptance,
 ) -> Result<Option<Message>, OutOfMemory>
-    ensures answered { IfOk result (λ reply. RepliesToAccept (standing acceptor.old) slot ballot value reply (standing acceptor.new)) }
+    ensures answered { IfOk result (λ reply. RepliesToAccept (standing acceptor.old) slot proposal reply (standing acceptor.new)) }
     ensures err { OnErr result (IsSame (standing acceptor.old) (standing acceptor.new)) }
-    ensures memory { OnErr result (IsAtLeast ballot (promised_at acceptor.old slot)) }
+    ensures memory { OnErr result (IsAtLeast proposal.ballot (promised_at acceptor.old slot)) }
 {
-    let sender = me();
+    let Acceptance { ballot, value } = proposal;
     // A value that is refused is not copied.
-    let accepted = if acceptor.would_grant(slot, ballot) {
+    let copy = if acceptor.would_grant(slot, ballot) {
         value.clone()?
     } else {
         Value::Noop
     };
-    Ok(match acceptor.on_accept(slot, ballot, accepted)? {
-        Answer::Granted => Some(Message::Accepted {
-            sender,
-            slot,
-            ballot,
-            value,
-        }),
-        Answer::Nack(promised) => Some(Message::Nack {
-            sender,
-            slot,
-            ballot,
-            promised,
-        }),
-        Answer::Promise(_) => None,
-    })
+    let asked = Acceptance {
+        ballot,
+        value: copy,
+    };
+    let body = match acceptor.on_accept(slot, asked)? {
+        Answer::Granted => Body::Accepted(Acceptance { ballot, value }),
+        Answer::Nack(promised) => Body::Nack { ballot, promised },
+        Answer::Promise(_) => return Ok(None),
+    };
+    Ok(Some(own_message(slot, body)))
 }

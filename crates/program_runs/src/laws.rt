@@ -3,7 +3,7 @@
 ghost use Rattle.std.specs.Prelude.{◌≡◌, ◌≢◌, ◌↔◌, ℕ, List, Option, Some, None};
 ghost use Rattle.grpc_frames.specs.Frame.{Frame as Framed};
 ghost use Rattle.ballots.specs.declared.message.Message.{Message as Meant};
-ghost use Rattle.ballots.specs.declared.message.Message.TheVariants.{Ask};
+ghost use Rattle.ballots.specs.declared.message.Body.TheVariants.{Ask};
 ghost use Rattle.acceptor.specs.Standing.{Standing, IsSame};
 ghost use Rattle.program_runs.specs.declared.fault.ServeFault.{ServeFault as Ending};
 ghost use Rattle.program_runs.specs.declared.fault.ServeFault.TheVariants as faults;
@@ -24,7 +24,7 @@ pub fn constants_are_as_defined()
 /// An Ask is not answered, and changes nothing. A message that is answered is a Prepare or an Accept, and its answer has its
 /// slot and its ballot: a Promise or an Accepted, or a Nack (Lamport, *Paxos Made Simple*, section 2.2).
 pub fn only_requests_are_answered()
-    ensures ask { (old new : Standing) (p s : ℕ) (reply : Option Meant) → Answers old (Ask p s) reply new
+    ensures ask { (old new : Standing) (m : Meant) (reply : Option Meant) → m.body ≡ Ask → Answers old m reply new
         → (reply ≡ None) × IsSame old new }
     ensures reply { (old new : Standing) (m reply : Meant) → Answers old m (Some reply) new → IsReplyTo m reply }
 {}

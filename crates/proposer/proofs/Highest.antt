@@ -28,31 +28,31 @@ none_is_highest reports r empty is_r = nothing_there is_r.before r is_r.after (s
 -- what is chosen is one
 pub chooses_one : (candidate : Value) (reports : List Report) (v w : Value) → Chooses candidate reports v → Chooses candidate reports w → v ≡ w
 chooses_one candidate reports v w (inl own) (inl other) = own.1 ∙ sym other.1
-chooses_one candidate reports v w (inl own) (inr other) = absurd (none_is_highest reports (other.0, w) own.0 other.1)
-chooses_one candidate reports v w (inr own) (inl other) = absurd (none_is_highest reports (own.0, v) other.0 own.1)
-chooses_one candidate reports v w (inr own) (inr other) = ap (λ (r : Report). r.1) (highest_is_one reports (own.0, v) (other.0, w) own.1 other.1)
+chooses_one candidate reports v w (inl own) (inr other) = absurd (none_is_highest reports (record { ballot = other.0; value = w }) own.0 other.1)
+chooses_one candidate reports v w (inr own) (inl other) = absurd (none_is_highest reports (record { ballot = own.0; value = v }) other.0 own.1)
+chooses_one candidate reports v w (inr own) (inr other) = ap (λ (r : Report). r.value) (highest_is_one reports (record { ballot = own.0; value = v }) (record { ballot = other.0; value = w }) own.1 other.1)
 
 -- ---- one more report
 
 -- a report that is not above the highest leaves it
-highest_stays : (reports : List Report) (h r : Report) → (IsBelow h.0 r.0 → ⊥) → IsHighest reports h → IsHighest (reports ++ r ∷ []) h
+highest_stays : (reports : List Report) (h r : Report) → (IsBelow h.ballot r.ballot → ⊥) → IsHighest reports h → IsHighest (reports ++ r ∷ []) h
 highest_stays reports h r not_above is_h = record {
   before = is_h.before;
   after = is_h.after ++ r ∷ [];
   split = rw is_h.split (append_assoc is_h.before (h ∷ is_h.after) (r ∷ []));
   above_those_before = is_h.above_those_before;
-  not_below_those_after = all-append (λ other. IsBelow h.0 other.0 → ⊥) is_h.after (r ∷ []) is_h.not_below_those_after (not_above, tt);
+  not_below_those_after = all-append (λ other. IsBelow h.ballot other.ballot → ⊥) is_h.after (r ∷ []) is_h.not_below_those_after (not_above, tt);
 }
 
 -- one above the highest is the highest
-all_below : (reports : List Report) (h r : Report) → IsBelow h.0 r.0 → IsHighest reports h → AllByRecursion (λ other. IsBelow other.0 r.0) reports
+all_below : (reports : List Report) (h r : Report) → IsBelow h.ballot r.ballot → IsHighest reports h → AllByRecursion (λ other. IsBelow other.ballot r.ballot) reports
 all_below reports h r above is_h =
     rw is_h.split
-    (all-append (λ other. IsBelow other.0 r.0) is_h.before (h ∷ is_h.after)
-    (all_weaker (λ other. IsBelow other.0 h.0) (λ other. IsBelow other.0 r.0) is_h.before (λ other below. below_carried other.0 h.0 r.0 below above) is_h.above_those_before)
-    (above, all_weaker (λ other. IsBelow h.0 other.0 → ⊥) (λ other. IsBelow other.0 r.0) is_h.after (λ other not. below_above other.0 h.0 r.0 not above) is_h.not_below_those_after))
+    (all-append (λ other. IsBelow other.ballot r.ballot) is_h.before (h ∷ is_h.after)
+    (all_weaker (λ other. IsBelow other.ballot h.ballot) (λ other. IsBelow other.ballot r.ballot) is_h.before (λ other below. below_carried other.ballot h.ballot r.ballot below above) is_h.above_those_before)
+    (above, all_weaker (λ other. IsBelow h.ballot other.ballot → ⊥) (λ other. IsBelow other.ballot r.ballot) is_h.after (λ other not. below_above other.ballot h.ballot r.ballot not above) is_h.not_below_those_after))
 
-highest_above_all : (reports : List Report) (r : Report) → AllByRecursion (λ other. IsBelow other.0 r.0) reports → IsHighest (reports ++ r ∷ []) r
+highest_above_all : (reports : List Report) (r : Report) → AllByRecursion (λ other. IsBelow other.ballot r.ballot) reports → IsHighest (reports ++ r ∷ []) r
 highest_above_all reports r of_all = record {
   before = reports;
   after = [];
@@ -62,14 +62,14 @@ highest_above_all reports r of_all = record {
 }
 
 -- the best so far stays with a report that is not above it, and a report above it is the best
-pub best_stays : (candidate : Value) (reports : List Report) (at : Option Ballot) (value : Value) (ballot : Ballot) (other : Value) → (IsAbove ballot at → ⊥) → IsBest candidate reports at value → IsBest candidate (reports ++ (ballot, other) ∷ []) at value
-best_stays candidate reports None value ballot other not_above is_best = absurd (not_above tt)
-best_stays candidate reports (Some highest) value ballot other not_above is_best = highest_stays reports (highest, value) (ballot, other) not_above is_best
+pub best_stays : (candidate : Value) (reports : List Report) (at : Option Ballot) (value : Value) (report : Report) → (IsAbove report.ballot at → ⊥) → IsBest candidate reports at value → IsBest candidate (reports ++ report ∷ []) at value
+best_stays candidate reports None value report not_above is_best = absurd (not_above tt)
+best_stays candidate reports (Some highest) value report not_above is_best = highest_stays reports (record { ballot = highest; value = value }) report not_above is_best
 
-pub best_changes : (candidate : Value) (reports : List Report) (at : Option Ballot) (value : Value) (ballot : Ballot) (other : Value) → IsAbove ballot at → IsBest candidate reports at value → IsBest candidate (reports ++ (ballot, other) ∷ []) (Some ballot) other
-best_changes candidate reports None value ballot other above is_best = rw is_best.0 (highest_above_all [] (ballot, other) tt)
-best_changes candidate reports (Some highest) value ballot other above is_best =
-    highest_above_all reports (ballot, other) (all_below reports (highest, value) (ballot, other) above is_best)
+pub best_changes : (candidate : Value) (reports : List Report) (at : Option Ballot) (value : Value) (report : Report) → IsAbove report.ballot at → IsBest candidate reports at value → IsBest candidate (reports ++ report ∷ []) (Some report.ballot) report.value
+best_changes candidate reports None value report above is_best = rw is_best.0 (highest_above_all [] report tt)
+best_changes candidate reports (Some highest) value report above is_best =
+    highest_above_all reports report (all_below reports (record { ballot = highest; value = value }) report above is_best)
 
 -- the best is chosen
 pub best_is_chosen : (candidate : Value) (reports : List Report) (at : Option Ballot) (value : Value) → IsBest candidate reports at value → Chooses candidate reports value

@@ -243,23 +243,23 @@ count_once promises before mid after promise other split =
 
 -- ---- the highest report
 
-none_above : (reports : List Report) (report other : Report) → IsHighest reports report → Contains reports other → IsBelow report.0 other.0 → ⊥
+none_above : (reports : List Report) (report other : Report) → IsHighest reports report → Contains reports other → IsBelow report.ballot other.ballot → ⊥
 none_above reports report other highest is_in =
-    all_in (λ r. IsBelow report.0 r.0 → ⊥) reports other
+    all_in (λ r. IsBelow report.ballot r.ballot → ⊥) reports other
     (rw highest.split
-    (all-append (λ r. IsBelow report.0 r.0 → ⊥) highest.before (report ∷ highest.after)
-    (all_weaker (λ r. IsBelow r.0 report.0) (λ r. IsBelow report.0 r.0 → ⊥) highest.before (λ r below above. not_below_itself r.0 (below_carried r.0 report.0 r.0 below above)) highest.above_those_before)
-    (not_below_itself report.0, highest.not_below_those_after)))
+    (all-append (λ r. IsBelow report.ballot r.ballot → ⊥) highest.before (report ∷ highest.after)
+    (all_weaker (λ r. IsBelow r.ballot report.ballot) (λ r. IsBelow report.ballot r.ballot → ⊥) highest.before (λ r below above. not_below_itself r.ballot (below_carried r.ballot report.ballot r.ballot below above)) highest.above_those_before)
+    (not_below_itself report.ballot, highest.not_below_those_after)))
     is_in
 
 pub chooses_highest : (candidate : Value) (reports : List Report) (v : Value) → Chooses candidate reports v
-    → ((reports ≡ []) × (v ≡ candidate)) ⊎ ((ballot : Ballot) × Contains reports (ballot, v) × ((other : Report) → Contains reports other → IsBelow ballot other.0 → ⊥))
+    → ((reports ≡ []) × (v ≡ candidate)) ⊎ ((ballot : Ballot) × Contains reports (record { ballot = ballot; value = v }) × ((other : Report) → Contains reports other → IsBelow ballot other.ballot → ⊥))
 chooses_highest candidate reports v (inl own) = inl own
 chooses_highest candidate reports v (inr highest) =
     inr (
       highest.0,
-      subst (λ (l : List Report). Contains l (highest.0, v)) (sym highest.1.split) (in_the_middle highest.1.before highest.1.after (highest.0, v)),
-      λ other is_in. none_above reports (highest.0, v) other highest.1 is_in,
+      subst (λ (l : List Report). Contains l (record { ballot = highest.0; value = v })) (sym highest.1.split) (in_the_middle highest.1.before highest.1.after (record { ballot = highest.0; value = v })),
+      λ other is_in. none_above reports (record { ballot = highest.0; value = v }) other highest.1 is_in,
     )
 
 -- ---- what is reported

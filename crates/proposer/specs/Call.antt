@@ -1,6 +1,7 @@
 -- What a proposer is asked, call by call: Lamport, "Paxos Made Simple", sections 2.2 and 2.4.
 use Rattle.std.specs.Prelude.{ℕ, Option}
 use Rattle.ballots.specs.Ballot.{Ballot}
+use Rattle.ballots.specs.declared.acceptance.Acceptance.{Acceptance}
 use Rattle.ballots.specs.declared.value.Value.{Value}
 
 -- what a proposer is made with: its node, how many members there are, and the highest round that its node has begun
@@ -21,7 +22,7 @@ pub record Promise : Type 0 where
   pub sender : ℕ
   pub slot : ℕ
   pub ballot : Ballot
-  pub report : Option (Ballot × Value)
+  pub report : Option Acceptance
 
 -- A begin that was refused is no call here: it changes nothing.
 pub data Call : Type 0 where

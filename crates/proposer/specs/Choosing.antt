@@ -4,11 +4,13 @@ use Rattle.std.specs.Prelude.{◌≡◌, ℕ, ◌==◌, ◌⊎◌, Bool, not, Li
 use Rattle.std.specs.List.{list_any, AllByRecursion}
 use Rattle.ballots.specs.Ballot.{Ballot, IsBelow}
 use Rattle.ballots.specs.Majority.{tally, IsMajority}
+use Rattle.ballots.specs.declared.acceptance.Acceptance.{Acceptance}
 use Rattle.ballots.specs.declared.value.Value.{Value}
 use Rattle.proposer.specs.Call.{Promise}
 
+-- what a promise reports: an acceptance of its sender
 abbrev pub Report : Type 0
-Report = Ballot × Value
+Report = Acceptance
 
 abbrev pub is_from : ℕ → Promise → Bool
 is_from node promise = promise.sender == node
@@ -36,10 +38,11 @@ pub record IsHighest (reports : List Report) (report : Report) : Type 0 where
   pub before : List Report
   pub after : List Report
   pub split : reports ≡ before ++ report ∷ after
-  pub above_those_before : AllByRecursion (λ other. IsBelow other.0 report.0) before
-  pub not_below_those_after : AllByRecursion (λ other. IsBelow report.0 other.0 → ⊥) after
+  pub above_those_before : AllByRecursion (λ other. IsBelow other.ballot report.ballot) before
+  pub not_below_those_after : AllByRecursion (λ other. IsBelow report.ballot other.ballot → ⊥) after
 
 -- The value of the highest report, or the candidate where nothing is reported.
 abbrev pub Chooses : Value → List Report → Value → Type 0
 Chooses candidate reports value =
-    ((reports ≡ []) × (value ≡ candidate)) ⊎ ((ballot : Ballot) × IsHighest reports (ballot, value))
+    ((reports ≡ []) × (value ≡ candidate))
+    ⊎ ((ballot : Ballot) × IsHighest reports (record { ballot = ballot; value = value }))

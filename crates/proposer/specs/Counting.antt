@@ -12,7 +12,7 @@ use Rattle.proposer.specs.Choosing.{Report, is_sender, HasMajority, first_of_eac
 -- the best so far: the candidate with no ballot, or the highest report
 abbrev pub IsBest : Value → List Report → Option Ballot → Value → Type 0
 IsBest candidate reports None value = (reports ≡ []) × (value ≡ candidate)
-IsBest candidate reports (Some ballot) value = IsHighest reports (ballot, value)
+IsBest candidate reports (Some ballot) value = IsHighest reports (record { ballot = ballot; value = value })
 
 -- the choice is gone exactly where a majority has answered
 abbrev pub ChoiceAfter : ℕ → Value → List Promise → Option Choice → Type 0

@@ -5,7 +5,7 @@ ghost use Rattle.proposer.specs.Call.{Promise};
 ghost use Rattle.proposer.specs.Choosing.{Report, Chooses};
 ghost use Rattle.proposer.specs.Counting.{IsBest, Counts, AnswersAtMajority, IsNew, WouldCount};
 
-use ballots::{Ballot, Members, NodeId, NodeSet, OutOfMemory, Slot, Value};
+use ballots::{Acceptance, Ballot, Members, NodeId, NodeSet, OutOfMemory, Slot, Value};
 
 /// The best value so far: the candidate, or that of the highest report, which has a ballot.
 #[derive(Debug, Drop)]
@@ -82,7 +82,7 @@ impl Attempt {
         &mut self,
         members: Members,
         sender: NodeId,
-        report: Option<(Ballot, Value)>,
+        report: Option<Acceptance>,
     ) -> Option<Value>
         requires { IsNew members sender self.old }
         ensures slot { self.new.slot ≡ self.old.slot }
@@ -108,7 +108,7 @@ impl Attempt {
         &self,
         members: Members,
         sender: NodeId,
-        report: &Option<(Ballot, Value)>,
+        report: &Option<Acceptance>,
     ) -> Result<Option<Value>, OutOfMemory>
         requires { IsNew members sender self.now }
         ensures gives { IfOk result (λ given. (candidate : Held) (promises : List Promise) (promise : Promise)
@@ -129,20 +129,21 @@ impl Attempt {
 }
 
 // The better of the choice so far and a report: that of the higher ballot, and of equal ones the choice.
-fn higher_of(choice: Choice, report: Option<(Ballot, Value)>) -> Choice
+fn higher_of(choice: Choice, report: Option<Acceptance>) -> Choice
     ensures { (candidate : Held) (reports : List Report) → IsBest candidate reports choice.reported_at choice.value
         → IsBest candidate (reports ++ option_to_list report) result.reported_at result.value }
 {
     match report {
-        Some((ballot, value)) => higher_of_report(choice, ballot, value),
+        Some(report) => higher_of_report(choice, report),
         None => choice,
     }
 }
 
-fn higher_of_report(choice: Choice, ballot: Ballot, value: Value) -> Choice
+fn higher_of_report(choice: Choice, report: Acceptance) -> Choice
     ensures { (candidate : Held) (reports : List Report) → IsBest candidate reports choice.reported_at choice.value
-        → IsBest candidate (reports ++ (ballot, value) ∷ []) result.reported_at result.value }
+        → IsBest candidate (reports ++ report ∷ []) result.reported_at result.value }
 {
+    let Acceptance { ballot, value } = report;
     if !is_better(choice.reported_at, ballot) {
         return choice;
     }
@@ -153,13 +154,13 @@ fn higher_of_report(choice: Choice, ballot: Ballot, value: Value) -> Choice
 }
 
 // The value that `higher_of` would take.
-fn higher_value<'a>(choice: &'a Choice, report: &'a Option<(Ballot, Value)>) -> &'a Value
+fn higher_value<'a>(choice: &'a Choice, report: &'a Option<Acceptance>) -> &'a Value
     ensures { (candidate : Held) (reports : List Report)
         → IsBest candidate reports choice.now.reported_at choice.now.value
         → Chooses candidate (reports ++ option_to_list report.now) result.now }
 {
     match report {
-        Some((ballot, value)) if is_better(choice.reported_at, *ballot) => value,
+        Some(report) if is_better(choice.reported_at, report.ballot) => &report.value,
         _ => &choice.value,
     }
 }

@@ -16,8 +16,8 @@ pub fn choices_are_one()
     ensures one { (candidate : Held) (reports : List Report) (v w : Held)
         → Chooses candidate reports v → Chooses candidate reports w → v ≡ w }
     ensures highest { (candidate : Held) (reports : List Report) (v : Held) → Chooses candidate reports v
-        → ((reports ≡ []) × (v ≡ candidate)) ⊎ ((ballot : Pair) × Contains reports (ballot, v)
-        × ((other : Report) → Contains reports other → IsBelow ballot other.0 → ⊥)) }
+        → ((reports ≡ []) × (v ≡ candidate)) ⊎ ((ballot : Pair) × Contains reports (record { ballot = ballot; value = v })
+        × ((other : Report) → Contains reports other → IsBelow ballot other.ballot → ⊥)) }
     ensures reports { (promises : List Promise) (report : Report) → Contains (reports_of promises) report
         ↔ ((promise : Promise) × Contains promises promise × (promise.report ≡ Some report)) }
 {}

@@ -7,7 +7,7 @@ ghost use Rattle.proposer.specs.Counting.{IsAt};
 ghost use Rattle.proposer.specs.State.{StateAfter, HasHistory, Holds, HoldsOpen, attempt_of};
 
 use crate::attempt::Attempt;
-use ballots::{Ballot, Members, NodeId, OutOfMemory, Slot, Value};
+use ballots::{Acceptance, Ballot, Members, NodeId, OutOfMemory, Slot, Value};
 use std::marker::Model;
 use thiserror::Error;
 
@@ -141,7 +141,7 @@ impl Proposer {
         sender: NodeId,
         slot: Slot,
         ballot: Ballot,
-        report: Option<(Ballot, Value)>,
+        report: Option<Acceptance>,
     ) -> Option<(Slot, Ballot, Value)>
         ensures answers { (start : Start) (calls : List Call) → StateAfter start calls self.old
             → Answers start.members calls
@@ -163,7 +163,7 @@ impl Proposer {
         sender: NodeId,
         slot: Slot,
         ballot: Ballot,
-        report: &Option<(Ballot, Value)>,
+        report: &Option<Acceptance>,
     ) -> Result<Option<(Slot, Ballot, Value)>, OutOfMemory>
         ensures answers { IfOk result (λ answer. (start : Start) (calls : List Call) → StateAfter start calls self.now
             → Answers start.members calls
@@ -212,7 +212,7 @@ fn count_in(
     sender: NodeId,
     slot: Slot,
     ballot: Ballot,
-    report: Option<(Ballot, Value)>,
+    report: Option<Acceptance>,
 ) -> Option<(Slot, Ballot, Value)>
     ensures answers { (calls : List Call) → HoldsOpen members calls held.old
         → Answers members calls (record { sender = sender; slot = slot; ballot = ballot; report = report }) result }
@@ -232,7 +232,7 @@ fn count_for(
     sender: NodeId,
     slot: Slot,
     ballot: Ballot,
-    report: Option<(Ballot, Value)>,
+    report: Option<Acceptance>,
 ) -> Option<(Slot, Ballot, Value)>
     ensures answers { (calls : List Call) → Holds members calls attempt.old
         → Answers members calls (record { sender = sender; slot = slot; ballot = ballot; report = report }) result }
@@ -254,7 +254,7 @@ fn see_count_in(
     sender: NodeId,
     slot: Slot,
     ballot: Ballot,
-    report: &Option<(Ballot, Value)>,
+    report: &Option<Acceptance>,
 ) -> Result<Option<(Slot, Ballot, Value)>, OutOfMemory>
     ensures answers { IfOk result (λ answer. (calls : List Call) → Holds members calls attempt.now
         → Answers members calls

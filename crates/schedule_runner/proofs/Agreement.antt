@@ -5,6 +5,7 @@ use Rattle.std.proofs.lemmas.Bool.{cases_lt}
 use Rattle.ballots.specs.Ballot.{Ballot, IsBelow}
 use Rattle.ballots.proofs.CallerLemmas.{either_below, not_below_carried}
 use Rattle.ballots.specs.declared.value.Value.{Value}
+use Rattle.ballots.specs.Acceptance.{acceptance}
 use Rattle.schedule_runner.specs.Saying.{Report, Saying, Promise, Accept, Accepted, told}
 use Rattle.schedule_runner.specs.Majorities.{MajorityOf}
 use Rattle.schedule_runner.specs.Saying.{IsUpTo}
@@ -16,11 +17,11 @@ use Rattle.schedule_runner.proofs.Majorities.{majorities_meet}
 module _ (n : ℕ) (xs : List Saying) (lawful : IsLawfulSlot n xs) where
   -- Who accepted below a ballot that it promised reports that ballot or a higher one.
   reports_its_vote : (i j a : ℕ) (b c : Ballot) (v : Value) (r : Report) → Said xs i (Accepted a b v) → Said xs j (Promise a c r) → IsBelow b c
-      → (d : Ballot) × (w : Value) × (r ≡ Some (d, w)) × (IsBelow d b → ⊥)
+      → (d : Ballot) × (w : Value) × (r ≡ Some (acceptance d w)) × (IsBelow d b → ⊥)
   reports_its_vote i j a b c v r vote promise below =
-      elim (cases_lt i j) as (λ _. (d : Ballot) × (w : Value) × (r ≡ Some (d, w)) × (IsBelow d b → ⊥)) [
+      elim (cases_lt i j) as (λ _. (d : Ballot) × (w : Value) × (r ≡ Some (acceptance d w)) × (IsBelow d b → ⊥)) [
         | inl before ↦ by_report r promise before
-        | inr after ↦ elim (cases_lt j i) as (λ _. (d : Ballot) × (w : Value) × (r ≡ Some (d, w)) × (IsBelow d b → ⊥)) [
+        | inr after ↦ elim (cases_lt j i) as (λ _. (d : Ballot) × (w : Value) × (r ≡ Some (acceptance d w)) × (IsBelow d b → ⊥)) [
           | inl later ↦ absurd (lawful.keeps_its_promise.accepts j i a c b v later (inl (r, promise)) vote below)
           | inr same ↦ absurd (let at : i ≡ j = omega (arith, after, same) in two_sayings (subst (λ (k : ℕ). Said xs k (Accepted a b v)) at vote))
         ]
@@ -29,9 +30,9 @@ module _ (n : ℕ) (xs : List Saying) (lawful : IsLawfulSlot n xs) where
       two_sayings : Said xs j (Accepted a b v) → ⊥
       two_sayings h = let no : Accepted a b v ≡ Promise a c r = sym h.1 ∙ promise.1 in cc
 
-      by_report : (s : Report) → Said xs j (Promise a c s) → i < j → (d : Ballot) × (w : Value) × (s ≡ Some (d, w)) × (IsBelow d b → ⊥)
+      by_report : (s : Report) → Said xs j (Promise a c s) → i < j → (d : Ballot) × (w : Value) × (s ≡ Some (acceptance d w)) × (IsBelow d b → ⊥)
       by_report None h before = absurd (lawful.reports_its_highest.nothing j a c h i b v before vote)
-      by_report (Some (d, w)) h before = (d, w, refl, lawful.reports_its_highest.highest j a c d w h i b v before vote)
+      by_report (Some q) h before = (q.ballot, q.value, refl, lawful.reports_its_highest.highest j a c q.ballot q.value h i b v before vote)
 
   module _ (b : Ballot) (v : Value) (end : ℕ) (chosen : IsChosenBefore n xs end b v) where
     -- What is accepted was proposed.
@@ -48,7 +49,7 @@ module _ (n : ℕ) (xs : List Saying) (lawful : IsLawfulSlot n xs) where
 
     -- A member of the majority that promised a higher ballot reports the ballot or a higher one.
     reports_it : (a k : ℕ) (c : Ballot) (r : Report) → a < n → IsTrue (chosen.is_in a) → IsBelow b c → SaidBefore xs k (Promise a c r)
-        → (d : Ballot) × (w : Value) × (r ≡ Some (d, w)) × (IsBelow d b → ⊥)
+        → (d : Ballot) × (w : Value) × (r ≡ Some (acceptance d w)) × (IsBelow d b → ⊥)
     reports_it a k c r lt in' below promise =
         let vote = chosen.each a lt in' in
         reports_its_vote vote.0 promise.0 a b c v r vote.2 promise.2 below
@@ -59,7 +60,7 @@ module _ (n : ℕ) (xs : List Saying) (lawful : IsLawfulSlot n xs) where
         let s = majorities_meet n (λ a. SaidBefore xs end (Accepted a b v)) (λ a. SaidBefore xs k (Promise a c None)) chosen free in
         let told_it = reports_it s.member k c None s.within s.in_first below (free.each s.member s.within s.in_second) in
         let nothing : Report = None in
-        let no : nothing ≡ Some (told_it.0, told_it.1) = told_it.2 in
+        let no : nothing ≡ Some (acceptance told_it.0 told_it.1) = told_it.2 in
         cc
 
     -- And the highest report is of the ballot or of a higher one.

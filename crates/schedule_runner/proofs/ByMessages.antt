@@ -5,11 +5,14 @@ use Rattle.std.proofs.lemmas.List.{get_or_default}
 use Rattle.ballots.specs.Ballot.{Ballot}
 use Rattle.ballots.specs.declared.value.Value.{Value}
 use Rattle.ballots.specs.declared.message.Message.{Message}
-use Rattle.ballots.specs.declared.message.Message.TheVariants as message
-use Rattle.schedule_runner.specs.Saying.{Report, Saying, Silent, Prepare, Promise, Accept, Accepted, Decided, of_one, says, told}
+use Rattle.ballots.specs.declared.message.Body.{Body}
+use Rattle.ballots.specs.declared.message.Body.TheVariants as body
+use Rattle.ballots.specs.Acceptance.{acceptance}
+use Rattle.ballots.specs.Message.{message}
+use Rattle.schedule_runner.specs.Saying.{Report, Saying, Silent, Prepare, Promise, Accept, Accepted, Decided, of_one, saying, says, told}
 use Rattle.schedule_runner.specs.Saying.{IsUpTo}
 use Rattle.schedule_runner.specs.Lawful.{Said, SaidBefore, IsOfHighestReport, IsLawful, IsLawfulSlot}
-use Rattle.schedule_runner.specs.Messages.{Sent, SentBefore, IsSaidBy, HasHighestReport, KeepsTheRules}
+use Rattle.schedule_runner.specs.Messages.{prepare, promise, accept, accepted, decided, Sent, SentBefore, IsSaidBy, HasHighestReport, KeepsTheRules}
 use Rattle.schedule_runner.proofs.Places.{blank, within_sent, said_by, said_there}
 
 at_test : (m : Message) (slot s : ℕ) (x : Saying) (t : Bool) → (t ≡ true → slot ≡ s) → (slot ≡ s → IsSaidBy m s x) → IsSaidBy m s (cond t x Silent)
@@ -19,14 +22,17 @@ at_test m slot s x false same h = tt
 of_its_slot : (m : Message) (slot s : ℕ) (x : Saying) → (slot ≡ s → IsSaidBy m s x) → IsSaidBy m s (of_one slot s x)
 of_its_slot m slot s x h = at_test m slot s x (slot == s) (λ e. grind (arith, nat_tests)) h
 
+by_its_body : (sender slot : ℕ) (b : Body) (s : ℕ) → slot ≡ s → IsSaidBy (message sender slot b) s (saying sender b)
+by_its_body p slot (body.Prepare b) s e = (p, ap (λ (t : ℕ). prepare p t b) e)
+by_its_body a slot (body.Promise b r) s e = ap (λ (t : ℕ). promise a t b r) e
+by_its_body p slot (body.Nack b c) s e = tt
+by_its_body p slot (body.Accept a) s e = (p, ap (λ (t : ℕ). accept p t a.ballot a.value) e)
+by_its_body d slot (body.Accepted a) s e = ap (λ (t : ℕ). accepted d t a.ballot a.value) e
+by_its_body p slot body.Ask s e = tt
+by_its_body p slot (body.Decided v) s e = (p, ap (λ (t : ℕ). decided p t v) e)
+
 pub said_by_it : (m : Message) (s : ℕ) → IsSaidBy m s (says m s)
-said_by_it (message.Prepare p slot b) s = of_its_slot (message.Prepare p slot b) slot s (Prepare b) (λ e. (p, ap (λ (t : ℕ). message.Prepare p t b) e))
-said_by_it (message.Promise a slot b r) s = of_its_slot (message.Promise a slot b r) slot s (Promise a b r) (λ e. ap (λ (t : ℕ). message.Promise a t b r) e)
-said_by_it (message.Nack p slot b c) s = tt
-said_by_it (message.Accept p slot b v) s = of_its_slot (message.Accept p slot b v) slot s (Accept b v) (λ e. (p, ap (λ (t : ℕ). message.Accept p t b v) e))
-said_by_it (message.Accepted a slot b v) s = of_its_slot (message.Accepted a slot b v) slot s (Accepted a b v) (λ e. ap (λ (t : ℕ). message.Accepted a t b v) e)
-said_by_it (message.Ask p slot) s = tt
-said_by_it (message.Decided p slot v) s = of_its_slot (message.Decided p slot v) slot s (Decided v) (λ e. (p, ap (λ (t : ℕ). message.Decided p t v) e))
+said_by_it m s = of_its_slot m m.slot s (saying m.sender m.body) (λ e. by_its_body m.sender m.slot m.body s e)
 
 own_slot : (s : ℕ) (x : Saying) → of_one s s x ≡ x
 own_slot s x = ap (λ (t : Bool). cond t x Silent) (eq-eqb s s refl)
@@ -39,52 +45,52 @@ module _ (sent : List Message) where
   stands : (s k : ℕ) (x : Saying) (m : Message) → Said (told sent s) k x → get_or sent k blank ≡ m → Sent sent k m
   stands s k x m h e = let lt = within_sent sent s k x h in (lt, get_or_default sent k m blank lt ∙ e)
 
-  pub promise_sent : (s k a : ℕ) (b : Ballot) (r : Report) → Said (told sent s) k (Promise a b r) → Sent sent k (message.Promise a s b r)
-  promise_sent s k a b r h = stands s k (Promise a b r) (message.Promise a s b r) h (said_in s k (Promise a b r) h)
+  pub promise_sent : (s k a : ℕ) (b : Ballot) (r : Report) → Said (told sent s) k (Promise a b r) → Sent sent k (promise a s b r)
+  promise_sent s k a b r h = stands s k (Promise a b r) (promise a s b r) h (said_in s k (Promise a b r) h)
 
-  pub accepted_sent : (s k a : ℕ) (b : Ballot) (v : Value) → Said (told sent s) k (Accepted a b v) → Sent sent k (message.Accepted a s b v)
-  accepted_sent s k a b v h = stands s k (Accepted a b v) (message.Accepted a s b v) h (said_in s k (Accepted a b v) h)
+  pub accepted_sent : (s k a : ℕ) (b : Ballot) (v : Value) → Said (told sent s) k (Accepted a b v) → Sent sent k (accepted a s b v)
+  accepted_sent s k a b v h = stands s k (Accepted a b v) (accepted a s b v) h (said_in s k (Accepted a b v) h)
 
-  pub accept_sent : (s k : ℕ) (b : Ballot) (v : Value) → Said (told sent s) k (Accept b v) → (p : ℕ) × Sent sent k (message.Accept p s b v)
-  accept_sent s k b v h = let it = said_in s k (Accept b v) h in (it.0, stands s k (Accept b v) (message.Accept it.0 s b v) h it.1)
+  pub accept_sent : (s k : ℕ) (b : Ballot) (v : Value) → Said (told sent s) k (Accept b v) → (p : ℕ) × Sent sent k (accept p s b v)
+  accept_sent s k b v h = let it = said_in s k (Accept b v) h in (it.0, stands s k (Accept b v) (accept it.0 s b v) h it.1)
 
-  pub decided_sent : (s k : ℕ) (v : Value) → Said (told sent s) k (Decided v) → (p : ℕ) × Sent sent k (message.Decided p s v)
-  decided_sent s k v h = let it = said_in s k (Decided v) h in (it.0, stands s k (Decided v) (message.Decided it.0 s v) h it.1)
+  pub decided_sent : (s k : ℕ) (v : Value) → Said (told sent s) k (Decided v) → (p : ℕ) × Sent sent k (decided p s v)
+  decided_sent s k v h = let it = said_in s k (Decided v) h in (it.0, stands s k (Decided v) (decided it.0 s v) h it.1)
 
   -- and back
   sent_says : (s k : ℕ) (m : Message) (x : Saying) → says m s ≡ x → Sent sent k m → Said (told sent s) k x
   sent_says s k m x e h = subst (Said (told sent s) k) (ap (λ (n : Message). says n s) h.1 ∙ e) (said_there sent s k m h.0)
 
-  pub sent_promise : (s k a : ℕ) (b : Ballot) (r : Report) → Sent sent k (message.Promise a s b r) → Said (told sent s) k (Promise a b r)
-  sent_promise s k a b r h = sent_says s k (message.Promise a s b r) (Promise a b r) (own_slot s (Promise a b r)) h
+  pub sent_promise : (s k a : ℕ) (b : Ballot) (r : Report) → Sent sent k (promise a s b r) → Said (told sent s) k (Promise a b r)
+  sent_promise s k a b r h = sent_says s k (promise a s b r) (Promise a b r) (own_slot s (Promise a b r)) h
 
-  pub sent_accepted : (s k a : ℕ) (b : Ballot) (v : Value) → Sent sent k (message.Accepted a s b v) → Said (told sent s) k (Accepted a b v)
-  sent_accepted s k a b v h = sent_says s k (message.Accepted a s b v) (Accepted a b v) (own_slot s (Accepted a b v)) h
+  pub sent_accepted : (s k a : ℕ) (b : Ballot) (v : Value) → Sent sent k (accepted a s b v) → Said (told sent s) k (Accepted a b v)
+  sent_accepted s k a b v h = sent_says s k (accepted a s b v) (Accepted a b v) (own_slot s (Accepted a b v)) h
 
-  pub sent_accept : (s k p : ℕ) (b : Ballot) (v : Value) → Sent sent k (message.Accept p s b v) → Said (told sent s) k (Accept b v)
-  sent_accept s k p b v h = sent_says s k (message.Accept p s b v) (Accept b v) (own_slot s (Accept b v)) h
+  pub sent_accept : (s k p : ℕ) (b : Ballot) (v : Value) → Sent sent k (accept p s b v) → Said (told sent s) k (Accept b v)
+  sent_accept s k p b v h = sent_says s k (accept p s b v) (Accept b v) (own_slot s (Accept b v)) h
 
-  pub sent_decided : (s k p : ℕ) (v : Value) → Sent sent k (message.Decided p s v) → Said (told sent s) k (Decided v)
-  sent_decided s k p v h = sent_says s k (message.Decided p s v) (Decided v) (own_slot s (Decided v)) h
+  pub sent_decided : (s k p : ℕ) (v : Value) → Sent sent k (decided p s v) → Said (told sent s) k (Decided v)
+  sent_decided s k p v h = sent_says s k (decided p s v) (Decided v) (own_slot s (Decided v)) h
 
   -- ---- what stands before a place
 
-  pub promise_before : (s k a : ℕ) (b : Ballot) (r : Report) → SaidBefore (told sent s) k (Promise a b r) → SentBefore sent k (message.Promise a s b r)
+  pub promise_before : (s k a : ℕ) (b : Ballot) (r : Report) → SaidBefore (told sent s) k (Promise a b r) → SentBefore sent k (promise a s b r)
   promise_before s k a b r h = (h.0, h.1, promise_sent s h.0 a b r h.2)
 
-  pub before_promise : (s k a : ℕ) (b : Ballot) (r : Report) → SentBefore sent k (message.Promise a s b r) → SaidBefore (told sent s) k (Promise a b r)
+  pub before_promise : (s k a : ℕ) (b : Ballot) (r : Report) → SentBefore sent k (promise a s b r) → SaidBefore (told sent s) k (Promise a b r)
   before_promise s k a b r h = (h.0, h.1, sent_promise s h.0 a b r h.2)
 
-  pub accept_before : (s k : ℕ) (b : Ballot) (v : Value) → SaidBefore (told sent s) k (Accept b v) → (p : ℕ) × SentBefore sent k (message.Accept p s b v)
+  pub accept_before : (s k : ℕ) (b : Ballot) (v : Value) → SaidBefore (told sent s) k (Accept b v) → (p : ℕ) × SentBefore sent k (accept p s b v)
   accept_before s k b v h = let it = accept_sent s h.0 b v h.2 in (it.0, (h.0, h.1, it.1))
 
-  pub before_accept : (s k p : ℕ) (b : Ballot) (v : Value) → SentBefore sent k (message.Accept p s b v) → SaidBefore (told sent s) k (Accept b v)
+  pub before_accept : (s k p : ℕ) (b : Ballot) (v : Value) → SentBefore sent k (accept p s b v) → SaidBefore (told sent s) k (Accept b v)
   before_accept s k p b v h = (h.0, h.1, sent_accept s h.0 p b v h.2)
 
-  pub accepted_before : (s k a : ℕ) (b : Ballot) (v : Value) → SaidBefore (told sent s) k (Accepted a b v) → SentBefore sent k (message.Accepted a s b v)
+  pub accepted_before : (s k a : ℕ) (b : Ballot) (v : Value) → SaidBefore (told sent s) k (Accepted a b v) → SentBefore sent k (accepted a s b v)
   accepted_before s k a b v h = (h.0, h.1, accepted_sent s h.0 a b v h.2)
 
-  pub before_accepted : (s k a : ℕ) (b : Ballot) (v : Value) → SentBefore sent k (message.Accepted a s b v) → SaidBefore (told sent s) k (Accepted a b v)
+  pub before_accepted : (s k a : ℕ) (b : Ballot) (v : Value) → SentBefore sent k (accepted a s b v) → SaidBefore (told sent s) k (Accepted a b v)
   before_accepted s k a b v h = (h.0, h.1, sent_accepted s h.0 a b v h.2)
 
   module _ (n : ℕ) (k s : ℕ) (b : Ballot) (v : Value) where
@@ -99,7 +105,7 @@ module _ (sent : List Message) where
       reporter = h.reporter;
       is_member = h.is_member;
       is_in = h.is_in;
-      reported = promise_before s k h.reporter b (Some (h.highest, v)) h.reported;
+      reported = promise_before s k h.reporter b (Some (acceptance h.highest v)) h.reported;
     }
 
     pub sent_highest : HasHighestReport n sent k s b v → IsOfHighestReport n (told sent s) k b v
@@ -113,5 +119,5 @@ module _ (sent : List Message) where
       reporter = h.reporter;
       is_member = h.is_member;
       is_in = h.is_in;
-      reported = before_promise s k h.reporter b (Some (h.highest, v)) h.reported;
+      reported = before_promise s k h.reporter b (Some (acceptance h.highest v)) h.reported;
     }

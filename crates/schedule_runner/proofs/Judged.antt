@@ -5,6 +5,7 @@ use Rattle.std.proofs.lemmas.Bool.{cases_lt}
 use Rattle.ballots.specs.Ballot.{Ballot, IsBelow}
 use Rattle.ballots.specs.declared.value.Value.{Value}
 use Rattle.ballots.specs.declared.message.Message.{Message}
+use Rattle.ballots.specs.Acceptance.{acceptance}
 use Rattle.schedule_runner.specs.Saying.{Report, Saying, Silent, Prepare, Promise, Accept, Accepted, Decided, says, told}
 use Rattle.schedule_runner.specs.Lawful.{Said, SaidBefore, AcceptsWhatWasProposed, BindsAt, ReportsItsHighest, OneValueABallot, PromisedUpTo, IsOfHighestReport, IsSafe, ProposesWhatIsSafe, IsChosenBefore, DecidesWhatWasChosen, IsLawfulSlot, IsLawful}
 use Rattle.schedule_runner.specs.Judging.{PromisedAtMost, PromisedBelow, IsReported, HasValueAt, IsWithin, PromisesWithin, HasPromised, LetsPropose, MayPropose, HasAccepted, ShowsChosen, MayDecide, MayReport, MayBeSaid, AllMayBeSent}
@@ -64,11 +65,11 @@ module _ (n : ℕ) (sent : List Message) (s : ℕ) where
     reports_its_highest = record {
       nothing = λ k a b said j c v lt vote.
           all_before sent s k (place k (Promise a b None) said) (IsReported a None) (each k (Promise a b None) said).2 (Accepted a c v) (j, lt, vote) refl;
-      below = λ k a b c v said. (each k (Promise a b (Some (c, v))) said).1.0;
+      below = λ k a b c v said. (each k (Promise a b (Some (acceptance c v))) said).1.0;
       proposed = λ k a b c v said.
-          any_said sent s k (place k (Promise a b (Some (c, v))) said) (Accept c v) (each k (Promise a b (Some (c, v))) said).1.1;
+          any_said sent s k (place k (Promise a b (Some (acceptance c v))) said) (Accept c v) (each k (Promise a b (Some (acceptance c v))) said).1.1;
       highest = λ k a b c v said j d w lt vote below.
-          all_before sent s k (place k (Promise a b (Some (c, v))) said) (IsReported a (Some (c, v))) (each k (Promise a b (Some (c, v))) said).2 (Accepted a d w) (j, lt, vote) refl below;
+          all_before sent s k (place k (Promise a b (Some (acceptance c v))) said) (IsReported a (Some (acceptance c v))) (each k (Promise a b (Some (acceptance c v))) said).2 (Accepted a d w) (j, lt, vote) refl below;
     }
 
     later_value : (j k : ℕ) (b : Ballot) (v w : Value) → j < k → Said xs j (Accept b v) → Said xs k (Accept b w) → v ≡ w
@@ -114,11 +115,13 @@ module _ (n : ℕ) (sent : List Message) (s : ℕ) where
     highest_report k le b v Silent said p = absurd p
     highest_report k le b v (Prepare c) said p = absurd p
     highest_report k le b v (Promise d c None) said p = absurd p.2
-    highest_report k le b v (Promise d c (Some (top, w))) said p =
-        let reported : SaidBefore xs k (Promise d b (Some (top, v))) =
-        subst (λ (u : Value). SaidBefore xs k (Promise d b (Some (top, u)))) p.2 (subst (λ (e : Ballot). SaidBefore xs k (Promise d e (Some (top, w)))) p.1 said) in
-        let most = most_weaker n (HasPromised s (before k) b (Some (top, w))) (PromisedUpTo xs k b top) (λ a lt h. promise_before k le b (Some (top, w)) a h) p.3 in
-        let with_it = most_with n (PromisedUpTo xs k b top) d (Some (top, v), reported, not_below top) most in
+    highest_report k le b v (Promise d c (Some q)) said p =
+        let top : Ballot = q.ballot in
+        let w : Value = q.value in
+        let reported : SaidBefore xs k (Promise d b (Some (acceptance top v))) =
+        subst (λ (u : Value). SaidBefore xs k (Promise d b (Some (acceptance top u)))) p.2 (subst (λ (e : Ballot). SaidBefore xs k (Promise d e (Some (acceptance top w)))) p.1 said) in
+        let most = most_weaker n (HasPromised s (before k) b (Some (acceptance top w))) (PromisedUpTo xs k b top) (λ a lt h. promise_before k le b (Some (acceptance top w)) a h) p.3 in
+        let with_it = most_with n (PromisedUpTo xs k b top) d (Some (acceptance top v), reported, not_below top) most in
         record { highest = top; promised = with_it.most; reporter = d; is_member = p.0; is_in = with_it.is_in; reported = reported }
     highest_report k le b v (Accept c w) said p = absurd p
     highest_report k le b v (Accepted d c w) said p = absurd p
@@ -204,8 +207,8 @@ module _ (n : ℕ) (sent : List Message) (s : ℕ) where
     is_reported k a c r said (Accept e v) b = tt
     is_reported k a c None said (Accepted d e v) b = λ same.
         lawful.reports_its_highest.nothing k a c said b.0 e v b.1 (subst (λ (o : ℕ). Said xs b.0 (Accepted o e v)) same b.2)
-    is_reported k a c (Some (top, w)) said (Accepted d e v) b = λ same below.
-        lawful.reports_its_highest.highest k a c top w said b.0 e v b.1 (subst (λ (o : ℕ). Said xs b.0 (Accepted o e v)) same b.2) below
+    is_reported k a c (Some q) said (Accepted d e v) b = λ same below.
+        lawful.reports_its_highest.highest k a c q.ballot q.value said b.0 e v b.1 (subst (λ (o : ℕ). Said xs b.0 (Accepted o e v)) same b.2) below
     is_reported k a c r said (Decided v) b = tt
 
     has_value_at : (k : ℕ) (c : Ballot) (w : Value) → Said xs k (Accept c w) → (x : Saying) → SaidBefore xs k x → HasValueAt c w x
@@ -224,7 +227,7 @@ module _ (n : ℕ) (sent : List Message) (s : ℕ) where
     may_propose k le b v (inl free) =
         inl (most_weaker n (λ a. SaidBefore xs k (Promise a b None)) (HasPromised s (before k) b None) (λ a lt said. has_promised k le b None None a said refl) free)
     may_propose k le b v (inr h) =
-        let top : Report = Some (h.highest, v) in
+        let top : Report = Some (acceptance h.highest v) in
         let most = most_weaker n (PromisedUpTo xs k b h.highest) (HasPromised s (before k) b top) (λ a lt p. has_promised k le b top p.0 a p.1 p.2) h.promised in
         inr (before_any sent s k le (LetsPropose n s (before k) b v) (Promise h.reporter b top) h.reported (h.is_member, refl, refl, most))
 
@@ -236,8 +239,8 @@ module _ (n : ℕ) (sent : List Message) (s : ℕ) where
 
     may_report : (k : ℕ) (le : k ≤ length sent) (a : ℕ) (b : Ballot) (r : Report) → Said xs k (Promise a b r) → MayReport s (before k) b r
     may_report k le a b None said = tt
-    may_report k le a b (Some (c, v)) said =
-        (lawful.reports_its_highest.below k a b c v said, said_any sent s k le (Accept c v) (lawful.reports_its_highest.proposed k a b c v said))
+    may_report k le a b (Some q) said =
+        (lawful.reports_its_highest.below k a b q.ballot q.value said, said_any sent s k le (Accept q.ballot q.value) (lawful.reports_its_highest.proposed k a b q.ballot q.value said))
 
     pub each_from_slot : EachMayBeSaid
     each_from_slot k Silent said = tt

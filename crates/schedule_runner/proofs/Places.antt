@@ -3,14 +3,15 @@ use Rattle.std.proofs.Common.{◌≡◌, ℕ, ◌<◌, ◌≤◌, List, length, 
 use Rattle.std.specs.List.{Any}
 use Rattle.std.proofs.lemmas.List.{get_or-map, get_or-take, get_or_default, length-take-le, length-map}
 use Rattle.ballots.specs.declared.message.Message.{Message}
-use Rattle.ballots.specs.declared.message.Message.TheVariants as message
+use Rattle.ballots.specs.declared.message.Body.TheVariants as body
+use Rattle.ballots.specs.Message.{message}
 use Rattle.schedule_runner.specs.Saying.{Saying, Silent, says, told}
 use Rattle.schedule_runner.specs.Lawful.{Said, SaidBefore}
 use Rattle.schedule_runner.specs.Judging.{AnySaid, AllSaid}
 
 -- any message: what a read past the end would give
 pub blank : Message
-blank = message.Ask 0 0
+blank = message 0 0 body.Ask
 
 module _ (sent : List Message) (s : ℕ) where
   told_length : length (told sent s) ≡ length sent

@@ -2,8 +2,7 @@
 use Rattle.std.proofs.Common.{◌≡◌, ℕ, Bool, true, false, cond, ◌==◌, List, refl, subst, eq-eqb, arith}
 use Rattle.std.proofs.lemmas.Bool.Decides.{nat_tests}
 use Rattle.ballots.specs.declared.message.Message.{Message}
-use Rattle.ballots.specs.declared.message.Message.TheVariants as message
-use Rattle.schedule_runner.specs.Saying.{Saying, Silent, Prepare, Promise, Accept, Accepted, Decided, of_one, says}
+use Rattle.schedule_runner.specs.Saying.{Saying, Silent, of_one, saying, says}
 use Rattle.schedule_runner.specs.Judging.{MayBeSaid, MayBeSent}
 
 module _ (n : ℕ) (before : List Message) where
@@ -18,19 +17,7 @@ module _ (n : ℕ) (before : List Message) where
   slot_at slot x h = subst (λ (t : Bool). MayBeSaid n slot before (cond t x Silent)) (eq-eqb slot slot refl) h
 
   pub said_of_sent : (m : Message) (s : ℕ) → MayBeSent n before m → MayBeSaid n s before (says m s)
-  said_of_sent (message.Prepare sender slot ballot) s h = at_slot slot s (Prepare ballot) tt
-  said_of_sent (message.Promise sender slot ballot report) s h = at_slot slot s (Promise sender ballot report) h
-  said_of_sent (message.Nack sender slot ballot promised) s h = tt
-  said_of_sent (message.Accept sender slot ballot value) s h = at_slot slot s (Accept ballot value) h
-  said_of_sent (message.Accepted sender slot ballot value) s h = at_slot slot s (Accepted sender ballot value) h
-  said_of_sent (message.Ask sender slot) s h = tt
-  said_of_sent (message.Decided sender slot value) s h = at_slot slot s (Decided value) h
+  said_of_sent m s h = at_slot m.slot s (saying m.sender m.body) h
 
   pub sent_of_said : (m : Message) → ((s : ℕ) → MayBeSaid n s before (says m s)) → MayBeSent n before m
-  sent_of_said (message.Prepare sender slot ballot) h = tt
-  sent_of_said (message.Promise sender slot ballot report) h = slot_at slot (Promise sender ballot report) (h slot)
-  sent_of_said (message.Nack sender slot ballot promised) h = tt
-  sent_of_said (message.Accept sender slot ballot value) h = slot_at slot (Accept ballot value) (h slot)
-  sent_of_said (message.Accepted sender slot ballot value) h = slot_at slot (Accepted sender ballot value) (h slot)
-  sent_of_said (message.Ask sender slot) h = tt
-  sent_of_said (message.Decided sender slot value) h = slot_at slot (Decided value) (h slot)
+  sent_of_said m h = slot_at m.slot (saying m.sender m.body) (h m.slot)

@@ -6,8 +6,7 @@ use Rattle.ballots.specs.Ballot.{Ballot, IsBelow}
 use Rattle.ballots.specs.Majority.{NodeSet, contains}
 use Rattle.ballots.specs.declared.value.Value.{Value}
 use Rattle.ballots.specs.declared.message.Message.{Message}
-use Rattle.ballots.specs.declared.message.Message.TheVariants as message
-use Rattle.schedule_runner.specs.Saying.{Report, Saying, Silent, Prepare, Promise, Accept, Accepted, Decided, says}
+use Rattle.schedule_runner.specs.Saying.{Report, Saying, Silent, Prepare, Promise, Accept, Accepted, Decided, saying, says}
 use Rattle.schedule_runner.specs.Majorities.{MajorityOf}
 use Rattle.schedule_runner.specs.Saying.{IsUpTo}
 
@@ -39,7 +38,7 @@ PromisedBelow a b x = IfSome (bound_in a x) (λ c. IsBelow c b)
 -- a report tells enough of an acceptance at this ballot: it is of that ballot or a higher one
 abbrev pub ReportCovers : Report → Ballot → Type 0
 ReportCovers None c = ⊥
-ReportCovers (Some report) c = IsBelow report.0 c → ⊥
+ReportCovers (Some report) c = IsBelow report.ballot c → ⊥
 
 -- where it is this acceptor's Accepted, the report covers it
 abbrev pub IsReported : ℕ → Report → Saying → Type 0
@@ -62,12 +61,12 @@ HasValueAt b v (Decided w) = Unit {0}
 -- the report goes up to the other, and is none where the other is none
 abbrev pub IsWithin : Report → Report → Type 0
 IsWithin None r = r ≡ None
-IsWithin (Some highest) r = IsUpTo r highest.0
+IsWithin (Some highest) r = IsUpTo r highest.ballot
 
 -- it reports this value
 abbrev pub IsReportOf : Value → Report → Type 0
 IsReportOf v None = ⊥
-IsReportOf v (Some report) = report.1 ≡ v
+IsReportOf v (Some report) = report.value ≡ v
 
 -- it is this acceptor's Promise of the ballot, with a report within the bound
 abbrev pub PromisesWithin : ℕ → Ballot → Report → Saying → Type 0
@@ -107,7 +106,7 @@ MayDecide n s before v = AnySaid s before (Decided v) ⊎ Any (λ m. ShowsChosen
 -- what a report has to be
 abbrev pub MayReport : ℕ → List Message → Ballot → Report → Type 0
 MayReport s before b None = Unit {0}
-MayReport s before b (Some report) = IsBelow report.0 b × AnySaid s before (Accept report.0 report.1)
+MayReport s before b (Some report) = IsBelow report.ballot b × AnySaid s before (Accept report.ballot report.value)
 
 -- the messages before let this be said of the slot
 abbrev pub MayBeSaid : ℕ → ℕ → List Message → Saying → Type 0
@@ -120,13 +119,7 @@ MayBeSaid n s before (Decided v) = MayDecide n s before v
 
 -- the messages before let this one follow
 abbrev pub MayBeSent : ℕ → List Message → Message → Type 0
-MayBeSent n before (message.Prepare sender slot ballot) = Unit {0}
-MayBeSent n before (message.Promise sender slot ballot report) = MayBeSaid n slot before (Promise sender ballot report)
-MayBeSent n before (message.Nack sender slot ballot promised) = Unit {0}
-MayBeSent n before (message.Accept sender slot ballot value) = MayBeSaid n slot before (Accept ballot value)
-MayBeSent n before (message.Accepted sender slot ballot value) = MayBeSaid n slot before (Accepted sender ballot value)
-MayBeSent n before (message.Ask sender slot) = Unit {0}
-MayBeSent n before (message.Decided sender slot value) = MayBeSaid n slot before (Decided value)
+MayBeSent n before m = MayBeSaid n m.slot before (saying m.sender m.body)
 
 -- so it is of the messages up to a place, and of all
 abbrev pub AllMayBeSentUpTo : ℕ → List Message → ℕ → Type 0

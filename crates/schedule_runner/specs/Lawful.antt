@@ -5,6 +5,7 @@ use Rattle.std.specs.Prelude.{◌≡◌, ℕ, ◌<◌, ◌⊎◌, IsTrue, List, 
 use Rattle.ballots.specs.Ballot.{Ballot, IsBelow}
 use Rattle.ballots.specs.declared.value.Value.{Value}
 use Rattle.ballots.specs.declared.message.Message.{Message}
+use Rattle.ballots.specs.Acceptance.{acceptance}
 use Rattle.schedule_runner.specs.Majorities.{MajorityOf}
 use Rattle.schedule_runner.specs.Saying.{IsUpTo, Report, Saying, Silent, Promise, Accept, Accepted, Decided, told}
 
@@ -42,9 +43,9 @@ AcceptedNothing xs k a = (j : ℕ) (c : Ballot) (v : Value) → j < k → Said x
 -- nothing (section 2.2, phase 1b).
 pub record ReportsItsHighest (xs : List Saying) : Type 0 where
   pub nothing : (k a : ℕ) (b : Ballot) → Said xs k (Promise a b None) → AcceptedNothing xs k a
-  pub below : (k a : ℕ) (b c : Ballot) (v : Value) → Said xs k (Promise a b (Some (c, v))) → IsBelow c b
-  pub proposed : (k a : ℕ) (b c : Ballot) (v : Value) → Said xs k (Promise a b (Some (c, v))) → SaidBefore xs k (Accept c v)
-  pub highest : (k a : ℕ) (b c : Ballot) (v : Value) → Said xs k (Promise a b (Some (c, v))) → AcceptedUpTo xs k a c
+  pub below : (k a : ℕ) (b c : Ballot) (v : Value) → Said xs k (Promise a b (Some (acceptance c v))) → IsBelow c b
+  pub proposed : (k a : ℕ) (b c : Ballot) (v : Value) → Said xs k (Promise a b (Some (acceptance c v))) → SaidBefore xs k (Accept c v)
+  pub highest : (k a : ℕ) (b c : Ballot) (v : Value) → Said xs k (Promise a b (Some (acceptance c v))) → AcceptedUpTo xs k a c
 
 -- At one ballot one value is proposed (section 2.2: proposals have numbers of their own).
 abbrev pub OneValueABallot : List Saying → Type 0
@@ -61,7 +62,7 @@ pub record IsOfHighestReport (n : ℕ) (xs : List Saying) (k : ℕ) (b : Ballot)
   pub reporter : ℕ
   pub is_member : reporter < n
   pub is_in : IsTrue (promised.is_in reporter)
-  pub reported : SaidBefore xs k (Promise reporter b (Some (highest, v)))
+  pub reported : SaidBefore xs k (Promise reporter b (Some (acceptance highest v)))
 
 -- The value may be proposed at the ballot: a majority promised it, and none of them reported anything, or the highest
 -- report among them has this value.

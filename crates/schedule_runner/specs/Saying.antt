@@ -3,17 +3,19 @@
 use Rattle.std.specs.Prelude.{ℕ, ◌==◌, List, map, Option, Some, None, if◌then◌else◌}
 use Rattle.ballots.specs.Ballot.{Ballot, IsBelow}
 use Rattle.ballots.specs.declared.value.Value.{Value}
+use Rattle.ballots.specs.declared.acceptance.Acceptance.{Acceptance}
 use Rattle.ballots.specs.declared.message.Message.{Message}
-use Rattle.ballots.specs.declared.message.Message.TheVariants as message
+use Rattle.ballots.specs.declared.message.Body.{Body}
+use Rattle.ballots.specs.declared.message.Body.TheVariants as body
 
 -- what an acceptor reports with a promise: the ballot at which it last accepted, with the value
 abbrev pub Report : Type 0
-Report = Option (Ballot × Value)
+Report = Option Acceptance
 
 -- the report is of no ballot above this one
 abbrev pub IsUpTo : Report → Ballot → Type 0
 IsUpTo None c = Unit {0}
-IsUpTo (Some report) c = IsBelow c report.0 → ⊥
+IsUpTo (Some report) c = IsBelow c report.ballot → ⊥
 
 -- Promise and Accepted name their sender, which the other sayings need not.
 pub data Saying : Type 0 where
@@ -24,18 +26,22 @@ pub data Saying : Type 0 where
   Accepted : ℕ → Ballot → Value → Saying
   Decided : Value → Saying
 
--- a message that is about one slot is silent on the others
+-- a message is silent on all slots but its own
 abbrev pub of_one : ℕ → ℕ → Saying → Saying
 of_one slot s saying = if slot == s then saying else Silent
 
+-- what a sender says by a body; a Nack and an Ask say nothing
+abbrev pub saying : ℕ → Body → Saying
+saying sender (body.Prepare ballot) = Prepare ballot
+saying sender (body.Promise ballot report) = Promise sender ballot report
+saying sender (body.Nack ballot promised) = Silent
+saying sender (body.Accept proposal) = Accept proposal.ballot proposal.value
+saying sender (body.Accepted acceptance) = Accepted sender acceptance.ballot acceptance.value
+saying sender body.Ask = Silent
+saying sender (body.Decided value) = Decided value
+
 abbrev pub says : Message → ℕ → Saying
-says (message.Prepare sender slot ballot) s = of_one slot s (Prepare ballot)
-says (message.Promise sender slot ballot report) s = of_one slot s (Promise sender ballot report)
-says (message.Nack sender slot ballot promised) s = Silent
-says (message.Accept sender slot ballot value) s = of_one slot s (Accept ballot value)
-says (message.Accepted sender slot ballot value) s = of_one slot s (Accepted sender ballot value)
-says (message.Ask sender slot) s = Silent
-says (message.Decided sender slot value) s = of_one slot s (Decided value)
+says m s = of_one m.slot s (saying m.sender m.body)
 
 -- what these messages say of a slot, each in its place
 abbrev pub told : List Message → ℕ → List Saying

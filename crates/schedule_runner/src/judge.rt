@@ -6,46 +6,51 @@ ghost use Rattle.schedule_runner.specs.Saying.{says, Accept, Decided};
 ghost use Rattle.schedule_runner.specs.Judging.{AnySaid, AllSaid, PromisedAtMost, PromisedBelow, IsReported};
 ghost use Rattle.schedule_runner.specs.Judging.{HasValueAt, IsSetOf, HasPromised, HasAccepted, MostPromise};
 ghost use Rattle.schedule_runner.specs.Judging.{LetsPropose, MayPropose, MostAccepted, ShowsChosen, MayDecide};
-ghost use Rattle.schedule_runner.specs.Judging.{MayReport, MayBeSent};
+ghost use Rattle.schedule_runner.specs.Judging.{MayReport, MayBeSaid, MayBeSent};
 
 use crate::sayings::{
     acceptor_in, decides, has_value_at, is_reported, promised_at_most, promised_below,
     promiser_within, proposes, reports,
 };
-use ballots::{Ballot, Members, Message, NodeId, NodeSet, Slot, Value};
+use ballots::{Acceptance, Ballot, Body, Members, Message, NodeId, NodeSet, Slot, Value};
 
 /// Whether the messages before let this one follow.
 pub(crate) fn may_be_sent(members: Members, before: &[Message], message: &Message) -> bool
     ensures { IsTrue result ↔ MayBeSent members before.now message.now }
 {
-    match message {
-        Message::Promise {
-            sender,
-            slot,
-            ballot,
-            report,
-        } => may_promise(before, *slot, *sender, *ballot, report),
-        Message::Accept {
-            slot,
-            ballot,
-            value,
-            ..
-        } => {
-            all_have_value_at(before, *slot, *ballot, value)
-                && may_propose(members, before, *slot, *ballot, value)
+    let slot = message.slot;
+    match &message.body {
+        Body::Promise { ballot, report } => {
+            may_promise(before, slot, message.sender, *ballot, report)
         }
-        Message::Accepted {
-            sender,
-            slot,
-            ballot,
-            value,
-        } => {
-            was_proposed(before, *slot, *ballot, value)
-                && all_bind_up_to(before, *slot, *sender, *ballot)
-        }
-        Message::Decided { slot, value, .. } => may_decide(members, before, *slot, value),
-        Message::Prepare { .. } | Message::Nack { .. } | Message::Ask { .. } => true,
+        Body::Accept(proposal) => may_accept(members, before, slot, proposal),
+        Body::Accepted(acceptance) => may_be_accepted(before, slot, message.sender, acceptance),
+        Body::Decided { value } => may_decide(members, before, slot, value),
+        Body::Prepare { .. } | Body::Nack { .. } | Body::Ask => true,
     }
+}
+
+// Whether an Accept may be sent: it is the only one of its ballot, and its value may be proposed.
+fn may_accept(members: Members, before: &[Message], slot: Slot, proposal: &Acceptance) -> bool
+    ensures { IsTrue result
+        ↔ MayBeSaid members slot before.now (Accept proposal.now.ballot proposal.now.value) }
+{
+    all_have_value_at(before, slot, proposal.ballot, &proposal.value)
+        && may_propose(members, before, slot, proposal.ballot, &proposal.value)
+}
+
+// Whether the acceptor may accept this: it was proposed, and nothing higher was promised.
+fn may_be_accepted(
+    before: &[Message],
+    slot: Slot,
+    acceptor: NodeId,
+    acceptance: &Acceptance,
+) -> bool
+    ensures { IsTrue result ↔ (AnySaid slot before.now (Accept acceptance.now.ballot acceptance.now.value)
+        × AllSaid slot before.now (PromisedAtMost acceptor acceptance.now.ballot)) }
+{
+    was_proposed(before, slot, acceptance.ballot, &acceptance.value)
+        && all_bind_up_to(before, slot, acceptor, acceptance.ballot)
 }
 
 // Whether the acceptor may promise the ballot with this report.
@@ -54,7 +59,7 @@ fn may_promise(
     slot: Slot,
     acceptor: NodeId,
     ballot: Ballot,
-    report: &Option<(Ballot, Value)>,
+    report: &Option<Acceptance>,
 ) -> bool
     ensures { IsTrue result ↔ (AllSaid slot before.now (PromisedBelow acceptor ballot)
         × MayReport slot before.now ballot report.now × AllSaid slot before.now (IsReported acceptor report.now)) }
@@ -65,29 +70,20 @@ fn may_promise(
 }
 
 // Whether the report is of a ballot below, and was proposed.
-fn may_report(
-    before: &[Message],
-    slot: Slot,
-    ballot: Ballot,
-    report: &Option<(Ballot, Value)>,
-) -> bool
+fn may_report(before: &[Message], slot: Slot, ballot: Ballot, report: &Option<Acceptance>) -> bool
     ensures { IsTrue result ↔ MayReport slot before.now ballot report.now }
 {
     match report {
-        Some((reported, value)) => {
-            reported.is_below(ballot) && was_proposed(before, slot, *reported, value)
+        Some(reported) => {
+            reported.ballot.is_below(ballot)
+                && was_proposed(before, slot, reported.ballot, &reported.value)
         }
         None => true,
     }
 }
 
 // Whether the acceptor accepted nothing above what it reports.
-fn is_highest(
-    before: &[Message],
-    slot: Slot,
-    acceptor: NodeId,
-    report: &Option<(Ballot, Value)>,
-) -> bool
+fn is_highest(before: &[Message], slot: Slot, acceptor: NodeId, report: &Option<Acceptance>) -> bool
     ensures { IsTrue result ↔ AllSaid slot before.now (IsReported acceptor report.now) }
 {
     before
@@ -164,15 +160,10 @@ fn lets_propose(
 ) -> bool
     ensures { IsTrue result ↔ LetsPropose members at before.now promised wanted.now (says message.now at) }
 {
-    match message {
-        Message::Promise {
-            sender,
-            slot,
-            ballot,
-            report,
-        } => {
-            *slot == at
-                && members.have(*sender)
+    match &message.body {
+        Body::Promise { ballot, report } => {
+            message.slot == at
+                && members.have(message.sender)
                 && *ballot == promised
                 && reports(report, wanted)
                 && most_promise(members, before, at, promised, report)
@@ -187,7 +178,7 @@ fn most_promise(
     before: &[Message],
     slot: Slot,
     ballot: Ballot,
-    bound: &Option<(Ballot, Value)>,
+    bound: &Option<Acceptance>,
 ) -> bool
     ensures { IsTrue result ↔ MostPromise members slot before.now ballot bound.now }
 {
@@ -195,12 +186,7 @@ fn most_promise(
 }
 
 // The nodes that promised the ballot with reports within this one.
-fn promisers(
-    before: &[Message],
-    slot: Slot,
-    ballot: Ballot,
-    bound: &Option<(Ballot, Value)>,
-) -> NodeSet
+fn promisers(before: &[Message], slot: Slot, ballot: Ballot, bound: &Option<Acceptance>) -> NodeSet
     ensures { IsSetOf result (HasPromised slot before.now ballot bound.now) }
 {
     let mut nodes = NodeSet::new();
@@ -236,14 +222,11 @@ fn shows_chosen(
 ) -> bool
     ensures { IsTrue result ↔ ShowsChosen members at before.now wanted.now (says message.now at) }
 {
-    match message {
-        Message::Accepted {
-            slot,
-            ballot,
-            value,
-            ..
-        } => {
-            *slot == at && *value == *wanted && most_accepted(members, before, at, *ballot, wanted)
+    match &message.body {
+        Body::Accepted(acceptance) => {
+            message.slot == at
+                && acceptance.value == *wanted
+                && most_accepted(members, before, at, acceptance.ballot, wanted)
         }
         _ => false,
     }

@@ -5,19 +5,16 @@ ghost use Rattle.std.specs.Option.{option_map};
 ghost use Rattle.schedule_runner.specs.Saying.{says, Accept, Accepted, Decided};
 ghost use Rattle.schedule_runner.specs.Judging.{bound_in, PromisedAtMost, PromisedBelow, ReportCovers, IsReported, HasValueAt, IsWithin, IsReportOf, PromisesWithin};
 
-use ballots::{Ballot, Message, NodeId, Slot, Value};
+use ballots::{Acceptance, Ballot, Body, Message, NodeId, Slot, Value};
 
 /// Whether it proposes this value at this ballot.
 pub(crate) fn proposes(message: &Message, at: Slot, proposed: Ballot, wanted: &Value) -> bool
     ensures { IsTrue result ↔ (says message.now at ≡ Accept proposed wanted.now) }
 {
-    match message {
-        Message::Accept {
-            slot,
-            ballot,
-            value,
-            ..
-        } => *slot == at && *ballot == proposed && *value == *wanted,
+    match &message.body {
+        Body::Accept(proposal) => {
+            message.slot == at && proposal.ballot == proposed && proposal.value == *wanted
+        }
         _ => false,
     }
 }
@@ -26,13 +23,10 @@ pub(crate) fn proposes(message: &Message, at: Slot, proposed: Ballot, wanted: &V
 pub(crate) fn has_value_at(message: &Message, at: Slot, proposed: Ballot, wanted: &Value) -> bool
     ensures { IsTrue result ↔ HasValueAt proposed wanted.now (says message.now at) }
 {
-    match message {
-        Message::Accept {
-            slot,
-            ballot,
-            value,
-            ..
-        } => *slot != at || *ballot != proposed || *value == *wanted,
+    match &message.body {
+        Body::Accept(proposal) => {
+            message.slot != at || proposal.ballot != proposed || proposal.value == *wanted
+        }
         _ => true,
     }
 }
@@ -46,13 +40,10 @@ pub(crate) fn acceptor_in(
 ) -> Option<NodeId>
     ensures { (a : ℕ) → (result ≡ Some a) ↔ (says message.now at ≡ Accepted a accepted wanted.now) }
 {
-    match message {
-        Message::Accepted {
-            sender,
-            slot,
-            ballot,
-            value,
-        } if *slot == at && *ballot == accepted && *value == *wanted => Some(*sender),
+    match &message.body {
+        Body::Accepted(acceptance)
+            if message.slot == at && acceptance.ballot == accepted && acceptance.value == *wanted =>
+            { Some(message.sender) }
         _ => None,
     }
 }
@@ -61,8 +52,8 @@ pub(crate) fn acceptor_in(
 pub(crate) fn decides(message: &Message, at: Slot, wanted: &Value) -> bool
     ensures { IsTrue result ↔ (says message.now at ≡ Decided wanted.now) }
 {
-    match message {
-        Message::Decided { slot, value, .. } => *slot == at && *value == *wanted,
+    match &message.body {
+        Body::Decided { value } => message.slot == at && *value == *wanted,
         _ => false,
     }
 }
@@ -71,19 +62,9 @@ pub(crate) fn decides(message: &Message, at: Slot, wanted: &Value) -> bool
 fn bound_of(message: &Message, at: Slot, acceptor: NodeId) -> Option<Ballot>
     ensures { result ≡ bound_in acceptor (says message.now at) }
 {
-    match message {
-        Message::Promise {
-            sender,
-            slot,
-            ballot,
-            ..
-        }
-        | Message::Accepted {
-            sender,
-            slot,
-            ballot,
-            ..
-        } if *slot == at && *sender == acceptor => Some(*ballot),
+    match &message.body {
+        Body::Promise { ballot, .. } | Body::Accepted(Acceptance { ballot, .. })
+            if message.slot == at && message.sender == acceptor => { Some(*ballot) }
         _ => None,
     }
 }
@@ -113,27 +94,26 @@ pub(crate) fn is_reported(
     message: &Message,
     at: Slot,
     acceptor: NodeId,
-    report: &Option<(Ballot, Value)>,
+    report: &Option<Acceptance>,
 ) -> bool
     ensures { IsTrue result ↔ IsReported acceptor report.now (says message.now at) }
 {
-    match message {
-        Message::Accepted {
-            sender,
-            slot,
-            ballot,
-            ..
-        } => *slot != at || *sender != acceptor || report_covers(report, *ballot),
+    match &message.body {
+        Body::Accepted(acceptance) => {
+            message.slot != at
+                || message.sender != acceptor
+                || report_covers(report, acceptance.ballot)
+        }
         _ => true,
     }
 }
 
 /// Whether the report is of this ballot or a higher one.
-fn report_covers(report: &Option<(Ballot, Value)>, ballot: Ballot) -> bool
+fn report_covers(report: &Option<Acceptance>, ballot: Ballot) -> bool
     ensures { IsTrue result ↔ ReportCovers report.now ballot }
 {
     match report {
-        Some((reported, _)) => !reported.is_below(ballot),
+        Some(reported) => !reported.ballot.is_below(ballot),
         None => false,
     }
 }
@@ -144,38 +124,36 @@ pub(crate) fn promiser_within(
     message: &Message,
     at: Slot,
     promised: Ballot,
-    bound: &Option<(Ballot, Value)>,
+    bound: &Option<Acceptance>,
 ) -> Option<NodeId>
     ensures { (a : ℕ) → (result ≡ Some a) ↔ PromisesWithin a promised bound.now (says message.now at) }
 {
-    match message {
-        Message::Promise {
-            sender,
-            slot,
-            ballot,
-            report,
-        } if *slot == at && *ballot == promised && is_within(report, bound) => Some(*sender),
+    match &message.body {
+        Body::Promise { ballot, report }
+            if message.slot == at && *ballot == promised && is_within(report, bound) => {
+            Some(message.sender)
+        }
         _ => None,
     }
 }
 
 /// Whether the report is of no ballot above the bound's, or is none where the bound is none.
-fn is_within(report: &Option<(Ballot, Value)>, bound: &Option<(Ballot, Value)>) -> bool
+fn is_within(report: &Option<Acceptance>, bound: &Option<Acceptance>) -> bool
     ensures { IsTrue result ↔ IsWithin bound.now report.now }
 {
     match (bound, report) {
         (_, None) => true,
         (None, Some(_)) => false,
-        (Some((highest, _)), Some((reported, _))) => !highest.is_below(*reported),
+        (Some(highest), Some(reported)) => !highest.ballot.is_below(reported.ballot),
     }
 }
 
 /// Whether it is a report of this value.
-pub(crate) fn reports(report: &Option<(Ballot, Value)>, wanted: &Value) -> bool
+pub(crate) fn reports(report: &Option<Acceptance>, wanted: &Value) -> bool
     ensures { IsTrue result ↔ IsReportOf wanted.now report.now }
 {
     match report {
-        Some((_, value)) => *value == *wanted,
+        Some(reported) => reported.value == *wanted,
         None => false,
     }
 }

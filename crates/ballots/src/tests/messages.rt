@@ -4,7 +4,7 @@ use super::support::{
     bytes_of, cell, cells, is_read_as, made, name_of, number, read, refusal, write,
 };
 use crate::encoded::Made;
-use crate::{Message, UploadBytes, Value};
+use crate::{Body, Message, UploadBytes, Value};
 use bytes::Bytes;
 use std::alloc::{AllocError, Global};
 use std::process::Abort;
@@ -270,8 +270,10 @@ fn long_text(alloc: Global, text: &str, len: u64) -> Result<Vec<u8>, Fail> {
 fn told_len(alloc: Global, text: &[u8]) -> Result<String, AllocError> {
     match read(alloc, text) {
         Ok(
-            Message::Decided {
-                value: Value::Upload(bytes),
+            Message {
+                body: Body::Decided {
+                    value: Value::Upload(bytes),
+                },
                 ..
             },
         ) => format!(in alloc; "{}", bytes.as_slice().len()),

@@ -18,7 +18,7 @@ ghost use Rattle.ballots.specs.Message.{Parts, parts_of, MeansBallot, MeansValue
 use crate::encoded::{
     Made, accept, accepted, ask, decided, nack, prepare, promise, reporting_promise,
 };
-use crate::{Ballot, MessageFault, NodeId, Slot, UploadBytes, Value};
+use crate::{Acceptance, Ballot, MessageFault, NodeId, Slot, UploadBytes, Value};
 use bytes::Bytes;
 use proto_fields::{ContentRef, WireFault};
 use std::alloc::{AllocError, Global};
@@ -156,8 +156,11 @@ fn promise_meant(
     };
     match value_meant(alloc, parts.value)? {
         Some(value) => {
-            let made = reporting_promise(alloc, sender, slot, ballot, second, value)?;
-            Ok(Some(made))
+            let report = Acceptance {
+                ballot: second,
+                value,
+            };
+            Ok(Some(reporting_promise(alloc, sender, slot, ballot, report)?))
         }
         None => Ok(None),
     }
@@ -186,10 +189,11 @@ fn acceptance_meant(
     let Some(value) = value_meant(alloc, parts.value)? else {
         return Ok(None);
     };
+    let acceptance = Acceptance { ballot, value };
     if parts.kind == Some(4) {
-        Ok(Some(accept(alloc, sender, slot, ballot, value)?))
+        Ok(Some(accept(alloc, sender, slot, acceptance)?))
     } else {
-        Ok(Some(accepted(alloc, sender, slot, ballot, value)?))
+        Ok(Some(accepted(alloc, sender, slot, acceptance)?))
     }
 }
 

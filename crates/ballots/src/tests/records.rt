@@ -1,7 +1,7 @@
 //! Records against bytes that were spelled by hand: read and written, at the edges of each range, and refused.
 
 use super::support::{ballot, bytes_of, cell, cells, number};
-use crate::{Ballot, MessageFault, Record, Slot, UploadBytes, Value};
+use crate::{Acceptance, Ballot, MessageFault, Record, Slot, UploadBytes, Value};
 use bytes::Bytes;
 use std::alloc::{AllocError, Global};
 use std::test::Fail;
@@ -138,7 +138,7 @@ fn of_kind(kind: u64, slot: Slot, ballot: Ballot, value: Value) -> Option<Record
     match kind {
         1 => Some(Record::Began(ballot)),
         2 => Some(Record::Promised(slot, ballot)),
-        3 => Some(Record::Accepted(slot, ballot, value)),
+        3 => Some(Record::Accepted(slot, Acceptance { ballot, value })),
         _ => None,
     }
 }
@@ -255,7 +255,9 @@ fn beginnings(rt: HostRuntime) -> Result<(), Fail> {
 /// How long the value is in what was read, or why it was refused.
 fn told_len(alloc: Global, read: &Result<Record, MessageFault>) -> Result<String, AllocError> {
     match read {
-        Ok(Record::Accepted(_, _, value)) => format!(in alloc; "{}", value.as_bytes().len()),
+        Ok(Record::Accepted(_, Acceptance { value, .. })) => {
+            format!(in alloc; "{}", value.as_bytes().len())
+        },
         Ok(_) => String::from_str(alloc, "no value"),
         Err(fault) => format!(in alloc; "{fault}"),
     }

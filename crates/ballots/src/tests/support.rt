@@ -2,7 +2,7 @@
 
 use super::plain_meaning::{PartsMeant, message_meant};
 use crate::encoded::Made;
-use crate::{Ballot, Message, MessageFault, NodeId};
+use crate::{Ballot, Body, Message, MessageFault, NodeId};
 use std::alloc::{AllocError, Global};
 use std::test::Fail;
 
@@ -61,14 +61,14 @@ pub(crate) fn bytes_of(alloc: Global, digits: &str) -> Result<Vec<u8>, Fail> {
 
 /// The name of a message.
 pub(crate) fn name_of(message: &Message) -> &'static str {
-    match message {
-        Message::Prepare { .. } => "Prepare",
-        Message::Promise { .. } => "Promise",
-        Message::Nack { .. } => "Nack",
-        Message::Accept { .. } => "Accept",
-        Message::Accepted { .. } => "Accepted",
-        Message::Ask { .. } => "Ask",
-        Message::Decided { .. } => "Decided",
+    match &message.body {
+        Body::Prepare { .. } => "Prepare",
+        Body::Promise { .. } => "Promise",
+        Body::Nack { .. } => "Nack",
+        Body::Accept(_) => "Accept",
+        Body::Accepted(_) => "Accepted",
+        Body::Ask => "Ask",
+        Body::Decided { .. } => "Decided",
     }
 }
 

@@ -1,7 +1,7 @@
 //! Histories as rows, and the messages that say them.
 
 use crate::rows::{Number, ballot, number, round_and_node, upload};
-use ballots::{Ballot, Members, Message, NodeId, Slot, Value};
+use ballots::{Acceptance, Ballot, Body, Members, Message, NodeId, Slot, Value};
 use schedule_runner::{Trace, audit};
 use std::alloc::Global;
 use std::process::Abort;
@@ -154,50 +154,38 @@ fn head_of(slot: u32, said: Said) -> Option<Head> {
     })
 }
 
-/// The message with this head and value that says this.
-fn message_of(said: Said, head: Head, value: Value) -> Message {
-    let Head {
-        sender,
-        slot,
-        ballot,
-        second,
-    } = head;
+/// The body with these ballots and this value that says this.
+fn body_of(said: Said, ballot: Ballot, second: Ballot, value: Value) -> Body {
     match said {
-        Said::Prepare(..) => Message::Prepare {
-            sender,
-            slot,
+        Said::Prepare(..) => Body::Prepare { ballot },
+        Said::Promise(_, _, None) => Body::Promise {
             ballot,
+            report: None,
         },
-        Said::Promise(_, _, told) => Message::Promise {
-            sender,
-            slot,
+        Said::Promise(_, _, Some(_)) => Body::Promise {
             ballot,
-            report: told.map(|_| (second, value)),
+            report: Some(Acceptance {
+                ballot: second,
+                value,
+            }),
         },
-        Said::Accept(..) => Message::Accept {
-            sender,
-            slot,
-            ballot,
-            value,
-        },
-        Said::Accepted(..) => Message::Accepted {
-            sender,
-            slot,
-            ballot,
-            value,
-        },
-        Said::Decided(_) => Message::Decided {
-            sender,
-            slot,
-            value,
-        },
-        Said::Nack(..) => Message::Nack {
-            sender,
-            slot,
+        Said::Accept(..) => Body::Accept(Acceptance { ballot, value }),
+        Said::Accepted(..) => Body::Accepted(Acceptance { ballot, value }),
+        Said::Decided(_) => Body::Decided { value },
+        Said::Nack(..) => Body::Nack {
             ballot,
             promised: second,
         },
-        Said::Ask(_) => Message::Ask { sender, slot },
+        Said::Ask(_) => Body::Ask,
+    }
+}
+
+/// The message with this head and value that says this.
+fn message_of(said: Said, head: Head, value: Value) -> Message {
+    Message {
+        sender: head.sender,
+        slot: head.slot,
+        body: body_of(said, head.ballot, head.second, value),
     }
 }
 

@@ -6,13 +6,13 @@ pub returns-clause-promised : goal.returns-clause-promised
 returns-clause-promised c = λ records old new slot ballot report is promised. promise_restored records old new slot ballot is promised.0 promised.2
 
 pub returns-clause-granted : goal.returns-clause-granted
-returns-clause-granted c = λ records old new slot ballot value is granted. grant_restored records old new slot ballot value is granted.0 granted.1
+returns-clause-granted c = λ records old new slot proposal is granted. grant_restored records old new slot proposal is granted.0 granted.1
 
 pub returns-clause-prepare_refused : goal.returns-clause-prepare_refused
 returns-clause-prepare_refused c = λ records old new slot ballot promised is refused. restored_as_before records old new refused.2 is
 
 pub returns-clause-accept_refused : goal.returns-clause-accept_refused
-returns-clause-accept_refused c = λ records old new slot ballot promised value is refused. restored_as_before records old new refused.2 is
+returns-clause-accept_refused c = λ records old new slot proposal promised is refused. restored_as_before records old new refused.2 is
 
 pub returns-clause-run : goal.returns-clause-run
 returns-clause-run c = λ records old new turns is runs. run_restored records old turns new is runs

@@ -13,5 +13,5 @@ returns-clause-no_prepare c = λ old later new turns slot held ballot report has
     above_before old.promised later.promised slot held ballot (run_rises old turns later runs) has promised.0
 
 pub returns-clause-no_accept : goal.returns-clause-no_accept
-returns-clause-no_accept c = λ old later new turns slot held ballot value has runs granted.
-    at_least_before old.promised later.promised slot held ballot (run_rises old turns later runs) has granted.0
+returns-clause-no_accept c = λ old later new turns slot held proposal has runs granted.
+    at_least_before old.promised later.promised slot held proposal.ballot (run_rises old turns later runs) has granted.0

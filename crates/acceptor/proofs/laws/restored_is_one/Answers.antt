@@ -1,7 +1,7 @@
 use Rattle.std.proofs.Common.{◌≡◌, List, Option, Some, None, inl, inr, refl, rules, arith, sym, subst, ap, ◌∙◌, []}
 use Rattle.std.specs.List.{Contains, filter_map}
 use Rattle.ballots.specs.Ballot.{Ballot}
-use Rattle.ballots.specs.declared.value.Value.{Value}
+use Rattle.ballots.specs.declared.acceptance.Acceptance.{Acceptance}
 use Rattle.acceptor.specs.Restored.{IsHighest, IsLastHighest, promise_in, acceptance_in}
 use Rattle.acceptor.proofs.Lists.{nothing_in}
 use Rattle.acceptor.proofs.Highest.{neither_below, in_middle, one_last}
@@ -13,14 +13,14 @@ one_highest ballots None (Some b) x y = absurd (nothing_in b (subst (λ (l : Lis
 one_highest ballots (Some a) None x y = absurd (nothing_in a (subst (λ (l : List Ballot). Contains l a) y x.0))
 one_highest ballots (Some a) (Some b) x y = ap (λ (l : Ballot). let o : Option Ballot = Some l in o) (neither_below a b (x.1 b y.0) (y.1 a x.0))
 
-one_last_highest : (list : List (Ballot × Value)) (a b : Option (Ballot × Value)) → IsLastHighest list a → IsLastHighest list b → a ≡ b
+one_last_highest : (list : List Acceptance) (a b : Option Acceptance) → IsLastHighest list a → IsLastHighest list b → a ≡ b
 one_last_highest list None None x y = refl
 one_last_highest list None (Some b) x (before, after, split, not_above, below) =
-    absurd (nothing_in b (subst (λ (l : List (Ballot × Value)). Contains l b) (sym split ∙ x) (in_middle before b after)))
+    absurd (nothing_in b (subst (λ (l : List Acceptance). Contains l b) (sym split ∙ x) (in_middle before b after)))
 one_last_highest list (Some a) None (before, after, split, not_above, below) y =
-    absurd (nothing_in a (subst (λ (l : List (Ballot × Value)). Contains l a) (sym split ∙ y) (in_middle before a after)))
+    absurd (nothing_in a (subst (λ (l : List Acceptance). Contains l a) (sym split ∙ y) (in_middle before a after)))
 one_last_highest list (Some a) (Some b) (before, after, split, not_above, below) (before', after', split', not_above', below') =
-    ap (λ (l : Ballot × Value). let o : Option (Ballot × Value) = Some l in o)
+    ap (λ (l : Acceptance). let o : Option Acceptance = Some l in o)
     (one_last before before' a b after after' (sym split ∙ split') not_above below not_above' below')
 
 pub returns-clause-promises : goal.returns-clause-promises

@@ -1,5 +1,6 @@
 use Rattle.std.proofs.Common.{◌≡◌, ℕ, ◌<◌, List, Some, None, sym, inl, inr}
 use Rattle.ballots.specs.declared.message.Message.{Message}
+use Rattle.ballots.specs.Acceptance.{acceptance}
 use Rattle.schedule_runner.specs.Saying.{told}
 use Rattle.schedule_runner.specs.Lawful.{IsLawful, IsLawfulSlot}
 use Rattle.schedule_runner.specs.Messages.{KeepsTheRules}
@@ -25,11 +26,11 @@ rules_kept n sent lawful = record {
       (lawful s).keeps_its_promise.promises j k a b c r lt (inr (u, sent_accepted sent s j a b u h)) (sent_promise sent s k a c r i);
   nothing_was_accepted = λ j k a s b c v lt h i.
       (lawful s).reports_its_highest.nothing k a b (sent_promise sent s k a b None h) j c v lt (sent_accepted sent s j a c v i);
-  report_is_below = λ k a s b c v h. (lawful s).reports_its_highest.below k a b c v (sent_promise sent s k a b (Some (c, v)) h);
+  report_is_below = λ k a s b c v h. (lawful s).reports_its_highest.below k a b c v (sent_promise sent s k a b (Some (acceptance c v)) h);
   report_was_proposed = λ k a s b c v h.
-      accept_before sent s k c v ((lawful s).reports_its_highest.proposed k a b c v (sent_promise sent s k a b (Some (c, v)) h));
+      accept_before sent s k c v ((lawful s).reports_its_highest.proposed k a b c v (sent_promise sent s k a b (Some (acceptance c v)) h));
   report_is_highest = λ j k a s b c d v w lt h i.
-      (lawful s).reports_its_highest.highest k a b c v (sent_promise sent s k a b (Some (c, v)) h) j d w lt (sent_accepted sent s j a d w i);
+      (lawful s).reports_its_highest.highest k a b c v (sent_promise sent s k a b (Some (acceptance c v)) h) j d w lt (sent_accepted sent s j a d w i);
   one_value_a_ballot = λ j k p q s b v w h i. (lawful s).one_value_a_ballot j k b v w (sent_accept sent s j p b v h) (sent_accept sent s k q b w i);
   accept_is_safe = λ k p s b v h. elim ((lawful s).proposes_what_is_safe k b v (sent_accept sent s k p b v h)) [
     | inl free ↦ inl (most_weaker n _ _ (λ a lt q. promise_before sent s k a b None q) free)
@@ -58,12 +59,12 @@ rules_are_lawful n sent rules s = record {
   reports_its_highest = record {
     nothing = λ k a b h j c v lt vote.
         rules.nothing_was_accepted j k a s b c v lt (promise_sent sent s k a b None h) (accepted_sent sent s j a c v vote);
-    below = λ k a b c v h. rules.report_is_below k a s b c v (promise_sent sent s k a b (Some (c, v)) h);
+    below = λ k a b c v h. rules.report_is_below k a s b c v (promise_sent sent s k a b (Some (acceptance c v)) h);
     proposed = λ k a b c v h.
-        let accept = rules.report_was_proposed k a s b c v (promise_sent sent s k a b (Some (c, v)) h) in
+        let accept = rules.report_was_proposed k a s b c v (promise_sent sent s k a b (Some (acceptance c v)) h) in
         before_accept sent s k accept.0 c v accept.1;
     highest = λ k a b c v h j d w lt vote.
-        rules.report_is_highest j k a s b c d v w lt (promise_sent sent s k a b (Some (c, v)) h) (accepted_sent sent s j a d w vote);
+        rules.report_is_highest j k a s b c d v w lt (promise_sent sent s k a b (Some (acceptance c v)) h) (accepted_sent sent s j a d w vote);
   };
   one_value_a_ballot = λ j k b v w h i.
       let first = accept_sent sent s j b v h in

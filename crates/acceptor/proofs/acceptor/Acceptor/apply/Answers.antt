@@ -18,7 +18,7 @@ returns-in-Promised-clause-restored c records is =
 pub returns-in-Accepted-clause-restored : goal.returns-in-Accepted-clause-restored
 returns-in-Accepted-clause-restored c records is =
     rw c.in-Accepted.is
-    (accepted_more records c.in-Accepted.slot c.in-Accepted.ballot c.in-Accepted.value _ _ (subst (λ (h : AcceptorState). IsRestored records (standing h)) (sym c.self.view_is) is)
+    (accepted_more records c.in-Accepted.slot c.in-Accepted.acceptance _ _ (subst (λ (h : AcceptorState). IsRestored records (standing h)) (sym c.self.view_is) is)
     c.raise_promise-in-Accepted.ensures.raises c.raise_acceptance.ensures.raises)
 
 pub returns-in-Accepted-clause-applies : goal.returns-in-Accepted-clause-applies
