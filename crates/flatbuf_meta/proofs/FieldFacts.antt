@@ -7,8 +7,9 @@ use Rattle.flatbuf_meta.specs.declared.field_type.Ty.{Ty}
 use Rattle.flatbuf_meta.specs.declared.field_type.TimeUnit.{TimeUnit}
 use Rattle.flatbuf_meta.specs.declared.fault.MetaFault.{MetaFault}
 use Rattle.flatbuf_meta.specs.declared.fault.MetaFault.TheVariants.{BadHeader}
-use Rattle.flatbuf_meta.specs.Fields.{Text, DataType, int_type, floating_point_type, decimal_type, date_type}
-use Rattle.flatbuf_meta.specs.Fields.{timestamp_type, fixed_size_binary_type, fixed_size_list_type, duration_type}
+use Rattle.flatbuf_meta.specs.Fields.{Text, DataType, null_type, int_type, floating_point_type, binary_type, utf8_type}
+use Rattle.flatbuf_meta.specs.Fields.{bool_type, decimal_type, date_type, time_type, timestamp_type, list_type}
+use Rattle.flatbuf_meta.specs.Fields.{struct_type, fixed_size_binary_type, fixed_size_list_type, duration_type}
 use Rattle.flatbuf_meta.specs.Fields.{FieldHead}
 use Rattle.flatbuf_meta.specs.Views.{data_type_of}
 use Rattle.flatbuf_meta.specs.Slots.{ShowsNumber, ShowsString, VectorRef, ShowsVectorRef, FieldSlotFault}
@@ -122,13 +123,39 @@ metadata_fault text table e fault = inr (inr (inr (inr (inr (inl (inl fault)))))
 
 allows_zoned : (data_type : DataType) (timezone : Option Text) (count : ℕ) → AllowsChildren data_type count
     → AllowsChildren (with_timezone data_type timezone) count
-allows_zoned (timestamp_type unit _) timezone count allowed = allowed
-allows_zoned data_type timezone count allowed = allowed
+allows_zoned null_type timezone count allowed = allowed
+allows_zoned (int_type width signed) timezone count allowed = allowed
+allows_zoned (floating_point_type precision) timezone count allowed = allowed
+allows_zoned binary_type timezone count allowed = allowed
+allows_zoned utf8_type timezone count allowed = allowed
+allows_zoned bool_type timezone count allowed = allowed
+allows_zoned (decimal_type precision scale width) timezone count allowed = allowed
+allows_zoned (date_type unit) timezone count allowed = allowed
+allows_zoned (time_type unit) timezone count allowed = allowed
+allows_zoned (timestamp_type unit old) timezone count allowed = allowed
+allows_zoned list_type timezone count allowed = allowed
+allows_zoned struct_type timezone count allowed = allowed
+allows_zoned (fixed_size_binary_type byte_width) timezone count allowed = allowed
+allows_zoned (fixed_size_list_type list_size) timezone count allowed = allowed
+allows_zoned (duration_type unit) timezone count allowed = allowed
 
 zoned_allows : (data_type : DataType) (timezone : Option Text) (count : ℕ)
     → AllowsChildren (with_timezone data_type timezone) count → AllowsChildren data_type count
-zoned_allows (timestamp_type unit _) timezone count allowed = allowed
-zoned_allows data_type timezone count allowed = allowed
+zoned_allows null_type timezone count allowed = allowed
+zoned_allows (int_type width signed) timezone count allowed = allowed
+zoned_allows (floating_point_type precision) timezone count allowed = allowed
+zoned_allows binary_type timezone count allowed = allowed
+zoned_allows utf8_type timezone count allowed = allowed
+zoned_allows bool_type timezone count allowed = allowed
+zoned_allows (decimal_type precision scale width) timezone count allowed = allowed
+zoned_allows (date_type unit) timezone count allowed = allowed
+zoned_allows (time_type unit) timezone count allowed = allowed
+zoned_allows (timestamp_type unit old) timezone count allowed = allowed
+zoned_allows list_type timezone count allowed = allowed
+zoned_allows struct_type timezone count allowed = allowed
+zoned_allows (fixed_size_binary_type byte_width) timezone count allowed = allowed
+zoned_allows (fixed_size_list_type list_size) timezone count allowed = allowed
+zoned_allows (duration_type unit) timezone count allowed = allowed
 
 pub wrong_children : (text : List ℕ) (table type_id : ℕ) (ty : Ty) (timezone : Option Text) (children : VectorRef)
     → ShowsNumber text table 2 1 0 type_id

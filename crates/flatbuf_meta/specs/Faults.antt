@@ -6,8 +6,9 @@ use Rattle.flat_places.specs.Number.{ShowsReference}
 use Rattle.flat_places.specs.Table.{ShowsField}
 use Rattle.flat_places.specs.Fault.{NumberFault}
 use Rattle.flatbuf_meta.specs.declared.fault.MetaFault.{MetaFault}
-use Rattle.flatbuf_meta.specs.declared.fault.MetaFault.TheVariants.{Version, Endianness, Unsupported, Dictionary}
-use Rattle.flatbuf_meta.specs.declared.fault.MetaFault.TheVariants.{TooDeep, TooManyFields, BadHeader}
+use Rattle.flatbuf_meta.specs.declared.fault.MetaFault.TheVariants.{OutOfBounds, Version, Endianness, Unsupported}
+use Rattle.flatbuf_meta.specs.declared.fault.MetaFault.TheVariants.{Dictionary, TooDeep, TooManyFields, NotUtf8}
+use Rattle.flatbuf_meta.specs.declared.fault.MetaFault.TheVariants.{BadHeader, OutOfMemory}
 use Rattle.flatbuf_meta.specs.Fields.{Entry, DataType, Forest, width}
 use Rattle.flatbuf_meta.specs.Slots.{ShowsNumber, ShowsReferenceField, VectorRef, ShowsVectorRef, FromPlaceFault}
 use Rattle.flatbuf_meta.specs.Slots.{FieldSlotFault, SlotNumberFault, ReferenceFault, StringFault, VectorRefFault}
@@ -75,7 +76,14 @@ abbrev pub TypeFault : List ℕ → ℕ → ℕ → MetaFault → Type 0
 TypeFault text table type_id (Unsupported told) = (told ≡ type_id) × IsUnsupported text table type_id
 TypeFault text table type_id BadHeader = (is_carried type_id ≡ true) × (is_decimal type_id ≡ false)
     × HasWrongParameters text table type_id
-TypeFault text table type_id _ = ⊥
+TypeFault text table type_id OutOfBounds = ⊥
+TypeFault text table type_id Version = ⊥
+TypeFault text table type_id Endianness = ⊥
+TypeFault text table type_id Dictionary = ⊥
+TypeFault text table type_id TooDeep = ⊥
+TypeFault text table type_id TooManyFields = ⊥
+TypeFault text table type_id NotUtf8 = ⊥
+TypeFault text table type_id OutOfMemory = ⊥
 
 -- the number of the type, its parameters, or what they say
 abbrev pub DataTypeFault : List ℕ → ℕ → MetaFault → Type 0
@@ -102,7 +110,14 @@ RefersToDictionary text table = (place : ℕ) × ShowsField text table 4 (Some p
 abbrev pub OwnFault : List ℕ → ℕ → MetaFault → Type 0
 OwnFault text table BadHeader = HasWrongChildren text table
 OwnFault text table Dictionary = RefersToDictionary text table
-OwnFault text table _ = ⊥
+OwnFault text table OutOfBounds = ⊥
+OwnFault text table Version = ⊥
+OwnFault text table Endianness = ⊥
+OwnFault text table (Unsupported type_id) = ⊥
+OwnFault text table TooDeep = ⊥
+OwnFault text table TooManyFields = ⊥
+OwnFault text table NotUtf8 = ⊥
+OwnFault text table OutOfMemory = ⊥
 
 -- a part of the field, but for the fields inside it
 abbrev pub FieldFault : List ℕ → ℕ → MetaFault → Type 0
@@ -160,7 +175,14 @@ pub record ExceedsLimits (text : List ℕ) (table : ℕ) : Type 0 where
 abbrev pub SchemaOwnFault : List ℕ → ℕ → MetaFault → Type 0
 SchemaOwnFault text table Endianness = (order : ℕ) × ShowsNumber text table 0 2 0 order × (order ≢ 0)
 SchemaOwnFault text table TooManyFields = ExceedsLimits text table
-SchemaOwnFault text table _ = ⊥
+SchemaOwnFault text table OutOfBounds = ⊥
+SchemaOwnFault text table Version = ⊥
+SchemaOwnFault text table (Unsupported type_id) = ⊥
+SchemaOwnFault text table Dictionary = ⊥
+SchemaOwnFault text table TooDeep = ⊥
+SchemaOwnFault text table NotUtf8 = ⊥
+SchemaOwnFault text table BadHeader = ⊥
+SchemaOwnFault text table OutOfMemory = ⊥
 
 abbrev pub SchemaFault : List ℕ → ℕ → MetaFault → Type 0
 SchemaFault text table fault =
@@ -189,7 +211,13 @@ MessageOwnFault text message Version = (version : ℕ) × ShowsNumber text messa
 MessageOwnFault text message Dictionary = ShowsNumber text message 1 1 0 dictionary_type
 MessageOwnFault text message BadHeader =
     ShowsReferenceField text message 2 None ⊎ ((type : ℕ) × ShowsNumber text message 1 1 0 type × IsOtherType type)
-MessageOwnFault text message _ = ⊥
+MessageOwnFault text message OutOfBounds = ⊥
+MessageOwnFault text message Endianness = ⊥
+MessageOwnFault text message (Unsupported type_id) = ⊥
+MessageOwnFault text message TooDeep = ⊥
+MessageOwnFault text message TooManyFields = ⊥
+MessageOwnFault text message NotUtf8 = ⊥
+MessageOwnFault text message OutOfMemory = ⊥
 
 abbrev pub MessageFault : List ℕ → ℕ → MetaFault → Type 0
 MessageFault text message fault =
