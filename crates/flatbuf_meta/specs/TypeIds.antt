@@ -32,6 +32,7 @@ pub record Parameters : Type 0 where
 abbrev pub number_of : ℕ → ℕ → Option Parameter
 number_of size default = Some (record { size = size; default = default })
 
+-- those of the type of this number: 1, 4, 5, 6, 12 and 13 have none, and of what is not carried none are looked at
 abbrev pub parameters_of : ℕ → Parameters
 parameters_of type_id =
     if type_id == 2 then record { first = number_of 4 0; second = number_of 1 0; third = None }

@@ -31,6 +31,13 @@ pub(crate) struct Parameters {
     pub(crate) third: Option<Parameter>,
 }
 
+/// A type without parameters.
+const NO_PARAMETERS: Parameters = Parameters {
+    first: None,
+    second: None,
+    third: None,
+};
+
 /// A type with one parameter.
 fn one(size: usize, default: u64) -> Parameters
     ensures first { result.first ≡ Some (record { size = size; default = default }) }
@@ -86,11 +93,10 @@ pub(crate) fn parameters_of(type_id: u8) -> Parameters
         8 | 18 => one(2, 1),
         9 => two((2, 1), (4, 32)),
         15 | 16 => one(4, 0),
-        _ => Parameters {
-            first: None,
-            second: None,
-            third: None,
-        },
+        // Null, Binary, Utf8, Bool, List and Struct_ have none.
+        1 | 4 | 5 | 6 | 12 | 13 => NO_PARAMETERS,
+        // These are not carried, and nothing of their tables is looked at.
+        0 | 11 | 14 | 17 | 19..=255 => NO_PARAMETERS,
     }
 }
 
@@ -303,6 +309,7 @@ pub(crate) fn type_from(type_id: u8, first: u64, second: u64, third: u64) -> Opt
         15 => fixed_size_binary_from(first),
         16 => fixed_size_list_from(first),
         18 => duration_from(first),
-        _ => None,
+        // These are not carried.
+        0 | 11 | 14 | 17 | 19..=255 => None,
     }
 }

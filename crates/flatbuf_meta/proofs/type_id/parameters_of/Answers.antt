@@ -72,27 +72,3 @@ returns-in-15-clause-second c = search rules steps 300000
 
 pub returns-in-15-clause-third : goal.returns-in-15-clause-third
 returns-in-15-clause-third c = search rules steps 300000
-
-pub returns-in_default-clause-same : goal.returns-in_default-clause-same
-returns-in_default-clause-same c = search rules steps 300000
-
-pub returns-in_default-clause-first : goal.returns-in_default-clause-first
-returns-in_default-clause-first c = search rules steps 300000
-
-pub returns-in_default-clause-second : goal.returns-in_default-clause-second
-returns-in_default-clause-second c = search rules steps 300000
-
-pub returns-in_default-clause-third : goal.returns-in_default-clause-third
-returns-in_default-clause-third c = search rules steps 300000
-
-pub returns-in_default-2-clause-same : goal.returns-in_default-2-clause-same
-returns-in_default-2-clause-same c = search rules steps 300000
-
-pub returns-in_default-2-clause-first : goal.returns-in_default-2-clause-first
-returns-in_default-2-clause-first c = search rules steps 300000
-
-pub returns-in_default-2-clause-second : goal.returns-in_default-2-clause-second
-returns-in_default-2-clause-second c = search rules steps 300000
-
-pub returns-in_default-2-clause-third : goal.returns-in_default-2-clause-third
-returns-in_default-2-clause-third c = search rules steps 300000
