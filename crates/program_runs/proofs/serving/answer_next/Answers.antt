@@ -13,7 +13,7 @@ pub returns-in_ok-answer_frame-in-Ok-Some : goal.returns-in_ok-answer_frame-in-O
 returns-in_ok-answer_frame-in-Ok-Some g c =
     steps_on (standing c.args.acceptor.now) (standing c.answer_frame.new.acceptor) c.in-Ok-Some.frame
     (g.R.Read.remaining c.args.r.now) (g.R.Read.remaining c.read_frame.new.r) (g.W.Write.contents c.args.w.now) (g.W.Write.contents c.answer_frame.new.w)
-    (rw c.in-Ok-Some.field-0-is at c.in-Ok-Some.ensures.read) c.in_ok-answer_frame.ensures
+    (rw c.in-Ok-Some.field-0-is at c.in-Ok-Some.ensures.read) c.in_ok-answer_frame-in-Ok-Some.ensures
 
 pub returns-in-Err : goal.returns-in-Err
 returns-in-Err g c = search rules steps 300000
