@@ -1,5 +1,5 @@
-//! A message of our own that has a field of every kind, read and written by the public calls of `proto_fields` alone: a
-//! sample, which has numbers and words.
+//! A message of our own that has a field of every kind, read and written by the public calls of `proto_messages` and
+//! `proto_fields` alone: a sample, which has numbers and words.
 
 use proto_fields::{
     ContentRef, WireFault, bool_of, bytes_of, check_bytes, check_number, check_string, enum_of,

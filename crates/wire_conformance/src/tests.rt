@@ -1,5 +1,5 @@
-//! The calls of `proto_fields` and `proto_wire` against bytes from outside, and against plain programs for the
-//! definitions.
+//! The calls of `proto_fields`, `proto_messages` and `proto_wire` against bytes from outside, and against plain programs
+//! for the definitions.
 
 mod all_fields;
 mod all_frames;
@@ -17,6 +17,7 @@ mod plain_messages;
 mod plain_spelling;
 mod plain_values;
 mod samples;
+mod shared_bytes;
 mod shown;
 mod texts;
 mod told_fields;
