@@ -1,7 +1,7 @@
 //! The fields of a message appended to a vector, each in its canonical encoding (Protocol Buffers, "Encoding").
 //!
-//! Each call's field number is from 1 to [`proto_fields::MAX_FIELD_NUMBER`]. Where memory is refused, a beginning of what it
-//! would append may stay: [`crate::ProtoMessage::encode`] takes it back.
+//! Each call's field number is from 1 to [`proto_fields::MAX_FIELD_NUMBER`]. Where memory is refused, a beginning of
+//! what it would append may stay: [`crate::ProtoMessage::encode`] takes it back.
 
 ghost use Rattle.std.specs.Prelude.{◌≡◌, ◌<◌, ◌^◌, ◌++◌, ◌∷◌, [], OnOk, OnErr, map};
 ghost use Rattle.std.specs.Int.{w32, w64};

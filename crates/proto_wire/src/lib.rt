@@ -4,9 +4,10 @@
 //! What bytes encode is defined in `specs/`, apart from how they are read: `Frame` after gRPC's length-prefixed
 //! messages, and `Flight` with the nine messages as descriptors, after Apache Arrow's Flight.proto. What the fields of
 //! a descriptor mean is `proto_messages`' own, and so are [`ProtoMessage::decode`] and [`ProtoMessage::encode`], which
-//! all nine have; its public names stand here too, and those of `proto_fields`, which it stands on. A call that reads is `Ok` exactly where the bytes begin with such a
-//! frame, or mean such a message, memory and failed reads apart, and a fault is told only where it stands. A call that
-//! writes appends exactly the one canonical encoding, and leaves its vector as it was where memory is refused.
+//! all nine have; its public names stand here too, and those of `proto_fields`, which it stands on. A call that reads
+//! is `Ok` exactly where the bytes begin with such a frame, or mean such a message, memory and failed reads apart, and a
+//! fault is told only where it stands. A call that writes appends exactly the one canonical encoding, and leaves its
+//! vector as it was where memory is refused.
 #![tactic(auto)]
 
 mod flight;
