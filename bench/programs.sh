@@ -1,11 +1,11 @@
-# To be sourced at the top of the repository with the name of a plain program: builds it and `flight_bench`, whose paths
-# are $plain and $proved then, and makes an empty folder, $work, for as long as the script runs.
+# To be sourced at the top of the repository, with the name of a plain program where there is one: builds it and
+# `flight_bench`, whose paths are $plain and $proved then, and makes an empty folder, $work, for as long as the script runs.
 set -euo pipefail
 work=$(mktemp -d)
 trap 'rm -rf "$work"' EXIT
 plain=$work/plain
 proved=$PWD/crates/flight_bench/out/flight_bench
-rustc -O --edition 2021 -o "$plain" "bench/$1.rs"
+if (($#)); then rustc -O --edition 2021 -o "$plain" "bench/$1.rs"; fi
 if ! (cd crates/flight_bench && rt run -- --version) </dev/null >"$work/log" 2>&1; then
   cat "$work/log" >&2
   exit 1

@@ -26,6 +26,12 @@ pub(crate) enum RunFault {
     /// There is no slot, or there are more than there can be.
     #[error("Slots")]
     Slots,
+    /// There are more rounds than there can be.
+    #[error("Rounds")]
+    Rounds,
+    /// The bytes are no upload's value: there are none, or too many.
+    #[error("Upload")]
+    Upload,
     /// A read or a write failed.
     #[error("Io")]
     Io,

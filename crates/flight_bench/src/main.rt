@@ -21,7 +21,7 @@ use fault::RunFault;
 use headers::{decode_header, encode_header};
 use lines::line_made_of;
 use messages::{Format, decode_data, decode_info, encode_data, encode_info};
-use parts::{call_acceptor, call_learner, call_log};
+use parts::{call_acceptor, call_learner, call_log, report_value};
 use std::alloc::Global;
 use std::fs;
 use std::io::{BufWriter, Write};
@@ -92,6 +92,7 @@ fn repeat(alloc: Global, work: Work, count: u64, bytes: &[u8]) -> Result<u64, Ru
         Work::CallAcceptor => call_acceptor(alloc, count, bytes.len()),
         Work::CallLearner => call_learner(alloc, count, bytes.len()),
         Work::CallLog => call_log(alloc, count, bytes.len()),
+        Work::ReportValue => report_value(alloc, count, bytes),
     }
 }
 

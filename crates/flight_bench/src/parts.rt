@@ -1,8 +1,10 @@
-//! The parts of a Paxos node, made and called over and over. All values are no-ops, and all ballots are one.
+//! The parts of a Paxos node, made and called over and over. All values are no-ops, and all ballots are one, but where
+//! an acceptor reports an upload's value in promises of rising ballots.
 
 use crate::fault::RunFault;
 use acceptor::{Acceptor, Answer};
-use ballots::{Acceptance, Ballot, Members, NodeId, Slot, Value};
+use ballots::{Acceptance, Ballot, Members, NodeId, Slot, UploadBytes, Value};
+use bytes::Bytes;
 use decided_log::DecidedLog;
 use learner::Learner;
 use std::alloc::{AllocError, Global};
@@ -37,6 +39,44 @@ pub(crate) fn call_log(alloc: Global, count: u64, slots: usize) -> Result<u64, R
         sum = sum.wrapping_add(prefix_grown(alloc, &slots)?);
     }
     Ok(sum)
+}
+
+/// Has an acceptor accept these bytes as an upload's value, and then promise so many ballots for the same slot. Each
+/// promise reports the value, and all are kept until the last is given, so that their memory can be measured. The sum
+/// counts them.
+pub(crate) fn report_value(alloc: Global, count: u64, bytes: &[u8]) -> Result<u64, RunFault> {
+    let mut acceptor = Acceptor::new(alloc);
+    accept_upload(alloc, &mut acceptor, bytes)?;
+    let mut promises: Vec<Answer> = Vec::new(alloc);
+    for further in 0..count {
+        let ballot = rising_ballot(further)?;
+        let promise = acceptor.on_prepare(first_slot(), ballot)?;
+        promises.push(promise).map_err(|_| RunFault::OutOfMemory)?;
+    }
+    Ok(promises.len() as u64)
+}
+
+fn accept_upload(alloc: Global, acceptor: &mut Acceptor, bytes: &[u8]) -> Result<(), RunFault> {
+    let copy = Vec::from_slice(alloc, bytes)?;
+    let shared = Bytes::from_vec(copy).map_err(|_| RunFault::OutOfMemory)?;
+    let upload = UploadBytes::new(shared).ok_or(RunFault::Upload)?;
+    let proposal = Acceptance {
+        ballot: first_ballot(),
+        value: Value::Upload(upload),
+    };
+    acceptor.on_accept(first_slot(), proposal)?;
+    Ok(())
+}
+
+fn first_slot() -> Slot {
+    Slot::new(0).unwrap()
+}
+
+// The ballot of a round behind the first.
+fn rising_ballot(further: u64) -> Result<Ballot, RunFault> {
+    let further = u32::try_from(further).map_err(|_| RunFault::Rounds)?;
+    let round = further.checked_add(2).ok_or(RunFault::Rounds)?;
+    Ballot::new(round, node(0)).ok_or(RunFault::Rounds)
 }
 
 fn first_slots(alloc: Global, count: usize) -> Result<Vec<Slot>, RunFault> {

@@ -35,6 +35,8 @@ pub(crate) enum Work {
     CallLearner,
     /// A value is inserted into a log for each of as many slots.
     CallLog,
+    /// An acceptor that has accepted the file's bytes promises ballots, and reports them in each promise.
+    ReportValue,
 }
 
 /// The words of all tasks.
@@ -48,6 +50,7 @@ const TASKS: &[&str] = &[
     "call-acceptor",
     "call-learner",
     "call-log",
+    "report-value",
     "reencode-descriptor",
     "reencode-ticket",
     "reencode-location",
@@ -142,6 +145,7 @@ fn work_named(word: &str) -> Option<Work> {
         "call-acceptor" => Some(Work::CallAcceptor),
         "call-learner" => Some(Work::CallLearner),
         "call-log" => Some(Work::CallLog),
+        "report-value" => Some(Work::ReportValue),
         _ => None,
     }
 }

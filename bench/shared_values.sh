@@ -1,0 +1,29 @@
+#!/usr/bin/env bash
+# Shows that a value is shared and not copied: an acceptor accepts an upload's value of 16 MiB, and then promises so many
+# ballots for the slot. Each promise reports the value, and all are kept. Prints the peak resident size for one promise
+# and for more, and what each further promise took. It ends with status 1 where a thousand promises take as much as one
+# more copy of the value would.
+cd "$(dirname "${BASH_SOURCE[0]}")/.."
+source bench/programs.sh
+head -c 16777216 /dev/zero >"$work/value"
+python3 -B - "$proved" "$work/value" <<'P'
+import os
+import subprocess
+import sys
+
+proved, value = sys.argv[1:]
+
+def peak(promises):  # KiB
+    child = subprocess.Popen([proved, "report-value", str(promises), value], stdout=subprocess.PIPE)
+    told = child.stdout.read().decode().split()
+    _, status, usage = os.wait4(child.pid, 0)
+    if status or told != [str(promises)] * 2:
+        sys.exit(f"report-value {promises}: status {status}, {told}")
+    return usage.ru_maxrss
+
+sizes = {promises: peak(promises) for promises in (1, 1_000, 1_000_000)}
+for promises, size in sizes.items():
+    grown = (size - sizes[1]) * 1024 / max(promises - 1, 1)
+    print(f"{promises:,} promises of a value of 16 MiB: peak {size:,} KiB, {grown:.0f} bytes for each further one")
+sys.exit(sizes[1_000] - sizes[1] >= 16_384)
+P
