@@ -2,12 +2,12 @@
 //!
 //! `flightd acceptor`, or no word at all, answers Paxos messages as node 0 of three, with nothing kept. `flightd audit
 //! FILE` says whether a recorded run of such messages is one that correct nodes may have sent. The words are read by
-//! `program_words`, and each command is one function of `program_runs` over any reader and writers, with its contract;
+//! `command_line`, and each command is one function of `commands` over any reader and writers, with its contract;
 //! `main` gives it the real ones.
 #![tactic(auto)]
 
-use program_runs::{AuditFault, FAILURE, acceptor_run, audit_run};
-use program_words::{audited_file, parse};
+use command_line::{audited_file, parse};
+use commands::{AuditFault, FAILURE, acceptor_run, audit_run};
 use std::io::{BufReader, BufWriter};
 use std::process::ExitCode;
 use std::{fs, io};

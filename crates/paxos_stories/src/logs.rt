@@ -87,11 +87,7 @@ fn noop_grows(log: &mut DecidedLog, number: u32) -> Result<usize, StoryFault> {
     Ok(gained.len())
 }
 
-fn print_gained<W: Write>(
-    gained: &[Value],
-    len: usize,
-    output: &mut W,
-) -> Result<(), StoryFault> {
+fn print_gained<W: Write>(gained: &[Value], len: usize, output: &mut W) -> Result<(), StoryFault> {
     write!(output, "  grows by")?;
     if gained.is_empty() {
         write!(output, " nothing")?;

@@ -141,7 +141,11 @@ fn print_accept<W: Write>(
 }
 
 fn print_attempt<W: Write>(proposer: &Proposer, output: &mut W) -> Result<(), StoryFault> {
-    let word = if proposer.has_majority() { "has" } else { "lacks" };
+    let word = if proposer.has_majority() {
+        "has"
+    } else {
+        "lacks"
+    };
     match proposer.attempt() {
         Some((slot, ballot)) => {
             let slot = slot.number();

@@ -5,7 +5,7 @@ use crate::plain_runs::{PlainRun, Room, run_of};
 use crate::streams::Narrow;
 use crate::support::{digits_of, spelled, tells};
 use ballots::MessageFault;
-use program_runs::{ServeFault, acceptor_run, answer_frames};
+use commands::{ServeFault, acceptor_run, answer_frames};
 use proto_wire::{FrameFault, WireFault};
 use std::alloc::{AllocError, Global};
 use std::process::Abort;

@@ -2,7 +2,7 @@
 
 use crate::streams::Narrow;
 use crate::support::Outcome;
-use program_runs::audit_run;
+use commands::audit_run;
 use std::alloc::Global;
 use std::process::Abort;
 

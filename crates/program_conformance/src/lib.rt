@@ -1,4 +1,4 @@
-//! Conformance tests of `program_runs` and `program_words`, over their public calls, of what no clause says: bytes worked out
+//! Conformance tests of `commands` and `command_line`, over their public calls, of what no clause says: bytes worked out
 //! by hand, the lines on standard error, streams that fail, and the words; and plain programs that compute the definitions
 //! on every small input and are compared with those calls.
 //!
@@ -9,8 +9,6 @@
 mod all_runs;
 #[cfg(test)]
 mod audit;
-#[cfg(test)]
-mod command_line;
 #[cfg(test)]
 mod conversations;
 #[cfg(test)]
@@ -31,3 +29,5 @@ mod plain_words;
 mod streams;
 #[cfg(test)]
 mod support;
+#[cfg(test)]
+mod words_of_calls;

@@ -1,7 +1,7 @@
 //! The words that are taken beside a plain program, over every list of up to four words from a small set.
 
 use crate::support::digits_of;
-use program_words::parse;
+use command_line::parse;
 use std::test::Fail;
 
 /// The program's name, its two commands, the first with a capital and cut, the flags that each program has, the command as

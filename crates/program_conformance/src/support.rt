@@ -1,6 +1,6 @@
 //! Runs in memory, and the first conversation.
 
-use program_runs::acceptor_run;
+use commands::acceptor_run;
 use std::alloc::{AllocError, Global};
 use std::test::Fail;
 

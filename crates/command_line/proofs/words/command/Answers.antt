@@ -1,0 +1,15 @@
+use Rattle.std.proofs.Common.{ap, ◌∙◌}
+use Rattle.std.proofs.lemmas.Result.{IfOk-weaker}
+use Rattle.clap.specs.Words.{App, new_app, with_rule, with_subcommand}
+use Rattle.std.specs.Prelude.{codes}
+use Rattle.command_line.specs.CommandLine.{file_rule}
+use Rattle.command_line.proofs.words.command.Goals as goal
+
+pub returns : goal.returns
+returns c =
+    IfOk-weaker c.with_audit.result _ _
+    (λ made is.
+    is
+    ∙ ap (λ (a : App). with_subcommand a (with_rule (new_app (codes "audit")) file_rule).top)
+    (c.in_ok-with_acceptor.ensures ∙ ap (λ (a : App). with_subcommand a (new_app (codes "acceptor")).top) c.program.ensures))
+    c.with_audit.ensures

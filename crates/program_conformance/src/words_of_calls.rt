@@ -1,0 +1,85 @@
+//! The words of the command line.
+
+use clap::Error;
+use command_line::{audited_file, parse};
+use std::alloc::{AllocError, Global};
+use std::process::Abort;
+use std::test::Fail;
+
+/// Calls, each the program's name and then its words, parted by spaces, and what is asked for: the acceptor, the file that
+/// is to be audited, between brackets, or an end with this status, whose line is for standard error or for the output.
+const CALLS: &str = "
+# No word, or a command.
+flightd|acceptor
+flightd acceptor|acceptor
+# The file of an audit.
+flightd audit run.json|[run.json]
+flightd audit /tmp/runs/3|[/tmp/runs/3]
+flightd audit acceptor|[acceptor]
+flightd audit audit|[audit]
+flightd audit help|[help]
+flightd audit -|[-]
+flightd audit |[]
+# Other words.
+flightd audit|2 error
+flightd audit run.json run.json|2 error
+flightd audit --file run.json|2 error
+flightd audit -f|2 error
+flightd Audit run.json|2 error
+flightd run.json|2 error
+flightd serve|2 error
+flightd acceptor acceptor|2 error
+flightd acceptor audit|2 error
+flightd Acceptor|2 error
+flightd --slots|2 error
+# The help and the version.
+flightd --help|0 output
+flightd --version|0 output
+flightd acceptor --help|0 output
+flightd audit --help|0 output
+";
+
+/// How the program is to end for this.
+fn end_of(alloc: Global, error: &Error) -> Result<String, AllocError> {
+    let status = error.exit_code();
+    let stream = if error.use_stderr() {
+        "error"
+    } else {
+        "output"
+    };
+    format!(in alloc; "{status} {stream}")
+}
+
+/// What the words ask for.
+fn asked(alloc: Global, words: &[String]) -> Result<String, AllocError> {
+    match parse(alloc, words) {
+        Ok(matches) => match audited_file(&matches) {
+            Some(file) => format!(in alloc; "[{file}]"),
+            None => String::from_str(alloc, "acceptor"),
+        },
+        Err(error) => end_of(alloc, &error),
+    }
+}
+
+fn expect(rt: &impl Abort, alloc: Global, call: &str, wanted: &str) -> Result<(), Fail> {
+    let mut words = Vec::new(alloc);
+    for word in call.split(' ') {
+        words.push(String::from_str(alloc, word)?)?;
+    }
+    let found = asked(alloc, &words)?;
+    assert!(rt; found.as_str() == wanted, "{found} at {call}");
+    Ok(())
+}
+
+#[test]
+fn takes_a_call_or_refuses_it(rt: HostRuntime) -> Result<(), Fail> {
+    let mut calls = 0_usize;
+    for row in CALLS.lines() {
+        if let Some((call, wanted)) = row.split_once('|') {
+            expect(&rt, rt.alloc(), call, wanted)?;
+            calls = calls.saturating_add(1);
+        }
+    }
+    assert_eq!(rt; calls, 24);
+    Ok(())
+}
