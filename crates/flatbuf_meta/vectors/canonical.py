@@ -1,25 +1,19 @@
 #!/usr/bin/env python3
-"""Lays out the one text that is written of a header (docs/FORMATS.md, "How headers are written"), and the table for the tests.
+"""Lays out the one text that is written of a header (docs/FORMATS.md, "How headers are written").
 
-    python3 canonical.py        anywhere; not a part of the gate
+    python3 canonical.py [--check]     anywhere; not a part of the gate
 
 ours/NAME.hex is the text of NAME.json, for each header that can be written: none that is refused, and no batch that is
-compressed or has more than 512 nodes. canonical.rt among the tests of header_conformance has a row for each. Running it again
-changes nothing.
+compressed or has more than 512 nodes. Then stories.py makes the stories of them. With --check it changes nothing, and its exit
+status is 1 where a file is another one.
 An object is here a function that writes it, and then all that it refers to, behind a text, and returns the object's place.
 """
 import json
 import sys
 
 sys.dont_write_bytecode = True
-from make import HERE, TABLES, TYPES, packed, shown, write_hex
+from make import HERE, TYPES, is_written, write_hex
 
-HEAD = """//! The canonical texts of the headers of the JSON files in `flatbuf_meta/vectors/` that can be written. Written by
-//! `canonical.py` there, and not by hand.
-
-/// A header's name, and its text as [`crate::rows::spelled`] reads it.
-pub(super) const TEXTS: &str = "\\
-"""
 NUMBERS = dict(zip(TYPES, (1, 4, 5, 6, 12, 13, 2, 3, 7, 8, 9, 10, 15, 16, 18), strict=True))
 VALUES = {"Date": "DAY MILLISECOND", "FloatingPoint": "HALF SINGLE DOUBLE"}  # and the units of the other types
 
@@ -105,16 +99,18 @@ def message(said):
 
 
 def main():
-    rows = []
+    status = 0
     for source in sorted(HERE.glob("*.json")):
-        said, meaning = json.loads(source.read_text("utf-8")), shown(source)
-        if meaning.startswith("refused") or "compressed true" in meaning or len(said["header"].get("nodes", [])) > 512:
+        if not is_written(source):
             continue
-        digits = message(said)
-        write_hex(HERE / f"ours/{source.stem}.hex", digits)
-        rows.append(f"{source.stem}|{packed(digits)}")
-    (TABLES / "canonical.rt").write_text(HEAD + "\n".join(rows) + '";\n')
+        digits, file = message(json.loads(source.read_text("utf-8"))), HERE / f"ours/{source.stem}.hex"
+        if "--check" not in sys.argv[1:]:
+            write_hex(file, digits)
+        elif "".join(file.read_text("utf-8").split()) != digits:
+            print(f"canonical: {file.name} is another text")
+            status = 1
+    return status
 
 
 if __name__ == "__main__":
-    main()
+    sys.exit(main())

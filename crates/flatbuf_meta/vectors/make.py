@@ -1,12 +1,11 @@
 #!/usr/bin/env python3
-"""Makes the headers that the FlatBuffers compiler writes, and the table of them that the tests read.
+"""Makes the headers that the FlatBuffers compiler writes.
 
     python3 make.py        anywhere, with flatc (Debian's flatbuffers-compiler) on the PATH; not a part of the gate
 
 NAME.hex is what `flatc -b` makes of NAME.json; where `--force-defaults`, which writes numbers that are their defaults too,
-makes other bytes, NAME.full.hex is that. compiled.rt among the tests of header_conformance has a row for each: its name, its
-bytes, with a letter for each run of zero bytes, and what is to be read, which is taken from the JSON alone. Running it again
-changes nothing; the files here are from flatc 2.0.8, and another version may order the parts of a header in another way.
+makes other bytes, NAME.full.hex is that. Then stories.py makes the stories of them. Running it again changes nothing; the files
+here are from flatc 2.0.8, and another version may order the parts of a header in another way.
 """
 import json
 import pathlib
@@ -15,13 +14,6 @@ import subprocess
 import tempfile
 
 HERE = pathlib.Path(__file__).resolve().parent
-TABLES = HERE.parent.parent / "header_conformance/src/headers"  # the tables that the tests read
-HEAD = """//! What the FlatBuffers compiler made of the JSON files in `flatbuf_meta/vectors/`, and what is to be read there. Written by
-//! `make.py` there, and not by hand.
-
-/// A header's name, its bytes as [`crate::rows::spelled`] reads them, and what it shows in the form of [`crate::headers::shown`].
-pub(super) const COMPILED: &str = "\\
-"""
 
 # The types that are carried, each with its parameters and their defaults; and the numbers of the others (docs/FORMATS.md).
 TYPES = {
@@ -46,16 +38,23 @@ def check(holds, fault):
         raise Refused(fault)
 
 
+def quoted(text):
+    """A name, a key, a value or a time zone, as stories have it: its bytes behind an x, where it would need an escape."""
+    if re.search(r'[\x00-\x1f\x7f"\\]', text):
+        return "x" + text.encode().hex()
+    return f'"{text}"'
+
+
 def word(value):
-    """A parameter: a time zone in hexadecimal, or - where it is absent; a name of an enum; a number; true or false."""
+    """A parameter: a dash where it is absent; a name of an enum; a number; true or false."""
     if value is None:
         return "-"
     return str(value).lower() if isinstance(value, bool) else str(value)
 
 
-def entries(table):
-    texts = [[entry.get(slot, "").encode().hex() for slot in ("key", "value")] for entry in table.get("custom_metadata", [])]
-    return "{" + ",".join("=".join(pair) for pair in texts) + "}"
+def entries(table, indent):
+    pairs = [(quoted(entry.get("key", "")), quoted(entry.get("value", ""))) for entry in table.get("custom_metadata", [])]
+    return [f"{indent}metadata {key} = {value}" for key, value in pairs]
 
 
 def kind(field):
@@ -69,22 +68,24 @@ def kind(field):
     if name == "Time":
         check(values.pop("bitWidth") == (32 if values["unit"] in ("SECOND", "MILLISECOND") else 64), "BadHeader")
     if name == "Timestamp" and values["timezone"] is not None:
-        values["timezone"] = values["timezone"].encode().hex()
+        values["timezone"] = quoted(values["timezone"])
     check(min(values.get("byteWidth", 0), values.get("listSize", 0)) >= 0, "BadHeader")
     return name + ("(" + ",".join(map(word, values.values())) + ")" if values else "")
 
 
 def columns(fields, level):
     shown = []
+    indent = "  " * (level + 1)
     for field in fields:
         check(level <= 16, "TooDeep")
         check("dictionary" not in field, "Dictionary")
         inside = field.get("children", [])
         wanted = {"List": 1, "FixedSizeList": 1, "Struct_": len(inside)}.get(field.get("type_type"), 0)
-        own = field.get("name", "").encode().hex() + ":" + kind(field) + ("?" if field.get("nullable") else "")
+        nullable = ", nullable" if field.get("nullable") else ""
+        shown.append(f"{indent}{quoted(field.get('name', ''))}: {kind(field)}{nullable}")
         check(len(inside) == wanted, "BadHeader")
-        shown.append(own + entries(field) + columns(inside, level + 1))
-    return "[" + ",".join(shown) + "]"
+        shown += entries(field, indent + "  ") + columns(inside, level + 1)
+    return shown
 
 
 def header(message):
@@ -92,21 +93,28 @@ def header(message):
     table = message.get("header", {})
     if message.get("header_type") == "Schema":
         check(table.get("endianness", "Little") == "Little", "Endianness")
-        return "schema" + entries(table) + columns(table.get("fields", []), 1)
+        return ["  schema"] + entries(table, "    ") + columns(table.get("fields", []), 1)
     check(message.get("header_type") != "DictionaryBatch", "Dictionary")
     check(message.get("header_type") == "RecordBatch", "BadHeader")
-    pairs = lambda slot, one, two: "".join(f" {pair[one]}:{pair[two]}" for pair in table.get(slot, []))
-    return (f"batch {table.get('length', 0)} nodes{pairs('nodes', 'length', 'null_count')}"
-            f" buffers{pairs('buffers', 'offset', 'length')} compressed {word('compression' in table)}"
-            f" body {message.get('bodyLength', 0)}")
+    compressed = ", compressed" if "compression" in table else ""
+    shown = [f"  batch of {table.get('length', 0)} rows, body of {message.get('bodyLength', 0)} bytes{compressed}"]
+    shown += [f"    node of {node['length']}, nulls {node['null_count']}" for node in table.get("nodes", [])]
+    return shown + [f"    buffer at {buffer['offset']} of {buffer['length']}" for buffer in table.get("buffers", [])]
 
 
 def shown(source):
-    """What is to be read, or which fault is to be told, in one line."""
+    """What is to be read, or which fault is to be told, as the lines of a story."""
     try:
         return header(json.loads(source.read_text("utf-8")))
     except Refused as refused:
-        return f"refused {refused}"
+        return [f"  {refused}"]
+
+
+def is_written(source):
+    """The header can be written: it is not refused, and no compressed batch or one of more than 512 nodes."""
+    said, first = json.loads(source.read_text("utf-8")), shown(source)[0]
+    is_header = first.startswith(("  schema", "  batch"))
+    return is_header and not first.endswith(", compressed") and len(said["header"].get("nodes", [])) <= 512
 
 
 def flatc(name, *words):
@@ -127,24 +135,15 @@ def write_hex(file, digits):
     file.write_text("".join(digits[at:at + 64] + "\n" for at in range(0, len(digits), 64)))
 
 
-def packed(digits):
-    """The digits with a letter for zero bytes, up to twenty of them: g is one, h is two."""
-    parts = re.findall(rb"\0{1,20}|[^\0]", bytes.fromhex(digits))
-    return "".join(part.hex() if part[0] else chr(ord("f") + len(part)) for part in parts)
-
-
 def main():
     for old in HERE.glob("*.hex"):
         old.unlink()
-    rows = []
     for source in sorted(HERE.glob("*.json")):
         forms = {source.stem: compiled(source), source.stem + ".full": compiled(source, "--force-defaults")}
         if len(set(forms.values())) == 1:
             del forms[source.stem + ".full"]
         for name, digits in forms.items():
             write_hex(HERE / f"{name}.hex", digits)
-            rows.append(f"{name}|{packed(digits)}|{shown(source)}")
-    (TABLES / "compiled.rt").write_text(HEAD + "\n".join(rows) + '";\n')
 
 
 if __name__ == "__main__":

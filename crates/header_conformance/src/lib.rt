@@ -1,6 +1,6 @@
-//! Conformance tests of `flat_places` and `flatbuf_meta`: texts from outside, headers that the FlatBuffers compiler
-//! made, and plain programs beside the public calls. `places` has the tests of the one crate, `headers` those of the
-//! other, and `rows` reads the tables of both.
+//! Conformance tests of `flat_places` and `flatbuf_meta`, where only code can test: plain programs beside the calls,
+//! over all short texts, and batches of every size. `places` has the tests of the one crate, `headers` those of the
+//! other. Rows of bytes with what stands there are the stories of `header_stories`.
 //!
 //! There is no code here but tests, which stand in a crate of their own so that what those two crates prove is not
 //! proved again with their tests.
@@ -10,5 +10,3 @@
 mod headers;
 #[cfg(test)]
 mod places;
-#[cfg(test)]
-mod rows;

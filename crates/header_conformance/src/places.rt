@@ -1,8 +1,5 @@
-//! The calls of `flat_places` against texts from outside, and against a plain program for the definitions.
+//! The calls of `flat_places` against a plain program for the definitions.
 
 mod all_texts;
-mod arrow_texts;
-mod calls;
-mod hostile;
 mod plain_places;
 mod texts;

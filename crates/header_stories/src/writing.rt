@@ -5,10 +5,10 @@
 use std::alloc::{AllocError, Global};
 
 /// A field of a table that is absent.
-pub(super) const NONE: (char, u64) = ('-', 0);
+pub(crate) const NONE: (char, u64) = ('-', 0);
 
 /// The item so many times.
-pub(super) fn listed(
+pub(crate) fn listed(
     alloc: Global,
     item: &str,
     count: usize,
@@ -39,30 +39,33 @@ fn put(text: &mut Vec<u8>, number: u64, size: usize) -> Result<(), AllocError> {
 fn put_field(text: &mut Vec<u8>, field: (char, u64)) -> Result<(), AllocError> {
     let (kind, number) = field;
     let place = (text.len() as u64).wrapping_add(8);
-    put(
-        text,
-        if kind == '>' {
-            place.wrapping_sub(number)
-        } else {
-            number
-        },
-        8,
-    )
+    let ahead = if kind == '>' {
+        place.wrapping_sub(number)
+    } else {
+        number
+    };
+    put(text, ahead, 8)
+}
+
+// Writes where a field of this kind stands in its table, if it is there.
+fn put_slot(text: &mut Vec<u8>, kind: char, place: u64) -> Result<(), AllocError> {
+    let slot = if kind == '-' { 0 } else { place };
+    put(text, slot, 2)
 }
 
 // Writes where each field stands in its table, which has such a size.
 fn put_slots(text: &mut Vec<u8>, fields: &[(char, u64)], size: u64) -> Result<(), AllocError> {
     let mut place = size;
-    for (kind, _) in fields.iter().rev() {
+    for field in fields.iter().rev() {
         place = place.wrapping_sub(8);
-        put(text, if *kind == '-' { 0 } else { place }, 2)?;
+        put_slot(text, field.0, place)?;
     }
     Ok(())
 }
 
 /// Writes a table, whose vtable stands before it. Each field is absent with `-`, has a number with `=`, and refers to
 /// what has been written with `>`. It has eight bytes, of which a reader uses the first few.
-pub(super) fn table(text: &mut Vec<u8>, fields: &[(char, u64)]) -> Result<u64, AllocError> {
+pub(crate) fn table(text: &mut Vec<u8>, fields: &[(char, u64)]) -> Result<u64, AllocError> {
     for field in fields.iter().rev() {
         put_field(text, *field)?;
     }
@@ -86,7 +89,7 @@ fn put_reference(text: &mut Vec<u8>, target: u64) -> Result<(), AllocError> {
 }
 
 /// Writes a vector of so many references to one thing that has been written.
-pub(super) fn repeated(text: &mut Vec<u8>, element: u64, count: usize) -> Result<u64, AllocError> {
+pub(crate) fn repeated(text: &mut Vec<u8>, element: u64, count: usize) -> Result<u64, AllocError> {
     for _ in 0..count {
         put_reference(text, element)?;
     }
@@ -95,7 +98,7 @@ pub(super) fn repeated(text: &mut Vec<u8>, element: u64, count: usize) -> Result
 }
 
 /// Writes a vector of references to two things that have been written.
-pub(super) fn pair(text: &mut Vec<u8>, first: u64, second: u64) -> Result<u64, AllocError> {
+pub(crate) fn pair(text: &mut Vec<u8>, first: u64, second: u64) -> Result<u64, AllocError> {
     put_reference(text, second)?;
     put_reference(text, first)?;
     put(text, 2, 4)?;
@@ -103,7 +106,7 @@ pub(super) fn pair(text: &mut Vec<u8>, first: u64, second: u64) -> Result<u64, A
 }
 
 /// Writes the bytes, the last one first.
-pub(super) fn put_bytes(text: &mut Vec<u8>, bytes: &[u8]) -> Result<(), AllocError> {
+pub(crate) fn put_bytes(text: &mut Vec<u8>, bytes: &[u8]) -> Result<(), AllocError> {
     for byte in bytes.iter().rev() {
         text.push(*byte)?;
     }
@@ -111,14 +114,14 @@ pub(super) fn put_bytes(text: &mut Vec<u8>, bytes: &[u8]) -> Result<(), AllocErr
 }
 
 /// Writes a string.
-pub(super) fn string(text: &mut Vec<u8>, bytes: &[u8]) -> Result<u64, AllocError> {
+pub(crate) fn string(text: &mut Vec<u8>, bytes: &[u8]) -> Result<u64, AllocError> {
     put_bytes(text, bytes)?;
     put(text, bytes.len() as u64, 4)?;
     Ok(text.len() as u64)
 }
 
 /// Writes a string of so many letters.
-pub(super) fn letters(text: &mut Vec<u8>, letter: u8, len: usize) -> Result<u64, AllocError> {
+pub(crate) fn letters(text: &mut Vec<u8>, letter: u8, len: usize) -> Result<u64, AllocError> {
     for _ in 0..len {
         text.push(letter)?;
     }
@@ -127,14 +130,14 @@ pub(super) fn letters(text: &mut Vec<u8>, letter: u8, len: usize) -> Result<u64,
 }
 
 /// Writes the rest of a schema's message, whose vectors of fields and of entries of metadata have been written.
-pub(super) fn put_message(text: &mut Vec<u8>, fields: u64, entries: u64) -> Result<(), AllocError> {
+pub(crate) fn put_message(text: &mut Vec<u8>, fields: u64, entries: u64) -> Result<(), AllocError> {
     let schema = table(text, &[NONE, ('>', fields), ('>', entries)])?;
     let message = table(text, &[('=', 4), ('=', 1), ('>', schema)])?;
     put_reference(text, message)
 }
 
 /// A text from its first byte on.
-pub(super) fn forward(alloc: Global, text: &[u8]) -> Result<Vec<u8>, AllocError> {
+pub(crate) fn forward(alloc: Global, text: &[u8]) -> Result<Vec<u8>, AllocError> {
     let mut forward = Vec::new(alloc);
     put_bytes(&mut forward, text)?;
     Ok(forward)
