@@ -1,11 +1,10 @@
-//! Learners: rows of calls with what they make learned, and every short list of calls beside the definition, which is
-//! computed by counting over the whole list.
+//! Learners: every short list of calls beside the definition, which is computed by counting over the whole list, and
+//! thousands of slots and ballots.
 
 use crate::rows::{self, Number, upload};
 use ballots::{Ballot, Members, NodeId, Slot, Value};
 use learner::Learner;
 use std::alloc::Global;
-use std::process::Abort;
 use std::test::Fail;
 
 // What one call tells of a slot: that a node accepted the upload of this byte at a ballot, or that it was decided.
@@ -75,38 +74,6 @@ fn accepted(acceptor: u8, ballot: Number, byte: u8) -> Told {
         ballot,
         byte,
     }
-}
-
-// The calls in turn, of a learner that counts three members; the bytes after a call say what slot 0 has learned then.
-fn expect_rows(rt: &impl Abort, alloc: Global, rows: &[(Told, Option<u8>)]) -> Result<(), Fail> {
-    let mut learner = Learner::new(alloc, Members::new(3).ok_or("no members")?);
-    let slot = slot(0)?;
-    for (told, learned) in rows {
-        let was = byte_of(learner.decided(slot));
-        let seen = tell(alloc, &mut learner, *told)?;
-        assert!(rt;
-            byte_of(learner.decided(slot)) == *learned,
-            "what is learned"
-        );
-        let is_new = was.is_none() && learned.is_some();
-        assert!(rt; seen.is_some() == is_new, "what is seen");
-    }
-    Ok(())
-}
-
-#[test]
-fn two_votes_of_one_ballot_and_two_acceptors_are_learned(rt: HostRuntime) -> Result<(), Fail> {
-    expect_rows(
-        &rt,
-        rt.alloc(),
-        &[
-            (accepted(0, (1, 0), 7), None),
-            (accepted(0, (1, 0), 7), None),
-            (accepted(1, (2, 1), 8), None),
-            (accepted(2, (2, 1), 8), Some(8)),
-            (accepted(1, (1, 0), 7), Some(8)),
-        ],
-    )
 }
 
 const LENGTH: u8 = 4;

@@ -1,59 +1,18 @@
-//! Logs of decided values: the gap that Lamport's paper tells of, and every short list of inserts beside that plain list.
+//! Logs of decided values: every short list of inserts beside that plain list.
 
 use crate::rows::upload;
 use ballots::{Body, Message, NodeId, OutOfMemory, Slot, Value};
 use decided_log::DecidedLog;
-use std::process::Abort;
 use std::test::Fail;
 
 // The number of the node whose log it is.
 const NODE: u8 = 3;
-
-// The paper's leader knows the commands 1 to 134, and 138 and 139, then learns 135, and fills 136 and 137 with commands that
-// do nothing (*Paxos Made Simple*, section 3). Command 1 is slot 0. The first and the last slot of each step, by how many
-// values the prefix grows at each of its inserts, and how many it has after them.
-const STEPS: [(u32, u32, usize, usize); 5] = [
-    (0, 133, 1, 134),
-    (137, 138, 0, 134),
-    (134, 134, 1, 135),
-    (135, 135, 1, 136),
-    (136, 136, 3, 139),
-];
-
-// From which slot is asked of that log, and how many messages are answered.
-const ASKED: [(u32, usize); 6] = [
-    (0, 16),
-    (123, 16),
-    (124, 15),
-    (138, 1),
-    (139, 0),
-    (999_999, 0),
-];
 
 // Makes room for the value and inserts it. It gives by which values the prefix was to grow.
 fn add(log: &mut DecidedLog, slot: Slot, value: Value) -> Result<Vec<Value>, OutOfMemory> {
     let gained = log.gain(slot, &value)?;
     log.insert(slot, value);
     Ok(gained)
-}
-
-#[test]
-fn fills_the_gap_of_the_paper(rt: HostRuntime) -> Result<(), Fail> {
-    let node = NodeId::new(NODE).ok_or("no node")?;
-    let mut log = DecidedLog::new(rt.alloc(), node);
-    for (first, last, gained, len) in STEPS {
-        for number in first..=last {
-            let slot = Slot::new(number).ok_or("no slot")?;
-            let got = add(&mut log, slot, Value::Noop)?;
-            assert_eq!(rt; got.len(), gained, "at {number}");
-        }
-        assert_eq!(rt; log.prefix().len(), len, "after {last}");
-    }
-    for (from, len) in ASKED {
-        let slot = Slot::new(from).ok_or("no slot")?;
-        assert_eq!(rt; log.asked(slot)?.len(), len, "from {from}");
-    }
-    Ok(())
 }
 
 // A slot, and the byte of an upload for it.

@@ -1,30 +1,13 @@
-//! Proposers: rows of calls with what they give, and every short list of promises beside the definition by plain counting.
+//! Proposers: every short list of promises beside the definition by plain counting, and thousands of attempts.
 
 use crate::rows::{ballot, upload};
 use ballots::{Acceptance, Ballot, Members, NodeId, Slot, Value};
-use proposer::{Proposer, RoundsSpent};
+use proposer::Proposer;
 use std::alloc::Global;
 use std::test::Fail;
 
 /// A promise: its sender, the round and the node of what it reports (round 0 for nothing), and the byte of that upload.
 type Sent = (u8, u8, u8, u8);
-
-/// Promises of four members with no reports, and what each gives: the byte of the accepted upload, 0 for the candidate.
-const NO_REPORTS: [(Sent, Option<u8>); 5] = [
-    ((0, 0, 0, 0), None),
-    ((0, 0, 0, 0), None),
-    ((1, 0, 0, 0), None),
-    ((3, 0, 0, 0), Some(0)),
-    ((2, 0, 0, 0), None),
-];
-
-/// Likewise, where the two that come first report.
-const TWO_REPORTS: [(Sent, Option<u8>); 4] = [
-    ((0, 1, 0, 7), None),
-    ((1, 2, 1, 8), None),
-    ((3, 0, 0, 0), Some(8)),
-    ((2, 2, 2, 9), None),
-];
 
 /// Node 2 of so many members, which has begun this round.
 fn proposer_of(members: u8, round: u32) -> Option<Proposer> {
@@ -66,101 +49,6 @@ fn gives(
     let seen = proposer.see_on_promise(sender, slot, at, &report)?;
     let given = proposer.on_promise(sender, slot, at, report);
     Ok(byte_of(&seen, slot, at) == wanted && byte_of(&given, slot, at) == wanted)
-}
-
-/// Whether the promises of a row give what it says, at the ballot (3,2).
-fn gives_rows(alloc: Global, rows: &[(Sent, Option<u8>)]) -> Result<bool, Fail> {
-    let mut proposer = proposer_of(4, 0).ok_or("no proposer")?;
-    let slot = Slot::new(5).ok_or("no slot")?;
-    let Ok(at) = proposer.begin(slot, 2, Value::Noop) else {
-        return Ok(false);
-    };
-    for (sent, wanted) in rows {
-        if !gives(alloc, &mut proposer, slot, at, *sent, *wanted)? {
-            return Ok(false);
-        }
-    }
-    Ok(Some(at) == ballot((3, 2)) && proposer.attempt() == Some((slot, at)))
-}
-
-#[test]
-fn a_majority_gives_one_accept(rt: HostRuntime) -> Result<(), Fail> {
-    let alone = gives_rows(rt.alloc(), &NO_REPORTS)?;
-    assert!(rt; alone, "no reports");
-    let reported = gives_rows(rt.alloc(), &TWO_REPORTS)?;
-    assert!(rt; reported, "two reports");
-    Ok(())
-}
-
-/// Whether the attempt gets this round, and is told to get it beforehand.
-fn begins(proposer: &mut Proposer, slot: Slot, seen_round: u32, wanted: Option<u32>) -> bool {
-    let before = proposer.attempt();
-    let seen = proposer.see_begin(slot, seen_round, &Value::Noop);
-    let begun = proposer.begin(slot, seen_round, Value::Noop);
-    match (begun, wanted) {
-        (Ok(at), Some(round)) => {
-            seen == begun
-                && at.round() == round
-                && at.node().number() == 2
-                && proposer.attempt() == Some((slot, at))
-        }
-        (Err(RoundsSpent), None) => seen == begun && proposer.attempt() == before,
-        _ => false,
-    }
-}
-
-/// Begins one attempt after the other, up to the last round that there is.
-fn begins_up_to_the_last() -> Option<bool> {
-    let slot = Slot::new(0)?;
-    let mut fresh = proposer_of(3, 0)?;
-    let mut proposer = proposer_of(3, 7)?;
-    Some(
-        Ballot::above(4_000_000_000, NodeId::new(2)?).is_none()
-            && begins(&mut fresh, slot, 4_000_000_000, None)
-            && begins(&mut fresh, slot, 0, Some(1))
-            && begins(&mut proposer, slot, 2, Some(8))
-            && begins(&mut proposer, Slot::new(1)?, 2, Some(9))
-            && begins(&mut proposer, slot, 20, Some(21))
-            && begins(&mut proposer, slot, 3_999_999_999, Some(4_000_000_000))
-            && begins(&mut proposer, Slot::new(1)?, 0, None),
-    )
-}
-
-#[test]
-fn attempts_begin_above_all(rt: HostRuntime) -> Result<(), Fail> {
-    assert!(rt; begins_up_to_the_last() == Some(true));
-    let told = format!(in rt.alloc(); "{RoundsSpent}")?;
-    assert_eq!(rt; told.as_str(), "RoundsSpent");
-    Ok(())
-}
-
-/// A Nack of another slot or ballot leaves the attempt, its own ends it; what comes then counts for nothing.
-fn ends_at_its_own_nack() -> Option<bool> {
-    let (slot, other) = (Slot::new(0)?, Slot::new(1)?);
-    let mut proposer = proposer_of(1, 0)?;
-    let at = proposer.begin(slot, 4, Value::Noop).ok()?;
-    proposer.on_nack(other, at);
-    proposer.on_nack(slot, ballot((5, 3))?);
-    proposer.see_on_nack(slot, at);
-    let stays = proposer.attempt() == Some((slot, at));
-    let elsewhere = proposer
-        .on_promise(NodeId::new(0)?, other, at, None)
-        .is_none();
-    proposer.on_nack(slot, at);
-    let ended = proposer.attempt().is_none();
-    Some(
-        stays
-            && elsewhere
-            && ended
-            && proposer
-                .on_promise(NodeId::new(0)?, slot, at, None)
-                .is_none(),
-    )
-}
-
-#[test]
-fn a_nack_ends_its_own_attempt(rt: HostRuntime) {
-    assert!(rt; ends_at_its_own_nack() == Some(true));
 }
 
 /// Whether it is one of three members, and its first.

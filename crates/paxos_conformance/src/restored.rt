@@ -1,16 +1,11 @@
-//! What records leave: every short list of records beside a plain program, and a row.
+//! What records leave: every short list of records beside a plain program.
 
 use crate::rows::{self, Number};
 use acceptor::{Acceptor, highest_begun_round};
-use ballots::{Acceptance, Ballot, MessageFault, Record, Slot, UploadBytes, Value};
+use ballots::{Acceptance, Ballot, Record, Slot, UploadBytes, Value};
 use bytes::Bytes;
 use std::alloc::Global;
 use std::test::Fail;
-
-/// A promise of slot 0 at 1.0, and an acceptance of a Noop there at 2.1, each as its bytes.
-const PROMISED: &[u8] = &[0x08, 0x02, 0x18, 0x01];
-
-const ACCEPTED: &[u8] = &[0x08, 0x03, 0x18, 0x02, 0x20, 0x01];
 
 /// How many records there are to choose from: a begin, two promises and two acceptances at each of three ballots.
 const RECORDS: u32 = 15;
@@ -187,25 +182,5 @@ fn leaves_what_a_plain_program_leaves(rt: HostRuntime) -> Result<(), Fail> {
             "{sequence}"
         );
     }
-    Ok(())
-}
-
-fn read_records(alloc: Global) -> Result<Vec<Record>, MessageFault> {
-    let mut records = Vec::new(alloc);
-    for text in [PROMISED, ACCEPTED] {
-        let record = Record::decode(alloc, text)?;
-        if records.push(record).is_err() {
-            return Err(MessageFault::OutOfMemory);
-        }
-    }
-    Ok(records)
-}
-
-#[test]
-fn an_acceptance_raises_the_promise(rt: HostRuntime) -> Result<(), Fail> {
-    let records = read_records(rt.alloc()).ok().ok_or("no records")?;
-    let acceptor = Acceptor::from_records(rt.alloc(), &records)?;
-    let promised = acceptor.promised(Slot::new(0).ok_or("no slot")?);
-    assert_eq!(rt; promised.map(number_of), Some((2, 1)));
     Ok(())
 }

@@ -76,7 +76,7 @@ fn print_begun<W: Write>(
     }
     match begun {
         Ok(ballot) => writeln!(output, "  begins {ballot}")?,
-        Err(RoundsSpent) => writeln!(output, "  RoundsSpent")?,
+        Err(fault) => writeln!(output, "  {fault}")?,
     }
     Ok(())
 }
