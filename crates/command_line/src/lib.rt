@@ -4,6 +4,7 @@
 //! error of words that are refused, and of the help and the version, and exits with its status.
 #![tactic(auto)]
 
+pub mod laws;
 mod words;
 
 pub use words::{audited_file, parse};
