@@ -18,6 +18,7 @@ from pathlib import Path
 TOP = Path(__file__).resolve().parent.parent
 OPEN = re.compile(r"^note: \S+: it is not proved .*\(`([^`]+)`\)(.*)$")
 FUNCTION = re.compile(r"^fn (\S+): not proved")
+ANSWER = re.compile(r"^note: `([^`]+)` of proofs/(\S+)/Answers\.antt must prove")
 FORMS = ("search rules steps 300000", "grind (arith, common_steps) steps 600000")
 
 
@@ -77,6 +78,8 @@ def refusals(printed):
         elif found := FUNCTION.match(line):
             goals += [(found[1], goal, gave_up) for goal, gave_up in open_goals]
             open_goals = []
+        elif found := ANSWER.match(line):
+            goals.append(("::".join(["", *found[2].split("/")]), found[1], False))
     return goals
 
 
@@ -170,7 +173,7 @@ def main():
             goals, total = refusals(printed), total + taken
             loose = {(function, goal) for function, goal, gave_up in goals if gave_up and not has_answer(folder, function, goal)}
             unbound |= loose
-            shown = [f"{function.split('::', 1)[1]} {goal}{'*' * ((function, goal) in loose)}" for function, goal, _ in goals]
+            shown = [f"{function.partition('::')[2]} {goal}{'*' * ((function, goal) in loose)}" for function, goal, _ in goals]
             shown = shown or re.findall(r"^fn [^:]+::(\S+): not proved", printed, re.M) or printed.strip().splitlines()[-1:]
             print(f"{taken:6.1f} s  {edit.stem}: {'TAKEN' if proved else ', '.join(shown)}", flush=True)
             status |= proved
