@@ -5,6 +5,7 @@ pub mod Steps
 pub mod Numbers
 pub mod Bodies
 pub mod Decodes
+pub mod Sizes
 pub mod Written
 pub mod Canonical
 pub mod AllFields

@@ -21,3 +21,12 @@ max_slot = 999999
 -- the most bytes of an upload's value
 abbrev pub max_upload_bytes : ℕ
 max_upload_bytes = 16777216
+
+-- The most bytes of a message's encoding, of a Promise that reports: two of the kind, two of the sender, four of the slot,
+-- eight of each ballot, and the value behind five.
+abbrev pub max_message_bytes : ℕ
+max_message_bytes = 16777245
+
+-- The most bytes of a record's: two of the kind, four of the slot, eight of the ballot, and the value behind five.
+abbrev pub max_record_bytes : ℕ
+max_record_bytes = 16777235

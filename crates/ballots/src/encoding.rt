@@ -1,10 +1,11 @@
 //! Messages written as bytes, each in its one canonical encoding.
 
-ghost use Rattle.std.specs.Prelude.{◌≡◌, ◌≤◌, ◌++◌, OnOk, OnErr};
+ghost use Rattle.std.specs.Prelude.{◌≡◌, ◌≤◌, ◌++◌, length, OnOk, OnErr};
 ghost use Rattle.proto_fields.specs.Writing.{Grows};
 ghost use Rattle.ballots.specs.declared.node.TheConstants.{MAX_NODE};
 ghost use Rattle.ballots.specs.declared.slot.TheConstants.{MAX_SLOT};
 ghost use Rattle.ballots.specs.Ballot.{IsBallot};
+ghost use Rattle.ballots.specs.Limits.{max_message_bytes};
 ghost use Rattle.ballots.specs.Message.{kind_of, head_fields, ballot_fields, second_fields, value_fields};
 ghost use Rattle.ballots.specs.Message.{report_fields, body_fields, written, canonical, IsValue, IsAcceptanceInRange};
 ghost use Rattle.ballots.specs.Message.{IsReportInRange, IsBodyInRange, IsInRange, IsMessageText};
@@ -156,13 +157,14 @@ impl Message {
         self.body.append(out)
     }
 
-    /// Appends the message's bytes: rising field numbers, shortest varints, defaults left out. A refused one leaves the
-    /// vector as it was.
+    /// Appends the message's bytes: rising field numbers, shortest varints, defaults left out, [`MAX_MESSAGE_BYTES`] at most.
+    /// A refused one leaves the vector as it was.
     pub fn encode(&self, out: &mut Vec<u8>) -> Result<(), OutOfMemory>
         ensures ok { OnOk result (out.new.items ≡ out.old.items ++ canonical self.now) }
         ensures err { OnErr result (out.new.items ≡ out.old.items) }
         // What is written means the message, and so is read as it.
         ensures means { OnOk result (IsMessageText (canonical self.now) self.now) }
+        ensures short { OnOk result (length (canonical self.now) ≤ max_message_bytes) }
     {
         let start = out.len();
         let appended = self.append(out);

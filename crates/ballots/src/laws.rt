@@ -12,7 +12,9 @@ ghost use Rattle.ballots.specs.declared.node.TheConstants.{MAX_NODE};
 ghost use Rattle.ballots.specs.declared.members.TheConstants.{MAX_MEMBERS};
 ghost use Rattle.ballots.specs.declared.slot.TheConstants.{MAX_SLOT};
 ghost use Rattle.ballots.specs.declared.value.TheConstants.{MAX_UPLOAD_BYTES};
-ghost use Rattle.ballots.specs.Limits.{max_round, max_node, max_members, max_slot, max_upload_bytes};
+ghost use Rattle.ballots.specs.declared.message.TheConstants.{MAX_MESSAGE_BYTES};
+ghost use Rattle.ballots.specs.declared.record.TheConstants.{MAX_RECORD_BYTES};
+ghost use Rattle.ballots.specs.Limits.{max_round, max_node, max_members, max_slot, max_upload_bytes, max_message_bytes, max_record_bytes};
 ghost use Rattle.ballots.specs.Ballot.{Ballot as Pair, IsBelow, IsAbove, IsAtLeast, ballot_cmp, is_same_ballot};
 ghost use Rattle.ballots.specs.Majority.{tally, IsMajority};
 ghost use Rattle.ballots.specs.Slots.{SetsSlot};
@@ -29,6 +31,8 @@ pub fn limits_are_these()
     ensures members { (max_members ≡ 7) × (MAX_MEMBERS ≡ max_members) }
     ensures slot { (max_slot ≡ 999999) × (MAX_SLOT ≡ max_slot) }
     ensures upload_bytes { (max_upload_bytes ≡ 16777216) × (MAX_UPLOAD_BYTES ≡ max_upload_bytes) }
+    ensures message_bytes { (max_message_bytes ≡ 16777245) × (MAX_MESSAGE_BYTES ≡ max_message_bytes) }
+    ensures record_bytes { (max_record_bytes ≡ 16777235) × (MAX_RECORD_BYTES ≡ max_record_bytes) }
 {}
 
 /// Of two ballots that are not the same, exactly one is below the other, and below is carried along.

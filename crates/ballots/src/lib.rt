@@ -8,7 +8,7 @@
 //! apart, and `encode` appends the one canonical encoding. The same holds of a record, what a node keeps before it answers.
 //!
 //! A majority is asked of a set of nodes: `NodeSet` holds them without memory, and `Members::are_majority` counts those of
-//! them that are members. Ballots and values are printed as one line each, and read from it. The limits are numbers in
+//! them that are members. Ballots, values and messages are printed as one line each, and read from it. The limits are numbers in
 //! `specs/Limits.antt`, and `limits_are_these` says that the constants here are the same. A crate above cites `specs/`, the
 //! laws, and of `proofs/` the module `CallerLemmas` alone: the order of ballots, and sizes of sets of members.
 #![tactic(auto)]
@@ -26,6 +26,7 @@ mod message;
 mod node;
 mod node_set;
 mod printed;
+mod printed_message;
 mod reading;
 mod record;
 mod record_decoding;
@@ -47,10 +48,10 @@ pub use laws::{
     sizes_count_each_member_once,
 };
 pub use members::{MAX_MEMBERS, Members};
-pub use message::{Body, Message};
+pub use message::{Body, MAX_MESSAGE_BYTES, Message};
 pub use node::{MAX_NODE, NodeId};
 pub use node_set::NodeSet;
 pub use printed::LineFault;
-pub use record::Record;
+pub use record::{MAX_RECORD_BYTES, Record};
 pub use slot::{MAX_SLOT, Slot};
 pub use value::{MAX_UPLOAD_BYTES, OutOfMemory, UploadBytes, Value};

@@ -6,6 +6,9 @@ use crate::node::NodeId;
 use crate::slot::Slot;
 use crate::value::Value;
 
+/// The most bytes of a message's encoding: those of a Promise that reports the longest value.
+pub const MAX_MESSAGE_BYTES: usize = 16_777_245;
+
 /// A message: who sends it, for which slot, and what it says. It names its sender and never its receiver: any node may
 /// be handed any message at any time.
 #[derive(Debug, PartialEq, Eq, Drop)]

@@ -11,7 +11,7 @@ use std::fmt;
 use std::str::FromStr;
 use thiserror::Error;
 
-/// What is wrong with a line that should be a ballot or a value.
+/// What is wrong with a line that should be a ballot, a value or a message.
 #[derive(Clone, Copy, Debug, PartialEq, Eq, Error)]
 pub enum LineFault {
     /// It is no round, point and node within their limits, or has other digits than the shortest.
@@ -20,6 +20,9 @@ pub enum LineFault {
     /// It is neither `noop` nor lower-case hexadecimal digits of an upload's bytes.
     #[error("BadValue")]
     BadValue,
+    /// It is no node, slot and word of a message, or something stands behind them.
+    #[error("BadMessage")]
+    BadMessage,
     /// Memory was refused.
     #[error("OutOfMemory")]
     OutOfMemory,
@@ -62,8 +65,8 @@ fn ballot_of(round: &str, node: &str) -> Option<Ballot> {
     Ballot::new(number_of(round)?, NodeId::new(node)?)
 }
 
-// The number that these digits spell, with no sign, and no zero before them.
-fn number_of(digits: &str) -> Option<u32> {
+/// The number that these digits spell, with no sign, and no zero before them.
+pub(crate) fn number_of(digits: &str) -> Option<u32> {
     if digits.starts_with('+') || (digits.starts_with('0') && digits.len() > 1) {
         return None;
     }

@@ -4,6 +4,9 @@ use crate::acceptance::Acceptance;
 use crate::ballot::Ballot;
 use crate::slot::Slot;
 
+/// The most bytes of a record's encoding: those of the longest value that was accepted.
+pub const MAX_RECORD_BYTES: usize = 16_777_235;
+
 /// What a node keeps before it answers (Lamport, *Paxos Made Simple*, section 2.4: an acceptor records its response in
 /// stable storage before it sends it, and a proposer the greatest number that it has begun with). A record does not say
 /// whose it is: each node keeps its own.

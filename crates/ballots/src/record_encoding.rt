@@ -1,8 +1,9 @@
 //! Records written as bytes, each in its one canonical encoding.
 
-ghost use Rattle.std.specs.Prelude.{◌≡◌, ◌++◌, OnOk, OnErr};
+ghost use Rattle.std.specs.Prelude.{◌≡◌, ◌≤◌, ◌++◌, length, OnOk, OnErr};
 ghost use Rattle.proto_fields.specs.Writing.{Grows};
 ghost use Rattle.ballots.specs.AllFields.{all_record_fields_text};
+ghost use Rattle.ballots.specs.Limits.{max_record_bytes};
 ghost use Rattle.ballots.specs.Record.{canonical_record, IsRecordInRange, IsRecordText};
 
 use crate::record::Record;
@@ -53,13 +54,14 @@ impl Record {
         }
     }
 
-    /// Appends the record's bytes: rising field numbers, shortest varints, defaults left out. A refused one leaves the
-    /// vector as it was.
+    /// Appends the record's bytes: rising field numbers, shortest varints, defaults left out, [`MAX_RECORD_BYTES`] at most. A
+    /// refused one leaves the vector as it was.
     pub fn encode(&self, out: &mut Vec<u8>) -> Result<(), OutOfMemory>
         ensures ok { OnOk result (out.new.items ≡ out.old.items ++ canonical_record self.now) }
         ensures err { OnErr result (out.new.items ≡ out.old.items) }
         // What is written means the record, and so is read as it.
         ensures means { OnOk result (IsRecordText (canonical_record self.now) self.now) }
+        ensures short { OnOk result (length (canonical_record self.now) ≤ max_record_bytes) }
     {
         let start = out.len();
         let appended = self.append(out);
