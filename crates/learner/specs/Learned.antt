@@ -18,6 +18,12 @@ pub record StateAfter (n : ℕ) (calls : List Call) (state : LearnerState) : Typ
   pub firsts : (slot : ℕ) (ballot : Ballot) → decided_at state slot ≡ None
       → first_at state slot ballot ≡ first_counted n calls slot ballot
 
+-- it was made of some members, and some calls left it so
+pub record HasHistory (state : LearnerState) : Type 0 where
+  pub members : ℕ
+  pub calls : List Call
+  pub after : StateAfter members calls state
+
 -- every look-up answers as before
 pub record IsSame (old new : LearnerState) : Type 0 where
   pub members : new.members ≡ old.members

@@ -7,7 +7,7 @@ ghost use Rattle.ballots.specs.declared.value.Value.{Value};
 ghost use Rattle.learner.specs.Calls.{Call, Accepted, Decided, first_counted, IsChosenOrDecided, IsLearned, Learns};
 ghost use Rattle.learner.specs.Votes.{HasAccepted, MajorityAccepted, IsDecidedOrChosen};
 ghost use Rattle.learner.specs.State.{LearnerState, decided_at, first_at, voted_at};
-ghost use Rattle.learner.specs.Learned.{StateAfter, IsSame};
+ghost use Rattle.learner.specs.Learned.{StateAfter, HasHistory, IsSame};
 
 /// Of the same calls, a slot learns one value at most, and a further call makes it learn one thing: a value or nothing.
 pub fn learned_is_one()
@@ -65,4 +65,11 @@ pub fn states_are_what_was_learned()
         → StateAfter members calls a → StateAfter members calls b → first_at a slot ballot ≡ first_at b slot ballot }
     ensures looks { (members : ℕ) (calls : List Call) (old new : LearnerState)
         → IsSame old new → StateAfter members calls old → StateAfter members calls new }
+{}
+
+/// What a learner has of a slot it was told as decided, or a majority of its members accepted it at one ballot, whatever the
+/// calls were.
+pub fn values_have_a_history()
+    ensures { (state : LearnerState) (slot : ℕ) (v : Value) → HasHistory state → decided_at state slot ≡ Some v
+        → (calls : List Call) × IsDecidedOrChosen state.members calls slot v }
 {}

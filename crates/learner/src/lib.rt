@@ -21,6 +21,7 @@
 
 pub mod laws;
 mod learner;
+mod state;
 mod tally;
 
 pub use learner::Learner;

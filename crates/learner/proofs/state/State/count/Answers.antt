@@ -1,7 +1,7 @@
 use Rattle.std.proofs.Common.{nat_eq, refl, sym, ap, ◌∙◌, rules}
 use Rattle.indexmap.specs.IndexMap.{get}
 use Rattle.learner.proofs.Lookups.{apart_is_false, room_here, counts}
-use Rattle.learner.proofs.learner.Learner.count.Goals as goal
+use Rattle.learner.proofs.state.State.count.Goals as goal
 
 pub count_in-requires : goal.count_in-requires
 count_in-requires c =

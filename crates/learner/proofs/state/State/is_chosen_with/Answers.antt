@@ -1,6 +1,6 @@
 use Rattle.std.proofs.Common.{ap}
 use Rattle.learner.proofs.Lookups.{chosen_where}
-use Rattle.learner.proofs.learner.Learner.is_chosen_with.Goals as goal
+use Rattle.learner.proofs.state.State.is_chosen_with.Goals as goal
 
 pub returns : goal.returns
 returns c =

@@ -2,7 +2,7 @@ use Rattle.std.proofs.Common.{refl, ap}
 use Rattle.std.specs.Option.{option_map, option_and_then}
 use Rattle.learner.specs.State.{tally_in}
 use Rattle.learner.proofs.Lookups.{apart_is_false}
-use Rattle.learner.proofs.learner.Learner.learn.Goals as goal
+use Rattle.learner.proofs.state.State.learn.Goals as goal
 
 pub returns : goal.returns
 returns c = rw (← c.self.view_is) (record {

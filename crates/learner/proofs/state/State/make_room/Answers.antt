@@ -1,6 +1,6 @@
 use Rattle.std.proofs.Common.{refl}
 use Rattle.learner.proofs.Lookups.{same_entries, same_twice}
-use Rattle.learner.proofs.learner.Learner.make_room.Goals as goal
+use Rattle.learner.proofs.state.State.make_room.Goals as goal
 
 pub returns-clause-same : goal.returns-clause-same
 returns-clause-same c =

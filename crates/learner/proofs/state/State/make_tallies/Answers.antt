@@ -1,7 +1,7 @@
 use Rattle.std.proofs.Common.{nat_eq, refl, sym, ◌∙◌}
 use Rattle.indexmap.specs.IndexMap.{get}
 use Rattle.learner.proofs.Lookups.{none_is, apart_is_false, same_at_slot, empty_here}
-use Rattle.learner.proofs.learner.Learner.make_tallies.Goals as goal
+use Rattle.learner.proofs.state.State.make_tallies.Goals as goal
 
 pub returns-clause-same : goal.returns-clause-same
 returns-clause-same c =

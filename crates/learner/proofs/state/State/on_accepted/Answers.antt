@@ -2,7 +2,7 @@ use Rattle.std.proofs.Common.{◌≡◌, Some, None, subst, ap, sym, refl, ◌�
 use Rattle.learner.specs.Changes.{Puts}
 use Rattle.learner.proofs.Lookups.{not_both, puts_after_drops, nothing_now, something_now}
 use Rattle.learner.proofs.Learning.{learnt_closed, learnt_chooses, learnt_counts}
-use Rattle.learner.proofs.learner.Learner.on_accepted.Goals as goal
+use Rattle.learner.proofs.state.State.on_accepted.Goals as goal
 
 pub returns-then-not-is_open_to-clause-learned : goal.returns-then-not-is_open_to-clause-learned
 returns-then-not-is_open_to-clause-learned c = λ n calls l.

@@ -3,7 +3,7 @@ use Rattle.std.specs.Option.{option_or}
 use Rattle.learner.specs.Calls.{Decided}
 use Rattle.learner.proofs.Lookups.{learned_is_kept, not_both}
 use Rattle.learner.proofs.Learning.{learnt_decides, learnt_over_learned}
-use Rattle.learner.proofs.learner.Learner.on_decided.Goals as goal
+use Rattle.learner.proofs.state.State.on_decided.Goals as goal
 
 pub returns-then-is_open-clause-learned : goal.returns-then-is_open-clause-learned
 returns-then-is_open-clause-learned c = λ n calls l.

@@ -1,7 +1,7 @@
 use Rattle.std.proofs.Common.{nat_eq, refl, sym, rules}
 use Rattle.indexmap.specs.IndexMap.{get}
 use Rattle.learner.proofs.Lookups.{apart_is_false, same_at_slot, entries_here}
-use Rattle.learner.proofs.learner.Learner.reserve_tally.Goals as goal
+use Rattle.learner.proofs.state.State.reserve_tally.Goals as goal
 
 pub returns-clause-same : goal.returns-clause-same
 returns-clause-same c =

@@ -2,7 +2,7 @@ use Rattle.std.proofs.Common.{[], ◌∷◌, ◌++◌, sym, subst, ap, ◌∙◌
 use Rattle.learner.specs.Calls.{Accepted, IsLearned}
 use Rattle.learner.proofs.Lookups.{not_both, read_or, chosen_same, chosen_back}
 use Rattle.learner.proofs.Learning.{same_learnt, learnt_closed, settles_nothing, learned_by_vote, unsettled_by_vote}
-use Rattle.learner.proofs.learner.Learner.see_on_accepted.Goals as goal
+use Rattle.learner.proofs.state.State.see_on_accepted.Goals as goal
 
 pub returns-then-not-is_open_to-clause-told : goal.returns-then-not-is_open_to-clause-told
 returns-then-not-is_open_to-clause-told c = λ n calls l.

@@ -6,7 +6,7 @@ use Rattle.learner.proofs.Settling.{or_none}
 use Rattle.learner.proofs.Lookups.{not_both, learned_is_kept}
 use Rattle.learner.proofs.Learning.{learnt_over_learned, settles_nothing}
 use Rattle.learner.proofs.OneValue.{learned_by_decision}
-use Rattle.learner.proofs.learner.Learner.see_on_decided.Goals as goal
+use Rattle.learner.proofs.state.State.see_on_decided.Goals as goal
 
 pub returns-then-not-is_open-clause-room : goal.returns-then-not-is_open-clause-room
 returns-then-not-is_open-clause-room c = λ none. absurd (not_both _ (c.is_open.ensures.1 none) c.if-not-is_open.true)

@@ -2,7 +2,7 @@ use Rattle.std.proofs.Common.{refl, ap}
 use Rattle.std.specs.Option.{option_and_then}
 use Rattle.learner.specs.State.{tally_in}
 use Rattle.learner.proofs.Lookups.{apart_is_false}
-use Rattle.learner.proofs.learner.Learner.take_first.Goals as goal
+use Rattle.learner.proofs.state.State.take_first.Goals as goal
 
 pub returns-in_err-tally-clause-drops : goal.returns-in_err-tally-clause-drops
 returns-in_err-tally-clause-drops c = rw (← c.self.view_is) (record {
