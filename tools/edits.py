@@ -7,6 +7,7 @@ an answer with a bound in `proofs/` makes such an edit cheaper.
 
 With --answer an answer with a bound is written for each goal with a star, where the crate is proved with it; the others are named.
 An edit that the prover takes is told as TAKEN, and the status is then 1."""
+import itertools
 import re
 import resource
 import shutil
@@ -109,15 +110,15 @@ def has_answer(folder, function, goal):
     return file.exists() and re.search(rf"^pub {re.escape(goal)} :", file.read_text(encoding="utf-8"), re.M) is not None
 
 
-def add_answer(crate, folder, function, goal, form):
-    """Adds an answer of this form, and gives how to take it back."""
+def add_answer(crate, folder, function, goal, form, given):
+    """Adds an answer of this form, of what is given, and gives how to take it back."""
     file = answers_file(folder, function)
     old = file.read_text(encoding="utf-8") if file.exists() else None
     text = old or f"use {'.'.join(['Rattle', crate, 'proofs', *function.split('::')[1:], 'Goals'])} as goal\n"
     for name in re.findall(r"\b(rules|arith|common_steps)\b", form):
         text = with_use(text, name)
     file.parent.mkdir(parents=True, exist_ok=True)
-    file.write_text(f"{text.rstrip()}\n\npub {goal} : goal.{goal}\n{goal} c = {form}\n", encoding="utf-8")
+    file.write_text(f"{text.rstrip()}\n\npub {goal} : goal.{goal}\n{goal} {given} = {form}\n", encoding="utf-8")
     return file, old
 
 
@@ -142,8 +143,8 @@ def take_back(change):
 def write_answers(crate, folder, goals):
     """Writes answers with a bound, where the crate is proved with them."""
     for function, goal in sorted(goals):
-        for form in FORMS:
-            change = add_answer(crate, folder, function, goal, form)
+        for form, given in itertools.product(FORMS, ("c", "g c")):
+            change = add_answer(crate, folder, function, goal, form, given)
             proved, _, printed = check(folder)
             if proved:
                 file = change[0].relative_to(folder)
