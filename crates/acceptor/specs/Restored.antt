@@ -1,5 +1,5 @@
 -- What the records of a node leave: Lamport, "Paxos Made Simple", section 2.2, where an acceptor remembers the highest
--- number that it has promised and the highest-numbered proposal that it has accepted, and section 2.4, where it has
+-- number that it has promised and the highest-numbered proposal that it has accepted, and section 2.5, where it has
 -- them back from stable storage. A record of an acceptance tells a promise of its ballot too: what is accepted at a
 -- ballot is granted from it on.
 use Rattle.std.specs.Prelude.{◌≡◌, ◌≤◌, ◌⊎◌, ℕ, List, [], ◌∷◌, ◌++◌, Option, Some, None, nat_eq, if◌then◌else◌}

@@ -52,7 +52,7 @@ impl Acceptor {
         }
     }
 
-    /// The acceptor that these records leave, the first of them kept first (section 2.4). Each slot has the highest
+    /// The acceptor that these records leave, the first of them kept first (section 2.5). Each slot has the highest
     /// ballot that a record promises or accepts at, and the acceptance at the highest ballot, the last one where
     /// ballots are equal.
     pub fn from_records(alloc: Global, records: &[Record]) -> Result<Acceptor, OutOfMemory>

@@ -89,7 +89,7 @@ pub fn applied_is_restored()
 
 /// A node that keeps a record of each promise and each acceptance has back, when it starts again, all that it answered
 /// by: what an answer leaves is what the records leave with the answer's own behind them, and a refusal leaves what
-/// they leave (section 2.4). `run` says it of all answers from any start on, from a fresh one too.
+/// they leave (section 2.5). `run` says it of all answers from any start on, from a fresh one too.
 pub fn answers_are_as_recorded()
     ensures promised { (records : List Kept) (old new : Standing) (slot : ℕ) (ballot : Pair)
         (report : Option Acceptance) → IsRestored records old → Prepares old new slot ballot (Promise report)

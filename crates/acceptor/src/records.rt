@@ -6,7 +6,7 @@ ghost use Rattle.acceptor.specs.Restored.{IsHighestRound};
 
 use ballots::{OutOfMemory, Record};
 
-/// The highest round that the node has begun an attempt at, 0 where it has begun none (section 2.4).
+/// The highest round that the node has begun an attempt at, 0 where it has begun none (section 2.5).
 pub fn highest_begun_round(records: &[Record]) -> u32
     ensures { IsHighestRound records.now result }
 {

@@ -1,5 +1,5 @@
 -- What the bytes of a record mean. A record is a list of protobuf fields: 1 kind, 2 slot, 3 round and 4 node of its
--- ballot, 5 the value. Lamport, "Paxos Made Simple", sections 2.2 and 2.4, says what is to be kept; the numbers are this
+-- ballot, 5 the value. Lamport, "Paxos Made Simple", sections 2.2 and 2.5, says what is to be kept; the numbers are this
 -- service's own. Numbers are whole ones of 64 bits, never cut.
 use Rattle.std.specs.Prelude.{◌≡◌, ℕ, ◌<◌, ◌≤◌, ◌⊎◌, List, [], ◌∷◌, ◌++◌, Option, Some, None}
 use Rattle.proto_fields.specs.declared.fault.WireFault.TheVariants.{BadWireType}

@@ -1,4 +1,4 @@
-//! What nodes keep so that a restart forgets no promise (Lamport, *Paxos Made Simple*, sections 2.2 and 2.4).
+//! What nodes keep so that a restart forgets no promise (Lamport, *Paxos Made Simple*, sections 2.2 and 2.5).
 
 use crate::acceptance::Acceptance;
 use crate::ballot::Ballot;
@@ -7,7 +7,7 @@ use crate::slot::Slot;
 /// The most bytes of a record's encoding: those of the longest value that was accepted.
 pub const MAX_RECORD_BYTES: usize = 16_777_235;
 
-/// What a node keeps before it answers (Lamport, *Paxos Made Simple*, section 2.4: an acceptor records its response in
+/// What a node keeps before it answers (Lamport, *Paxos Made Simple*, section 2.5: an acceptor records its response in
 /// stable storage before it sends it, and a proposer the greatest number that it has begun with). A record does not say
 /// whose it is: each node keeps its own.
 #[derive(Debug, PartialEq, Eq, Drop)]

@@ -1,5 +1,5 @@
 -- Which attempt is open after a list of calls, what answers it, and when it has its majority: Lamport, "Paxos Made
--- Simple", sections 2.2 and 2.4, phases 1a and 2a.
+-- Simple", sections 2.2 and 2.5, phases 1a and 2a.
 use Rattle.std.specs.Prelude.{◌≡◌, ℕ, suc, max, ◌==◌, nat_lt, ◌&&◌, Bool, true, false, Option, Some, None}
 use Rattle.std.specs.Prelude.{List, [], ◌∷◌, ◌++◌, filter, filter_map}
 use Rattle.std.specs.List.{AllByRecursion}

@@ -1,4 +1,4 @@
--- What a proposer is asked, call by call: Lamport, "Paxos Made Simple", sections 2.2 and 2.4.
+-- What a proposer is asked, call by call: Lamport, "Paxos Made Simple", sections 2.2 and 2.5.
 use Rattle.std.specs.Prelude.{ℕ, Option}
 use Rattle.ballots.specs.Ballot.{Ballot}
 use Rattle.ballots.specs.declared.acceptance.Acceptance.{Acceptance}

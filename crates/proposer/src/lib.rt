@@ -1,4 +1,4 @@
-//! The proposer of Paxos (Lamport, *Paxos Made Simple*, sections 2.2 and 2.4): at most one attempt at a time, begun at
+//! The proposer of Paxos (Lamport, *Paxos Made Simple*, sections 2.2 and 2.5): at most one attempt at a time, begun at
 //! a ballot above all that its node has begun or seen, and the one Accept that a majority of promises leads to.
 //!
 //! A caller sends a Prepare at the ballot that `begin` gives, after it has kept a record of it: a node that forgets
