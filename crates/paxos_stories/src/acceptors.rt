@@ -1,6 +1,7 @@
 //! The calls of an acceptor (Lamport, *Paxos Made Simple*, section 2.2).
 
 use crate::fault::StoryFault;
+use crate::hexadecimal::bytes_of;
 use crate::words;
 use acceptor::{Acceptor, Answer};
 use ballots::{Acceptance, Ballot, Record, Slot};
@@ -118,9 +119,6 @@ pub(crate) fn restored(alloc: Global, digits: &[&str]) -> Result<Acceptor, Story
 }
 
 fn record_of(alloc: Global, digits: &str) -> Result<Record, StoryFault> {
-    match hex::decode(alloc, digits) {
-        Ok(bytes) => Ok(Record::decode(alloc, &bytes)?),
-        Err(hex::FromHexError::OutOfMemory) => Err(StoryFault::OutOfMemory),
-        Err(_) => Err(StoryFault::BadArgument),
-    }
+    let bytes = bytes_of(alloc, digits)?;
+    Ok(Record::decode(alloc, &bytes)?)
 }

@@ -17,6 +17,9 @@ pub(crate) enum StoryFault {
     /// What a call was foretold to give is not what it gave.
     #[error("ForetoldOtherwise")]
     ForetoldOtherwise,
+    /// What was read from a line is not written as that line.
+    #[error("WrittenOtherwise")]
+    WrittenOtherwise,
     /// A read or a write failed.
     #[error("Io")]
     Io,

@@ -1,4 +1,5 @@
-//! The calls of a learner (Lamport, *Paxos Made Simple*, section 2.3). Each is told beforehand what it will make learned.
+//! The calls of a learner (Lamport, *Paxos Made Simple*, section 2.3). Each is told beforehand what it will make
+//! learned.
 
 use crate::fault::StoryFault;
 use crate::words;

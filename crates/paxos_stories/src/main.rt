@@ -1,17 +1,23 @@
-//! Tells stories of the parts of a Paxos node: its acceptor, its proposer, its learner, and its log of decided values.
+//! Tells stories of the parts of a Paxos node: its acceptor, its proposer, its learner, and its log of decided values;
+//! of what nodes send and keep, as lines and as bytes; and of which histories of messages are lawful.
 //! `paxos_stories FILE ..` prints each file again, and under each of its commands what the command gives now.
 //!
 //! A story has lines of four kinds: empty ones; comments, which begin with `#`; commands; and answers, which begin with
 //! two spaces and are passed over, since they are told anew. So a file that tells the truth is printed as it stands.
 //! Slots, nodes and rounds are written in decimal digits, a ballot as its round and its node with a point between them,
-//! and a value as `noop` or as the hexadecimal digits of its bytes.
+//! a value as `noop` or as the hexadecimal digits of its bytes, and a message as in `node 1 slot 5 Accept 2.1 616263`.
 //!
 //! Nothing is claimed here but that telling is safe and ends: what the parts answer is promised by their own crates.
 #![tactic(auto)]
 
 mod acceptors;
+mod encodings;
 mod fault;
+mod hexadecimal;
+mod histories;
+mod kept;
 mod learners;
+mod lines;
 mod logs;
 mod proposers;
 mod story;

@@ -1,7 +1,8 @@
 //! A story, told line by line.
 
 use crate::fault::StoryFault;
-use crate::{acceptors, learners, logs, proposers, words};
+use crate::histories::History;
+use crate::{acceptors, encodings, histories, kept, learners, lines, logs, proposers, words};
 use acceptor::Acceptor;
 use ballots::{Members, NodeId};
 use decided_log::DecidedLog;
@@ -10,7 +11,7 @@ use proposer::Proposer;
 use std::alloc::Global;
 use std::io::Write;
 
-/// The parts that a story speaks of: those of node 0 of one, until it makes others.
+/// The parts that a story speaks of: those of node 0 of one, and a history of one member, until it makes others.
 #[derive(Drop)]
 struct Parts {
     alloc: Global,
@@ -18,6 +19,7 @@ struct Parts {
     proposer: Proposer,
     learner: Learner,
     log: DecidedLog,
+    history: History,
 }
 
 impl Parts {
@@ -30,6 +32,7 @@ impl Parts {
             proposer: Proposer::new(node, members, 0),
             learner: Learner::new(alloc, members),
             log: DecidedLog::new(alloc, node),
+            history: History::new(alloc, members),
         })
     }
 }
@@ -55,18 +58,44 @@ fn tell_line<W: Write>(parts: &mut Parts, line: &str, output: &mut W) -> Result<
     if line.is_empty() || line.starts_with('#') {
         return Ok(());
     }
-    let words: Vec<&str> = line.split(' ').collect(parts.alloc)?;
-    tell_command(parts, words.as_slice(), output)
+    let (command, rest) = line.split_once(' ').unwrap_or((line, ""));
+    tell_command(parts, command, rest, output)
 }
 
+// Prints what the command gives, each line behind two spaces. Behind some commands stands one line or digits, taken as
+// they are, and behind the others stand words.
 fn tell_command<W: Write>(
     parts: &mut Parts,
+    command: &str,
+    rest: &str,
+    output: &mut W,
+) -> Result<(), StoryFault> {
+    match command {
+        "ballot" | "value" | "message" => lines::tell(parts.alloc, command, rest, output),
+        "encode" => encodings::encode(parts.alloc, rest, output),
+        "decode" => encodings::decode(parts.alloc, rest, output),
+        "decode-record" => kept::decode(parts.alloc, rest, output),
+        "say" => histories::say(&mut parts.history, rest, output),
+        "if" => histories::suppose(&mut parts.history, rest, output),
+        _ => {
+            let words: Vec<&str> = rest.split(' ').collect(parts.alloc)?;
+            tell_words(parts, command, words.as_slice(), output)
+        }
+    }
+}
+
+fn tell_words<W: Write>(
+    parts: &mut Parts,
+    command: &str,
     words: &[&str],
     output: &mut W,
 ) -> Result<(), StoryFault> {
     match words {
-        [first, second, rest @ ..] if *first == "new" => make(parts, second, rest),
-        [first, second, rest @ ..] => answer(parts, first, second, rest, output),
+        [part, rest @ ..] if command == "new" => make(parts, part, rest),
+        [kind, rest @ ..] if command == "encode-record" => {
+            kept::encode(parts.alloc, kind, rest, output)
+        }
+        [call, rest @ ..] => answer(parts, command, call, rest, output),
         _ => Err(StoryFault::NoCommand),
     }
 }
@@ -78,6 +107,7 @@ fn make(parts: &mut Parts, part: &str, rest: &[&str]) -> Result<(), StoryFault> 
         "proposer" => make_proposer(parts, rest),
         "learner" => make_learner(parts, rest),
         "log" => make_log(parts, rest),
+        "history" => make_history(parts, rest),
         _ => Err(StoryFault::NoCommand),
     }
 }
@@ -106,7 +136,13 @@ fn make_log(parts: &mut Parts, words: &[&str]) -> Result<(), StoryFault> {
     Ok(())
 }
 
-// Prints what the call of the part gives, each line behind two spaces.
+fn make_history(parts: &mut Parts, words: &[&str]) -> Result<(), StoryFault> {
+    let members = words::members(words::only(words)?)?;
+    parts.history = History::new(parts.alloc, members);
+    Ok(())
+}
+
+// Prints what the call of the part gives.
 fn answer<W: Write>(
     parts: &mut Parts,
     part: &str,
@@ -119,6 +155,7 @@ fn answer<W: Write>(
         "proposer" => proposers::call(parts.alloc, &mut parts.proposer, call, rest, output),
         "learner" => learners::call(parts.alloc, &mut parts.learner, call, rest, output),
         "log" => logs::call(parts.alloc, &mut parts.log, call, rest, output),
+        "history" if call == "audit" && rest.is_empty() => histories::judge(&parts.history, output),
         _ => Err(StoryFault::NoCommand),
     }
 }
