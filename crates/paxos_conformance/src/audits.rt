@@ -1,8 +1,6 @@
-//! Histories by name, and the judge beside a plain program.
+//! The judge of histories beside a plain program, and over a long one.
 
-mod clauses;
 mod comparison;
 mod histories;
-mod lawful;
 mod long;
 mod plain;

@@ -1,8 +1,70 @@
-//! The six clauses and what is chosen, by trying all places and all sets of members (Lamport, *Paxos Made Simple*, section
-//! 2): slow, and nothing like the judge.
+//! The six clauses and what is chosen, by trying all places and all sets of members (Lamport, *Paxos Made Simple*,
+//! section 2): slow, and nothing like the judge.
 
-use super::histories::Said;
-use crate::rows::Number;
+use ballots::{Acceptance, Ballot, Body, Message, Value};
+use std::alloc::{AllocError, Global};
+
+/// The round and the node of a ballot.
+type Number = (u32, u8);
+
+/// What a message says of its slot, in numbers: who sends it, where that counts, ballots, and a value.
+#[derive(Clone, Copy)]
+pub(super) enum Said {
+    Promise(u8, Number, Option<(Number, u8)>),
+    Accept(Number, u8),
+    Accepted(u8, Number, u8),
+    Decided(u8),
+    // What lets nothing follow and forbids nothing: a Prepare, a Nack or an Ask.
+    Nothing,
+}
+
+fn number_of(ballot: Ballot) -> Number {
+    (ballot.round(), ballot.node().number())
+}
+
+/// The first byte of an upload, and 0 for a Noop.
+fn byte_of(value: &Value) -> u8 {
+    value.as_bytes().first().copied().unwrap_or(0)
+}
+
+fn vote_of(acceptance: &Acceptance) -> (Number, u8) {
+    (number_of(acceptance.ballot), byte_of(&acceptance.value))
+}
+
+fn said_by(message: &Message) -> Said {
+    let sender = message.sender.number();
+    match &message.body {
+        Body::Promise {
+            ballot,
+            report: None,
+        } => Said::Promise(sender, number_of(*ballot), None),
+        Body::Promise {
+            ballot,
+            report: Some(report),
+        } => Said::Promise(sender, number_of(*ballot), Some(vote_of(report))),
+        Body::Accept(proposal) => {
+            let (ballot, value) = vote_of(proposal);
+            Said::Accept(ballot, value)
+        }
+        Body::Accepted(acceptance) => {
+            let (ballot, value) = vote_of(acceptance);
+            Said::Accepted(sender, ballot, value)
+        }
+        Body::Decided { value } => Said::Decided(byte_of(value)),
+        Body::Prepare { .. } | Body::Nack { .. } | Body::Ask => Said::Nothing,
+    }
+}
+
+/// What these messages say of one slot, in order.
+pub(super) fn said_of(alloc: Global, sent: &[Message], slot: u32) -> Result<Vec<Said>, AllocError> {
+    let mut said = Vec::new(alloc);
+    for message in sent {
+        if message.slot.number() == slot {
+            said.push(said_by(message))?;
+        }
+    }
+    Ok(said)
+}
 
 /// A set of at most seven members, as a number: member a is in it where its digit of 2 to the a is 1.
 type Set = u8;
