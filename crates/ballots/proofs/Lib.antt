@@ -1,6 +1,5 @@
 pub mod CallerLemmas
 pub mod Slots
-pub mod PlainMeanings
 pub mod Steps
 pub mod Numbers
 pub mod Bodies

@@ -16,8 +16,6 @@
 mod acceptance;
 mod ballot;
 mod decoding;
-#[cfg(test)]
-mod encoded;
 mod encoding;
 mod fault;
 mod laws;
@@ -32,8 +30,6 @@ mod record;
 mod record_decoding;
 mod record_encoding;
 mod slot;
-#[cfg(test)]
-mod tests;
 mod value;
 mod writing;
 

@@ -1,8 +1,8 @@
-//! Rows of tables, messages by their names and numbers, and what a text is read as.
+//! Rows of tables, ballots, values and messages by their numbers, and what a text is read as.
 
-use super::plain_meaning::{PartsMeant, message_meant};
-use crate::encoded::Made;
-use crate::{Ballot, Body, Message, MessageFault, NodeId};
+use crate::plain_meaning::{PartsMeant, message_meant};
+use ballots::{Ballot, Body, Message, MessageFault, NodeId, Slot, UploadBytes, Value};
+use bytes::Bytes;
 use std::alloc::{AllocError, Global};
 use std::test::Fail;
 
@@ -12,6 +12,28 @@ pub(crate) fn node(number: u8) -> Result<NodeId, Fail> {
 
 pub(crate) fn ballot(round: u32, number: u8) -> Result<Ballot, Fail> {
     Ok(Ballot::new(round, node(number)?).ok_or("no ballot")?)
+}
+
+pub(crate) fn slot(number: u32) -> Result<Slot, Fail> {
+    Ok(Slot::new(number).ok_or("no slot")?)
+}
+
+/// The value of these bytes.
+pub(crate) fn upload_of(alloc: Global, bytes: &[u8]) -> Result<Value, Fail> {
+    let shared = Bytes::copy_from_slice(alloc, bytes)?;
+    Ok(Value::Upload(UploadBytes::new(shared).ok_or("no upload")?))
+}
+
+/// A value of so many bytes.
+pub(crate) fn long_value(alloc: Global, len: usize) -> Result<Value, Fail> {
+    let mut bytes = Vec::new(alloc);
+    for place in 0..len {
+        bytes.push((place % 251) as u8)?;
+    }
+    let Ok(shared) = Bytes::from_vec(bytes) else {
+        return Err(Fail::from("no memory"));
+    };
+    Ok(Value::Upload(UploadBytes::new(shared).ok_or("no upload")?))
 }
 
 /// The cells of a row of a table, between bars.
@@ -59,22 +81,9 @@ pub(crate) fn bytes_of(alloc: Global, digits: &str) -> Result<Vec<u8>, Fail> {
     Ok(bytes)
 }
 
-/// The name of a message.
-pub(crate) fn name_of(message: &Message) -> &'static str {
-    match &message.body {
-        Body::Prepare { .. } => "Prepare",
-        Body::Promise { .. } => "Promise",
-        Body::Nack { .. } => "Nack",
-        Body::Accept(_) => "Accept",
-        Body::Accepted(_) => "Accepted",
-        Body::Ask => "Ask",
-        Body::Decided { .. } => "Decided",
-    }
-}
-
-/// The message with these numbers, beside its text: its kind, sender and slot, its ballot and the second one, each a round
-/// and a node, and its value, where it has them.
-pub(crate) fn made(alloc: Global, numbers: [u64; 7], value: &str) -> Result<Made, Fail> {
+/// The message with these numbers: its kind, sender and slot, its ballot and the second one, each a round and a node,
+/// and its value, where it has them.
+pub(crate) fn message_of(alloc: Global, numbers: [u64; 7], value: &str) -> Result<Message, Fail> {
     let [kind, sender, slot, round, node, second_round, second_node] = numbers;
     let parts = PartsMeant {
         kind: Some(kind),

@@ -4,8 +4,8 @@
 ghost use Rattle.std.specs.Prelude.{IsTrue, ◌↔◌};
 ghost use Rattle.ballots.specs.Ballot.{IsBelow, IsAbove, IsAtLeast};
 
-use super::support::{ballot, node};
-use crate::{Ballot, NodeId, Slot};
+use crate::support::{ballot, node};
+use ballots::{Ballot, NodeId, Slot};
 use std::alloc::Global;
 use std::cmp::Ordering;
 use std::process::Abort;

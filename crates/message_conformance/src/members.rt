@@ -1,7 +1,7 @@
 //! Members and majorities, over every set of up to seven members (Lamport, *Paxos Made Simple*, section 2.1).
 
-use super::support::node;
-use crate::{MAX_MEMBERS, Members, NodeId, NodeSet};
+use crate::support::node;
+use ballots::{MAX_MEMBERS, Members, NodeId, NodeSet};
 use std::process::Abort;
 use std::test::Fail;
 

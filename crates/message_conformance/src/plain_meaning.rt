@@ -1,7 +1,8 @@
-//! What a list of fields means as a message, computed plainly from the definitions `parts_of`, `Means` and `PartsFault`.
+//! What a list of fields means as a message, computed plainly from the definitions `parts_of`, `Means` and
+//! `PartsFault`.
 //!
-//! Protocol Buffers, "Encoding", "Last One Wins", has repeated fields, and Lamport, *Paxos Made Simple*, sections 2.2 and
-//! 2.3, the messages.
+//! Protocol Buffers, "Encoding", "Last One Wins", has repeated fields, and Lamport, *Paxos Made Simple*, sections 2.2
+//! and 2.3, the messages.
 
 ghost use Rattle.std.specs.Prelude.{◌≡◌, ℕ, ◌≤◌, ◌<◌, ◌⊎◌, ◌↔◌, map, Some, None, IfSome, IfOk, IsTrue, IsFalse};
 ghost use Rattle.std.specs.Option.{option_map};
@@ -13,12 +14,10 @@ ghost use Rattle.ballots.specs.Ballot.{Ballot as Pair};
 ghost use Rattle.proto_fields.specs.declared.fault.WireFault.TheVariants.{BadWireType};
 ghost use Rattle.ballots.specs.declared.fault.MessageFault.TheVariants.{Wire, BadKind, OutOfRange};
 ghost use Rattle.ballots.specs.declared.value.Value.{Value as Chosen};
-ghost use Rattle.ballots.specs.Message.{Parts, parts_of, MeansBallot, MeansValue, HeadFault, BallotFault, ValueFault, BodyFault, IsUnknownKind, PartsFault};
+ghost use Rattle.ballots.specs.Message.{Parts, parts_of, MeansBallot, MeansValue};
+ghost use Rattle.ballots.specs.Message.{HeadFault, BallotFault, ValueFault, BodyFault, IsUnknownKind, PartsFault};
 
-use crate::encoded::{
-    Made, accept, accepted, ask, decided, nack, prepare, promise, reporting_promise,
-};
-use crate::{Acceptance, Ballot, MessageFault, NodeId, Slot, UploadBytes, Value};
+use ballots::{Acceptance, Ballot, Body, Message, MessageFault, NodeId, Slot, UploadBytes, Value};
 use bytes::Bytes;
 use proto_fields::{ContentRef, WireFault};
 use std::alloc::{AllocError, Global};
@@ -129,7 +128,8 @@ fn ballot_meant(round: Option<u64>, node: Option<u64>) -> Option<Ballot>
 /// The definition `MeansValue`.
 fn value_meant(alloc: Global, bytes: Option<&[u8]>) -> Result<Option<Value>, AllocError>
     ensures meant { IfOk result (λ value. IfSome value (λ v. MeansValue (option_map (λ b. b.now) bytes.entry) v)) }
-    ensures only { IfOk result (λ value. (v : Chosen) → MeansValue (option_map (λ b. b.now) bytes.entry) v → value ≡ Some v) }
+    ensures only { IfOk result (λ value. (v : Chosen)
+        → MeansValue (option_map (λ b. b.now) bytes.entry) v → value ≡ Some v) }
 {
     let Some(bytes) = bytes else {
         return Ok(None);
@@ -141,108 +141,99 @@ fn value_meant(alloc: Global, bytes: Option<&[u8]>) -> Result<Option<Value>, All
     Ok(upload.map(|bytes| Value::Upload(bytes)))
 }
 
-/// The Promise that this means.
+/// What the Promise says that this means.
 fn promise_meant(
     alloc: Global,
     parts: &PartsMeant<'_>,
-    (sender, slot): (NodeId, Slot),
     ballot: Ballot,
-) -> Result<Option<Made>, AllocError> {
+) -> Result<Option<Body>, AllocError> {
     if parts.second_round == Some(0) {
-        return Ok(Some(promise(alloc, sender, slot, ballot)?));
+        return Ok(Some(Body::Promise {
+            ballot,
+            report: None,
+        }));
     }
     let Some(second) = ballot_meant(parts.second_round, parts.second_node) else {
         return Ok(None);
     };
-    match value_meant(alloc, parts.value)? {
-        Some(value) => {
-            let report = Acceptance {
-                ballot: second,
-                value,
-            };
-            Ok(Some(reporting_promise(alloc, sender, slot, ballot, report)?))
-        }
-        None => Ok(None),
-    }
+    let value = value_meant(alloc, parts.value)?;
+    Ok(value.map(|value| Body::Promise {
+        ballot,
+        report: Some(Acceptance {
+            ballot: second,
+            value,
+        }),
+    }))
 }
 
-/// The Nack that this means.
-fn nack_meant(
-    alloc: Global,
-    parts: &PartsMeant<'_>,
-    (sender, slot): (NodeId, Slot),
-    ballot: Ballot,
-) -> Result<Option<Made>, AllocError> {
-    match ballot_meant(parts.second_round, parts.second_node) {
-        Some(second) => Ok(Some(nack(alloc, sender, slot, ballot, second)?)),
-        None => Ok(None),
-    }
+/// What the Nack says that this means.
+fn nack_meant(parts: &PartsMeant<'_>, ballot: Ballot) -> Option<Body> {
+    let promised = ballot_meant(parts.second_round, parts.second_node)?;
+    Some(Body::Nack { ballot, promised })
 }
 
-/// The Accept that this means, or the Accepted.
+/// What the Accept says that this means, or the Accepted.
 fn acceptance_meant(
     alloc: Global,
     parts: &PartsMeant<'_>,
-    (sender, slot): (NodeId, Slot),
     ballot: Ballot,
-) -> Result<Option<Made>, AllocError> {
+) -> Result<Option<Body>, AllocError> {
     let Some(value) = value_meant(alloc, parts.value)? else {
         return Ok(None);
     };
     let acceptance = Acceptance { ballot, value };
     if parts.kind == Some(4) {
-        Ok(Some(accept(alloc, sender, slot, acceptance)?))
+        Ok(Some(Body::Accept(acceptance)))
     } else {
-        Ok(Some(accepted(alloc, sender, slot, acceptance)?))
+        Ok(Some(Body::Accepted(acceptance)))
     }
 }
 
-/// The Decided that this means.
-fn decided_meant(
-    alloc: Global,
-    parts: &PartsMeant<'_>,
-    (sender, slot): (NodeId, Slot),
-) -> Result<Option<Made>, AllocError> {
-    match value_meant(alloc, parts.value)? {
-        Some(value) => Ok(Some(decided(alloc, sender, slot, value)?)),
-        None => Ok(None),
-    }
+/// What the Decided says that this means.
+fn decided_meant(alloc: Global, parts: &PartsMeant<'_>) -> Result<Option<Body>, AllocError> {
+    let value = value_meant(alloc, parts.value)?;
+    Ok(value.map(|value| Body::Decided { value }))
 }
 
-/// The message at this ballot that this means.
+/// What the message at this ballot says that this means.
 fn meant_at(
     alloc: Global,
     parts: &PartsMeant<'_>,
-    head: (NodeId, Slot),
     ballot: Ballot,
-) -> Result<Option<Made>, AllocError> {
+) -> Result<Option<Body>, AllocError> {
     match parts.kind {
-        Some(1) => Ok(Some(prepare(alloc, head.0, head.1, ballot)?)),
-        Some(2) => promise_meant(alloc, parts, head, ballot),
-        Some(3) => nack_meant(alloc, parts, head, ballot),
-        Some(4) | Some(5) => acceptance_meant(alloc, parts, head, ballot),
+        Some(1) => Ok(Some(Body::Prepare { ballot })),
+        Some(2) => promise_meant(alloc, parts, ballot),
+        Some(3) => Ok(nack_meant(parts, ballot)),
+        Some(4) | Some(5) => acceptance_meant(alloc, parts, ballot),
         _ => Ok(None),
     }
 }
 
-/// The definition `Means`: the message that this means, if any, beside its text.
+/// The definition `MeansBody`: what the message says that this means, if any.
+fn body_meant(alloc: Global, parts: &PartsMeant<'_>) -> Result<Option<Body>, AllocError> {
+    if parts.kind == Some(6) {
+        return Ok(Some(Body::Ask));
+    }
+    if parts.kind == Some(7) {
+        return decided_meant(alloc, parts);
+    }
+    match ballot_meant(parts.round, parts.node) {
+        Some(ballot) => meant_at(alloc, parts, ballot),
+        None => Ok(None),
+    }
+}
+
+/// The definition `Means`: the message that this means, if any.
 pub(crate) fn message_meant(
     alloc: Global,
     parts: &PartsMeant<'_>,
-) -> Result<Option<Made>, AllocError> {
+) -> Result<Option<Message>, AllocError> {
     let (Some(sender), Some(slot)) = (node_meant(parts.sender), slot_meant(parts.slot)) else {
         return Ok(None);
     };
-    if parts.kind == Some(6) {
-        return Ok(Some(ask(alloc, sender, slot)?));
-    }
-    if parts.kind == Some(7) {
-        return decided_meant(alloc, parts, (sender, slot));
-    }
-    match ballot_meant(parts.round, parts.node) {
-        Some(ballot) => meant_at(alloc, parts, (sender, slot), ballot),
-        None => Ok(None),
-    }
+    let body = body_meant(alloc, parts)?;
+    Ok(body.map(|body| Message { sender, slot, body }))
 }
 
 /// A set of faults.

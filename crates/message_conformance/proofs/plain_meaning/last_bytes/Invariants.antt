@@ -1,7 +1,7 @@
 use Rattle.std.proofs.Common.{◌≡◌, Some}
 use Rattle.proto_fields.specs.Meaning.{bytes_meant}
-use Rattle.ballots.proofs.PlainMeanings.{seen}
-use Rattle.ballots.proofs.tests.plain_meaning.last_bytes.Given as goal
+use Rattle.message_conformance.proofs.PlainMeanings.{seen}
+use Rattle.message_conformance.proofs.plain_meaning.last_bytes.Given as goal
 
 -- what the fields met so far mean
 abbrev pub invariant-loop-of : goal.invariant-loop-of

@@ -1,9 +1,9 @@
 //! Short texts, most of which are no list of fields: every text up to four bytes over a few telling ones.
 
-use super::meaning::is_read_as_meant;
-use super::plain_meaning::Field;
-use super::support::refusal;
-use crate::MessageFault;
+use crate::meaning::is_read_as_meant;
+use crate::plain_meaning::Field;
+use crate::support::refusal;
+use ballots::MessageFault;
 use proto_fields::{Content, ContentRef, read_fields};
 use std::alloc::{AllocError, Global};
 use std::test::Fail;
@@ -37,7 +37,8 @@ fn lent(alloc: Global, fields: &[(u32, Content)]) -> Result<Vec<Field<'_>>, Allo
     Ok(lent)
 }
 
-/// Whether a text that is no list of fields is refused with what is wrong with it, and another means what its fields mean.
+/// Whether a text that is no list of fields is refused with what is wrong with it, and another means what its fields
+/// mean.
 fn is_read_right(alloc: Global, text: &[u8]) -> Result<bool, AllocError> {
     match read_fields(alloc, text) {
         Ok(fields) => is_read_as_meant(alloc, text, lent(alloc, fields.as_slice())?.as_slice()),

@@ -1,15 +1,16 @@
 //! Lists of fields beside the plain meaning of a message: each list up to three fields behind each of some beginnings.
 
-use super::plain_meaning::{Faults, Field, faults_meant, message_meant, parts_meant};
-use super::support::{number, read, refusal, write};
-use crate::encoded::Made;
+use crate::encoded::message_text;
+use crate::plain_meaning::{Faults, Field, faults_meant, message_meant, parts_meant};
+use crate::support::{number, read, refusal, write};
+use ballots::Message;
 use proto_fields::ContentRef;
 use std::alloc::{AllocError, Global};
 use std::process::Abort;
 use std::test::Fail;
 
-/// Beginnings: the kind, the round of the ballot and that of the second, `-` where there is no such field. No kind, kind 0,
-/// the seven, and two more that are none.
+/// Beginnings: the kind, the round of the ballot and that of the second, `-` where there is no such field. No kind,
+/// kind 0, the seven, and two more that are none.
 const KINDS: &str = "\
 -|-|-
 0|-|-
@@ -33,9 +34,9 @@ const ROUNDS: &str = "\
 4|1|-
 5|1|-";
 
-/// Fields at the edges of what they may hold, also of other wire types, and two that no message has: the field's number,
-/// its wire type (Protocol Buffers, "Encoding", "Message Structure"), and what it holds. That is a number for wire type 0,
-/// bytes for 2, and for 1 and 5 the first of the eight or four bytes, where the others are 0.
+/// Fields at the edges of what they may hold, also of other wire types, and two that no message has: the field's
+/// number, its wire type (Protocol Buffers, "Encoding", "Message Structure"), and what it holds. That is a number for
+/// wire type 0, bytes for 2, and for 1 and 5 the first of the eight or four bytes, where the others are 0.
 const FIELDS: &str = "\
 1|0|2
 1|2|\x02
@@ -118,8 +119,8 @@ fn beginning_of(alloc: Global, row: &str) -> Result<Vec<Field<'static>>, Fail> {
     Ok(fields)
 }
 
-/// Appends a number as a varint, groups of seven bits from the lowest (Protocol Buffers, "Encoding", "Base 128 Varints"):
-/// ten of them hold 64 bits.
+/// Appends a number as a varint, groups of seven bits from the lowest (Protocol Buffers, "Encoding", "Base 128
+/// Varints"): ten of them hold 64 bits.
 fn spell_number(text: &mut Vec<u8>, number: u64) -> Result<(), AllocError> {
     let mut left = number;
     for _ in 0..10 {
@@ -168,8 +169,8 @@ fn text_of(alloc: Global, fields: &[Field<'_>]) -> Result<Vec<u8>, AllocError> {
     Ok(text)
 }
 
-/// The fields of the beginning, and then those that three digits of the number name, of thirty each: a digit that is past
-/// the fields names none.
+/// The fields of the beginning, and then those that three digits of the number name, of thirty each: a digit that is
+/// past the fields names none.
 fn list_of(
     alloc: Global,
     beginning: &[Field<'static>],
@@ -186,17 +187,18 @@ fn list_of(
 }
 
 /// Whether the text is read as this message, which is then written in its one spelling.
-fn is_read_and_written(alloc: Global, text: &[u8], made: &Made) -> Result<bool, AllocError> {
+fn is_read_and_written(alloc: Global, text: &[u8], message: &Message) -> Result<bool, AllocError> {
     let Ok(read) = read(alloc, text) else {
         return Ok(false);
     };
     let mut written = Vec::new(alloc);
     write(&read, &mut written)?;
-    Ok(read == made.message && written == made.text)
+    let wanted = message_text(alloc, message)?;
+    Ok(read == *message && written == wanted)
 }
 
-/// Whether the text is read as the message that these fields mean, which is then written in its one spelling; where they
-/// mean none, it is to be refused with a fault that stands.
+/// Whether the text is read as the message that these fields mean, which is then written in its one spelling; where
+/// they mean none, it is to be refused with a fault that stands.
 pub(crate) fn is_read_as_meant(
     alloc: Global,
     text: &[u8],
@@ -205,7 +207,10 @@ pub(crate) fn is_read_as_meant(
     let parts = parts_meant(fields);
     let faults = faults_meant(&parts);
     match message_meant(alloc, &parts)? {
-        Some(made) => Ok(faults == Faults::NONE && is_read_and_written(alloc, text, &made)?),
+        Some(message) => {
+            let is_right = is_read_and_written(alloc, text, &message)?;
+            Ok(is_right && faults == Faults::NONE)
+        }
         None => Ok(match refusal(alloc, text) {
             Some(fault) => faults.has(fault),
             None => false,

@@ -3,9 +3,9 @@ use Rattle.std.proofs.lemmas.List.{take_all}
 use Rattle.proto_fields.specs.Field.{held_at}
 use Rattle.proto_fields.specs.Meaning.{bytes_meant, bytes_in}
 use Rattle.proto_fields.proofs.Meanings.{bytes_meant-push}
-use Rattle.ballots.proofs.PlainMeanings.{at, no_bytes, one_more, other_more, never_more}
-use Rattle.ballots.proofs.tests.plain_meaning.last_bytes.Goals.{then-of-number+in-Bytes, else-of-number}
-use Rattle.ballots.proofs.tests.plain_meaning.last_bytes.Goals as goal
+use Rattle.message_conformance.proofs.PlainMeanings.{at, no_bytes, one_more, other_more, never_more}
+use Rattle.message_conformance.proofs.plain_meaning.last_bytes.Goals.{then-of-number+in-Bytes, else-of-number}
+use Rattle.message_conformance.proofs.plain_meaning.last_bytes.Goals as goal
 
 pub loop-of-init : goal.loop-of-init
 unfolding bytes_meant

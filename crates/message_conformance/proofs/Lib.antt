@@ -1,0 +1,2 @@
+pub mod PlainMeanings
+pub mod AllFields
