@@ -2,12 +2,13 @@
 //!
 //! `flightd acceptor`, or no word at all, answers Paxos messages as node 0 of three, with nothing kept. `flightd audit
 //! FILE` says whether a recorded run of such messages is one that correct nodes may have sent. The words are read by
-//! `command_line`, and each command is one function of `commands` over any reader and writers, with its contract;
-//! `main` gives it the real ones.
+//! `command_line`, and each command is one function over any reader and writers, with its contract, of a library of
+//! its own, `acceptor_command` and `audit_command`; `main` gives it the real ones.
 #![tactic(auto)]
 
+use acceptor_command::acceptor_run;
+use audit_command::{AuditFault, FAILURE, audit_run};
 use command_line::{audited_file, parse};
-use commands::{AuditFault, FAILURE, acceptor_run, audit_run};
 use std::io::{BufReader, BufWriter};
 use std::process::ExitCode;
 use std::{fs, io};

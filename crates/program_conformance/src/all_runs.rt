@@ -4,8 +4,8 @@
 use crate::plain_runs::{PlainRun, Room, run_of};
 use crate::streams::Narrow;
 use crate::support::{digits_of, spelled, tells};
+use acceptor_command::{ServeFault, acceptor_run, answer_frames};
 use ballots::MessageFault;
-use commands::{ServeFault, acceptor_run, answer_frames};
 use proto_wire::{FrameFault, WireFault};
 use std::alloc::{AllocError, Global};
 use std::process::Abort;

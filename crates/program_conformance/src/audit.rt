@@ -2,7 +2,7 @@
 
 use crate::streams::Narrow;
 use crate::support::Outcome;
-use commands::audit_run;
+use audit_command::audit_run;
 use std::alloc::Global;
 use std::process::Abort;
 

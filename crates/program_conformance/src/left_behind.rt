@@ -1,7 +1,7 @@
 //! Where the reader stands after a run, and runs over thousands of frames.
 
 use crate::support::spelled;
-use commands::answer_frames;
+use acceptor_command::answer_frames;
 use std::alloc::Global;
 use std::process::Abort;
 use std::test::Fail;

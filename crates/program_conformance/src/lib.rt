@@ -1,6 +1,6 @@
-//! Conformance tests of `commands` and `command_line`, over their public calls, of what no clause says: bytes worked out
-//! by hand, the lines on standard error, streams that fail, and the words; and plain programs that compute the definitions
-//! on every small input and are compared with those calls.
+//! Conformance tests of `acceptor_command`, `audit_command` and `command_line`, over their public calls, of what no
+//! clause says: bytes worked out by hand, the lines on standard error, streams that fail, and the words; and plain
+//! programs that compute the definitions on every small input and are compared with those calls.
 //!
 //! The crate has no code but tests, so that what is proved in the crates below is not proved again together with them.
 #![tactic(auto)]

@@ -4,7 +4,7 @@
 use crate::all_runs::{compare, expect_met, new_tally};
 use crate::plain_runs::Room;
 use crate::support::{run_over, spelled, tells};
-use commands::ServeFault;
+use acceptor_command::ServeFault;
 use std::alloc::Global;
 use std::test::Fail;
 

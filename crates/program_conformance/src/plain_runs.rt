@@ -3,7 +3,7 @@
 //! 2.2, phases 1b and 2b. It is for inputs in memory, where no read fails and memory is there.
 
 use crate::plain_requests::{Ballot, Payload, payload_of};
-use commands::ServeFault;
+use acceptor_command::ServeFault;
 use proto_wire::FrameFault;
 use std::alloc::{AllocError, Global};
 

@@ -6,7 +6,7 @@
 //! that. No bytes tell that the file means nothing.
 
 use crate::support::digits_of;
-use commands::{AuditFault, TraceFault, audit_file, read_trace};
+use audit_command::{AuditFault, TraceFault, audit_file, read_trace};
 use schedule_runner::{Trace, audit};
 use std::alloc::{AllocError, Global};
 use std::process::Abort;

@@ -1,7 +1,7 @@
 //! Readers and writers that fail, and the order of reads and flushes.
 
 use crate::support::{ANSWERS, CONVERSATION, ENDS, answered_within, spelled, tells};
-use commands::acceptor_run;
+use acceptor_command::acceptor_run;
 use std::alloc::{AllocError, Global};
 use std::cell::Cell;
 use std::io;

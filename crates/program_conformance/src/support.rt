@@ -1,6 +1,6 @@
 //! Runs in memory, and the first conversation.
 
-use commands::acceptor_run;
+use acceptor_command::acceptor_run;
 use std::alloc::{AllocError, Global};
 use std::test::Fail;
 

@@ -1,0 +1,33 @@
+use Rattle.std.proofs.Common.{◌≡◌, ◌≢◌, ℕ, List, refl, subst, arith}
+use Rattle.grpc_frames.specs.Frame.{Frame}
+use Rattle.acceptor.specs.Standing.{Standing}
+use Rattle.acceptor_command.specs.declared.fault.ServeFault.{ServeFault}
+use Rattle.acceptor_command.specs.declared.fault.ServeFault.TheVariants as faults
+use Rattle.acceptor_command.specs.Serving.{FrameEnds}
+use Rattle.acceptor_command.proofs.laws.faults_stand_at_their_frames.Goals as goal
+
+module _ (now : Standing) (f : Frame) (old new : List ℕ) where
+  end_flag : (fault : ServeFault) → FrameEnds fault now f old new → f.flag ≡ 128 → fault ≡ faults.EndFlag
+  end_flag faults.EndFlag h e = refl
+  end_flag (faults.Message fault) h e = absurd (omega (arith, e, h.0))
+  end_flag faults.AnswerTooLong h e = absurd (omega (arith, e, h.1.flag))
+  end_flag faults.Write h e = absurd (omega (arith, e, h.2.flag))
+  end_flag faults.OutOfMemory h e = absurd (omega (arith, e, h.0))
+  end_flag (faults.Frame fault) h e = absurd h
+  end_flag faults.FrameLimit h e = absurd h
+
+  silent : (fault : ServeFault) → FrameEnds fault now f old new → fault ≢ faults.Write → new ≡ old
+  silent faults.EndFlag h other = h.1
+  silent (faults.Message fault) h other = h.2
+  silent faults.AnswerTooLong h other = h.3
+  silent faults.Write h other = absurd (other refl)
+  silent faults.OutOfMemory h other = h.1
+  silent (faults.Frame fault) h other = absurd h
+  silent faults.FrameLimit h other = absurd h
+
+pub returns-clause-end_flag : goal.returns-clause-end_flag
+returns-clause-end_flag g = λ fault now f old new h.
+    ((λ e. (subst (λ (x : ServeFault). FrameEnds x now f old new) e h).0), end_flag now f old new fault h)
+
+pub returns-clause-silent : goal.returns-clause-silent
+returns-clause-silent g = λ fault now f old new h. silent now f old new fault h

@@ -1,0 +1,2 @@
+pub mod TraceReading
+pub mod Telling

@@ -1,0 +1,104 @@
+//! `flightd audit FILE`, over any writers: the judgement of a recorded run, and where it is written.
+
+ghost use Rattle.std.specs.Prelude.{◌≡◌, ◌⊎◌, ℕ, List, true, IfErr, OnOk, OnErr};
+ghost use Rattle.std.specs.Io.KnownBytes.{Appends, Keeps};
+ghost use Rattle.grpc_frames.specs.FrameFaults.{IsBeginning};
+ghost use Rattle.audit_command.specs.TraceFile.{Judges, Tells, MeansLawful, AuditFails, judgement_line};
+ghost use Rattle.audit_command.specs.declared.judging.AuditFault.TheVariants.{Io};
+
+use crate::status::{FAILURE, SUCCESS};
+use crate::trace_file::{TraceFault, read_trace};
+use grpc_frames::transfer::put;
+use schedule_runner::audit;
+use std::alloc::Global;
+use std::io::Write;
+use thiserror::Error;
+
+/// The line of a history that correct nodes may have sent.
+pub const LAWFUL_LINE: &[u8] = b"lawful\n";
+
+/// The line of any other history.
+pub const UNLAWFUL_LINE: &[u8] = b"unlawful\n";
+
+/// What kept a judgement from being made or written.
+#[derive(Clone, Copy, Debug, PartialEq, Eq, Error)]
+pub enum AuditFault {
+    /// The file tells no recorded run.
+    #[error("BadTrace")]
+    BadTrace,
+    /// Memory was refused.
+    #[error("OutOfMemory")]
+    OutOfMemory,
+    /// The judgement could not be written.
+    #[error("Io")]
+    Io,
+}
+
+/// `flightd audit FILE`: judges the recorded run that the file's bytes tell (`read_trace` says how), writes `lawful` or
+/// `unlawful` and a newline to `w`, and gives the exit status: [`SUCCESS`] for lawful alone.
+///
+/// A fault's line goes to `e`: `flightd: BadTrace` where the bytes tell no recorded run, `flightd: OutOfMemory` where
+/// memory is refused, `flightd: Io` where `w` fails. Where that can't be written, the status alone tells.
+pub fn audit_run<W: Write, E: Write>(alloc: Global, file: &[u8], w: &mut W, e: &mut E) -> u8
+    ensures status { (result ≡ 0) ⊎ (result ≡ 1) }
+    ensures lawful { result ≡ 0 → MeansLawful file.now }
+    ensures told { result ≡ 0 → Appends (W.contents w.old) (W.contents w.new) (judgement_line true) }
+    // With a judgement nothing is said.
+    ensures silent { result ≡ 0 → Keeps (E.contents e.old) (E.contents e.new) }
+    ensures failed { result ≡ 1 → AuditFails file.now (W.contents w.old) (W.contents w.new) (E.contents e.old) (E.contents e.new) }
+{
+    match audit_file(alloc, file, w) {
+        Ok(true) => SUCCESS,
+        Ok(false) => FAILURE,
+        Err(fault) => {
+            // Where this fails too, the status alone tells.
+            let _ = writeln!(e, "flightd: {fault}");
+            let _ = e.flush();
+            FAILURE
+        }
+    }
+}
+
+/// Judges the recorded run that a file tells, as [`read_trace`] reads it, and writes `lawful` or `unlawful` and a newline
+/// to `w`, which is flushed. The result is whether it is lawful.
+///
+/// On [`AuditFault::BadTrace`] and [`AuditFault::OutOfMemory`] nothing was written; on [`AuditFault::Io`] a write or the
+/// flush failed or was interrupted, and a beginning of the line of the file's own judgement has gone out, or all of it.
+pub fn audit_file<W: Write>(alloc: Global, file: &[u8], w: &mut W) -> Result<bool, AuditFault>
+    ensures judged { Judges result file.now }
+    ensures told { Tells file.now result (W.contents w.old) (W.contents w.new) }
+{
+    let trace = match read_trace(alloc, file) {
+        Ok(trace) => trace,
+        Err(TraceFault::BadTrace) => return Err(AuditFault::BadTrace),
+        Err(TraceFault::OutOfMemory) => return Err(AuditFault::OutOfMemory),
+    };
+    let is_lawful = audit(&trace);
+    tell(is_lawful, w)?;
+    Ok(is_lawful)
+}
+
+fn line_of(is_lawful: bool) -> &'static [u8]
+    ensures { result.now ≡ judgement_line is_lawful }
+{
+    if is_lawful {
+        LAWFUL_LINE
+    } else {
+        UNLAWFUL_LINE
+    }
+}
+
+fn tell<W: Write>(is_lawful: bool, w: &mut W) -> Result<(), AuditFault>
+    ensures written { OnOk result (Appends (W.contents w.old) (W.contents w.new) (judgement_line is_lawful)) }
+    ensures part { OnErr result ((written : List ℕ) × IsBeginning written (judgement_line is_lawful)
+        × Appends (W.contents w.old) (W.contents w.new) written) }
+    ensures io { IfErr result (λ fault. fault ≡ Io) }
+{
+    if put(w, line_of(is_lawful)).is_err() {
+        return Err(AuditFault::Io);
+    }
+    if w.flush().is_err() {
+        return Err(AuditFault::Io);
+    }
+    Ok(())
+}

@@ -1,0 +1,132 @@
+//! A recorded run, read from the file that tells it.
+
+ghost use Rattle.std.specs.Prelude.{◌≡◌, ◌⊎◌, ◌↔◌, ℕ, List, map, Some, None, Ok, Err, IfOk, IfErr, MatchResult, option_map, IsUtf8};
+ghost use Rattle.std.specs.List.{AllZip};
+ghost use Rattle.serde_json.specs.Read.{read as read_text};
+ghost use Rattle.serde_json.specs.View.{view, items_view};
+ghost use Rattle.ballots.specs.Majority.{IsMembers};
+ghost use Rattle.ballots.specs.declared.message.Message.{Message as Meant};
+ghost use Rattle.ballots.specs.declared.fault.MessageFault.TheVariants as MessageFault;
+ghost use Rattle.schedule_runner.specs.Recorded.{members_of, sent_of};
+ghost use Rattle.audit_command.specs.declared.trace_file.TraceFault.TheVariants.{OutOfMemory};
+ghost use Rattle.audit_command.specs.TraceFile.{MeansTrace, SpellsMessage, IsMessageHex, members_at, sent_at};
+
+use ballots::{MAX_MEMBERS, Members, Message, MessageFault};
+use hex::FromHexError;
+use schedule_runner::Trace;
+use serde_json::Value;
+use std::alloc::Global;
+use thiserror::Error;
+
+/// Why a file is not read as a recorded run.
+#[derive(Clone, Copy, Debug, PartialEq, Eq, Error)]
+pub enum TraceFault {
+    /// The file tells no recorded run.
+    #[error("BadTrace")]
+    BadTrace,
+    /// Memory was refused.
+    #[error("OutOfMemory")]
+    OutOfMemory,
+}
+
+/// The recorded run that a file tells.
+///
+/// The file is a JSON object (RFC 8259) with a whole number `members`, 1 to [`MAX_MEMBERS`], and an array `sent` of texts:
+/// the bytes of each message in hexadecimal digits of either case (RFC 4648, section 8), in the order of sending. Other
+/// members of the object are passed over, and of two members of one name the last one counts. Any other file is a
+/// [`TraceFault::BadTrace`]. The only other fault is [`TraceFault::OutOfMemory`].
+pub fn read_trace(alloc: Global, file: &[u8]) -> Result<Trace, TraceFault>
+    ensures read { IfOk result (λ trace. MeansTrace file.now (members_of trace) (sent_of trace)) }
+    ensures only { (members : ℕ) (sent : List Meant) → MeansTrace file.now members sent
+        → MatchResult result (λ trace. (members_of trace ≡ members) × (sent_of trace ≡ sent)) (λ fault. fault ≡ OutOfMemory) }
+{
+    let value = value_of(alloc, file)?;
+    let members = members_of(&value)?;
+    let Some(items) = sent_of(&value) else {
+        return Err(TraceFault::BadTrace);
+    };
+    let sent = messages_of(alloc, items)?;
+    Ok(Trace::new(members, sent))
+}
+
+fn value_of(alloc: Global, file: &[u8]) -> Result<Value, TraceFault>
+    ensures read { IfOk result (λ value. IsUtf8 file.now × (read_text file.now ≡ Some (view value))) }
+    ensures err { IfErr result (λ fault. (fault ≡ OutOfMemory) ⊎ (IsUtf8 file.now → read_text file.now ≡ None)) }
+{
+    match Value::from_slice(alloc, file) {
+        Ok(value) => Ok(value),
+        Err(error) if error.is_memory() => Err(TraceFault::OutOfMemory),
+        Err(_) => Err(TraceFault::BadTrace),
+    }
+}
+
+fn members_of(value: &Value) -> Result<Members, TraceFault>
+    ensures read { IfOk result (λ members. (members_at (view value.now) ≡ Some members) × IsMembers members) }
+    ensures only { (members : ℕ) → members_at (view value.now) ≡ Some members → IsMembers members → result ≡ Ok members }
+{
+    let Some(count) = value.get("members").and_then(Value::as_u64) else {
+        return Err(TraceFault::BadTrace);
+    };
+    if count > u64::from(MAX_MEMBERS) {
+        return Err(TraceFault::BadTrace);
+    }
+    match Members::new(count as u8) {
+        Some(members) => Ok(members),
+        None => Err(TraceFault::BadTrace),
+    }
+}
+
+fn sent_of(value: &Value) -> Option<&Vec<Value>>
+    ensures { option_map (λ items. items_view items.now.items) result ≡ sent_at (view value.now) }
+{
+    value.get("sent").and_then(Value::as_array)
+}
+
+fn messages_of(alloc: Global, items: &[Value]) -> Result<Vec<Message>, TraceFault>
+    ensures read { IfOk result (λ sent. AllZip SpellsMessage (map view items.now) sent.items) }
+    ensures only { (sent : List Meant) → AllZip SpellsMessage (map view items.now) sent
+        → MatchResult result (λ read. read.items ≡ sent) (λ fault. fault ≡ OutOfMemory) }
+{
+    let mut sent = Vec::new(alloc);
+    for item in items {
+        let message = message_of(alloc, item)?;
+        if sent.push(message).is_err() {
+            return Err(TraceFault::OutOfMemory);
+        }
+    }
+    Ok(sent)
+}
+
+fn message_of(alloc: Global, item: &Value) -> Result<Message, TraceFault>
+    ensures read { IfOk result (SpellsMessage (view item.now)) }
+    ensures only { (m : Meant) → SpellsMessage (view item.now) m → (result ≡ Ok m) ⊎ (result ≡ Err OutOfMemory) }
+{
+    match item.as_str() {
+        Some(digits) => message_of_digits(alloc, digits),
+        None => Err(TraceFault::BadTrace),
+    }
+}
+
+fn message_of_digits(alloc: Global, digits: &str) -> Result<Message, TraceFault>
+    ensures read { IfOk result (IsMessageHex digits.now) }
+    ensures only { (m : Meant) → IsMessageHex digits.now m → (result ≡ Ok m) ⊎ (result ≡ Err OutOfMemory) }
+{
+    let bytes = match hex::decode(alloc, digits) {
+        Ok(bytes) => bytes,
+        Err(FromHexError::OutOfMemory) => return Err(TraceFault::OutOfMemory),
+        Err(_) => return Err(TraceFault::BadTrace),
+    };
+    match Message::decode(alloc, &bytes) {
+        Ok(message) => Ok(message),
+        Err(fault) => Err(fault_of(fault)),
+    }
+}
+
+fn fault_of(fault: MessageFault) -> TraceFault
+    ensures { (result ≡ OutOfMemory) ↔ (fault ≡ MessageFault.OutOfMemory) }
+{
+    match fault {
+        MessageFault::OutOfMemory => TraceFault::OutOfMemory,
+        _ => TraceFault::BadTrace,
+    }
+}

@@ -1,4 +1,0 @@
-pub mod Replying
-pub mod Running
-pub mod TraceReading
-pub mod Telling

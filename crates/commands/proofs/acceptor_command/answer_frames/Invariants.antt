@@ -1,7 +1,0 @@
-use Rattle.acceptor.specs.AcceptorState.{standing}
-use Rattle.commands.proofs.Running.{HasRun}
-use Rattle.commands.proofs.acceptor_command.answer_frames.Given as goal
-
-abbrev pub invariant-loop-number : goal.invariant-loop-number
-invariant-loop-number g l =
-    HasRun l.number (standing l.acceptor) (g.R.Read.remaining l.initial.r) (g.R.Read.remaining l.r) (g.W.Write.contents l.initial.w) (g.W.Write.contents l.w)
