@@ -2,21 +2,57 @@
 use Rattle.std.proofs.Common.{◌≡◌, ℕ, true, false, List, [], ◌++◌, Option, Some, None, Result, Ok, Err, refl, sym, ap, subst, ◌∙◌, append-nil, inl, inr}
 use Rattle.std.specs.Result.{is_err}
 use Rattle.std.specs.Io.KnownBytes.{Keeps}
+use Rattle.std.proofs.lemmas.Option.{none-some}
 use Rattle.grpc_frames.specs.Frame.{Frame, IsFlag, frame_text}
 use Rattle.grpc_frames.specs.FrameFaults.{WhereKnown, ReadsFrame, Writes}
 use Rattle.grpc_frames.specs.declared.fault.FrameFault.{FrameFault}
 use Rattle.ballots.specs.declared.message.Message.{Message}
-use Rattle.ballots.specs.Message.{IsMessageText, canonical}
+use Rattle.ballots.specs.declared.message.Body.{Body}
+use Rattle.ballots.specs.declared.message.Body.TheVariants as says
+use Rattle.ballots.specs.declared.fault.MessageFault.{MessageFault}
+use Rattle.ballots.specs.declared.fault.MessageFault.TheVariants.{OutOfMemory}
+use Rattle.ballots.specs.Message.{IsMessageText, IsFaultOf, HasUpload, canonical}
 use Rattle.acceptor.specs.Standing.{Standing}
 use Rattle.acceptor_command.specs.declared.fault.ServeFault.{ServeFault}
 use Rattle.acceptor_command.specs.declared.fault.ServeFault.TheVariants as faults
-use Rattle.acceptor_command.specs.Conversation.{Answers, reply_text}
-use Rattle.acceptor_command.specs.Serving.{Replies, FrameEnds, FrontEnds, Ends, Sends, AnswersFrame, Steps}
+use Rattle.acceptor_command.specs.Conversation.{Answers, AnswersBody, IsBodyGranted, IsGranted, IsRequest, reply_text}
+use Rattle.acceptor_command.specs.Serving.{Replies, PayloadFault, FrameEnds, FrontEnds, Ends, Sends, AnswersFrame, Steps}
 
 -- a flag that is not the one is the other
 pub message_flag : (flag : ℕ) → IsFlag flag → (flag ≡ 128 → ⊥) → flag ≡ 0
 message_flag flag (inl e) not_end = e
 message_flag flag (inr e) not_end = absurd (not_end e)
+
+-- ---- which messages are requests
+
+-- what is promised or granted
+granted_is_request : (now : Standing) (slot : ℕ) (body : Body) → IsBodyGranted now slot body → IsRequest body
+granted_is_request now slot (says.Prepare ballot) h = tt
+granted_is_request now slot (says.Accept proposal) h = tt
+granted_is_request now slot (says.Promise ballot report) h = absurd h
+granted_is_request now slot (says.Nack ballot promised) h = absurd h
+granted_is_request now slot (says.Accepted acceptance) h = absurd h
+granted_is_request now slot says.Ask h = absurd h
+granted_is_request now slot (says.Decided value) h = absurd h
+
+-- what has a reply
+answered_is_request : (now next : Standing) (slot : ℕ) (body : Body) (reply : Message) → AnswersBody now slot body (Some reply) next → IsRequest body
+answered_is_request now next slot (says.Prepare ballot) reply h = tt
+answered_is_request now next slot (says.Accept proposal) reply h = tt
+answered_is_request now next slot (says.Promise ballot report) reply h = absurd (none-some reply (sym h.0))
+answered_is_request now next slot (says.Nack ballot promised) reply h = absurd (none-some reply (sym h.0))
+answered_is_request now next slot (says.Accepted acceptance) reply h = absurd (none-some reply (sym h.0))
+answered_is_request now next slot says.Ask reply h = absurd (none-some reply (sym h.0))
+answered_is_request now next slot (says.Decided value) reply h = absurd (none-some reply (sym h.0))
+
+-- ---- what a frame carries
+
+-- the payload was not read as a message
+pub misread : (now next : Standing) (f : Frame) (payload : List ℕ) (r : Result Message MessageFault) (fault : MessageFault) → f.flag ≡ 0 → payload ≡ f.payload → r ≡ Err fault → IsFaultOf payload fault
+    → (r ≡ Err OutOfMemory → (m : Message) × IsMessageText payload m × HasUpload m) → (held : Option (List ℕ)) → WhereKnown held held (AnswersFrame (Err (faults.Message fault)) now next f)
+misread now next f payload r fault flag same is stands memory None = tt
+misread now next f payload r fault flag same is stands memory (Some held) =
+    (flag, subst (λ (p : List ℕ). PayloadFault p fault) same (stands, λ e. memory (is ∙ ap (λ (x : MessageFault). Err x) e)), refl)
 
 module _ (now next : Standing) (f : Frame) (payload : List ℕ) (m : Message) (flag : f.flag ≡ 0) (same : payload ≡ f.payload) (means : IsMessageText payload m) where
   carried : IsMessageText f.payload m
@@ -28,6 +64,11 @@ module _ (now next : Standing) (f : Frame) (payload : List ℕ) (m : Message) (f
   answered_none (Some held) a =
       ([], record { message = m; reply = None; flag = flag; means = carried; answers = a; out = refl }, sym (append-nil held))
 
+  -- memory was refused for what the acceptor would hold and reply
+  pub refused : (held : Option (List ℕ)) → IsGranted now m → WhereKnown held held (AnswersFrame (Err faults.OutOfMemory) now next f)
+  refused None granted = tt
+  refused (Some held) granted = (flag, m, carried, granted_is_request now m.slot m.body granted, refl)
+
   replies : (reply : Message) → Answers now m (Some reply) next → Replies now f reply
   replies reply a = record { message = m; next = next; flag = flag; means = carried; answers = a }
 
@@ -36,7 +77,7 @@ module _ (now next : Standing) (f : Frame) (payload : List ℕ) (m : Message) (f
       (reply_text (Some reply), record { message = m; reply = Some reply; flag = flag; means = carried; answers = a; out = refl }, h)
   sent (Err faults.AnswerTooLong) reply old new a h = (reply, replies reply a, h.0, h.1)
   sent (Err faults.Write) reply old new a h = (reply, h.0, replies reply a, h.1, h.2)
-  sent (Err faults.OutOfMemory) reply old new a h = (flag, h)
+  sent (Err faults.OutOfMemory) reply old new a h = (flag, m, carried, answered_is_request now next m.slot m.body reply a, h)
   sent (Err faults.EndFlag) reply old new a h = absurd h
   sent (Err (faults.Message fault)) reply old new a h = absurd h
   sent (Err (faults.Frame fault)) reply old new a h = absurd h

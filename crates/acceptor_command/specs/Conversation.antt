@@ -50,6 +50,16 @@ AnswersBody old slot (says.Accepted acceptance) reply new = (reply ≡ None) × 
 AnswersBody old slot says.Ask reply new = (reply ≡ None) × IsSame old new
 AnswersBody old slot (says.Decided value) reply new = (reply ≡ None) × IsSame old new
 
+-- the two kinds that an acceptor answers
+abbrev pub IsRequest : Body → Type 0
+IsRequest (says.Prepare ballot) = Unit {0}
+IsRequest (says.Accept proposal) = Unit {0}
+IsRequest (says.Promise ballot report) = ⊥
+IsRequest (says.Nack ballot promised) = ⊥
+IsRequest (says.Accepted acceptance) = ⊥
+IsRequest says.Ask = ⊥
+IsRequest (says.Decided value) = ⊥
+
 -- whoever sends it
 abbrev pub Answers : Standing → Message → Option Message → Standing → Type 0
 Answers old m reply new = AnswersBody old m.slot m.body reply new

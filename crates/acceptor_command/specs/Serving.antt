@@ -4,11 +4,13 @@ use Rattle.std.specs.List.{flat_map}
 use Rattle.grpc_frames.specs.Frame.{Frame, frame_text, payload_limit}
 use Rattle.grpc_frames.specs.FrameFaults.{FrameFaultStands, LeavesAfter, IsBeginning}
 use Rattle.ballots.specs.declared.message.Message.{Message}
-use Rattle.ballots.specs.Message.{IsMessageText, IsFaultOf, canonical}
+use Rattle.ballots.specs.declared.fault.MessageFault.{MessageFault}
+use Rattle.ballots.specs.declared.fault.MessageFault.TheVariants.{OutOfMemory}
+use Rattle.ballots.specs.Message.{IsMessageText, IsFaultOf, HasUpload, canonical}
 use Rattle.acceptor.specs.Standing.{Standing, IsFresh}
 use Rattle.acceptor_command.specs.declared.fault.ServeFault.{ServeFault}
 use Rattle.acceptor_command.specs.declared.fault.ServeFault.TheVariants as faults
-use Rattle.acceptor_command.specs.Conversation.{Answers, message_frame, Turn, Turns}
+use Rattle.acceptor_command.specs.Conversation.{Answers, IsRequest, message_frame, Turn, Turns}
 
 -- the most frames that a run answers
 abbrev pub frame_limit : ℕ
@@ -33,16 +35,23 @@ pub record Replies (now : Standing) (f : Frame) (reply : Message) : Type 0 where
   pub means : IsMessageText f.payload message
   pub answers : Answers now message (Some reply) next
 
+-- The fault stands in the payload, or memory was refused, and that only for the upload of a message that it means.
+abbrev pub PayloadFault : List ℕ → MessageFault → Type 0
+PayloadFault payload fault =
+    IsFaultOf payload fault × (fault ≡ OutOfMemory → (m : Message) × IsMessageText payload m × HasUpload m)
+
 -- Why a frame ends a run, and what went out by then: nothing of a reply, but for a beginning of one where a write failed.
+-- Memory beside that for an upload is asked for only where the frame carries a Prepare or an Accept.
 abbrev pub FrameEnds : ServeFault → Standing → Frame → List ℕ → List ℕ → Type 0
 FrameEnds faults.EndFlag now f old new = (f.flag ≡ 128) × (new ≡ old)
-FrameEnds (faults.Message fault) now f old new = (f.flag ≡ 0) × IsFaultOf f.payload fault × (new ≡ old)
+FrameEnds (faults.Message fault) now f old new = (f.flag ≡ 0) × PayloadFault f.payload fault × (new ≡ old)
 FrameEnds faults.AnswerTooLong now f old new =
     (reply : Message) × Replies now f reply × (payload_limit < length (canonical reply)) × (new ≡ old)
 FrameEnds faults.Write now f old new =
     (reply : Message) × (written : List ℕ) × Replies now f reply × IsBeginning written (frame_text (message_frame reply))
     × (new ≡ old ++ written)
-FrameEnds faults.OutOfMemory now f old new = (f.flag ≡ 0) × (new ≡ old)
+FrameEnds faults.OutOfMemory now f old new =
+    (f.flag ≡ 0) × (m : Message) × IsMessageText f.payload m × IsRequest m.body × (new ≡ old)
 FrameEnds (faults.Frame fault) now f old new = ⊥
 FrameEnds faults.FrameLimit now f old new = ⊥
 

@@ -4,6 +4,8 @@ ghost use Rattle.std.specs.Prelude.{◌≡◌, ◌≢◌, ◌↔◌, ℕ, List, 
 ghost use Rattle.grpc_frames.specs.Frame.{Frame as Framed};
 ghost use Rattle.ballots.specs.declared.message.Message.{Message as Meant};
 ghost use Rattle.ballots.specs.declared.message.Body.TheVariants.{Ask};
+ghost use Rattle.ballots.specs.declared.fault.MessageFault.TheVariants.{OutOfMemory};
+ghost use Rattle.ballots.specs.Message.{IsMessageText};
 ghost use Rattle.acceptor.specs.Standing.{Standing, IsSame};
 ghost use Rattle.acceptor_command.specs.declared.fault.ServeFault.{ServeFault as Ending};
 ghost use Rattle.acceptor_command.specs.declared.fault.ServeFault.TheVariants as faults;
@@ -12,6 +14,7 @@ ghost use Rattle.acceptor_command.specs.Serving.{FrameEnds, frame_limit};
 
 use crate::answering::NODE;
 use crate::serving::FRAME_LIMIT;
+use ballots::{messages_are_one, only_uploads_take_memory};
 
 /// The constants of the program are the numbers of the definitions: 1,000,000 frames a run, and node 0.
 pub fn constants_are_as_defined()
@@ -33,10 +36,16 @@ pub fn replies_are_one()
 {}
 
 /// A frame that ends a call ends the run with that fault, and no other frame does. Nothing of an answer goes out for a frame
-/// that ends the run, but where a write failed.
+/// that ends the run, but where a write failed. No memory is asked for of a frame that carries an Ask.
 pub fn faults_stand_at_their_frames()
     ensures end_flag { (fault : Ending) (now : Standing) (f : Framed) (old new : List ℕ) → FrameEnds fault now f old new
         → ((fault ≡ faults.EndFlag) ↔ (f.flag ≡ 128)) }
     ensures silent { (fault : Ending) (now : Standing) (f : Framed) (old new : List ℕ) → FrameEnds fault now f old new
         → fault ≢ faults.Write → new ≡ old }
-{}
+    ensures ask { (fault : Ending) (now : Standing) (f : Framed) (old new : List ℕ) (m : Meant)
+        → FrameEnds fault now f old new → IsMessageText f.payload m → m.body ≡ Ask
+        → (fault ≢ faults.OutOfMemory) × (fault ≢ faults.Message OutOfMemory) }
+{
+    messages_are_one();
+    only_uploads_take_memory();
+}

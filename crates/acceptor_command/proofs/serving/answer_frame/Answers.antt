@@ -1,7 +1,7 @@
 use Rattle.std.proofs.Common.{ap, ◌∙◌, rules}
 use Rattle.grpc_frames.specs.Frame.{Frame}
 use Rattle.acceptor.specs.AcceptorState.{standing}
-use Rattle.acceptor_command.proofs.Replying.{message_flag, answered_none, answered_some}
+use Rattle.acceptor_command.proofs.Replying.{message_flag, misread, refused, answered_none, answered_some}
 use Rattle.acceptor_command.proofs.serving.answer_frame.Goals as goal
 
 pub returns-in-Ok-None : goal.returns-in-Ok-None
@@ -24,7 +24,17 @@ pub returns-then-frame : goal.returns-then-frame
 returns-then-frame g c = search rules steps 300000
 
 pub returns-in-Err : goal.returns-in-Err
-returns-in-Err g c = search rules steps 300000
+returns-in-Err g c =
+    let f = c.args.frame.now in
+    let flag_is = ap (λ (x : Frame). x.flag) c.frame.view_is in
+    let payload_is = c.deref.ensures.value ∙ ap (λ (x : Frame). x.payload) c.frame.view_is in
+    misread (standing c.args.acceptor.now) (standing c.args.acceptor.now) f c.deref.result.now c.decode.result c.in-Err.fault (message_flag f.flag c.requires (λ e. c.if-frame.false (flag_is ∙ e))) payload_is c.in-Err.is c.in-Err.ensures.fault c.decode.ensures.memory
+    (g.W.Write.contents c.args.w.now)
 
 pub returns-in-Err-reply_to : goal.returns-in-Err-reply_to
-returns-in-Err-reply_to g c = search rules steps 300000
+returns-in-Err-reply_to g c =
+    let f = c.args.frame.now in
+    let flag_is = ap (λ (x : Frame). x.flag) c.frame.view_is in
+    let payload_is = c.deref.ensures.value ∙ ap (λ (x : Frame). x.payload) c.frame.view_is in
+    refused (standing c.args.acceptor.now) (standing c.reply_to.new.acceptor) f c.deref.result.now c.in-Ok.message
+    (message_flag f.flag c.requires (λ e. c.if-frame.false (flag_is ∙ e))) payload_is c.in-Ok.ensures.read (g.W.Write.contents c.args.w.now) c.in-Err-reply_to.ensures.memory
