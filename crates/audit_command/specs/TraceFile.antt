@@ -74,7 +74,7 @@ abbrev pub Judges : Result Bool AuditFault → List ℕ → Type 0
 Judges (Ok true) file = MeansLawful file
 Judges (Ok false) file = MeansUnlawful file
 Judges (Err BadTrace) file = MeansNothing file
-Judges (Err OutOfMemory) file = Unit {0}
+Judges (Err OutOfMemory) file = IsUtf8 file
 Judges (Err Io) file = (members : ℕ) × (sent : List Message) × MeansTrace file members sent
 
 -- the line that tells a judgement

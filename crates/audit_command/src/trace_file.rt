@@ -16,6 +16,7 @@ use hex::FromHexError;
 use schedule_runner::Trace;
 use serde_json::Value;
 use std::alloc::Global;
+use std::str::from_utf8;
 use thiserror::Error;
 
 /// Why a file is not read as a recorded run.
@@ -34,11 +35,13 @@ pub enum TraceFault {
 /// The file is a JSON object (RFC 8259) with a whole number `members`, 1 to [`MAX_MEMBERS`], and an array `sent` of texts:
 /// the bytes of each message in hexadecimal digits of either case (RFC 4648, section 8), in the order of sending. Other
 /// members of the object are passed over, and of two members of one name the last one counts. Any other file is a
-/// [`TraceFault::BadTrace`]. The only other fault is [`TraceFault::OutOfMemory`].
+/// [`TraceFault::BadTrace`]. The only other fault is [`TraceFault::OutOfMemory`], and only of a file that is UTF-8: what
+/// else is wrong with a text shows once it is read, which takes memory.
 pub fn read_trace(alloc: Global, file: &[u8]) -> Result<Trace, TraceFault>
     ensures read { IfOk result (λ trace. MeansTrace file.now (members_of trace) (sent_of trace)) }
     ensures only { (members : ℕ) (sent : List Meant) → MeansTrace file.now members sent
         → MatchResult result (λ trace. (members_of trace ≡ members) × (sent_of trace ≡ sent)) (λ fault. fault ≡ OutOfMemory) }
+    ensures memory { result ≡ Err OutOfMemory → IsUtf8 file.now }
 {
     let value = value_of(alloc, file)?;
     let members = members_of(&value)?;
@@ -52,8 +55,12 @@ pub fn read_trace(alloc: Global, file: &[u8]) -> Result<Trace, TraceFault>
 fn value_of(alloc: Global, file: &[u8]) -> Result<Value, TraceFault>
     ensures read { IfOk result (λ value. IsUtf8 file.now × (read_text file.now ≡ Some (view value))) }
     ensures err { IfErr result (λ fault. (fault ≡ OutOfMemory) ⊎ (IsUtf8 file.now → read_text file.now ≡ None)) }
+    ensures memory { result ≡ Err OutOfMemory → IsUtf8 file.now }
 {
-    match Value::from_slice(alloc, file) {
+    let Ok(text) = from_utf8(file) else {
+        return Err(TraceFault::BadTrace);
+    };
+    match Value::from_str(alloc, text) {
         Ok(value) => Ok(value),
         Err(error) if error.is_memory() => Err(TraceFault::OutOfMemory),
         Err(_) => Err(TraceFault::BadTrace),

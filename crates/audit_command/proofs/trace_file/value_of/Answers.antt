@@ -1,11 +1,11 @@
 use Rattle.std.proofs.Common.{rules}
 use Rattle.audit_command.proofs.trace_file.value_of.Goals as goal
 
-pub returns-in-Ok-clause-read : goal.returns-in-Ok-clause-read
-returns-in-Ok-clause-read c = search rules steps 300000
+pub returns-in-Ok-from_str-clause-read : goal.returns-in-Ok-from_str-clause-read
+returns-in-Ok-from_str-clause-read c = search rules steps 300000
 
-pub returns-in-Ok-clause-err : goal.returns-in-Ok-clause-err
-returns-in-Ok-clause-err c = search rules steps 300000
+pub returns-in-Ok-from_str-clause-err : goal.returns-in-Ok-from_str-clause-err
+returns-in-Ok-from_str-clause-err c = search rules steps 300000
 
 pub returns-in-Err-clause-read : goal.returns-in-Err-clause-read
 returns-in-Err-clause-read c = search rules steps 300000
