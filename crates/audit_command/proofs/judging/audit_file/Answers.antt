@@ -1,5 +1,4 @@
-use Rattle.std.proofs.Common.{rules, arith}
-use Rattle.std.proofs.lemmas.Grind.{common_steps}
+use Rattle.std.proofs.Common.{rules}
 use Rattle.schedule_runner.specs.Recorded.{members_of, sent_of}
 use Rattle.audit_command.proofs.TraceReading.{means_nothing, judged}
 use Rattle.audit_command.proofs.Telling.{told_in_part}

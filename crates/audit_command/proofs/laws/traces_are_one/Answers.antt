@@ -1,4 +1,4 @@
-use Rattle.std.proofs.Common.{ℕ, List, sym, subst}
+use Rattle.std.proofs.Common.{ℕ, List, subst}
 use Rattle.ballots.specs.declared.message.Message.{Message}
 use Rattle.schedule_runner.specs.Lawful.{IsLawful}
 use Rattle.audit_command.proofs.TraceReading.{one_trace}
