@@ -22,8 +22,8 @@ fn me() -> NodeId
 }
 
 /// The reply to a message, as the acceptor answers it: to a Prepare a Promise or a Nack, to an Accept an Accepted or a
-/// Nack, and none to any other message. The error is memory refused, after which the acceptor is as it was: only a Promise
-/// and an Accepted take memory, and a value that is refused is not copied.
+/// Nack, and none to any other message. The error is memory refused, after which the acceptor is as it was: only a
+/// Promise and an Accepted take memory, and a value that is refused is not copied.
 pub fn reply_to(acceptor: &mut Acceptor, message: Message) -> Result<Option<Message>, OutOfMemory>
     ensures answered { IfOk result (λ reply. Answers (standing acceptor.old) message reply (standing acceptor.new)) }
     ensures err { OnErr result (IsSame (standing acceptor.old) (standing acceptor.new)) }

@@ -22,8 +22,8 @@ pub fn constants_are_as_defined()
     ensures node { (own_number ≡ 0) × (NODE ≡ own_number) }
 {}
 
-/// An Ask is not answered, and changes nothing. A message that is answered is a Prepare or an Accept, and its answer has its
-/// slot and its ballot: a Promise or an Accepted, or a Nack (Lamport, *Paxos Made Simple*, section 2.2).
+/// An Ask is not answered, and changes nothing. A message that is answered is a Prepare or an Accept, and its answer
+/// has its slot and its ballot: a Promise or an Accepted, or a Nack (Lamport, *Paxos Made Simple*, section 2.2).
 pub fn only_requests_are_answered()
     ensures ask { (old new : Standing) (m : Meant) (reply : Option Meant) → m.body ≡ Ask → Answers old m reply new
         → (reply ≡ None) × IsSame old new }
@@ -35,8 +35,8 @@ pub fn replies_are_one()
     ensures { (old a b : Standing) (m : Meant) (r q : Option Meant) → Answers old m r a → Answers old m q b → r ≡ q }
 {}
 
-/// A frame that ends a call ends the run with that fault, and no other frame does. Nothing of an answer goes out for a frame
-/// that ends the run, but where a write failed. No memory is asked for of a frame that carries an Ask.
+/// A frame that ends a call ends the run with that fault, and no other frame does. Nothing of an answer goes out for a
+/// frame that ends the run, but where a write failed. No memory is asked for of a frame that carries an Ask.
 pub fn faults_stand_at_their_frames()
     ensures end_flag { (fault : Ending) (now : Standing) (f : Framed) (old new : List ℕ) → FrameEnds fault now f old new
         → ((fault ≡ faults.EndFlag) ↔ (f.flag ≡ 128)) }

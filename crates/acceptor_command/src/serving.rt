@@ -55,8 +55,8 @@ pub fn acceptor_run<R: Read, W: Write, E: Write>(
 ///
 /// The fault comes with the number of its frame, from 0. After [`FRAME_LIMIT`] frames nothing more is read.
 ///
-/// Where the input ended without a fault, nothing of it is left. A frame that could not be read leaves what `read_frame`
-/// says, and one that was read and ended the run is the last that was taken from the reader.
+/// Where the input ended without a fault, nothing of it is left. A frame that could not be read leaves what
+/// `read_frame` says, and one that was read and ended the run is the last that was taken from the reader.
 pub fn answer_frames<R: Read, W: Write>(
     alloc: Global,
     r: &mut R,

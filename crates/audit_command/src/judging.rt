@@ -59,11 +59,12 @@ pub fn audit_run<W: Write, E: Write>(alloc: Global, file: &[u8], w: &mut W, e: &
     }
 }
 
-/// Judges the recorded run that a file tells, as [`read_trace`] reads it, and writes `lawful` or `unlawful` and a newline
-/// to `w`, which is flushed. The result is whether it is lawful.
+/// Judges the recorded run that a file tells, as [`read_trace`] reads it, and writes `lawful` or `unlawful` and a
+/// newline to `w`, which is flushed. The result is whether it is lawful.
 ///
-/// On [`AuditFault::BadTrace`] and [`AuditFault::OutOfMemory`] nothing was written; on [`AuditFault::Io`] a write or the
-/// flush failed or was interrupted, and a beginning of the line of the file's own judgement has gone out, or all of it.
+/// On [`AuditFault::BadTrace`] and [`AuditFault::OutOfMemory`] nothing was written; on [`AuditFault::Io`] a write or
+/// the flush failed or was interrupted, and a beginning of the line of the file's own judgement has gone out, or all of
+/// it.
 pub fn audit_file<W: Write>(alloc: Global, file: &[u8], w: &mut W) -> Result<bool, AuditFault>
     ensures judged { Judges result file.now }
     ensures told { Tells file.now result (W.contents w.old) (W.contents w.new) }

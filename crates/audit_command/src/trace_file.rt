@@ -32,11 +32,11 @@ pub enum TraceFault {
 
 /// The recorded run that a file tells.
 ///
-/// The file is a JSON object (RFC 8259) with a whole number `members`, 1 to [`MAX_MEMBERS`], and an array `sent` of texts:
-/// the bytes of each message in hexadecimal digits of either case (RFC 4648, section 8), in the order of sending. Other
-/// members of the object are passed over, and of two members of one name the last one counts. Any other file is a
-/// [`TraceFault::BadTrace`]. The only other fault is [`TraceFault::OutOfMemory`], and only of a file that is UTF-8: what
-/// else is wrong with a text shows once it is read, which takes memory.
+/// The file is a JSON object (RFC 8259) with a whole number `members`, 1 to [`MAX_MEMBERS`], and an array `sent` of
+/// texts: the bytes of each message in hexadecimal digits of either case (RFC 4648, section 8), in the order of
+/// sending. Other members of the object are passed over, and of two members of one name the last one counts. Any other
+/// file is a [`TraceFault::BadTrace`]. The only other fault is [`TraceFault::OutOfMemory`], and only of a file that is
+/// UTF-8: what else is wrong with a text shows once it is read, which takes memory.
 pub fn read_trace(alloc: Global, file: &[u8]) -> Result<Trace, TraceFault>
     ensures read { IfOk result (λ trace. MeansTrace file.now (members_of trace) (sent_of trace)) }
     ensures only { (members : ℕ) (sent : List Meant) → MeansTrace file.now members sent

@@ -3,8 +3,8 @@
 use crate::ballot::Ballot;
 use crate::value::Value;
 
-/// A value at the ballot at which it is proposed or accepted (Lamport, *Paxos Made Simple*, section 2.2, where a proposal
-/// has a value and a number).
+/// A value at the ballot at which it is proposed or accepted (Lamport, *Paxos Made Simple*, section 2.2, where a
+/// proposal has a value and a number).
 #[derive(Clone, Debug, PartialEq, Eq, Drop)]
 pub struct Acceptance {
     /// At which ballot.

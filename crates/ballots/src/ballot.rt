@@ -74,8 +74,8 @@ impl Ballot {
         self.node
     }
 
-    /// How this ballot stands to the other: `Less` exactly where it is below it, `Equal` exactly where both are one. `cmp` and
-    /// the operators say the same.
+    /// How this ballot stands to the other: `Less` exactly where it is below it, `Equal` exactly where both are one.
+    /// `cmp` and the operators say the same.
     pub fn compare(self, other: Ballot) -> Ordering
         ensures value { result ≡ ballot_cmp self other }
         ensures below { (result ≡ Less) ↔ IsBelow self other }

@@ -111,10 +111,11 @@ fn message_of(alloc: Global, text: &[u8]) -> Result<Message, MessageFault>
 impl Message {
     /// The message that a text means.
     ///
-    /// A text that means no message is refused with a fault that stands in it: [`MessageFault::Wire`] where it is no list
-    /// of protobuf fields or a field that its kind has is of another wire type, [`MessageFault::BadKind`],
+    /// A text that means no message is refused with a fault that stands in it: [`MessageFault::Wire`] where it is no
+    /// list of protobuf fields or a field that its kind has is of another wire type, [`MessageFault::BadKind`],
     /// [`MessageFault::OutOfRange`]. Fields that the kind does not have are passed over. The only other refusal is
-    /// [`MessageFault::OutOfMemory`], and only of a text that means a message with an upload: its bytes are copied last.
+    /// [`MessageFault::OutOfMemory`], and only of a text that means a message with an upload: its bytes are copied
+    /// last.
     pub fn decode(alloc: Global, text: &[u8]) -> Result<Message, MessageFault>
         ensures read { IfOk result (IsMessageText text.now) }
         ensures only { (m : Meant) → IsMessageText text.now m → (result ≡ Ok m) ⊎ (result ≡ Err OutOfMemory) }

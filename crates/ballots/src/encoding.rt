@@ -157,8 +157,8 @@ impl Message {
         self.body.append(out)
     }
 
-    /// Appends the message's bytes: rising field numbers, shortest varints, defaults left out, [`MAX_MESSAGE_BYTES`] at most.
-    /// A refused one leaves the vector as it was.
+    /// Appends the message's bytes: rising field numbers, shortest varints, defaults left out, [`MAX_MESSAGE_BYTES`] at
+    /// most. A refused one leaves the vector as it was.
     pub fn encode(&self, out: &mut Vec<u8>) -> Result<(), OutOfMemory>
         ensures ok { OnOk result (out.new.items ≡ out.old.items ++ canonical self.now) }
         ensures err { OnErr result (out.new.items ≡ out.old.items) }

@@ -49,8 +49,8 @@ pub fn comparison_is_the_order()
     ensures greater { (a b : Pair) → (ballot_cmp a b ≡ Greater) ↔ IsBelow b a }
 {}
 
-/// Every ballot is above none, and at least none. It is above a ballot exactly where that is below it, and at least a ballot
-/// exactly where it is not below that.
+/// Every ballot is above none, and at least none. It is above a ballot exactly where that is below it, and at least a
+/// ballot exactly where it is not below that.
 #[tactic(auto, using(crate::proofs::CallerLemmas::at_least_where_not_below))]
 pub fn none_is_below_every_ballot()
     ensures above_none { (b : Pair) → IsAbove b None }
@@ -65,8 +65,8 @@ pub fn same_ballots_are_one()
     ensures { (a b : Pair) → IsTrue (is_same_ballot a b) ↔ (a ≡ b) }
 {}
 
-/// The size of a set of members counts each member in it once: none is 0, all are all of them, one more is one more, and sets
-/// of the same members have one size.
+/// The size of a set of members counts each member in it once: none is 0, all are all of them, one more is one more,
+/// and sets of the same members have one size.
 pub fn sizes_count_each_member_once()
     ensures none { (n : ℕ) → tally n (λ a. false) ≡ 0 }
     ensures all { (n : ℕ) → tally n (λ a. true) ≡ n }
@@ -75,8 +75,8 @@ pub fn sizes_count_each_member_once()
     ensures same { (n : ℕ) (p q : ℕ → Bool) → ((a : ℕ) → a < n → p a ≡ q a) → tally n p ≡ tally n q }
 {}
 
-/// Any two majorities have a member in common (Lamport, *Paxos Made Simple*, section 2.1), all members are a majority, and a
-/// majority stays one with more members.
+/// Any two majorities have a member in common (Lamport, *Paxos Made Simple*, section 2.1), all members are a majority,
+/// and a majority stays one with more members.
 pub fn majorities_meet()
     ensures meet { (n : ℕ) (p q : ℕ → Bool) → IsMajority n (tally n p) → IsMajority n (tally n q)
         → (a : ℕ) × (a < n) × (p a ≡ true) × (q a ≡ true) }
@@ -118,8 +118,8 @@ pub fn messages_write_all_fields()
     ensures decided { (s t : ℕ) (v : Value) → canonical (message s t (Decided v)) ≡ all_fields_text 7 s t 0 0 0 0 (value_bytes v) }
 {}
 
-/// Reading takes memory for the bytes of an upload alone: whatever has no value, or a Noop, takes none, whoever sends it and
-/// for whichever slot.
+/// Reading takes memory for the bytes of an upload alone: whatever has no value, or a Noop, takes none, whoever sends
+/// it and for whichever slot.
 pub fn only_uploads_take_memory()
     ensures message { (m : Meant) → HasUpload m → CarriesUpload m.body }
     ensures prepare { (b : Pair) → CarriesUpload (Prepare b) → ⊥ }
@@ -145,8 +145,8 @@ pub fn canonical_means_its_record()
     ensures { (r : Kept) → IsRecordInRange r → IsRecordText (canonical_record r) r }
 {}
 
-/// Whatever its kind, a record is written as all five fields in their order, those left out that are 0 or no bytes: a Began
-/// as kind 1, a Promised as kind 2, an Accepted as kind 3.
+/// Whatever its kind, a record is written as all five fields in their order, those left out that are 0 or no bytes: a
+/// Began as kind 1, a Promised as kind 2, an Accepted as kind 3.
 #[tactic(auto, using(crate::proofs::AllFields::all_record_fields))]
 pub fn records_write_all_fields()
     ensures began { (b : Pair) → canonical_record (Began b) ≡ all_record_fields_text 1 0 b.round b.node [] }

@@ -1,16 +1,18 @@
-//! Ballots, slots, values, the messages of Paxos and the records of its nodes (Lamport, *Paxos Made Simple*, 2001), with
-//! their bytes.
+//! Ballots, slots, values, the messages of Paxos and the records of its nodes (Lamport, *Paxos Made Simple*, 2001),
+//! with their bytes.
 //!
 //! The nodes agree on one list of uploads, one decision for each slot. A ballot is a round and the node that began it,
 //! and ballots are ordered by round, then by node. A message is an envelope: its sender, its slot, and a body of one of
 //! seven kinds. What a message's bytes mean is defined in `specs/`, as a relation
 //! between a message and a list of protobuf fields; `decode` is `Ok` exactly where the bytes mean a message, memory
-//! apart, and `encode` appends the one canonical encoding. The same holds of a record, what a node keeps before it answers.
+//! apart, and `encode` appends the one canonical encoding. The same holds of a record, what a node keeps before it
+//! answers.
 //!
-//! A majority is asked of a set of nodes: `NodeSet` holds them without memory, and `Members::are_majority` counts those of
-//! them that are members. Ballots, values and messages are printed as one line each, and read from it. The limits are numbers in
-//! `specs/Limits.antt`, and `limits_are_these` says that the constants here are the same. A crate above cites `specs/`, the
-//! laws, and of `proofs/` the module `CallerLemmas` alone: the order of ballots, and sizes of sets of members.
+//! A majority is asked of a set of nodes: `NodeSet` holds them without memory, and `Members::are_majority` counts those
+//! of them that are members. Ballots, values and messages are printed as one line each, and read from it. The limits
+//! are numbers in `specs/Limits.antt`, and `limits_are_these` says that the constants here are the same. A crate above
+//! cites `specs/`, the laws, and of `proofs/` the module `CallerLemmas` alone: the order of ballots, and sizes of sets
+//! of members.
 #![tactic(auto)]
 
 mod acceptance;

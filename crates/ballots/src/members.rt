@@ -73,8 +73,8 @@ impl Members {
         count
     }
 
-    /// Whether the members in the set are a majority: twice as many as these are more than all members (section 2.1). Nodes
-    /// of the set that are no members do not count.
+    /// Whether the members in the set are a majority: twice as many as these are more than all members (section 2.1).
+    /// Nodes of the set that are no members do not count.
     pub fn are_majority(self, set: NodeSet) -> bool
         ensures { IsTrue result ↔ IsMajority self (members_in self set) }
     {

@@ -1,5 +1,6 @@
-//! Ballots and values as one line each: a ballot is its round, a point and its node, as in `2.1`; a value is `noop`, or the
-//! bytes of an upload as lower-case hexadecimal digits (RFC 4648, section 8). Each has one line, and no other is read.
+//! Ballots and values as one line each: a ballot is its round, a point and its node, as in `2.1`; a value is `noop`, or
+//! the bytes of an upload as lower-case hexadecimal digits (RFC 4648, section 8). Each has one line, and no other is
+//! read.
 
 use crate::ballot::Ballot;
 use crate::node::NodeId;

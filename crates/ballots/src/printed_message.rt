@@ -1,6 +1,6 @@
-//! Messages as one line each, as in `node 1 slot 5 Promise 2.1 accepted 1.0 616263`: who sends it, for which slot, and what
-//! it says, by the names of the [`Body`], with ballots and values as their own lines. Each has one line, and no other is
-//! read.
+//! Messages as one line each, as in `node 1 slot 5 Promise 2.1 accepted 1.0 616263`: who sends it, for which slot, and
+//! what it says, by the names of the [`Body`], with ballots and values as their own lines. Each has one line, and no
+//! other is read.
 
 use crate::acceptance::Acceptance;
 use crate::ballot::Ballot;

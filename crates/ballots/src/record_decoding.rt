@@ -64,8 +64,8 @@ fn record_of(alloc: Global, text: &[u8]) -> Result<Record, MessageFault>
 impl Record {
     /// The record that a text means.
     ///
-    /// A text that means no record is refused with a fault that stands in it: [`MessageFault::Wire`] where it is no list
-    /// of protobuf fields or a field that its kind has is of another wire type, [`MessageFault::BadKind`],
+    /// A text that means no record is refused with a fault that stands in it: [`MessageFault::Wire`] where it is no
+    /// list of protobuf fields or a field that its kind has is of another wire type, [`MessageFault::BadKind`],
     /// [`MessageFault::OutOfRange`]. Fields that the kind does not have are passed over. The only other refusal is
     /// [`MessageFault::OutOfMemory`], and only of a text that means a record with an upload: its bytes are copied last.
     pub fn decode(alloc: Global, text: &[u8]) -> Result<Record, MessageFault>

@@ -54,8 +54,8 @@ impl Record {
         }
     }
 
-    /// Appends the record's bytes: rising field numbers, shortest varints, defaults left out, [`MAX_RECORD_BYTES`] at most. A
-    /// refused one leaves the vector as it was.
+    /// Appends the record's bytes: rising field numbers, shortest varints, defaults left out, [`MAX_RECORD_BYTES`] at
+    /// most. A refused one leaves the vector as it was.
     pub fn encode(&self, out: &mut Vec<u8>) -> Result<(), OutOfMemory>
         ensures ok { OnOk result (out.new.items ≡ out.old.items ++ canonical_record self.now) }
         ensures err { OnErr result (out.new.items ≡ out.old.items) }

@@ -14,8 +14,8 @@ pub type OutOfMemory = AllocError;
 /// The most bytes of an upload's value.
 pub const MAX_UPLOAD_BYTES: usize = 16_777_216;
 
-/// The bytes of an upload's value, 1 to [`MAX_UPLOAD_BYTES`]. What they say is not looked at here. A clone shares them: it
-/// copies no byte, and takes no memory but what a further owner of a [`Bytes`] may take.
+/// The bytes of an upload's value, 1 to [`MAX_UPLOAD_BYTES`]. What they say is not looked at here. A clone shares them:
+/// it copies no byte, and takes no memory but what a further owner of a [`Bytes`] may take.
 #[derive(Debug, Drop)]
 pub struct UploadBytes {
     bytes: Bytes,
@@ -30,8 +30,8 @@ impl Model for UploadBytes {
 }
 
 impl UploadBytes {
-    /// These bytes, `None` for none or for more than [`MAX_UPLOAD_BYTES`]. Who has a `Vec` makes it a [`Bytes`] first, by
-    /// `Bytes::from_vec`, which copies no byte.
+    /// These bytes, `None` for none or for more than [`MAX_UPLOAD_BYTES`]. Who has a `Vec` makes it a [`Bytes`] first,
+    /// by `Bytes::from_vec`, which copies no byte.
     pub fn new(bytes: Bytes) -> Option<UploadBytes>
         ensures within { IsSome result ↔ IsUploadBytes bytes }
         ensures value { IfSome result (λ upload. upload ≡ bytes) }

@@ -8,8 +8,8 @@ ghost use Rattle.command_line.specs.CommandLine.{IsCall, AsksFor, audited_by, co
 use clap::{Arg, ArgMatches, Command, Error};
 use std::alloc::{AllocError, Global};
 
-/// Reads the words that the program was called with, its own name first: no more, the word `acceptor`, or the word `audit`
-/// and a file's name.
+/// Reads the words that the program was called with, its own name first: no more, the word `acceptor`, or the word
+/// `audit` and a file's name.
 ///
 /// The error prints itself: a fault of the words to standard error, with exit status 2; the help and the version, which
 /// are asked for, to standard output, with exit status 0.

@@ -67,8 +67,8 @@ pub fn states_are_what_was_learned()
         → IsSame old new → StateAfter members calls old → StateAfter members calls new }
 {}
 
-/// What a learner has of a slot it was told as decided, or a majority of its members accepted it at one ballot, whatever the
-/// calls were.
+/// What a learner has of a slot it was told as decided, or a majority of its members accepted it at one ballot,
+/// whatever the calls were.
 pub fn values_have_a_history()
     ensures { (state : LearnerState) (slot : ℕ) (v : Value) → HasHistory state → decided_at state slot ≡ Some v
         → (calls : List Call) × IsDecidedOrChosen state.members calls slot v }

@@ -43,8 +43,8 @@ impl Learner {
         }
     }
 
-    /// The value that the slot has learned, `None` where it has learned none. Each learner has a history: it was made, and
-    /// some calls left it as it is.
+    /// The value that the slot has learned, `None` where it has learned none. Each learner has a history: it was made,
+    /// and some calls left it as it is.
     pub fn decided(&self, slot: Slot) -> Option<&Value>
         ensures value { option_map (λ value. value.now) result ≡ decided_at self.now slot }
         ensures history { HasHistory self.now }

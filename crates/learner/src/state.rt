@@ -1,5 +1,5 @@
-//! What a learner holds, and the steps of its calls. A step may leave what no list of calls does, as between the tallies that
-//! it drops and the value that it puts; the calls of the learner never do.
+//! What a learner holds, and the steps of its calls. A step may leave what no list of calls does, as between the
+//! tallies that it drops and the value that it puts; the calls of the learner never do.
 
 ghost use Rattle.std.specs.Prelude.{false, IsSome, ◌≡◌, ℕ, ◌<◌, ◌↔◌, [], ◌∷◌, ◌++◌, List, Option, None, Some};
 ghost use Rattle.std.specs.Prelude.{IsTrue, IfOk, OnOk, OnErr, nat_eq};

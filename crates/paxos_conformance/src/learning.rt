@@ -20,8 +20,8 @@ fn slot(number: u32) -> Result<Slot, Fail> {
     Ok(Slot::new(number).ok_or("no slot")?)
 }
 
-// Makes an accepted value known, and gives what it was seen to make learned. Where memory is refused it is asked again: a
-// refusal changes nothing.
+// Makes an accepted value known, and gives what it was seen to make learned. Where memory is refused it is asked again:
+// a refusal changes nothing.
 fn tell_accepted(
     alloc: Global,
     learner: &mut Learner,

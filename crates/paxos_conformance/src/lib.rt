@@ -1,5 +1,6 @@
 //! Conformance tests of the parts of a Paxos node, over their public calls: plain programs that compute the definitions
-//! on every small input and are compared with those calls. Rows that were written by hand are stories of `paxos_stories`.
+//! on every small input and are compared with those calls. Rows that were written by hand are stories of
+//! `paxos_stories`.
 //!
 //! The crate has no code but tests, so that what is proved in the crates below is not proved again together with them.
 #![tactic(auto)]

@@ -148,8 +148,8 @@ fn has_its_majority(proposer: &mut Proposer, slot: Slot, at: Ballot) -> Option<b
     Some(is_right)
 }
 
-/// So many attempts, one after the other and for a slot each: every second one is ended by its Nack, and the others by the
-/// next.
+/// So many attempts, one after the other and for a slot each: every second one is ended by its Nack, and the others by
+/// the next.
 fn attempts_in_a_row(count: u32) -> Option<bool> {
     let mut proposer = proposer_of(5, 0)?;
     let mut is_right = !proposer.has_majority();

@@ -1,5 +1,5 @@
-//! Runs of the acceptor beside the plain program for them, over all short texts and payloads of a few bytes, and over all
-//! short lists of pieces, into writers of every room.
+//! Runs of the acceptor beside the plain program for them, over all short texts and payloads of a few bytes, and over
+//! all short lists of pieces, into writers of every room.
 
 use crate::plain_runs::{PlainRun, Room, run_of};
 use crate::streams::Narrow;
@@ -85,7 +85,8 @@ pub(crate) fn new_tally(alloc: Global) -> Tally {
     }
 }
 
-/// What the line says of a run that ends so, with the name by which docs/FORMATS.md has the fault, and nothing where it ends well.
+/// What the line says of a run that ends so, with the name by which docs/FORMATS.md has the fault, and nothing where it
+/// ends well.
 fn line_of(alloc: Global, ending: Result<(), (u32, ServeFault)>) -> Result<String, AllocError> {
     let Err((number, fault)) = ending else {
         return Ok(String::new(alloc));
@@ -287,8 +288,8 @@ fn push_piece(alloc: Global, text: &mut Vec<u8>, number: usize) -> Result<(), Fa
     Ok(())
 }
 
-/// Runs over the pieces of this list, one after the other, into writers of every room up to what the run writes, and with
-/// every number of flushes.
+/// Runs over the pieces of this list, one after the other, into writers of every room up to what the run writes, and
+/// with every number of flushes.
 fn compare_rooms(
     rt: &impl Abort,
     alloc: Global,

@@ -6,8 +6,8 @@ use audit_command::audit_run;
 use std::alloc::Global;
 use std::process::Abort;
 
-/// Slot 0: nodes 0 and 1 promise ballot (1, 0) and nodes 1 and 2 promise (2, 1), at which node 1 proposes a Noop and node 0
-/// accepts it. Then node 0 proposes at (1, 0).
+/// Slot 0: nodes 0 and 1 promise ballot (1, 0) and nodes 1 and 2 promise (2, 1), at which node 1 proposes a Noop and
+/// node 0 accepts it. Then node 0 proposes at (1, 0).
 const OVERTAKEN: &str =
     r#"{"members":3,"sent":["08012801","08022801","080210012801","0801100128023001","0802100128023001","0802100228023001","0804100128023001","080528023001","08042801"]}"#;
 
@@ -128,7 +128,8 @@ fn judges_runs_and_other_bytes(rt: HostRuntime) {
     expect(&rt, alloc, "no text", NO_TEXT, "no run");
 }
 
-/// The audit of the file, whose line is this, into a writer of this room. Where all of the line is taken, the flush fails.
+/// The audit of the file, whose line is this, into a writer of this room. Where all of the line is taken, the flush
+/// fails.
 fn expect_lost(rt: &impl Abort, alloc: Global, file: &str, line: &str, room: usize) {
     let mut writer = Narrow::new(alloc, room, 0);
     let mut said = Vec::new(alloc);

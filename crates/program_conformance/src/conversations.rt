@@ -1,5 +1,5 @@
-//! Whole conversations, with the answers and the lines worked out by hand: each fault's name, the number of its frame, and
-//! that the answers before it stand.
+//! Whole conversations, with the answers and the lines worked out by hand: each fault's name, the number of its frame,
+//! and that the answers before it stand.
 
 use crate::support::{ANSWERS, CONVERSATION, run_over, spelled, tells};
 use std::alloc::Global;

@@ -6,9 +6,9 @@ use std::alloc::Global;
 use std::process::Abort;
 use std::test::Fail;
 
-/// Inputs, each behind how many bytes of it a run reads: an end frame, with and without a payload; a flag that is none of
-/// the three, a compressed frame and one that is too long, of which five bytes are read; frames that carry no message,
-/// the second one behind an Ask.
+/// Inputs, each behind how many bytes of it a run reads: an end frame, with and without a payload; a flag that is none
+/// of the three, a compressed frame and one that is too long, of which five bytes are read; frames that carry no
+/// message, the second one behind an Ask.
 const STOPS: [(usize, &str); 7] = [
     (5, "80 00000000"),
     (7, "80 00000002 0806"),

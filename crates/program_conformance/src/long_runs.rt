@@ -1,5 +1,5 @@
-//! Runs of the acceptor where a limit is met, a million frames or payloads of 4 MiB: beside the plain program for them, and
-//! with the answers and the lines worked out by hand.
+//! Runs of the acceptor where a limit is met, a million frames or payloads of 4 MiB: beside the plain program for them,
+//! and with the answers and the lines worked out by hand.
 
 use crate::all_runs::{compare, expect_met, new_tally};
 use crate::plain_runs::Room;
@@ -8,7 +8,8 @@ use acceptor_command::ServeFault;
 use std::alloc::Global;
 use std::test::Fail;
 
-/// Room for a short answer, for one byte less than the longest Accepted below, for that, for one byte more, and for all.
+/// Room for a short answer, for one byte less than the longest Accepted below, for that, for one byte more, and for
+/// all.
 const ROOMS: [usize; 5] = [1_000, 4_194_307, 4_194_308, 4_194_309, 20_000_000];
 
 /// Counts of frames, each with what the line of a run over so many says. Without a line the status is 0.
@@ -64,9 +65,9 @@ fn push_with_value(
     Ok(())
 }
 
-/// How long a value is, the Accept that brings it, its Accepted, and the Promise that reports it. That is two bytes longer
-/// than the Accept, since it has a second round, so of the two values only the first is reported: its Promise is the
-/// longest that a frame carries, and the other one would be one byte longer.
+/// How long a value is, the Accept that brings it, its Accepted, and the Promise that reports it. That is two bytes
+/// longer than the Accept, since it has a second round, so of the two values only the first is reported: its Promise is
+/// the longest that a frame carries, and the other one would be one byte longer.
 const VALUES: [(usize, &str, &str, Option<&str>); 2] = [
     (
         4_194_293,

@@ -1,6 +1,6 @@
 //! A plain program for what a payload says to an acceptor, or everything that is wrong with it, by the definitions
-//! `FieldsFault`, `IsMessageText` and `PartsFault`: Protocol Buffers, "Encoding", and Lamport, *Paxos Made Simple*, sections
-//! 2.2 and 2.3. It is for payloads of a frame, so no value in it is too long.
+//! `FieldsFault`, `IsMessageText` and `PartsFault`: Protocol Buffers, "Encoding", and Lamport, *Paxos Made Simple*,
+//! sections 2.2 and 2.3. It is for payloads of a frame, so no value in it is too long.
 
 use ballots::MessageFault;
 use proto_wire::WireFault;
@@ -59,9 +59,9 @@ const NODES: (u64, u64) = (0, 6);
 
 const SLOTS: (u64, u64) = (0, 999_999);
 
-/// The number of 64 bits at the front of the text ("Base 128 Varints": seven bits a byte, the lowest first) and what follows
-/// it, `IsVarint`, or why there is none: no byte of the text is the last one, `IsCutVarint`, or it goes on past ten bytes or
-/// takes more than 64 bits, `IsBadVarint`.
+/// The number of 64 bits at the front of the text ("Base 128 Varints": seven bits a byte, the lowest first) and what
+/// follows it, `IsVarint`, or why there is none: no byte of the text is the last one, `IsCutVarint`, or it goes on past
+/// ten bytes or takes more than 64 bits, `IsBadVarint`.
 fn varint_at(text: &[u8]) -> Result<(u64, &[u8]), WireFault> {
     let mut number: u128 = 0;
     let mut weight: u128 = 1;
@@ -108,7 +108,8 @@ fn held_at(kind: u64, text: &[u8]) -> Result<(Held<'_>, &[u8]), WireFault> {
 }
 
 /// `IsFields` and `FieldsFault`: the fields of the text from left to right, up to its end or the first place where none
-/// stands, with all that is wrong there. A key is eight times the field's number, which is 1 to 2^29 - 1, plus its wire type.
+/// stands, with all that is wrong there. A key is eight times the field's number, which is 1 to 2^29 - 1, plus its wire
+/// type.
 fn reading_of(alloc: Global, text: &[u8]) -> Result<Reading<'_>, AllocError> {
     let mut reading = Reading {
         fields: Vec::new(alloc),

@@ -1,6 +1,6 @@
 //! A plain program for everything that a run of the acceptor over a whole input may give, by the definitions `Turns`,
-//! `ServesToTheEnd` and `ServesUpTo`: gRPC over HTTP/2, "Length-Prefixed-Message", and Lamport, *Paxos Made Simple*, section
-//! 2.2, phases 1b and 2b. It is for inputs in memory, where no read fails and memory is there.
+//! `ServesToTheEnd` and `ServesUpTo`: gRPC over HTTP/2, "Length-Prefixed-Message", and Lamport, *Paxos Made Simple*,
+//! section 2.2, phases 1b and 2b. It is for inputs in memory, where no read fails and memory is there.
 
 use crate::plain_requests::{Ballot, Payload, payload_of};
 use acceptor_command::ServeFault;
@@ -118,8 +118,8 @@ fn promise_of<'a>(slot: u64, ballot: Ballot, accepted: Option<(Ballot, &'a [u8])
 }
 
 /// `RepliesToAccept`, where there is a value: an Accepted from what the slot has promised on, and a Nack below it.
-/// `RepliesToPrepare`, where there is none: a Promise above what the slot has promised, which reports what it has accepted,
-/// and a Nack else.
+/// `RepliesToPrepare`, where there is none: a Promise above what the slot has promised, which reports what it has
+/// accepted, and a Nack else.
 fn reply_to<'a>(
     rows: &mut Vec<Row<'a>>,
     slot: u64,
@@ -173,8 +173,8 @@ fn push_varint(text: &mut Vec<u8>, number: u64) -> Result<(), AllocError> {
     Ok(())
 }
 
-/// The frame of the reply, unless its payload is longer than the limit. The payload is `canonical`: the fields by rising
-/// numbers, without those that are 0 or empty. The sender is node 0.
+/// The frame of the reply, unless its payload is longer than the limit. The payload is `canonical`: the fields by
+/// rising numbers, without those that are 0 or empty. The sender is node 0.
 fn frame_of(alloc: Global, reply: &Reply<'_>) -> Result<Option<Vec<u8>>, AllocError> {
     let (round, node) = reply.ballot;
     let (second_round, second_node) = reply.second.unwrap_or((0, 0));
@@ -225,8 +225,8 @@ impl<'a> PlainRun<'a> {
         Ok(())
     }
 
-    /// Sends the reply to a writer of this room, and says whether the run goes on. Where the frame does not fit, or its flush
-    /// fails, a beginning of it has gone out.
+    /// Sends the reply to a writer of this room, and says whether the run goes on. Where the frame does not fit, or its
+    /// flush fails, a beginning of it has gone out.
     fn send(&mut self, alloc: Global, room: Room, reply: Reply<'a>) -> Result<bool, AllocError> {
         let Some(text) = frame_of(alloc, &reply)? else {
             self.may_end(Some(ServeFault::AnswerTooLong))?;

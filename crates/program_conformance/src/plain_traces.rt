@@ -1,9 +1,9 @@
 //! What the file of a recorded run means, by a plain program, over files put together from pieces: the definition
-//! `MeansTrace` (JSON, RFC 8259, sections 2 to 7, and hexadecimal digits, RFC 4648, section 8). What each piece means is worked
-//! out by hand, so no reader of JSON or of digits stands behind it.
+//! `MeansTrace` (JSON, RFC 8259, sections 2 to 7, and hexadecimal digits, RFC 4648, section 8). What each piece means
+//! is worked out by hand, so no reader of JSON or of digits stands behind it.
 //!
-//! A meaning is told in bytes: how many members there are, and each message in its one written spelling behind the length of
-//! that. No bytes tell that the file means nothing.
+//! A meaning is told in bytes: how many members there are, and each message in its one written spelling behind the
+//! length of that. No bytes tell that the file means nothing.
 
 use crate::support::digits_of;
 use audit_command::{AuditFault, TraceFault, audit_file, read_trace};
@@ -298,7 +298,8 @@ fn a_beginning_means_nothing(rt: HostRuntime) -> Result<(), Fail> {
     Ok(())
 }
 
-/// A file whose list has these items, and what it means: the messages that they spell, or nothing where one spells none.
+/// A file whose list has these items, and what it means: the messages that they spell, or nothing where one spells
+/// none.
 fn list_of(alloc: Global, items: &[usize]) -> Result<(Vec<u8>, Vec<u8>), AllocError> {
     let mut file = Vec::from_slice(alloc, b"{\"members\":3,\"sent\":[")?;
     let mut meaning = Vec::from_slice(alloc, &[3])?;

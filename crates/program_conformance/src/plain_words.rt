@@ -4,8 +4,8 @@ use crate::support::digits_of;
 use command_line::parse;
 use std::test::Fail;
 
-/// The program's name, its two commands, the first with a capital and cut, the flags that each program has, the command as
-/// a flag, POSIX's words for a stream and for the end of the flags, and the empty word.
+/// The program's name, its two commands, the first with a capital and cut, the flags that each program has, the command
+/// as a flag, POSIX's words for a stream and for the end of the flags, and the empty word.
 const WORDS: [&str; 12] = [
     "flightd",
     "acceptor",
@@ -24,8 +24,8 @@ const WORDS: [&str; 12] = [
 /// The lists of at most four of [`WORDS`].
 const LISTS: usize = 1 + 12 + 144 + 1_728 + 20_736;
 
-/// `IsCall`: a name, and then no word, the acceptor's, or the audit's and an operand: `IsOperand`, no flag, nor the mark of
-/// their end.
+/// `IsCall`: a name, and then no word, the acceptor's, or the audit's and an operand: `IsOperand`, no flag, nor the
+/// mark of their end.
 fn is_call(words: &[String]) -> bool {
     match words {
         [_] => true,
@@ -38,9 +38,9 @@ fn is_call(words: &[String]) -> bool {
     }
 }
 
-/// Whether the words are a call, or become one without a `--` before the audit's operand, which may then be any word, or
-/// behind all others; `--` marks the end of the flags (POSIX, Utility Syntax Guideline 10). No words at all, where not
-/// even a name is there, are taken too.
+/// Whether the words are a call, or become one without a `--` before the audit's operand, which may then be any word,
+/// or behind all others; `--` marks the end of the flags (POSIX, Utility Syntax Guideline 10). No words at all, where
+/// not even a name is there, are taken too.
 fn is_taken(words: &[String]) -> bool {
     match words {
         [] => true,

@@ -9,8 +9,8 @@ use std::io::{Read, Write};
 use std::process::Abort;
 use std::test::Fail;
 
-/// Gives its bytes, and then ends or fails. It looks at each read whether the answers to the frames that it has given have
-/// been flushed.
+/// Gives its bytes, and then ends or fails. It looks at each read whether the answers to the frames that it has given
+/// have been flushed.
 #[derive(Drop)]
 struct Watching<'a> {
     bytes: &'a [u8],
@@ -33,8 +33,8 @@ impl<'a> Read for Watching<'a> {
     }
 }
 
-/// Takes `room` bytes in all and then fails. It takes so many flushes, and then they fail. Where it has a cell, it tells
-/// there how many bytes have been flushed.
+/// Takes `room` bytes in all and then fails. It takes so many flushes, and then they fail. Where it has a cell, it
+/// tells there how many bytes have been flushed.
 #[derive(Drop)]
 pub(crate) struct Narrow<'a> {
     pub(crate) written: Vec<u8>,
@@ -131,8 +131,8 @@ fn expect_in_order(
     Ok(())
 }
 
-/// The reader fails behind every number of bytes, and at last it ends behind all of them: the answers to the whole frames
-/// have gone out, each before the next read.
+/// The reader fails behind every number of bytes, and at last it ends behind all of them: the answers to the whole
+/// frames have gone out, each before the next read.
 #[test]
 fn answers_before_the_next_read(rt: HostRuntime) -> Result<(), Fail> {
     let alloc = rt.alloc();

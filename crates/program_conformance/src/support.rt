@@ -83,8 +83,8 @@ pub(crate) fn spelled(alloc: Global, digits: &str) -> Result<Vec<u8>, Fail> {
     Ok(bytes)
 }
 
-/// The list of this number, where 0 is the empty list, and then those of one number below `base`, of two, and so on, each
-/// once: every digit counts from 1 on, so that no list comes again with a 0 more.
+/// The list of this number, where 0 is the empty list, and then those of one number below `base`, of two, and so on,
+/// each once: every digit counts from 1 on, so that no list comes again with a 0 more.
 pub(crate) fn digits_of(
     alloc: Global,
     base: usize,

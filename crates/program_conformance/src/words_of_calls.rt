@@ -6,8 +6,9 @@ use std::alloc::{AllocError, Global};
 use std::process::Abort;
 use std::test::Fail;
 
-/// Calls, each the program's name and then its words, parted by spaces, and what is asked for: the acceptor, the file that
-/// is to be audited, between brackets, or an end with this status, whose line is for standard error or for the output.
+/// Calls, each the program's name and then its words, parted by spaces, and what is asked for: the acceptor, the file
+/// that is to be audited, between brackets, or an end with this status, whose line is for standard error or for the
+/// output.
 const CALLS: &str = "
 # No word, or a command.
 flightd|acceptor

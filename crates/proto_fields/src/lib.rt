@@ -3,9 +3,9 @@
 //!
 //! What bytes encode is defined in `specs/`, apart from how they are read: `Varint` for numbers, `Field` for fields and
 //! lists of fields, `Meaning` for what the fields of one number mean together, and `Scalar` for what one field holds as
-//! a value of its type. A call that reads is `Ok` exactly where such bytes stand, memory apart, and a fault is told only
-//! where it stands. A call that writes appends exactly the one canonical encoding; those named `write_..` leave their
-//! vector as it was where memory is refused.
+//! a value of its type. A call that reads is `Ok` exactly where such bytes stand, memory apart, and a fault is told
+//! only where it stands. A call that writes appends exactly the one canonical encoding; those named `write_..` leave
+//! their vector as it was where memory is refused.
 //!
 //! Messages of such fields, each with its own descriptor, are those of `proto_messages`.
 #![tactic(auto)]

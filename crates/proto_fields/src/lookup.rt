@@ -101,8 +101,8 @@ fn last_bytes<'a>(bytes: &'a [u8], number: u32) -> Result<(&'a [u8], &'a [u8]), 
     }
 }
 
-/// What the fields of this number mean as bytes: the last ones, lent from those that are handed in, and none where there
-/// is no such field.
+/// What the fields of this number mean as bytes: the last ones, lent from those that are handed in, and none where
+/// there is no such field.
 ///
 /// [`WireFault::BadWireType`] says that a field of the number holds something else, and any fault that
 /// [`split_field`] tells says that the bytes are no list of fields.

@@ -12,9 +12,9 @@ pub fn messages_are_one()
         → IsMessage descriptor text v → IsMessage descriptor text w → v ≡ w }
 {}
 
-/// Two texts laid end to end mean what both mean, merged (Protocol Buffers, "Encoding", "Last One Wins"): the last value
-/// of a single field wins, the elements of a repeated field are those of the first text and then those of the second,
-/// each in their order, and embedded messages are merged likewise.
+/// Two texts laid end to end mean what both mean, merged (Protocol Buffers, "Encoding", "Last One Wins"): the last
+/// value of a single field wins, the elements of a repeated field are those of the first text and then those of the
+/// second, each in their order, and embedded messages are merged likewise.
 pub fn texts_end_to_end_merge()
     ensures { (descriptor : Descriptor) (text more : List ℕ) (v w : Values descriptor)
         → IsMessage descriptor text v → IsMessage descriptor more w

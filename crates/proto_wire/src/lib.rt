@@ -5,8 +5,8 @@
 //! messages, and `Flight` with the nine messages as descriptors, after Apache Arrow's Flight.proto. What the fields of
 //! a descriptor mean is `proto_messages`' own, and so are [`ProtoMessage::decode`] and [`ProtoMessage::encode`], which
 //! all nine have; its public names stand here too, and those of `proto_fields`, which it stands on. A call that reads
-//! is `Ok` exactly where the bytes begin with such a frame, or mean such a message, memory and failed reads apart, and a
-//! fault is told only where it stands. A call that writes appends exactly the one canonical encoding, and leaves its
+//! is `Ok` exactly where the bytes begin with such a frame, or mean such a message, memory and failed reads apart, and
+//! a fault is told only where it stands. A call that writes appends exactly the one canonical encoding, and leaves its
 //! vector as it was where memory is refused.
 #![tactic(auto)]
 

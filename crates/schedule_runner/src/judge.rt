@@ -148,8 +148,8 @@ fn is_highest_report(
     before.iter().any(|message| lets_propose(members, before, message, slot, ballot, value))
 }
 
-// Whether the message is a member's promise of the ballot that reports this value, and a majority promised with no higher
-// report.
+// Whether the message is a member's promise of the ballot that reports this value, and a majority promised with no
+// higher report.
 fn lets_propose(
     members: Members,
     before: &[Message],

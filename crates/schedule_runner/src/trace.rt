@@ -47,9 +47,9 @@ impl Trace {
     }
 }
 
-/// Whether what was sent is lawful: every message is one that a correct node may have sent after those before it (Lamport,
-/// *Paxos Made Simple*, section 2). No sender is trusted: senders that are no members have to keep the rules too, and
-/// only members count for a majority.
+/// Whether what was sent is lawful: every message is one that a correct node may have sent after those before it
+/// (Lamport, *Paxos Made Simple*, section 2). No sender is trusted: senders that are no members have to keep the rules
+/// too, and only members count for a majority.
 ///
 /// It takes no memory. Its time grows at most with the square of the number of messages.
 pub fn audit(trace: &Trace) -> bool

@@ -1,5 +1,5 @@
-//! The calls of `proto_fields`, `proto_messages` and `proto_wire` against bytes from outside, and against plain programs
-//! for the definitions.
+//! The calls of `proto_fields`, `proto_messages` and `proto_wire` against bytes from outside, and against plain
+//! programs for the definitions.
 
 mod all_fields;
 mod all_frames;

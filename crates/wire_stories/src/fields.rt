@@ -97,8 +97,8 @@ fn print_lent<W: Write>(
     Ok(())
 }
 
-/// Prints the bytes of one field: `varint FIELD NUMBER` and `bytes FIELD BYTES`, and with `nonzero-` and `nonempty-` before
-/// them those that leave a default out. Numbers are decimal.
+/// Prints the bytes of one field: `varint FIELD NUMBER` and `bytes FIELD BYTES`, and with `nonzero-` and `nonempty-`
+/// before them those that leave a default out. Numbers are decimal.
 pub(crate) fn write<W: Write>(
     alloc: Global,
     command: &str,

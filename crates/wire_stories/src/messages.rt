@@ -44,8 +44,8 @@ pub(crate) fn tell<W: Write>(
     }
 }
 
-/// Prints the fault that stands in the bytes, or their encoding, for each of the nine messages, in one line where all nine
-/// say the same.
+/// Prints the fault that stands in the bytes, or their encoding, for each of the nine messages, in one line where all
+/// nine say the same.
 pub(crate) fn tell_each<W: Write>(
     alloc: Global,
     bytes: &[u8],

@@ -149,8 +149,8 @@ fn is_split(text: &[u8], span: &Span<'_>, number: u32, part: &ContentRef<'_>, re
         && are_both(text.get(span.end..), Some(rest))
 }
 
-/// Whether the field at the front is the only one that stands there, and no fault does, or the fault stands there and no
-/// field.
+/// Whether the field at the front is the only one that stands there, and no fault does, or the fault stands there and
+/// no field.
 fn is_front(text: &[u8], spans: &[Span<'_>]) -> bool {
     match (split_field(text), front_of(spans)) {
         (Ok((number, part, rest)), Some(span)) => {
@@ -191,8 +191,8 @@ fn is_any_fault(text: &[u8], spans: &[Span<'_>]) -> bool {
     false
 }
 
-/// Whether all fields of the text are those that stand there, and no fault does, or the fault stands there and the text is
-/// no list of fields.
+/// Whether all fields of the text are those that stand there, and no fault does, or the fault stands there and the text
+/// is no list of fields.
 fn is_whole(alloc: Global, text: &[u8], spans: &[Span<'_>]) -> bool {
     let is_list = is_reached(spans, text.len());
     match read_fields(alloc, text) {

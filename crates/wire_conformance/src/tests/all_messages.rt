@@ -11,7 +11,8 @@ use std::alloc::Global;
 use std::process::Abort;
 use std::test::Fail;
 
-/// Fields of a descriptor, of another message, and no fields: the last ones end early, where nothing stands behind them.
+/// Fields of a descriptor, of another message, and no fields: the last ones end early, where nothing stands behind
+/// them.
 const IN_DESCRIPTORS: &str = "\
 0801|088280808010|08ffffffffffffffffff01|120161|1200|1a0161|1a00|1a02c3a9|1a01ff|0a0162|1000|3801|\
 3d01020304|0b|00|ffffffffffffffffff02|1a0361";
@@ -120,8 +121,8 @@ fn bit_of(fault: WireFault) -> u8 {
     }
 }
 
-/// The text of this number has to be read as what it means, or as a fault that stands in it. Returns the bit of what was
-/// read.
+/// The text of this number has to be read as what it means, or as a fault that stands in it. Returns the bit of what
+/// was read.
 fn compare<M: Shown + Drop>(
     rt: &impl Abort,
     alloc: Global,

@@ -1,5 +1,5 @@
-//! What a write leaves, by a plain program beside the frame that is written, over short frames, old contents and writers
-//! of every room (gRPC over HTTP/2, "Length-Prefixed-Message").
+//! What a write leaves, by a plain program beside the frame that is written, over short frames, old contents and
+//! writers of every room (gRPC over HTTP/2, "Length-Prefixed-Message").
 
 use super::frames::{spelled, write};
 use super::texts::{are_both, spelled as bytes_of};

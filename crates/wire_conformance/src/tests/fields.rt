@@ -10,7 +10,8 @@ use std::alloc::{AllocError, Global};
 use std::process::Abort;
 use std::test::Fail;
 
-/// A field of each wire type, one after the other: the number 150, the text "testing", and 1.0 in eight bytes and in four.
+/// A field of each wire type, one after the other: the number 150, the text "testing", and 1.0 in eight bytes and in
+/// four.
 const EACH_TYPE: &str = "089601 120774657374696e67 19000000000000f03f 250000803f";
 
 /// Lengths of bytes.

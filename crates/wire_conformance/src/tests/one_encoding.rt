@@ -1,5 +1,5 @@
-//! Which bytes are told to be the one encoding of a message, beside what is written for it (Protocol Buffers, "Encoding"
-//! and "Default Field Values").
+//! Which bytes are told to be the one encoding of a message, beside what is written for it (Protocol Buffers,
+//! "Encoding" and "Default Field Values").
 
 use super::texts::{are_equal, is_told, pieces_of, spelled, text_of, two_cells};
 use crate::sample::{Sample, Words};
@@ -8,8 +8,8 @@ use std::alloc::{AllocError, Global};
 use std::process::Abort;
 use std::test::Fail;
 
-/// Encodings of samples, and whether they are the one of what they mean. The others have a number, a length and a key in
-/// more bytes than they need, fields in another order, a default, a field twice, an embedded message in two parts, a
+/// Encodings of samples, and whether they are the one of what they mean. The others have a number, a length and a key
+/// in more bytes than they need, fields in another order, a default, a field twice, an embedded message in two parts, a
 /// field that the message does not have, an enumeration above 32 bits, and a bool of 2.
 const ROWS: &str = "\
 |one

@@ -54,8 +54,8 @@ fn with_digit(number: u128, byte: u8) -> Option<u128> {
     number.checked_mul(128)?.checked_add(u128::from(byte % 128))
 }
 
-/// The number that at most ten bytes spell, `EncodesNumber` ("Base 128 Varints"): their lowest seven bits are the digits to
-/// the base 128, the highest last. It has at most 70 bits.
+/// The number that at most ten bytes spell, `EncodesNumber` ("Base 128 Varints"): their lowest seven bits are the
+/// digits to the base 128, the highest last. It has at most 70 bits.
 fn number_of(bytes: &[u8]) -> Option<u128> {
     if !is_number(bytes) {
         return None;

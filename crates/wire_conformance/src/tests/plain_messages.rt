@@ -1,5 +1,5 @@
-//! A plain program for what a text means as a message of Arrow Flight. It follows the definitions of specs/Table.antt as
-//! relations: whole lists of fields, gathered number by number (Protocol Buffers, "Encoding"; Apache Arrow,
+//! A plain program for what a text means as a message of Arrow Flight. It follows the definitions of specs/Table.antt
+//! as relations: whole lists of fields, gathered number by number (Protocol Buffers, "Encoding"; Apache Arrow,
 //! "Flight.proto").
 
 use super::plain_fields::{Span, is_reached, spans_of};
@@ -159,13 +159,14 @@ pub enum Value<'a> {
 /// A value of a message, and where it stands.
 #[derive(Clone, Copy)]
 pub struct Entry<'a> {
-    /// For each message around the value and then itself, the number of the field and its place among those of the number.
+    /// For each message around the value and then itself, the number of the field and its place among those of the
+    /// number.
     pub path: u64,
     pub value: Value<'a>,
 }
 
-/// The path of the value at this place among those of the field, in the message with the path before. No message of these
-/// tests has 64 values of a number.
+/// The path of the value at this place among those of the field, in the message with the path before. No message of
+/// these tests has 64 values of a number.
 pub fn below(path: u64, number: u64, place: usize) -> u64 {
     field_below(path, number)
         .saturating_mul(64)
@@ -245,8 +246,8 @@ fn push_embedded<'a>(
     push_open(alloc, path, table, pieces, opens)
 }
 
-/// `Means` for one field of the message, where `things` are its values: appends what is meant, and the embedded messages,
-/// and says whether their pieces are fields.
+/// `Means` for one field of the message, where `things` are its values: appends what is meant, and the embedded
+/// messages, and says whether their pieces are fields.
 fn push_meant<'a>(
     alloc: Global,
     path: u64,
@@ -322,7 +323,8 @@ fn push_row<'a>(
     Ok(is_meant && all_hold(row, fields))
 }
 
-/// Appends what the message means, without what is inside the embedded ones, and says whether it means something so far.
+/// Appends what the message means, without what is inside the embedded ones, and says whether it means something so
+/// far.
 fn push_message<'a>(
     alloc: Global,
     open: &Open<'a>,

@@ -1,5 +1,5 @@
-//! A plain program for the one written spelling of a message, that of specs/Canonical.antt (Protocol Buffers, "Encoding"
-//! and "Default Field Values").
+//! A plain program for the one written spelling of a message, that of specs/Canonical.antt (Protocol Buffers,
+//! "Encoding" and "Default Field Values").
 
 use super::plain_messages::{Entry, Kind, Row, Table, Value, field_below, rows_of};
 use std::alloc::{AllocError, Global};

@@ -1,5 +1,5 @@
-//! What the fields of a number hold as values of its type, in the plain program for messages (Protocol Buffers, "Encoding";
-//! Apache Arrow, "Flight.proto").
+//! What the fields of a number hold as values of its type, in the plain program for messages (Protocol Buffers,
+//! "Encoding"; Apache Arrow, "Flight.proto").
 
 use super::plain_fields::{Held, Span};
 use super::plain_messages::{Kind, Row, Value};

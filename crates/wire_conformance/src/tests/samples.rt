@@ -8,8 +8,8 @@ use std::alloc::{AllocError, Global};
 use std::process::Abort;
 use std::test::Fail;
 
-/// Each number at its edge: -1, -2, 2^64 - 1 and true; bytes that are not UTF-8, a letter of two bytes, an empty tag and
-/// one of a byte; and words without a field.
+/// Each number at its edge: -1, -2, 2^64 - 1 and true; bytes that are not UTF-8, a letter of two bytes, an empty tag
+/// and one of a byte; and words without a field.
 const EDGES: &str =
     "0a23 08ffffffffffffffffff01 10feffffffffffffffff01 18ffffffffffffffffff01 2001 \
 fa7f0d 0a0200ff 1202c3a9 1a00 1a0161 fa7f00";
@@ -27,8 +27,8 @@ const NUMBERS: &str = "\
 7801 0a02 1001 3d00000000|0|1|0|0
 0a00|0|0|0|0";
 
-/// Bytes that mean no sample, and why: another wire type in a message, in numbers and in words, a name that is not UTF-8,
-/// numbers that end early, a field of number 0, and a number above 64 bits.
+/// Bytes that mean no sample, and why: another wire type in a message, in numbers and in words, a name that is not
+/// UTF-8, numbers that end early, a field of number 0, and a number above 64 bits.
 const FAULTY: &str = "\
 0801|BadWireType
 0a05 0d00000000|BadWireType

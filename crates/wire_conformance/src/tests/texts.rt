@@ -11,7 +11,8 @@ fn value_of(digit: char) -> Result<u8, Fail> {
     }
 }
 
-/// Appends the byte of two digits, where the first one was met before. Gives the digit that still waits for a second one.
+/// Appends the byte of two digits, where the first one was met before. Gives the digit that still waits for a second
+/// one.
 fn push_digit(bytes: &mut Vec<u8>, first: Option<u8>, value: u8) -> Result<Option<u8>, AllocError> {
     let Some(high) = first else {
         return Ok(Some(value));
