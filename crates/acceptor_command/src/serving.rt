@@ -19,6 +19,9 @@ use std::io::{Read, Write};
 /// The most frames that a run answers.
 pub const FRAME_LIMIT: u32 = 1_000_000;
 
+/// The bytes that an answer has room for from the start: all of one without a value, and of one with a short value.
+const ANSWER_ROOM: usize = 64;
+
 /// `flightd acceptor`: serves the frames of `r` as node 0 of three, writes the answers' frames to `w`, and gives the
 /// exit status.
 ///
@@ -124,7 +127,9 @@ fn answer_frame<W: Write>(
 fn send<W: Write>(alloc: Global, reply: &Message, w: &mut W) -> Result<(), ServeFault>
     ensures { WhereKnown (W.contents w.old) (W.contents w.new) (Sends result reply.now) }
 {
-    let mut text = Vec::new(alloc);
+    let Ok(mut text) = Vec::with_capacity(alloc, ANSWER_ROOM) else {
+        return Err(ServeFault::OutOfMemory);
+    };
     if reply.encode(&mut text).is_err() {
         return Err(ServeFault::OutOfMemory);
     }

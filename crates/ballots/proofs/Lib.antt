@@ -3,6 +3,7 @@ pub mod Slots
 pub mod Steps
 pub mod Numbers
 pub mod Bodies
+pub mod Gathering
 pub mod Decodes
 pub mod Sizes
 pub mod Written

@@ -9,3 +9,4 @@ pub mod MessageReading
 pub mod AllFields
 pub mod Record
 pub mod RecordReading
+pub mod Gathering

@@ -20,6 +20,7 @@ mod ballot;
 mod decoding;
 mod encoding;
 mod fault;
+mod fields;
 mod laws;
 mod members;
 mod message;

@@ -1,9 +1,9 @@
-//! Numbers, ballots and values looked up in a message's or a record's bytes, each within its limits.
+//! Numbers, ballots and values of what the fields of a message or a record mean, each within its limits.
 
 ghost use Rattle.std.specs.Prelude.{◌≡◌, ◌≤◌, IfOk};
-ghost use Rattle.proto_fields.specs.Meaning.{number_meant, bytes_meant};
+ghost use Rattle.std.specs.Option.{option_map};
 ghost use Rattle.ballots.specs.Message.{IsUpload};
-ghost use Rattle.ballots.specs.MessageReading.{Gives, TakesNone, OfFields, within, ballot_at as ballot_meant, value_at as value_meant, acceptance_at as acceptance_meant};
+ghost use Rattle.ballots.specs.MessageReading.{Gives, TakesNone, known, within, ballot_at as ballot_meant, value_at as value_meant, acceptance_at as acceptance_meant};
 
 use crate::acceptance::Acceptance;
 use crate::ballot::{Ballot, MAX_ROUND};
@@ -12,49 +12,59 @@ use crate::node::{MAX_NODE, NodeId};
 use crate::slot::{MAX_SLOT, Slot};
 use crate::value::{MAX_UPLOAD_BYTES, UploadBytes, Value};
 use bytes::Bytes;
-use proto_fields::{bytes_at, number_at};
+use proto_fields::WireFault;
 use std::alloc::Global;
 
-#[tactic(auto, using(crate::proofs::Steps::steps), unfolding(crate::specs::MessageReading::within, crate::specs::MessageReading::known))]
-fn number_within(text: &[u8], number: u32, limit: u64) -> Result<u64, MessageFault>
-    ensures read { OfFields text.now (λ fields. Gives TakesNone result (within limit (number_meant number fields))) }
-    ensures bound { IfOk result (λ n. n ≤ limit) }
+/// What is meant, or the fault of a field of another wire type.
+#[tactic(auto, unfolding(crate::specs::MessageReading::known))]
+pub(crate) fn known_number(found: Option<u64>) -> Result<u64, MessageFault>
+    ensures { Gives TakesNone result (known found) }
 {
-    let found = number_at(text, number)?;
-    if found > limit {
-        return Err(MessageFault::OutOfRange);
+    match found {
+        Some(number) => Ok(number),
+        None => Err(MessageFault::Wire(WireFault::BadWireType)),
     }
-    Ok(found)
 }
 
-pub(crate) fn node_at(text: &[u8], number: u32) -> Result<NodeId, MessageFault>
-    ensures { OfFields text.now (λ fields. Gives TakesNone result (within MAX_NODE (number_meant number fields))) }
+#[tactic(auto, using(crate::proofs::Steps::steps), unfolding(crate::specs::MessageReading::within))]
+fn number_within(found: Option<u64>, limit: u64) -> Result<u64, MessageFault>
+    ensures read { Gives TakesNone result (within limit found) }
+    ensures bound { IfOk result (λ n. n ≤ limit) }
 {
-    let found = number_within(text, number, u64::from(MAX_NODE))?;
-    match NodeId::new(found as u8) {
+    let number = known_number(found)?;
+    if number > limit {
+        return Err(MessageFault::OutOfRange);
+    }
+    Ok(number)
+}
+
+pub(crate) fn node_at(found: Option<u64>) -> Result<NodeId, MessageFault>
+    ensures { Gives TakesNone result (within MAX_NODE found) }
+{
+    let number = number_within(found, u64::from(MAX_NODE))?;
+    match NodeId::new(number as u8) {
         Some(node) => Ok(node),
         None => Err(MessageFault::OutOfRange),
     }
 }
 
-pub(crate) fn slot_at(text: &[u8], number: u32) -> Result<Slot, MessageFault>
-    ensures { OfFields text.now (λ fields. Gives TakesNone result (within MAX_SLOT (number_meant number fields))) }
+pub(crate) fn slot_at(found: Option<u64>) -> Result<Slot, MessageFault>
+    ensures { Gives TakesNone result (within MAX_SLOT found) }
 {
-    let found = number_within(text, number, u64::from(MAX_SLOT))?;
-    match Slot::new(found as u32) {
+    let number = number_within(found, u64::from(MAX_SLOT))?;
+    match Slot::new(number as u32) {
         Some(slot) => Ok(slot),
         None => Err(MessageFault::OutOfRange),
     }
 }
 
-/// The ballot whose round and node have these numbers.
+/// The ballot of this round and node.
 #[tactic(auto, using(crate::proofs::Steps::steps), unfolding(crate::specs::MessageReading::ballot_at))]
-pub(crate) fn ballot_at(text: &[u8], round: u32, node: u32) -> Result<Ballot, MessageFault>
-    ensures { OfFields text.now
-        (λ fields. Gives TakesNone result (ballot_meant (number_meant round fields) (number_meant node fields))) }
+pub(crate) fn ballot_at(round: Option<u64>, node: Option<u64>) -> Result<Ballot, MessageFault>
+    ensures { Gives TakesNone result (ballot_meant round node) }
 {
-    let round = number_within(text, round, u64::from(MAX_ROUND))?;
-    let node = node_at(text, node)?;
+    let round = number_within(round, u64::from(MAX_ROUND))?;
+    let node = node_at(node)?;
     match Ballot::new(round as u32, node) {
         Some(ballot) => Ok(ballot),
         None => Err(MessageFault::OutOfRange),
@@ -63,10 +73,12 @@ pub(crate) fn ballot_at(text: &[u8], round: u32, node: u32) -> Result<Ballot, Me
 
 /// The value, copied once its length is known to be within its limit.
 #[tactic(auto, using(crate::proofs::Steps::steps), unfolding(crate::specs::MessageReading::value_at, crate::specs::MessageReading::known))]
-pub(crate) fn value_at(alloc: Global, text: &[u8], number: u32) -> Result<Value, MessageFault>
-    ensures { OfFields text.now (λ fields. Gives IsUpload result (value_meant (bytes_meant number fields))) }
+pub(crate) fn value_at(alloc: Global, found: Option<&[u8]>) -> Result<Value, MessageFault>
+    ensures { Gives IsUpload result (value_meant (option_map (λ bytes. bytes.now) found.entry)) }
 {
-    let found = bytes_at(text, number)?;
+    let Some(found) = found else {
+        return Err(MessageFault::Wire(WireFault::BadWireType));
+    };
     if found.is_empty() {
         return Ok(Value::Noop);
     }
@@ -84,14 +96,13 @@ pub(crate) fn value_at(alloc: Global, text: &[u8], number: u32) -> Result<Value,
 #[tactic(auto, using(crate::proofs::Steps::steps), unfolding(crate::specs::MessageReading::acceptance_at))]
 pub(crate) fn acceptance_at(
     alloc: Global,
-    text: &[u8],
-    ballot: (u32, u32),
-    value: u32,
+    ballot: (Option<u64>, Option<u64>),
+    value: Option<&[u8]>,
 ) -> Result<Acceptance, MessageFault>
-    ensures { OfFields text.now (λ fields. Gives (λ a. IsUpload a.value) result
-        (acceptance_meant (number_meant ballot.0 fields) (number_meant ballot.1 fields) (bytes_meant value fields))) }
+    ensures { Gives (λ a. IsUpload a.value) result
+        (acceptance_meant ballot.0 ballot.1 (option_map (λ bytes. bytes.now) value.entry)) }
 {
-    let ballot = ballot_at(text, ballot.0, ballot.1)?;
-    let value = value_at(alloc, text, value)?;
+    let ballot = ballot_at(ballot.0, ballot.1)?;
+    let value = value_at(alloc, value)?;
     Ok(Acceptance { ballot, value })
 }

@@ -3,62 +3,75 @@
 ghost use Rattle.std.specs.Prelude.{◌≡◌, ◌⊎◌, IfOk, IfErr, Ok, Err};
 ghost use Rattle.ballots.specs.declared.record.Record.{Record as Meant};
 ghost use Rattle.ballots.specs.declared.fault.MessageFault.TheVariants.{OutOfMemory};
+ghost use Rattle.ballots.specs.Gathering.{record_parts_in};
 ghost use Rattle.ballots.specs.MessageReading.{Gives, OfFields, TellsFields};
 ghost use Rattle.ballots.specs.Record.{record_parts_of, IsRecordText, IsRecordFault, KeepsUpload};
 ghost use Rattle.ballots.specs.RecordReading.{began_at, promised_at, accepted_at, kept_at, record_at};
 
 use crate::fault::MessageFault;
-use crate::reading::{acceptance_at, ballot_at, slot_at};
+use crate::fields::{Fields, gather};
+use crate::reading::{acceptance_at, ballot_at, known_number, slot_at};
 use crate::record::Record;
 use crate::record::numbers::{ACCEPTED, BEGAN, KIND, NODE, PROMISED, ROUND, SLOT, VALUE};
-use proto_fields::number_at;
 use std::alloc::Global;
 
 #[tactic(auto, using(crate::proofs::Steps::steps))]
-fn began_of(text: &[u8]) -> Result<Record, MessageFault>
-    ensures { OfFields text.now (λ fields. Gives KeepsUpload result (began_at (record_parts_of fields))) }
+fn began_of(fields: &Fields<'_>) -> Result<Record, MessageFault>
+    ensures { Gives KeepsUpload result (began_at (record_parts_in fields.now)) }
 {
-    let ballot = ballot_at(text, ROUND, NODE)?;
+    let ballot = ballot_at(fields.number(ROUND), fields.number(NODE))?;
     Ok(Record::Began(ballot))
 }
 
 #[tactic(auto, using(crate::proofs::Steps::steps))]
-fn promised_of(text: &[u8]) -> Result<Record, MessageFault>
-    ensures { OfFields text.now (λ fields. Gives KeepsUpload result (promised_at (record_parts_of fields))) }
+fn promised_of(fields: &Fields<'_>) -> Result<Record, MessageFault>
+    ensures { Gives KeepsUpload result (promised_at (record_parts_in fields.now)) }
 {
-    let slot = slot_at(text, SLOT)?;
-    let ballot = ballot_at(text, ROUND, NODE)?;
+    let slot = slot_at(fields.number(SLOT))?;
+    let ballot = ballot_at(fields.number(ROUND), fields.number(NODE))?;
     Ok(Record::Promised(slot, ballot))
 }
 
 #[tactic(auto, using(crate::proofs::Steps::steps))]
-fn accepted_of(alloc: Global, text: &[u8]) -> Result<Record, MessageFault>
-    ensures { OfFields text.now (λ fields. Gives KeepsUpload result (accepted_at (record_parts_of fields))) }
+fn accepted_of(alloc: Global, fields: &Fields<'_>) -> Result<Record, MessageFault>
+    ensures { Gives KeepsUpload result (accepted_at (record_parts_in fields.now)) }
 {
-    let slot = slot_at(text, SLOT)?;
-    let acceptance = acceptance_at(alloc, text, (ROUND, NODE), VALUE)?;
+    let slot = slot_at(fields.number(SLOT))?;
+    let acceptance = acceptance_at(
+        alloc,
+        (fields.number(ROUND), fields.number(NODE)),
+        fields.value,
+    )?;
     Ok(Record::Accepted(slot, acceptance))
 }
 
 #[tactic(auto, unfolding(crate::specs::RecordReading::kept_at))]
-fn kept_of(alloc: Global, kind: u64, text: &[u8]) -> Result<Record, MessageFault>
-    ensures { OfFields text.now (λ fields. Gives KeepsUpload result (kept_at kind (record_parts_of fields))) }
+fn kept_of(alloc: Global, kind: u64, fields: &Fields<'_>) -> Result<Record, MessageFault>
+    ensures { Gives KeepsUpload result (kept_at kind (record_parts_in fields.now)) }
 {
     match kind {
-        BEGAN => began_of(text),
-        PROMISED => promised_of(text),
-        ACCEPTED => accepted_of(alloc, text),
+        BEGAN => began_of(fields),
+        PROMISED => promised_of(fields),
+        ACCEPTED => accepted_of(alloc, fields),
         _ => Err(MessageFault::BadKind),
     }
 }
 
-#[tactic(auto, using(crate::proofs::Steps::steps), unfolding(crate::specs::RecordReading::record_at, crate::specs::MessageReading::known))]
+#[tactic(auto, using(crate::proofs::Steps::steps), unfolding(crate::specs::RecordReading::record_at))]
+fn record_in(alloc: Global, fields: &Fields<'_>) -> Result<Record, MessageFault>
+    ensures { Gives KeepsUpload result (record_at (record_parts_in fields.now)) }
+{
+    let kind = known_number(fields.number(KIND))?;
+    kept_of(alloc, kind, fields)
+}
+
+#[tactic(auto, using(crate::proofs::Gathering::record_parts_are))]
 fn record_of(alloc: Global, text: &[u8]) -> Result<Record, MessageFault>
     ensures meant { OfFields text.now (λ fields. Gives KeepsUpload result (record_at (record_parts_of fields))) }
     ensures fields { TellsFields text.now result }
 {
-    let kind = number_at(text, KIND)?;
-    kept_of(alloc, kind, text)
+    let fields = gather(text, VALUE)?;
+    record_in(alloc, &fields)
 }
 
 impl Record {

@@ -20,7 +20,7 @@ mod writing;
 
 pub use fault::WireFault;
 pub use field::{Content, ContentRef, MAX_FIELD_NUMBER, read_fields, split_field};
-pub use lookup::{bytes_at, number_at, shared_bytes_at};
+pub use lookup::{bytes_after, bytes_at, number_at, shared_bytes_at};
 pub use scalar::{
     bool_of, bytes_of, check_bytes, check_number, check_string, enum_of, int64_of, string_of,
     uint64_of,

@@ -28,8 +28,10 @@ fn number_after(
     meant.and(content.number())
 }
 
-/// What is meant after one field more: its bytes, where it has the wanted number.
-fn bytes_after<'a>(
+/// What the fields of the wanted number mean as bytes after one field more, as [`split_field`] gives it: its bytes,
+/// where it has that number. Before the first field, no bytes are meant, and once one of them is of another wire type,
+/// nothing is.
+pub fn bytes_after<'a>(
     meant: Option<&'a [u8]>,
     wanted: u32,
     number: u32,

@@ -37,11 +37,15 @@ fn number_within(buf: &[u8], most: usize) -> Result<(u64, &[u8]), WireFault>
 }
 
 /// The number at the front and the bytes after it, or the fault that is met first from left to right.
-#[tactic(auto, unfolding(crate::specs::Reading::varint_at))]
+#[tactic(auto, unfolding(crate::specs::Reading::varint_at, crate::specs::Reading::number_at))]
 pub(crate) fn split_number(buf: &[u8]) -> Result<(u64, &[u8]), WireFault>
     ensures { Gives (λ x. (x.0, x.1.now)) result (varint_at buf.now) }
 {
-    number_within(buf, MAX_VARINT_BYTES)
+    match buf {
+        // Most keys, numbers and lengths take one byte.
+        [first, rest @ ..] if *first < 128 => Ok((u64::from(*first), rest)),
+        _ => number_within(buf, MAX_VARINT_BYTES),
+    }
 }
 
 /// The number of 64 bits at the front, and the bytes after it (Protocol Buffers, "Base 128 Varints"). It need not be in
