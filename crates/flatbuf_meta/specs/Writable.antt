@@ -1,9 +1,9 @@
 -- Which headers are written.
 use Rattle.std.specs.Prelude.{◌≡◌, ◌≤◌, false, length}
-use Rattle.flatbuf_meta.specs.Header.{Header, schema_header, batch_header}
-use Rattle.flatbuf_meta.specs.Limits.{nodes_limit, buffers_limit}
-use Rattle.flatbuf_meta.specs.Profile.{InProfile}
-use Rattle.flatbuf_meta.specs.Written.{FitsSchema, FitsHead}
+use Rattle.header_types.specs.Header.{Header, schema_header, batch_header}
+use Rattle.header_types.specs.Limits.{nodes_limit, buffers_limit}
+use Rattle.header_types.specs.Profile.{InProfile}
+use Rattle.header_writing.specs.Written.{FitsSchema, FitsHead}
 
 -- a schema in profile, or a batch that is not compressed, with no more nodes and buffers than 512 fields have; their
 -- texts are UTF-8, and their numbers such of 32 and 64 bits

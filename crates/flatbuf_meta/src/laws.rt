@@ -1,32 +1,12 @@
-//! Laws of the definitions that the reader of headers is proved against.
+//! Laws of the definitions that the reader and the writer of headers are proved against.
 
-ghost use Rattle.std.specs.Prelude.{◌≡◌, ℕ, List};
-ghost use Rattle.flatbuf_meta.specs.declared.fault.MetaFault.{MetaFault};
-ghost use Rattle.flatbuf_meta.specs.Fields.{SchemaTree};
-ghost use Rattle.flatbuf_meta.specs.Header.{Header, schema_header, ShowsHeader};
-ghost use Rattle.flatbuf_meta.specs.Canonical.{header_text};
-ghost use Rattle.flatbuf_meta.specs.Limits.{depth_limit, fields_limit, entries_limit, bytes_limit, nodes_limit};
-ghost use Rattle.flatbuf_meta.specs.Limits.{buffers_limit};
-ghost use Rattle.flatbuf_meta.specs.Profile.{InProfile};
+ghost use Rattle.std.specs.Prelude.{◌≡◌};
+ghost use Rattle.header_types.specs.Header.{Header, ShowsHeader};
+ghost use Rattle.header_writing.specs.Canonical.{header_text};
 ghost use Rattle.flatbuf_meta.specs.Writable.{IsWritable};
-ghost use Rattle.flatbuf_meta.specs.Faults.{HeaderFault};
 
-use crate::limits::{MAX_BUFFERS, MAX_DEPTH, MAX_FIELDS, MAX_METADATA_ENTRIES, MAX_TEXT_BYTES};
-
-/// A text shows at most one header.
-pub fn headers_are_one()
-    ensures { (text : List ℕ) (x y : Header) → ShowsHeader text x → ShowsHeader text y → x ≡ y }
-{}
-
-/// Where a fault stands, no header is shown.
-pub fn faults_stand_apart()
-    ensures { (text : List ℕ) (e : MetaFault) (x : Header) → HeaderFault text e → ¬ ShowsHeader text x }
-{}
-
-/// A schema that a text shows is in profile ([`crate::Schema::in_profile`]), so that it can be written.
-pub fn shown_schemas_are_in_profile()
-    ensures { (text : List ℕ) (schema : SchemaTree) → ShowsHeader text (schema_header schema) → InProfile schema }
-{}
+pub use header_reading::laws::faults_stand_apart;
+pub use header_types::laws::{headers_are_one, limits_are_these, shown_schemas_are_in_profile};
 
 /// The text that is written of a header shows it.
 pub fn written_headers_are_shown()
@@ -36,15 +16,4 @@ pub fn written_headers_are_shown()
 /// Headers that are written differ where what they say differs.
 pub fn written_headers_differ()
     ensures { (x y : Header) → IsWritable x → IsWritable y → header_text x ≡ header_text y → x ≡ y }
-{}
-
-/// The limits of the program are those of the definitions, and these numbers: levels, fields, entries of metadata and
-/// bytes of texts of a schema, and nodes and buffers of a batch that is written.
-pub fn limits_are_these()
-    ensures depth { (depth_limit ≡ 16) × (MAX_DEPTH ≡ depth_limit) }
-    ensures fields { (fields_limit ≡ 512) × (MAX_FIELDS ≡ fields_limit) }
-    ensures entries { (entries_limit ≡ 4096) × (MAX_METADATA_ENTRIES ≡ entries_limit) }
-    ensures bytes { (bytes_limit ≡ 1048576) × (MAX_TEXT_BYTES ≡ bytes_limit) }
-    ensures nodes { (nodes_limit ≡ 512) × (MAX_FIELDS ≡ nodes_limit) }
-    ensures buffers { (buffers_limit ≡ 1536) × (MAX_BUFFERS ≡ buffers_limit) }
 {}

@@ -1,6 +1,0 @@
-use Rattle.std.proofs.Common.{◌≡◌, ◌++◌, drop}
-use Rattle.flatbuf_meta.specs.Written.{cells_bytes}
-use Rattle.flatbuf_meta.proofs.layout.put_cells.Given as goal
-
-abbrev pub invariant-loop-cell : goal.invariant-loop-cell
-invariant-loop-cell l = l.text.items ++ cells_bytes (drop l.cell-index l.cells) ≡ l.fn.text.items ++ cells_bytes l.cells

@@ -1,5 +1,0 @@
-use Rattle.flatbuf_meta.specs.Writing.{EntriesLeft}
-use Rattle.flatbuf_meta.proofs.write.put_metadata.Given as goal
-
-abbrev pub invariant-loop-index : goal.invariant-loop-index
-invariant-loop-index l = EntriesLeft l.fn.text.items l.text.items l.from l.start l.index l.entries

@@ -1,0 +1,11 @@
+pub mod EntryWalks
+pub mod Walking
+pub mod SlotFacts
+pub mod FieldFacts
+pub mod Parts
+pub mod FieldsApart
+pub mod Apart
+pub mod Building
+pub mod BatchFacts
+pub mod MessageFacts
+pub mod NoMemory

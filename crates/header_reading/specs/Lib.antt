@@ -1,0 +1,7 @@
+pub mod Faults
+pub mod Walking
+pub mod VectorRefs
+pub mod ParameterView
+pub mod FieldRefView
+pub mod Building
+pub mod Reading

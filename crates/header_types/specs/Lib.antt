@@ -1,0 +1,15 @@
+pub mod Fields
+pub mod Views
+pub mod Slots
+pub mod TypeIds
+pub mod Shown
+pub mod Limits
+pub mod Header
+pub mod FaultOf
+pub mod Totals
+pub mod Adding
+pub mod HeaderViews
+pub mod Profile
+pub mod SameShape
+pub mod FieldView
+pub mod Fitting

@@ -1,0 +1,10 @@
+pub mod Filling
+pub mod Writers
+pub mod TypeTables
+pub mod Appending
+pub mod Lying
+pub mod NumbersShown
+pub mod TypesShown
+pub mod TreesShown
+pub mod BatchesShown
+pub mod WrittenSizes

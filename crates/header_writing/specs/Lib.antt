@@ -1,0 +1,5 @@
+pub mod Objects
+pub mod Canonical
+pub mod Filling
+pub mod Written
+pub mod Writing
