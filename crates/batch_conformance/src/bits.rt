@@ -1,0 +1,7 @@
+//! The calls of `bitmaps` against a plain program for what is packed and counted.
+
+mod lists;
+mod long;
+mod plain;
+mod putting;
+mod runs;

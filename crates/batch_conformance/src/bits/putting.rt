@@ -1,0 +1,87 @@
+//! Bits put into a bitmap, and the bitmap beside the list of them.
+
+ghost use Rattle.std.specs.Prelude.{◌+◌, ◌<◌, ◌^◌};
+
+use super::plain::{packed, zeros_of};
+use bitmaps::{Bitmap, bit, count_zeros};
+use std::alloc::{AllocError, Global};
+use std::process::Abort;
+use std::test::Fail;
+
+/// Puts a bit. Where memory is refused it is put again: a refusal changes nothing.
+pub(super) fn push(bitmap: &mut Bitmap, bit: bool) -> Result<(), AllocError> {
+    match bitmap.push(bit) {
+        Ok(()) => Ok(()),
+        Err(_) => bitmap.push(bit),
+    }
+}
+
+/// Puts a run of bits, and again where memory is refused.
+pub(super) fn extend(
+    bitmap: &mut Bitmap,
+    bytes: &[u8],
+    start: usize,
+    count: usize,
+) -> Result<(), AllocError>
+    requires { start + count < 2 ^ 64 }
+{
+    match bitmap.extend_from(bytes, start, count) {
+        Ok(()) => Ok(()),
+        Err(_) => bitmap.extend_from(bytes, start, count),
+    }
+}
+
+/// The bitmap of a list, bit by bit.
+pub(super) fn bitmap_of(alloc: Global, list: &[bool]) -> Result<Bitmap, AllocError> {
+    let mut bitmap = Bitmap::new(alloc);
+    for bit in list {
+        push(&mut bitmap, *bit)?;
+    }
+    Ok(bitmap)
+}
+
+/// Whether each bit is found where it stands in the list, in the bitmap and in its bytes, and none behind them.
+fn is_found(bitmap: &Bitmap, list: &[bool]) -> bool {
+    let mut is_right = true;
+    for index in 0..list.len().saturating_add(10) {
+        let found = list.get(index).copied();
+        let is_set = bit(bitmap.as_bytes(), index);
+        is_right = is_right && bitmap.get(index) == found && is_set == found.unwrap_or(false);
+    }
+    is_right
+}
+
+/// The bitmap has the bits of the list, and its bytes are those of the plain program. A clone has them too, and is
+/// equal to it until a bit is put behind them.
+pub(super) fn compare(
+    rt: &impl Abort,
+    alloc: Global,
+    bitmap: &Bitmap,
+    list: &[bool],
+) -> Result<(), Fail> {
+    let bytes = packed(alloc, list)?;
+    let zeros = zeros_of(list);
+    let mut clone = bitmap.clone()?;
+    assert!(rt;
+        bitmap.as_bytes() == bytes.as_slice(),
+        "{bitmap:?} beside {bytes:?}"
+    );
+    assert!(rt;
+        clone.as_bytes() == bytes.as_slice() && clone.len() == list.len(),
+        "{clone:?}"
+    );
+    assert!(rt;
+        bitmap.len() == list.len() && bitmap.is_empty() == list.is_empty(),
+        "{bitmap:?}"
+    );
+    assert!(rt; clone == *bitmap, "{clone:?} beside {bitmap:?}");
+    push(&mut clone, false)?;
+    assert!(rt; clone != *bitmap, "{clone:?} beside {bitmap:?}");
+    assert!(rt; is_found(bitmap, list), "{bitmap:?}");
+    assert!(rt; bitmap.count_zeros() == zeros, "{bitmap:?}");
+    assert!(rt;
+        count_zeros(bitmap.as_bytes(), 0, list.len()) == zeros,
+        "{bytes:?}"
+    );
+    Ok(())
+}

@@ -1,0 +1,9 @@
+//! Conformance tests of `bitmaps`, where only code can test: a plain program beside the calls, over all short lists of
+//! bits, over runs of bits from and to every place in a byte, and over long ones.
+//!
+//! There is no code here but tests, which stand in a crate of their own so that what that crate proves is not proved
+//! again with their tests.
+#![tactic(auto)]
+
+#[cfg(test)]
+mod bits;

@@ -1,0 +1,199 @@
+//! A list of bits that grows.
+
+ghost use Rattle.std.specs.Prelude.{◌≡◌, ℕ, ◌+◌, ◌*◌, ◌/◌, ◌%◌, ◌^◌, ◌<◌, ◌≤◌, ◌==◌, ◌&&◌, ◌||◌, nat_lt, if◌then◌else◌};
+ghost use Rattle.std.specs.Prelude.{Bool, true, false, List, [], ◌∷◌, ◌++◌, length, get_or, replicate};
+ghost use Rattle.std.specs.Prelude.{vec_capacity, OnOk, OnErr, IfOk, IsTrue, slice_get, ◌↔◌};
+ghost use Rattle.std.specs.Int.{bit_at};
+ghost use lib.Pointwise.{pointwise};
+ghost use Rattle.std.specs.Cmp.Rules.{comparing};
+ghost use Rattle.std.specs.Bool.{beq};
+ghost use Rattle.std.proofs.Common.{rules};
+ghost use Rattle.bitmaps.specs.Bits.{bit_of, bits_of, zeros};
+ghost use Rattle.bitmaps.specs.Packed.{IsPacked, IsKept};
+
+use crate::bits::{bit, count_zeros, eight_bits, low_bits};
+use std::alloc::{AllocError, Global};
+use std::marker::Model;
+
+/// Puts the lowest bits of a byte, `count` of them, behind the first `from` bits. There is room for one byte more.
+fn put_bits(bytes: &mut Vec<u8>, from: usize, byte: u8, count: usize)
+    requires kept { IsKept bytes.old.items from }
+    requires room { length bytes.old.items < vec_capacity bytes.old }
+    requires some { (0 < count) × (count ≤ 8) × (byte < 2 ^ count) }
+    ensures before { (j : ℕ) → j < from → bit_of bytes.new.items j ≡ bit_of bytes.old.items j }
+    ensures put { (i : ℕ) → bit_of bytes.new.items (from + i) ≡ (bit_at byte i == 1) }
+    ensures kept { IsKept bytes.new.items (from + count) }
+    ensures capacity { vec_capacity bytes.new ≡ vec_capacity bytes.old }
+{
+    let used = from % 8;
+    if used == 0 {
+        bytes.push_reserved(byte);
+        return;
+    }
+    bytes[from / 8] |= byte << used;
+    if 8 < used + count {
+        bytes.push_reserved(byte >> (8 - used));
+    }
+}
+
+/// Puts these bits behind the first `from` bits: `count` of them, from bit `start` of `source` on. There is room for
+/// them.
+fn put_run(bytes: &mut Vec<u8>, from: usize, source: &[u8], start: usize, count: usize)
+    requires kept { IsKept bytes.old.items from }
+    requires room { length bytes.old.items + (count + 7) / 8 ≤ vec_capacity bytes.old }
+    requires within { (start + count < 2 ^ 64) × (from + count < 2 ^ 64) }
+    ensures put { bits_of bytes.new.items 0 (from + count)
+        ≡ bits_of bytes.old.items 0 from ++ bits_of source.now start count }
+    ensures kept { IsKept bytes.new.items (from + count) }
+{
+    let mut done = 0;
+    while done < count {
+        let run = (count - done).min(8);
+        let byte = low_bits(eight_bits(source, start + done), run);
+        put_bits(bytes, from + done, byte, run);
+        done += run;
+    }
+}
+
+/// Whether bytes that are kept for `length` bits hold the same bits as others that are kept for `other` bits.
+fn is_same(left: &[u8], length: usize, right: &[u8], other: usize) -> bool
+    requires left { IsKept left.now length }
+    requires right { IsKept right.now other }
+    ensures { result ≡ pointwise beq (bits_of left.now 0 length) (bits_of right.now 0 other) }
+{
+    *left == *right && length == other
+}
+
+/// A list of bits that grows, packed eight a byte. It has fewer than 2^64 bits. Two are equal where their lists are.
+#[derive(Debug, Drop)]
+pub struct Bitmap {
+    bytes: Vec<u8>,
+    length: usize,
+}
+
+impl Model for Bitmap {
+    ghost Value = { List Bool };
+
+    ghost view = { λ b. bits_of b.bytes.items 0 b.length };
+
+    ghost invariant = { λ b. IsKept b.bytes.items b.length };
+}
+
+impl Bitmap {
+    /// The list without a bit. It takes memory from this allocator as it grows.
+    pub fn new(alloc: Global) -> Bitmap
+        ensures { result ≡ [] }
+    {
+        Bitmap {
+            bytes: Vec::new(alloc),
+            length: 0,
+        }
+    }
+
+    /// How many bits there are.
+    pub fn len(&self) -> usize
+        ensures { result ≡ length self.now }
+    {
+        self.length
+    }
+
+    /// Whether there is no bit.
+    pub fn is_empty(&self) -> bool
+        ensures { IsTrue result ↔ (self.now ≡ []) }
+    {
+        self.len() == 0
+    }
+
+    /// The bit of this number, `None` where there are no more than so many bits.
+    pub fn get(&self, index: usize) -> Option<bool>
+        ensures { result ≡ slice_get self.now index }
+    {
+        if index < self.length {
+            Some(bit(self.bytes.as_slice(), index))
+        } else {
+            None
+        }
+    }
+
+    /// The packed form of the list: as few bytes as will do, and zero bits behind the last bit (Apache Arrow, "Arrow
+    /// Columnar Format", "Validity bitmaps").
+    pub fn as_bytes(&self) -> &[u8]
+        ensures { IsPacked self.now result.now }
+    {
+        self.bytes.as_slice()
+    }
+
+    /// Puts a bit behind the others. Where memory is refused, or the list would have 2^64 bits, nothing changes and the
+    /// answer is the same, `AllocError`.
+    pub fn push(&mut self, bit: bool) -> Result<(), AllocError>
+        ensures fits { OnOk result (length self.old + 1 < 2 ^ 64) }
+        ensures pushed { OnOk result (self.new ≡ self.old ++ bit ∷ []) }
+        ensures same { OnErr result (self.new ≡ self.old) }
+    {
+        let Some(length) = self.length.checked_add(1) else {
+            return Err(AllocError);
+        };
+        self.bytes.reserve(1)?;
+        put_bits(&mut self.bytes, self.length, u8::from(bit), 1);
+        self.length = length;
+        Ok(())
+    }
+
+    /// Puts bits behind the others: `count` of them, from bit `start` of these bytes on. Bits behind the last byte are
+    /// not set. The run ends below bit 2^64 of the bytes. Where memory is refused, or the list would have 2^64 bits or
+    /// more, nothing changes and the answer is the same, `AllocError`.
+    pub fn extend_from(
+        &mut self,
+        bytes: &[u8],
+        start: usize,
+        count: usize,
+    ) -> Result<(), AllocError>
+        requires { start + count < 2 ^ 64 }
+        ensures fits { OnOk result (length self.old + count < 2 ^ 64) }
+        ensures extended { OnOk result (self.new ≡ self.old ++ bits_of bytes.now start count) }
+        ensures same { OnErr result (self.new ≡ self.old) }
+    {
+        let Some(length) = self.length.checked_add(count) else {
+            return Err(AllocError);
+        };
+        self.bytes.reserve(count / 8 + 1)?;
+        put_run(&mut self.bytes, self.length, bytes, start, count);
+        self.length = length;
+        Ok(())
+    }
+
+    /// How many bits are not set: of a validity bitmap, how many values are null.
+    pub fn count_zeros(&self) -> usize
+        ensures { result ≡ zeros self.now }
+    {
+        count_zeros(self.bytes.as_slice(), 0, self.length)
+    }
+}
+
+impl Clone for Bitmap {
+    ghost is_clone = { λ old new. new ≡ old };
+
+    /// A copy with bytes of its own, or memory is refused.
+    fn clone(&self) -> Result<Bitmap, AllocError>
+        ensures { IfOk result (λ new. new ≡ self.now) }
+    {
+        Ok(Bitmap {
+            bytes: self.bytes.clone()?,
+            length: self.length,
+        })
+    }
+}
+
+impl PartialEq for Bitmap {
+    ghost eq = { pointwise beq };
+
+    ghost laws = { Prim.search (comparing, rules) };
+
+    fn eq(&self, other: &Bitmap) -> bool {
+        is_same(&self.bytes, self.length, &other.bytes, other.length)
+    }
+}
+
+impl Eq for Bitmap {
+    ghost laws = { Prim.search (comparing, rules) };
+}
