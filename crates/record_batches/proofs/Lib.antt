@@ -1,0 +1,5 @@
+pub mod Unique
+pub mod WorkedBatches
+pub mod WorkedFaults
+pub mod Typing
+pub mod Placing

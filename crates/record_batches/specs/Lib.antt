@@ -1,0 +1,10 @@
+pub mod Cells
+pub mod Layouts
+pub mod Laid
+pub mod Placed
+pub mod Rules
+pub mod Order
+pub mod LaysOut
+pub mod Canonical
+pub mod Examples
+pub mod Typed

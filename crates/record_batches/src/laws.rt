@@ -1,0 +1,87 @@
+//! Laws of the definitions that reading and writing are to be proved against.
+
+ghost use Rattle.std.specs.Prelude.{◌≡◌, ℕ, ◌<◌, ◌%◌, pos, nat_abs, List, [], length, get_or};
+ghost use Rattle.header_types.specs.Fields.{SchemaTree};
+ghost use Rattle.header_types.specs.Header.{Head};
+ghost use Rattle.record_batches.specs.declared.fault.BatchFault.{BatchFault as Fault};
+ghost use Rattle.record_batches.specs.declared.fault.BatchFault.TheVariants.{Compressed, TooManyRows, NodeCount};
+ghost use Rattle.record_batches.specs.declared.fault.BatchFault.TheVariants.{BufferCount, BufferRange, NullCount};
+ghost use Rattle.record_batches.specs.declared.fault.BatchFault.TheVariants.{OffsetsFall, ChildShort, NotUtf8};
+ghost use Rattle.record_batches.specs.Cells.{Rows};
+ghost use Rattle.record_batches.specs.LaysOut.{LaysOut, IsFaultOf};
+ghost use Rattle.header_types.specs.Profile.{InProfile};
+ghost use Rattle.record_batches.specs.Typed.{AreRowsOf};
+ghost use Rattle.record_batches.specs.Placed.{bytes_at};
+ghost use Rattle.record_batches.specs.Rules.{IsInside};
+ghost use Rattle.record_batches.specs.Canonical.{body_with, ranges_from, canonical_head, canonical_body};
+ghost use Rattle.record_batches.specs.Examples.{int8_table, int8_rows, int8_head, int8_body, texts_table, texts_rows};
+ghost use Rattle.record_batches.specs.Examples.{texts_head, texts_body, texts_canonical_head, texts_canonical_body};
+ghost use Rattle.record_batches.specs.Examples.{bool_table, bool_rows, bool_head, bool_body, pairs_table, pairs_rows};
+ghost use Rattle.record_batches.specs.Examples.{pairs_head, pairs_body, no_texts_table, no_texts_rows, no_texts_head};
+ghost use Rattle.record_batches.specs.Examples.{zeros, nulls_table, nulls_rows, nulls_head, miscounted_head, falling_head};
+ghost use Rattle.record_batches.specs.Examples.{falling_body, compressed_head, long_head, nodeless_head, bufferless_head};
+ghost use Rattle.record_batches.specs.Examples.{bodiless_head, cut_head, short_head, garbled_head, garbled_body};
+
+/// A header and a body lay out at most one batch, at most one fault is told of them, and none of what lays out a batch.
+pub fn batches_are_one()
+    ensures batch { (schema : SchemaTree) (head : Head) (body : List ℕ) (x y : Rows) → LaysOut schema head body x
+        → LaysOut schema head body y → x ≡ y }
+    ensures fault { (schema : SchemaTree) (head : Head) (body : List ℕ) (x y : Fault) → IsFaultOf schema head body x
+        → IsFaultOf schema head body y → x ≡ y }
+    ensures apart { (schema : SchemaTree) (head : Head) (body : List ℕ) (rows : Rows) (fault : Fault)
+        → LaysOut schema head body rows → IsFaultOf schema head body fault → ⊥ }
+{}
+
+/// What a header and a body lay out is of the schema, where that is in profile: a column for each field, a cell for each
+/// row, and each cell one of its field: bytes of the type's size, texts in UTF-8, as many elements as a list of fixed size
+/// has, a cell of each field of a struct.
+pub fn laid_out_rows_are_of_the_schema()
+    ensures { (schema : SchemaTree) (head : Head) (body : List ℕ) (rows : Rows) → InProfile schema
+        → LaysOut schema head body rows → AreRowsOf schema rows }
+{}
+
+/// The buffers that are written stand in the body where their ranges say, each from a multiple of eight bytes on, and the
+/// body ends at one.
+pub fn written_buffers_stand_where_they_are_said()
+    ensures at { (buffers : List (List ℕ)) (k : ℕ) → k < length buffers
+        → bytes_at (body_with buffers) (get_or (ranges_from 0 buffers) k (pos 0, pos 0)) ≡ get_or buffers k [] }
+    ensures inside { (buffers : List (List ℕ)) (k : ℕ) → k < length buffers
+        → IsInside (length (body_with buffers)) (get_or (ranges_from 0 buffers) k (pos 0, pos 0)) }
+    ensures aligned { (buffers : List (List ℕ)) (k : ℕ) → k < length buffers
+        → nat_abs (get_or (ranges_from 0 buffers) k (pos 0, pos 0)).0 % 8 ≡ 0 }
+    ensures whole { (buffers : List (List ℕ)) → length (body_with buffers) % 8 ≡ 0 }
+{}
+
+/// What is written of batches that were worked out by hand is what was worked out.
+pub fn worked_bodies_are_canonical()
+    ensures int8 { (canonical_head int8_table int8_rows ≡ int8_head) × (canonical_body int8_table int8_rows ≡ int8_body) }
+    ensures texts { (canonical_head texts_table texts_rows ≡ texts_canonical_head)
+        × (canonical_body texts_table texts_rows ≡ texts_canonical_body) }
+    ensures bool { (canonical_head bool_table bool_rows ≡ bool_head) × (canonical_body bool_table bool_rows ≡ bool_body) }
+    ensures pairs { (canonical_head pairs_table pairs_rows ≡ pairs_head)
+        × (canonical_body pairs_table pairs_rows ≡ pairs_body) }
+    ensures no_texts { (canonical_head no_texts_table no_texts_rows ≡ no_texts_head)
+        × (canonical_body no_texts_table no_texts_rows ≡ zeros 8) }
+    ensures nulls { (canonical_head nulls_table nulls_rows ≡ nulls_head) × (canonical_body nulls_table nulls_rows ≡ []) }
+{}
+
+/// Batches that were worked out by hand are laid out: numbers with a null, and lists of texts in a body with more than
+/// they need.
+pub fn worked_batches_are_laid_out()
+    ensures int8 { LaysOut int8_table int8_head int8_body int8_rows }
+    ensures texts { LaysOut texts_table texts_head texts_body texts_rows }
+{}
+
+/// Of each fault one header and body that were worked out by hand, of which it is told.
+pub fn worked_faults_are_told()
+    ensures compressed { IsFaultOf int8_table compressed_head int8_body Compressed }
+    ensures rows { IsFaultOf int8_table long_head int8_body TooManyRows }
+    ensures nodes { IsFaultOf int8_table nodeless_head int8_body NodeCount }
+    ensures buffers { IsFaultOf int8_table bufferless_head int8_body BufferCount }
+    ensures body { IsFaultOf int8_table bodiless_head int8_body BufferRange }
+    ensures range { IsFaultOf int8_table cut_head int8_body BufferRange }
+    ensures nulls { IsFaultOf int8_table miscounted_head int8_body NullCount }
+    ensures offsets { IsFaultOf no_texts_table falling_head falling_body OffsetsFall }
+    ensures short { IsFaultOf int8_table short_head int8_body ChildShort }
+    ensures texts { IsFaultOf no_texts_table garbled_head garbled_body NotUtf8 }
+{}
