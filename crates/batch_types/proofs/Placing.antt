@@ -2,10 +2,10 @@
 use Rattle.std.proofs.Common.{◌≡◌, refl, sym, ap, ◌∙◌, subst, ℕ, zero, suc, ◌+◌, ◌-◌, ◌*◌, ◌/◌, ◌%◌, ◌<◌, ◌≤◌, ℤ, pos, nat_abs, ◌≤ℤ◌, List, [], ◌∷◌, ◌++◌, length, get_or, take, drop, replicate, arith, append_assoc, length-append}
 use Rattle.std.proofs.lemmas.Int.{ints}
 use Rattle.std.proofs.Math.Seq.{take-append_seam, drop-append_seam}
-use Rattle.record_batches.specs.Laid.{Range}
-use Rattle.record_batches.specs.Placed.{bytes_from, bytes_at}
-use Rattle.record_batches.specs.Rules.{IsInside}
-use Rattle.record_batches.specs.Canonical.{padded, body_with, ranges_from}
+use Rattle.batch_types.specs.Laid.{Range}
+use Rattle.batch_types.specs.Placed.{bytes_from, bytes_at}
+use Rattle.batch_types.specs.Rules.{IsInside}
+use Rattle.batch_types.specs.Canonical.{padded, body_with, ranges_from}
 
 length_zeros : (n : ℕ) → length {A = ℕ} (replicate n 0) ≡ n
 length_zeros zero = refl

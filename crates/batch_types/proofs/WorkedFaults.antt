@@ -4,15 +4,15 @@ use Rattle.std.proofs.lemmas.Int.{ints}
 use Rattle.std.specs.Str.{IsUtf8, is_utf8, chars}
 use Rattle.std.specs.Str.Lossy.{utf8_valid_len}
 use Rattle.std.proofs.lemmas.Str.{utf8_valid_len-IsUtf8}
-use Rattle.record_batches.specs.declared.fault.BatchFault.TheVariants as fault
-use Rattle.record_batches.specs.Layouts.{bytes_layout, utf8_layout}
-use Rattle.record_batches.specs.Laid.{Range, laid, no_column, column_then}
-use Rattle.record_batches.specs.Placed.{buffer_at, offset_at}
-use Rattle.record_batches.specs.Rules.{IsInside, HasBuffers, DoRise}
-use Rattle.record_batches.specs.LaysOut.{HasRowsWithin, HasBody, IsFaultOf}
-use Rattle.record_batches.specs.Examples.{int8_table, int8_body, no_texts_table, compressed_head, long_head, nodeless_head}
-use Rattle.record_batches.specs.Examples.{bufferless_head, bodiless_head, cut_head, short_head, garbled_head, garbled_body}
-use Rattle.record_batches.proofs.WorkedBatches.{all_below, few_of, body_there, some_node, range_within, below}
+use Rattle.batch_types.specs.declared.fault.BatchFault.TheVariants as fault
+use Rattle.batch_types.specs.Layouts.{bytes_layout, utf8_layout}
+use Rattle.batch_types.specs.Laid.{Range, laid, no_column, column_then}
+use Rattle.batch_types.specs.Placed.{buffer_at, offset_at}
+use Rattle.batch_types.specs.Rules.{IsInside, HasBuffers, DoRise}
+use Rattle.batch_types.specs.LaysOut.{HasRowsWithin, HasBody, IsFaultOf}
+use Rattle.batch_types.specs.Examples.{int8_table, int8_body, no_texts_table, compressed_head, long_head, nodeless_head}
+use Rattle.batch_types.specs.Examples.{bufferless_head, bodiless_head, cut_head, short_head, garbled_head, garbled_body}
+use Rattle.batch_types.proofs.WorkedBatches.{all_below, few_of, body_there, some_node, range_within, below}
 
 pub compressed : IsFaultOf int8_table compressed_head int8_body fault.Compressed
 compressed = inl (inl (refl, λ plain. true≢false plain))

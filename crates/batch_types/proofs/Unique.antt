@@ -4,13 +4,13 @@ use Rattle.std.proofs.Math.Seq.{take-append_seam, drop-append_seam}
 use Rattle.std.specs.List.{range_with_len}
 use Rattle.header_types.specs.Fields.{Tree, tree, Forest, no_more, more, SchemaTree}
 use Rattle.header_types.specs.Header.{Head}
-use Rattle.record_batches.specs.declared.fault.BatchFault.{BatchFault}
-use Rattle.record_batches.specs.Cells.{Cell, Rows}
-use Rattle.record_batches.specs.Layouts.{Layout, buffers_in_layout}
-use Rattle.record_batches.specs.Laid.{Node, Range, LaidColumn, laid, LaidColumns, no_column, column_then}
-use Rattle.record_batches.specs.Laid.{nodes_of, nodes_in, buffers_of, buffers_in, IsColumnOf, AreColumnsOf}
-use Rattle.record_batches.specs.Order.{AreKept, IsFirstBroken, head_order, column_order}
-use Rattle.record_batches.specs.LaysOut.{KeepsRule, KeepsHeadRule, IsSound, AreSound, HasFault, HaveFault, HasColumns, LaysOut, IsFaultOf, body_of, columns_at}
+use Rattle.batch_types.specs.declared.fault.BatchFault.{BatchFault}
+use Rattle.batch_types.specs.Cells.{Cell, Rows}
+use Rattle.batch_types.specs.Layouts.{Layout, buffers_in_layout}
+use Rattle.batch_types.specs.Laid.{Node, Range, LaidColumn, laid, LaidColumns, no_column, column_then}
+use Rattle.batch_types.specs.Laid.{nodes_of, nodes_in, buffers_of, buffers_in, IsColumnOf, AreColumnsOf}
+use Rattle.batch_types.specs.Order.{AreKept, IsFirstBroken, head_order, column_order}
+use Rattle.batch_types.specs.LaysOut.{KeepsRule, KeepsHeadRule, IsSound, AreSound, HasFault, HaveFault, HasColumns, LaysOut, IsFaultOf, body_of, columns_at}
 
 -- ---- the columns of a header
 

@@ -5,11 +5,11 @@ use Rattle.std.specs.Prelude.{length, take, drop, get_or}
 use Rattle.std.specs.List.{range_with_len}
 use Rattle.byteorder.specs.Endian.{little_number, twos_complement}
 use Rattle.bitmaps.specs.Bits.{bit_of}
-use Rattle.record_batches.specs.Cells.{Cell, null_cell, bit_cell, bytes_cell, list_cell, tuple_cell, Cells, no_cell}
-use Rattle.record_batches.specs.Cells.{cell_then, cells_of}
-use Rattle.record_batches.specs.Layouts.{Layout, null_layout, bits_layout, bytes_layout, binary_layout, utf8_layout}
-use Rattle.record_batches.specs.Layouts.{list_layout, fixed_size_list_layout, struct_layout}
-use Rattle.record_batches.specs.Laid.{Range, LaidColumn, laid, LaidColumns, no_column, column_then}
+use Rattle.batch_types.specs.Cells.{Cell, null_cell, bit_cell, bytes_cell, list_cell, tuple_cell, Cells, no_cell}
+use Rattle.batch_types.specs.Cells.{cell_then, cells_of}
+use Rattle.batch_types.specs.Layouts.{Layout, null_layout, bits_layout, bytes_layout, binary_layout, utf8_layout}
+use Rattle.batch_types.specs.Layouts.{list_layout, fixed_size_list_layout, struct_layout}
+use Rattle.batch_types.specs.Laid.{Range, LaidColumn, laid, LaidColumns, no_column, column_then}
 
 -- ---- buffers
 

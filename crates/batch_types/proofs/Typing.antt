@@ -9,18 +9,19 @@ use Rattle.std.proofs.Common.{◌≡◌, ◌⊎◌, inl, inr, refl, sym, ap, ◌
 use Rattle.std.specs.List.{AllByRecursion, filter, flat_map, range_with_len}
 use Rattle.std.specs.Str.{IsUtf8}
 use Rattle.header_types.specs.Fields.{Tree, tree, Forest, no_more, more, width, SchemaTree}
-use Rattle.record_batches.specs.Cells.{Cell, null_cell, bit_cell, bytes_cell, list_cell, tuple_cell, Cells, no_cell}
-use Rattle.record_batches.specs.Cells.{cell_then, cells_of, Rows}
-use Rattle.record_batches.specs.Layouts.{Layout, null_layout, bits_layout, bytes_layout, binary_layout, utf8_layout}
-use Rattle.record_batches.specs.Layouts.{list_layout, fixed_size_list_layout, struct_layout, layout_of, buffers_in_layout}
-use Rattle.record_batches.specs.Laid.{Node, Range, LaidColumn, laid, LaidColumns, no_column, column_then, IsColumnOf, AreColumnsOf}
-use Rattle.record_batches.specs.Placed.{buffer_at, bytes_from, is_valid, value_at, cell_at, cells_inside, fields_at, value_bytes, start_of, length_of, offset_at}
-use Rattle.record_batches.specs.Rules.{HasBuffers, AreOffsetsLong, DoRise, OffsetsRise, AreUtf8, HasOffsets, first_length, asked_inside, places_of, places_inside}
-use Rattle.record_batches.specs.LaysOut.{KeepsRule, IsSound, AreSound, LaysOut, columns_at, body_of}
-use Rattle.record_batches.specs.Order.{AreKept, column_order}
+use Rattle.batch_types.specs.Cells.{Cell, null_cell, bit_cell, bytes_cell, list_cell, tuple_cell, Cells, no_cell}
+use Rattle.batch_types.specs.Cells.{cell_then, cells_of, Rows}
+use Rattle.batch_types.specs.Layouts.{Layout, null_layout, bits_layout, bytes_layout, binary_layout, utf8_layout}
+use Rattle.batch_types.specs.Layouts.{list_layout, fixed_size_list_layout, struct_layout, layout_of, buffers_in_layout}
+use Rattle.batch_types.specs.Shapes.{shape_of, shapes_of}
+use Rattle.batch_types.specs.Laid.{Node, Range, LaidColumn, laid, LaidColumns, no_column, column_then, IsColumnOf, AreColumnsOf}
+use Rattle.batch_types.specs.Placed.{buffer_at, bytes_from, is_valid, value_at, cell_at, cells_inside, fields_at, value_bytes, start_of, length_of, offset_at}
+use Rattle.batch_types.specs.Rules.{HasBuffers, AreOffsetsLong, DoRise, OffsetsRise, AreUtf8, HasOffsets, first_length, asked_inside, places_of, places_inside}
+use Rattle.batch_types.specs.LaysOut.{KeepsRule, IsSound, AreSound, LaysOut, columns_at, body_of}
+use Rattle.batch_types.specs.Order.{AreKept, column_order}
 use Rattle.header_types.specs.Profile.{IsWellFormedTree, IsWellFormedForest, InProfile}
 use Rattle.header_types.specs.Header.{Head}
-use Rattle.record_batches.specs.Typed.{AreColumnsOfRows, AreRowsOf, IsCellOf, IsElementOf, AreFieldsOf, FitsLayout, AllCells, count_of}
+use Rattle.batch_types.specs.Typed.{AreColumnsOfRows, AreRowsOf, IsCellOf, IsElementOf, AreFieldsOf, FitsLayout, AllCells, count_of}
 
 -- ---- lists
 
@@ -377,10 +378,10 @@ typed_inside : (body : List ℕ) (d : DataType) (inside : Forest) (l : Layout) (
     → AllowsChildren d (width inside) → (l ≡ layout_of d) × (length r ≡ buffers_in_layout l) × AreColumnsOf inside i
     → IsSound body (laid l n r i) asked places → AllByRecursion (λ j. j < nat_abs n.0) places
     → ((few : ℕ) (inner : List ℕ) → width inside ≡ 1 → AreSound body i few inner → AllByRecursion (λ p. p < first_length i) inner
-    → AllByRecursion (ElementAt body (IsElementOf inside) i) inner)
+    → AllByRecursion (ElementAt body (IsElementOf (shapes_of inside)) i) inner)
     → ((few : ℕ) (inner : List ℕ) → AreSound body i few inner → AllByRecursion (λ p. p < few) inner
-    → AllByRecursion (λ p. AreFieldsOf inside (fields_at body i p)) inner)
-    → Inside body n r i (IsElementOf inside) (AreFieldsOf inside) places l
+    → AllByRecursion (λ p. AreFieldsOf (shapes_of inside) (fields_at body i p)) inner)
+    → Inside body n r i (IsElementOf (shapes_of inside)) (AreFieldsOf (shapes_of inside)) places l
 typed_inside body d inside null_layout n r i asked places allows of sound bound elements fields = tt
 typed_inside body d inside bits_layout n r i asked places allows of sound bound elements fields = tt
 typed_inside body d inside (bytes_layout size) n r i asked places allows of sound bound elements fields = tt
@@ -390,41 +391,41 @@ typed_inside body d inside (list_layout offset) n r i asked places allows of sou
     let one : width inside ≡ 1 = one_inside d (width inside) allows (ap has_elements (sym of.0)) in
     let some : 0 < offset = subst (λ k. 0 < offset_in k) (sym of.0) (some_offset d) in
     elements 0 (places_inside body (list_layout offset) r places) one sound.1
-    (list_bound body n r i (IsElementOf inside) (AreFieldsOf inside) places bound offset some sound.0.0 sound.0.1.1.0)
+    (list_bound body n r i (IsElementOf (shapes_of inside)) (AreFieldsOf (shapes_of inside)) places bound offset some sound.0.0 sound.0.1.1.0)
 typed_inside body d inside (fixed_size_list_layout size) n r i asked places allows of sound bound elements fields =
     let one : width inside ≡ 1 = one_inside d (width inside) allows (ap has_elements (sym of.0)) in
     elements (size * nat_abs n.0) (places_inside body (fixed_size_list_layout size) r places) one sound.1
-    (fixed_list_bound body n r i (IsElementOf inside) (AreFieldsOf inside) places bound size (first_length i)
+    (fixed_list_bound body n r i (IsElementOf (shapes_of inside)) (AreFieldsOf (shapes_of inside)) places bound size (first_length i)
     (long_first body inside i (size * nat_abs n.0) (places_inside body (fixed_size_list_layout size) r places) one of.2 sound.1))
 typed_inside body d inside struct_layout n r i asked places allows of sound bound elements fields =
     fields (nat_abs n.0) (places_inside body struct_layout r places) sound.1
-    (struct_bound body n r i (IsElementOf inside) (AreFieldsOf inside) places bound)
+    (struct_bound body n r i (IsElementOf (shapes_of inside)) (AreFieldsOf (shapes_of inside)) places bound)
 
 mutual
   pub typed_column : (body : List ℕ) (t : Tree) (c : LaidColumn) (asked : ℕ) (places : List ℕ) → IsWellFormedTree t → IsColumnOf t c → IsSound body c asked places
-      → AllByRecursion (λ j. j < length_in c) places → AllByRecursion (λ j. IsCellOf t (cell_at body c j)) places
+      → AllByRecursion (λ j. j < length_in c) places → AllByRecursion (λ j. IsCellOf (shape_of t) (cell_at body c j)) places
   typed_column body (tree field entries inside) (laid l n r i) asked places formed of sound bound =
-      subst (λ k. AllByRecursion (λ j. FitsLayout k (IsElementOf inside) (AreFieldsOf inside) (cell_at body (laid l n r i) j)) places) of.0
-      (fitting body n r i (IsElementOf inside) (AreFieldsOf inside) places bound l
-      (premises_of body n r i (IsElementOf inside) (AreFieldsOf inside) asked places bound l sound.0
+      subst (λ k. AllByRecursion (λ j. FitsLayout k (IsElementOf (shapes_of inside)) (AreFieldsOf (shapes_of inside)) (cell_at body (laid l n r i) j)) places) of.0
+      (fitting body n r i (IsElementOf (shapes_of inside)) (AreFieldsOf (shapes_of inside)) places bound l
+      (premises_of body n r i (IsElementOf (shapes_of inside)) (AreFieldsOf (shapes_of inside)) asked places bound l sound.0
       (typed_inside body field.data_type inside l n r i asked places formed.0 of sound bound
       (λ few inner one. typed_elements body inside i few inner one formed.2 of.2)
       (λ few inner. typed_fields body inside i few inner formed.2 of.2))))
 
   typed_elements : (body : List ℕ) (f : Forest) (cs : LaidColumns) (asked : ℕ) (places : List ℕ) → width f ≡ 1 → IsWellFormedForest f → AreColumnsOf f cs
-      → AreSound body cs asked places → AllByRecursion (λ p. p < first_length cs) places → AllByRecursion (ElementAt body (IsElementOf f) cs) places
+      → AreSound body cs asked places → AllByRecursion (λ p. p < first_length cs) places → AllByRecursion (ElementAt body (IsElementOf (shapes_of f)) cs) places
   typed_elements body no_more cs asked places one formed of sound bound = absurd (omega (arith, one))
   typed_elements body (more t ts) no_column asked places one formed of sound bound = absurd of
   typed_elements body (more t ts) (column_then (laid l n r i) cs) asked places one formed of sound bound =
       typed_column body t (laid l n r i) asked places formed.0 of.0 sound.0 bound
 
   typed_fields : (body : List ℕ) (f : Forest) (cs : LaidColumns) (asked : ℕ) (places : List ℕ) → IsWellFormedForest f → AreColumnsOf f cs
-      → AreSound body cs asked places → AllByRecursion (λ p. p < asked) places → AllByRecursion (λ p. AreFieldsOf f (fields_at body cs p)) places
+      → AreSound body cs asked places → AllByRecursion (λ p. p < asked) places → AllByRecursion (λ p. AreFieldsOf (shapes_of f) (fields_at body cs p)) places
   typed_fields body no_more no_column asked places formed of sound bound = all_true _ (λ p. tt) places
   typed_fields body no_more (column_then c cs) asked places formed of sound bound = absurd of
   typed_fields body (more t ts) no_column asked places formed of sound bound = absurd of
   typed_fields body (more t ts) (column_then (laid l n r i) cs) asked places formed of sound bound =
-      both (λ p. IsCellOf t (cell_at body (laid l n r i) p)) (λ p. AreFieldsOf ts (fields_at body cs p)) places
+      both (λ p. IsCellOf (shape_of t) (cell_at body (laid l n r i) p)) (λ p. AreFieldsOf (shapes_of ts) (fields_at body cs p)) places
       (typed_column body t (laid l n r i) asked places formed.0 of.0 sound.0
       (mapped _ _ (λ p. p) (λ p below. lt_of_lt_of_le below sound.0.0.1.1.1.0) places bound))
       (typed_fields body ts cs asked places formed.1 of.1 sound.1 bound)
@@ -440,13 +441,13 @@ length_mapped f [] = refl
 length_mapped f (x ∷ xs) = ap suc (length_mapped f xs)
 
 typed_columns : (body : List ℕ) (f : Forest) (cs : LaidColumns) (count : ℕ) → IsWellFormedForest f → AreColumnsOf f cs
-    → AreSound body cs count (range_with_len 0 count) → AreColumnsOfRows count f (columns_at body cs count)
+    → AreSound body cs count (range_with_len 0 count) → AreColumnsOfRows count (shapes_of f) (columns_at body cs count)
 typed_columns body no_more no_column count formed of sound = tt
 typed_columns body no_more (column_then c cs) count formed of sound = absurd of
 typed_columns body (more t ts) no_column count formed of sound = absurd of
 typed_columns body (more t ts) (column_then (laid l n r i) cs) count formed of sound = (
   length_mapped (cell_at body (laid l n r i)) (range_with_len 0 count) ∙ length_run 0 count,
-  all_mapped (IsCellOf t) (cell_at body (laid l n r i)) (range_with_len 0 count)
+  all_mapped (IsCellOf (shape_of t)) (cell_at body (laid l n r i)) (range_with_len 0 count)
       (typed_column body t (laid l n r i) count (range_with_len 0 count) formed.0 of.0 sound.0
       (run_below 0 count (nat_abs n.0) (omega (arith, sound.0.0.1.1.1.0)))),
   typed_columns body ts cs count formed.1 of.1 sound.1,
@@ -454,5 +455,5 @@ typed_columns body (more t ts) (column_then (laid l n r i) cs) count formed of s
 
 pub typed_rows : (schema : SchemaTree) (head : Head) (body : List ℕ) (rows : Rows) → InProfile schema → LaysOut schema head body rows → AreRowsOf schema rows
 typed_rows schema head body rows profile laid_out =
-    subst (AreColumnsOfRows rows.count schema.fields) (sym laid_out.cells)
+    subst (AreColumnsOfRows rows.count (shapes_of schema.fields)) (sym laid_out.cells)
     (typed_columns (body_of head body) schema.fields laid_out.columns rows.count profile.well_formed laid_out.columns_are.of_schema laid_out.sound)

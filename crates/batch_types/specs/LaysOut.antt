@@ -5,15 +5,15 @@ use Rattle.std.specs.Prelude.{length, take, get_or}
 use Rattle.std.specs.List.{range_with_len}
 use Rattle.header_types.specs.Fields.{SchemaTree}
 use Rattle.header_types.specs.Header.{Head}
-use Rattle.record_batches.specs.declared.fault.BatchFault.{BatchFault}
-use Rattle.record_batches.specs.declared.fault.BatchFault.TheVariants as fault
-use Rattle.record_batches.specs.Order.{head_order, column_order, AreKept, IsFirstBroken}
-use Rattle.record_batches.specs.Cells.{Cell, Rows}
-use Rattle.record_batches.specs.Layouts.{Layout}
-use Rattle.record_batches.specs.Laid.{Node, Range, LaidColumn, laid, LaidColumns, no_column, column_then}
-use Rattle.record_batches.specs.Laid.{nodes_in, buffers_in, AreColumnsOf, node_count, buffer_count}
-use Rattle.record_batches.specs.Placed.{buffer_at, cell_at}
-use Rattle.record_batches.specs.Rules.{HasBuffers, HasNullCount, HasOffsets, AreUtf8, asked_inside, places_inside}
+use Rattle.batch_types.specs.declared.fault.BatchFault.{BatchFault}
+use Rattle.batch_types.specs.declared.fault.BatchFault.TheVariants as fault
+use Rattle.batch_types.specs.Order.{head_order, column_order, AreKept, IsFirstBroken}
+use Rattle.batch_types.specs.Cells.{Cell, Rows}
+use Rattle.batch_types.specs.Layouts.{Layout}
+use Rattle.batch_types.specs.Laid.{Node, Range, LaidColumn, laid, LaidColumns, no_column, column_then}
+use Rattle.batch_types.specs.Laid.{nodes_in, buffers_in, AreColumnsOf, node_count, buffer_count}
+use Rattle.batch_types.specs.Placed.{buffer_at, cell_at}
+use Rattle.batch_types.specs.Rules.{HasBuffers, HasNullCount, HasOffsets, AreUtf8, asked_inside, places_inside}
 
 -- ---- limits, which are this service's own
 

@@ -5,8 +5,8 @@ use Rattle.header_types.specs.declared.field_type.BitWidth.TheVariants.{Eight}
 use Rattle.header_types.specs.Fields.{DataType, null_type, int_type, utf8_type, bool_type, list_type, fixed_size_list_type}
 use Rattle.header_types.specs.Fields.{struct_type, Tree, tree, Forest, no_more, more, SchemaTree}
 use Rattle.header_types.specs.Header.{Head}
-use Rattle.record_batches.specs.Cells.{Cell, null_cell, bit_cell, bytes_cell, list_cell, tuple_cell, cells_of, Rows}
-use Rattle.record_batches.specs.Laid.{Node, Range}
+use Rattle.batch_types.specs.Cells.{Cell, null_cell, bit_cell, bytes_cell, list_cell, tuple_cell, cells_of, Rows}
+use Rattle.batch_types.specs.Laid.{Node, Range}
 
 -- ---- short words
 

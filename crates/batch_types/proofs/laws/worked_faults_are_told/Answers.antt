@@ -1,7 +1,7 @@
-use Rattle.record_batches.proofs.WorkedBatches.{miscounted, falling}
-use Rattle.record_batches.proofs.WorkedFaults.{compressed, too_many_rows, node_count, buffer_count, body_range}
-use Rattle.record_batches.proofs.WorkedFaults.{buffer_range, child_short, not_utf8}
-use Rattle.record_batches.proofs.laws.worked_faults_are_told.Goals as goal
+use Rattle.batch_types.proofs.WorkedBatches.{miscounted, falling}
+use Rattle.batch_types.proofs.WorkedFaults.{compressed, too_many_rows, node_count, buffer_count, body_range}
+use Rattle.batch_types.proofs.WorkedFaults.{buffer_range, child_short, not_utf8}
+use Rattle.batch_types.proofs.laws.worked_faults_are_told.Goals as goal
 
 pub returns-clause-compressed : goal.returns-clause-compressed
 returns-clause-compressed c = compressed

@@ -1,8 +1,8 @@
 use Rattle.std.proofs.Common.{◌≡◌, refl, ℕ, ◌+◌, pos, [], length, get_or, subst, arith}
-use Rattle.record_batches.specs.Rules.{IsInside}
-use Rattle.record_batches.specs.Canonical.{body_with, ranges_from}
-use Rattle.record_batches.proofs.Placing.{placed, aligned, inside, whole_body}
-use Rattle.record_batches.proofs.laws.written_buffers_stand_where_they_are_said.Goals as goal
+use Rattle.batch_types.specs.Rules.{IsInside}
+use Rattle.batch_types.specs.Canonical.{body_with, ranges_from}
+use Rattle.batch_types.proofs.Placing.{placed, aligned, inside, whole_body}
+use Rattle.batch_types.proofs.laws.written_buffers_stand_where_they_are_said.Goals as goal
 
 pub returns-clause-at : goal.returns-clause-at
 returns-clause-at c = λ buffers k within. placed [] buffers k (pos 0, pos 0) within

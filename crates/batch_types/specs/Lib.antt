@@ -1,5 +1,6 @@
 pub mod Cells
 pub mod Layouts
+pub mod Shapes
 pub mod Laid
 pub mod Placed
 pub mod Rules

@@ -1,5 +1,5 @@
-use Rattle.record_batches.proofs.Unique.{one_batch, one_fault, no_fault_of_a_batch}
-use Rattle.record_batches.proofs.laws.batches_are_one.Goals as goal
+use Rattle.batch_types.proofs.Unique.{one_batch, one_fault, no_fault_of_a_batch}
+use Rattle.batch_types.proofs.laws.batches_are_one.Goals as goal
 
 pub returns-clause-batch : goal.returns-clause-batch
 returns-clause-batch c = one_batch

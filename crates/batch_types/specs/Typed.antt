@@ -3,11 +3,12 @@
 use Rattle.std.specs.Prelude.{◌≡◌, ℕ, suc, ◌^◌, ◌<◌, ◌≤◌, List, [], ◌∷◌, length}
 use Rattle.std.specs.List.{AllByRecursion, sum_by}
 use Rattle.std.specs.Str.{IsUtf8}
-use Rattle.header_types.specs.Fields.{Tree, tree, Forest, no_more, more, SchemaTree}
-use Rattle.record_batches.specs.Cells.{Cell, null_cell, bit_cell, bytes_cell, list_cell, tuple_cell, Cells, no_cell}
-use Rattle.record_batches.specs.Cells.{cell_then, Rows}
-use Rattle.record_batches.specs.Layouts.{Layout, null_layout, bits_layout, bytes_layout, binary_layout, utf8_layout}
-use Rattle.record_batches.specs.Layouts.{list_layout, fixed_size_list_layout, struct_layout, layout_of}
+use Rattle.header_types.specs.Fields.{SchemaTree}
+use Rattle.batch_types.specs.Cells.{Cell, null_cell, bit_cell, bytes_cell, list_cell, tuple_cell, Cells, no_cell}
+use Rattle.batch_types.specs.Cells.{cell_then, Rows}
+use Rattle.batch_types.specs.Layouts.{Layout, null_layout, bits_layout, bytes_layout, binary_layout, utf8_layout}
+use Rattle.batch_types.specs.Layouts.{list_layout, fixed_size_list_layout, struct_layout}
+use Rattle.batch_types.specs.Shapes.{Shape, shape, Shapes, no_shape, shape_then, shapes_of}
 
 -- ---- cells of one kind; a null is a cell of every kind
 
@@ -70,29 +71,29 @@ FitsLayout struct_layout Element Fields cell = IsTuple Fields cell
 
 abbrev mutual
   -- the cell is one of the field
-  pub IsCellOf : Tree → Cell → Type 0
-  IsCellOf (tree field entries inside) cell = FitsLayout (layout_of field.data_type) (IsElementOf inside) (AreFieldsOf inside) cell
+  pub IsCellOf : Shape → Cell → Type 0
+  IsCellOf (shape layout inside) cell = FitsLayout layout (IsElementOf inside) (AreFieldsOf inside) cell
 
   -- of the first of the fields inside, the only one inside a list
-  pub IsElementOf : Forest → Cell → Type 0
-  IsElementOf no_more cell = ⊥
-  IsElementOf (more t rest) cell = IsCellOf t cell
+  pub IsElementOf : Shapes → Cell → Type 0
+  IsElementOf no_shape cell = ⊥
+  IsElementOf (shape_then s rest) cell = IsCellOf s cell
 
   -- one cell of each of the fields inside
-  pub AreFieldsOf : Forest → Cells → Type 0
-  AreFieldsOf no_more no_cell = Unit {0}
-  AreFieldsOf no_more (cell_then cell cells) = ⊥
-  AreFieldsOf (more t rest) no_cell = ⊥
-  AreFieldsOf (more t rest) (cell_then cell cells) = IsCellOf t cell × AreFieldsOf rest cells
+  pub AreFieldsOf : Shapes → Cells → Type 0
+  AreFieldsOf no_shape no_cell = Unit {0}
+  AreFieldsOf no_shape (cell_then cell cells) = ⊥
+  AreFieldsOf (shape_then s rest) no_cell = ⊥
+  AreFieldsOf (shape_then s rest) (cell_then cell cells) = IsCellOf s cell × AreFieldsOf rest cells
 
 -- a column for each field, of so many cells
-abbrev pub AreColumnsOfRows : ℕ → Forest → List (List Cell) → Type 0
-AreColumnsOfRows count no_more [] = Unit {0}
-AreColumnsOfRows count no_more (cells ∷ columns) = ⊥
-AreColumnsOfRows count (more t rest) [] = ⊥
-AreColumnsOfRows count (more t rest) (cells ∷ columns) =
-    (length cells ≡ count) × AllByRecursion (IsCellOf t) cells × AreColumnsOfRows count rest columns
+abbrev pub AreColumnsOfRows : ℕ → Shapes → List (List Cell) → Type 0
+AreColumnsOfRows count no_shape [] = Unit {0}
+AreColumnsOfRows count no_shape (cells ∷ columns) = ⊥
+AreColumnsOfRows count (shape_then s rest) [] = ⊥
+AreColumnsOfRows count (shape_then s rest) (cells ∷ columns) =
+    (length cells ≡ count) × AllByRecursion (IsCellOf s) cells × AreColumnsOfRows count rest columns
 
 -- the rows are of a table of this schema
 abbrev pub AreRowsOf : SchemaTree → Rows → Type 0
-AreRowsOf schema rows = AreColumnsOfRows rows.count schema.fields rows.columns
+AreRowsOf schema rows = AreColumnsOfRows rows.count (shapes_of schema.fields) rows.columns

@@ -6,13 +6,14 @@ use Rattle.std.specs.Prelude.{List, [], ◌∷◌, ◌++◌, map, length, take, 
 use Rattle.std.specs.List.{range_with_len, flat_map, count_by, sum_by}
 use Rattle.byteorder.specs.Endian.{little_bytes}
 use Rattle.bitmaps.specs.Packing.{packed_bytes}
-use Rattle.header_types.specs.Fields.{Tree, tree, Forest, no_more, more, SchemaTree}
+use Rattle.header_types.specs.Fields.{SchemaTree}
 use Rattle.header_types.specs.Header.{Head}
-use Rattle.record_batches.specs.Cells.{Cell, null_cell, bit_cell, bytes_cell, list_cell, tuple_cell, Cells, no_cell}
-use Rattle.record_batches.specs.Cells.{cell_then, cells_of, Rows}
-use Rattle.record_batches.specs.Layouts.{Layout, null_layout, bits_layout, bytes_layout, binary_layout, utf8_layout}
-use Rattle.record_batches.specs.Layouts.{list_layout, fixed_size_list_layout, struct_layout, layout_of}
-use Rattle.record_batches.specs.Laid.{Node, Range}
+use Rattle.batch_types.specs.Cells.{Cell, null_cell, bit_cell, bytes_cell, list_cell, tuple_cell, Cells, no_cell}
+use Rattle.batch_types.specs.Cells.{cell_then, cells_of, Rows}
+use Rattle.batch_types.specs.Layouts.{Layout, null_layout, bits_layout, bytes_layout, binary_layout, utf8_layout}
+use Rattle.batch_types.specs.Layouts.{list_layout, fixed_size_list_layout, struct_layout}
+use Rattle.batch_types.specs.Shapes.{Shape, shape, Shapes, no_shape, shape_then, shapes_of}
+use Rattle.batch_types.specs.Laid.{Node, Range}
 
 -- ---- blank cells, which stand in the columns inside a null
 
@@ -28,16 +29,16 @@ blank_cell (fixed_size_list_layout size) first fields = list_cell (cells_of (rep
 blank_cell struct_layout first fields = tuple_cell fields
 
 abbrev mutual
-  pub blank_of : Tree → Cell
-  blank_of (tree field entries inside) = blank_cell (layout_of field.data_type) (first_blank inside) (blanks_of inside)
+  pub blank_of : Shape → Cell
+  blank_of (shape layout inside) = blank_cell layout (first_blank inside) (blanks_of inside)
 
-  pub first_blank : Forest → Cell
-  first_blank no_more = null_cell
-  first_blank (more t rest) = blank_of t
+  pub first_blank : Shapes → Cell
+  first_blank no_shape = null_cell
+  first_blank (shape_then s rest) = blank_of s
 
-  pub blanks_of : Forest → Cells
-  blanks_of no_more = no_cell
-  blanks_of (more t rest) = cell_then (blank_of t) (blanks_of rest)
+  pub blanks_of : Shapes → Cells
+  blanks_of no_shape = no_cell
+  blanks_of (shape_then s rest) = cell_then (blank_of s) (blanks_of rest)
 
 -- ---- what a cell has
 
@@ -152,27 +153,27 @@ parts_inside struct_layout elements fields = fields
 
 abbrev mutual
   -- the parts of a column of these cells
-  pub parts_of : Tree → List Cell → Parts
-  parts_of (tree field entries inside) cells =
-      both_parts (own_parts (layout_of field.data_type) cells)
-      (parts_inside (layout_of field.data_type) (elements_parts inside cells) (fields_parts inside 0 cells))
+  pub parts_of : Shape → List Cell → Parts
+  parts_of (shape layout inside) cells =
+      both_parts (own_parts layout cells)
+      (parts_inside layout (elements_parts inside cells) (fields_parts inside 0 cells))
 
   -- of the elements of these cells, so many blank ones for each null
-  pub elements_parts : Forest → List Cell → ℕ → Parts
-  elements_parts no_more cells blanks = no_parts
-  elements_parts (more t rest) cells blanks = parts_of t (flat_map (elements_or (replicate blanks (blank_of t))) cells)
+  pub elements_parts : Shapes → List Cell → ℕ → Parts
+  elements_parts no_shape cells blanks = no_parts
+  elements_parts (shape_then s rest) cells blanks = parts_of s (flat_map (elements_or (replicate blanks (blank_of s))) cells)
 
   -- of the fields of these cells from this one on
-  pub fields_parts : Forest → ℕ → List Cell → Parts
-  fields_parts no_more k cells = no_parts
-  fields_parts (more t rest) k cells =
-      both_parts (parts_of t (map (field_or (blank_of t) k) cells)) (fields_parts rest (suc k) cells)
+  pub fields_parts : Shapes → ℕ → List Cell → Parts
+  fields_parts no_shape k cells = no_parts
+  fields_parts (shape_then s rest) k cells =
+      both_parts (parts_of s (map (field_or (blank_of s) k) cells)) (fields_parts rest (suc k) cells)
 
 -- the parts of the columns of a batch
-abbrev pub columns_parts : Forest → List (List Cell) → Parts
-columns_parts no_more columns = no_parts
-columns_parts (more t rest) [] = no_parts
-columns_parts (more t rest) (cells ∷ columns) = both_parts (parts_of t cells) (columns_parts rest columns)
+abbrev pub columns_parts : Shapes → List (List Cell) → Parts
+columns_parts no_shape columns = no_parts
+columns_parts (shape_then s rest) [] = no_parts
+columns_parts (shape_then s rest) (cells ∷ columns) = both_parts (parts_of s cells) (columns_parts rest columns)
 
 -- ---- the body
 
@@ -191,7 +192,7 @@ ranges_from place (buffer ∷ rest) =
     (pos place, pos (length buffer)) ∷ ranges_from (place + padded (length buffer)) rest
 
 abbrev pub canonical_parts : SchemaTree → Rows → Parts
-canonical_parts schema rows = columns_parts schema.fields rows.columns
+canonical_parts schema rows = columns_parts (shapes_of schema.fields) rows.columns
 
 abbrev pub canonical_body : SchemaTree → Rows → List ℕ
 canonical_body schema rows = body_with (canonical_parts schema rows).buffers

@@ -5,10 +5,10 @@ use Rattle.std.specs.Prelude.{◌≡◌, ◌⊎◌, ℕ, ◌+◌, ◌*◌, ◌/�
 use Rattle.std.specs.Prelude.{◌∷◌, length, get_or}
 use Rattle.std.specs.List.{range_with_len, filter, flat_map, count_by}
 use Rattle.std.specs.Str.{IsUtf8}
-use Rattle.record_batches.specs.Layouts.{Layout, null_layout, bits_layout, bytes_layout, binary_layout, utf8_layout}
-use Rattle.record_batches.specs.Layouts.{list_layout, fixed_size_list_layout, struct_layout}
-use Rattle.record_batches.specs.Laid.{Node, Range, laid, LaidColumns, no_column, column_then}
-use Rattle.record_batches.specs.Placed.{buffer_at, is_valid, offset_at, start_of, length_of, value_bytes}
+use Rattle.batch_types.specs.Layouts.{Layout, null_layout, bits_layout, bytes_layout, binary_layout, utf8_layout}
+use Rattle.batch_types.specs.Layouts.{list_layout, fixed_size_list_layout, struct_layout}
+use Rattle.batch_types.specs.Laid.{Node, Range, laid, LaidColumns, no_column, column_then}
+use Rattle.batch_types.specs.Placed.{buffer_at, is_valid, offset_at, start_of, length_of, value_bytes}
 
 -- ---- buffers
 

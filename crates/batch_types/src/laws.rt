@@ -3,24 +3,24 @@
 ghost use Rattle.std.specs.Prelude.{◌≡◌, ℕ, ◌<◌, ◌%◌, pos, nat_abs, List, [], length, get_or};
 ghost use Rattle.header_types.specs.Fields.{SchemaTree};
 ghost use Rattle.header_types.specs.Header.{Head};
-ghost use Rattle.record_batches.specs.declared.fault.BatchFault.{BatchFault as Fault};
-ghost use Rattle.record_batches.specs.declared.fault.BatchFault.TheVariants.{Compressed, TooManyRows, NodeCount};
-ghost use Rattle.record_batches.specs.declared.fault.BatchFault.TheVariants.{BufferCount, BufferRange, NullCount};
-ghost use Rattle.record_batches.specs.declared.fault.BatchFault.TheVariants.{OffsetsFall, ChildShort, NotUtf8};
-ghost use Rattle.record_batches.specs.Cells.{Rows};
-ghost use Rattle.record_batches.specs.LaysOut.{LaysOut, IsFaultOf};
+ghost use Rattle.batch_types.specs.declared.fault.BatchFault.{BatchFault as Fault};
+ghost use Rattle.batch_types.specs.declared.fault.BatchFault.TheVariants.{Compressed, TooManyRows, NodeCount};
+ghost use Rattle.batch_types.specs.declared.fault.BatchFault.TheVariants.{BufferCount, BufferRange, NullCount};
+ghost use Rattle.batch_types.specs.declared.fault.BatchFault.TheVariants.{OffsetsFall, ChildShort, NotUtf8};
+ghost use Rattle.batch_types.specs.Cells.{Rows};
+ghost use Rattle.batch_types.specs.LaysOut.{LaysOut, IsFaultOf};
 ghost use Rattle.header_types.specs.Profile.{InProfile};
-ghost use Rattle.record_batches.specs.Typed.{AreRowsOf};
-ghost use Rattle.record_batches.specs.Placed.{bytes_at};
-ghost use Rattle.record_batches.specs.Rules.{IsInside};
-ghost use Rattle.record_batches.specs.Canonical.{body_with, ranges_from, canonical_head, canonical_body};
-ghost use Rattle.record_batches.specs.Examples.{int8_table, int8_rows, int8_head, int8_body, texts_table, texts_rows};
-ghost use Rattle.record_batches.specs.Examples.{texts_head, texts_body, texts_canonical_head, texts_canonical_body};
-ghost use Rattle.record_batches.specs.Examples.{bool_table, bool_rows, bool_head, bool_body, pairs_table, pairs_rows};
-ghost use Rattle.record_batches.specs.Examples.{pairs_head, pairs_body, no_texts_table, no_texts_rows, no_texts_head};
-ghost use Rattle.record_batches.specs.Examples.{zeros, nulls_table, nulls_rows, nulls_head, miscounted_head, falling_head};
-ghost use Rattle.record_batches.specs.Examples.{falling_body, compressed_head, long_head, nodeless_head, bufferless_head};
-ghost use Rattle.record_batches.specs.Examples.{bodiless_head, cut_head, short_head, garbled_head, garbled_body};
+ghost use Rattle.batch_types.specs.Typed.{AreRowsOf};
+ghost use Rattle.batch_types.specs.Placed.{bytes_at};
+ghost use Rattle.batch_types.specs.Rules.{IsInside};
+ghost use Rattle.batch_types.specs.Canonical.{body_with, ranges_from, canonical_head, canonical_body};
+ghost use Rattle.batch_types.specs.Examples.{int8_table, int8_rows, int8_head, int8_body, texts_table, texts_rows};
+ghost use Rattle.batch_types.specs.Examples.{texts_head, texts_body, texts_canonical_head, texts_canonical_body};
+ghost use Rattle.batch_types.specs.Examples.{bool_table, bool_rows, bool_head, bool_body, pairs_table, pairs_rows};
+ghost use Rattle.batch_types.specs.Examples.{pairs_head, pairs_body, no_texts_table, no_texts_rows, no_texts_head};
+ghost use Rattle.batch_types.specs.Examples.{zeros, nulls_table, nulls_rows, nulls_head, miscounted_head, falling_head};
+ghost use Rattle.batch_types.specs.Examples.{falling_body, compressed_head, long_head, nodeless_head, bufferless_head};
+ghost use Rattle.batch_types.specs.Examples.{bodiless_head, cut_head, short_head, garbled_head, garbled_body};
 
 /// A header and a body lay out at most one batch, at most one fault is told of them, and none of what lays out a batch.
 pub fn batches_are_one()

@@ -3,7 +3,7 @@
 use Rattle.std.specs.Prelude.{◌≡◌, ℕ, ℤ, List, [], ◌∷◌, ◌++◌, length}
 use Rattle.header_types.specs.Fields.{Tree, tree, Forest, no_more, more}
 use Rattle.header_types.specs.Limits.{forest_sum}
-use Rattle.record_batches.specs.Layouts.{Layout, layout_of, buffers_in_layout}
+use Rattle.batch_types.specs.Layouts.{Layout, layout_of, buffers_in_layout}
 
 -- how many values a column has, and how many of them are null
 abbrev pub Node : Type 0

@@ -1,7 +1,7 @@
 -- Rules in the order in which they are looked at, each by the name of the fault that tells that it is broken.
 use Rattle.std.specs.Prelude.{◌≡◌, ◌⊎◌, List, [], ◌∷◌}
-use Rattle.record_batches.specs.declared.fault.BatchFault.{BatchFault}
-use Rattle.record_batches.specs.declared.fault.BatchFault.TheVariants as fault
+use Rattle.batch_types.specs.declared.fault.BatchFault.{BatchFault}
+use Rattle.batch_types.specs.declared.fault.BatchFault.TheVariants as fault
 
 -- of the header, first of all
 abbrev pub head_order : List BatchFault
