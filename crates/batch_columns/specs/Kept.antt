@@ -1,0 +1,57 @@
+-- What a column keeps: its buffers are those that are written of its cells, and the columns inside it hold no more than
+-- the cells need, with blank cells under nulls. So two columns of one shape hold the same cells where their bytes are the
+-- same, and to write one is to copy it.
+use Rattle.std.specs.Prelude.{◌≡◌, ℕ, suc, ◌<◌, ◌^◌, List, [], ◌∷◌, map, length, get_or, replicate}
+use Rattle.std.specs.List.{AllByRecursion, flat_map, sum_by}
+use Rattle.batch_types.specs.Cells.{Cell, null_cell}
+use Rattle.batch_types.specs.Layouts.{Layout, null_layout, bits_layout, bytes_layout, binary_layout, utf8_layout}
+use Rattle.batch_types.specs.Layouts.{list_layout, fixed_size_list_layout, struct_layout}
+use Rattle.batch_types.specs.Canonical.{own_buffers, blank_of, elements_or, field_or, nulls_of, bytes_lengths, elements_lengths}
+use Rattle.batch_types.specs.Shapes.{Shape, shape}
+use Rattle.batch_types.specs.Typed.{IsCellOf}
+use Rattle.batch_columns.specs.Contents.{Contents}
+use Rattle.batch_columns.specs.Held.{shapes_held}
+
+-- the elements of the cells, with so many blank ones under each null
+abbrev pub HasElements : ℕ → List Cell → List Contents → Type 0
+HasElements blanks cells [] = ⊥
+HasElements blanks cells (child ∷ rest) =
+    (child.cells ≡ flat_map (elements_or (replicate blanks (blank_of child.shape))) cells) × (rest ≡ [])
+
+-- field k of the cells and those behind it, each with a blank one under a null
+abbrev pub HaveFields : ℕ → List Cell → List Contents → Type 0
+HaveFields k cells [] = Unit {0}
+HaveFields k cells (child ∷ rest) =
+    (child.cells ≡ map (field_or (blank_of child.shape) k) cells) × HaveFields (suc k) cells rest
+
+-- the columns inside hold what is inside the cells
+abbrev pub HaveInside : Layout → List Cell → List Contents → Type 0
+HaveInside null_layout cells inside = inside ≡ []
+HaveInside bits_layout cells inside = inside ≡ []
+HaveInside (bytes_layout size) cells inside = inside ≡ []
+HaveInside (binary_layout offset) cells inside = inside ≡ []
+HaveInside (utf8_layout offset) cells inside = inside ≡ []
+HaveInside (list_layout offset) cells inside = HasElements 0 cells inside
+HaveInside (fixed_size_list_layout size) cells inside = HasElements size cells inside
+HaveInside struct_layout cells inside = HaveFields 0 cells inside
+
+-- what offsets count has fewer than 2^31 bytes or elements, so that a signed number of four bytes holds each
+abbrev pub AreCounted : Layout → List Cell → Type 0
+AreCounted null_layout cells = Unit {0}
+AreCounted bits_layout cells = Unit {0}
+AreCounted (bytes_layout size) cells = Unit {0}
+AreCounted (binary_layout offset) cells = sum_by (λ n. n) (bytes_lengths cells) < 2 ^ 31
+AreCounted (utf8_layout offset) cells = sum_by (λ n. n) (bytes_lengths cells) < 2 ^ 31
+AreCounted (list_layout offset) cells = sum_by (λ n. n) (elements_lengths cells) < 2 ^ 31
+AreCounted (fixed_size_list_layout size) cells = Unit {0}
+AreCounted struct_layout cells = Unit {0}
+
+pub record IsKept (layout : Layout) (cells : List Cell) (nulls : ℕ) (validity second third : List ℕ)
+    (inside : List Contents) : Type 0 where
+  pub nulls_counted : nulls ≡ nulls_of cells
+  pub first_buffer : validity ≡ get_or (own_buffers layout cells) 0 []
+  pub second_buffer : second ≡ get_or (own_buffers layout cells) 1 []
+  pub third_buffer : third ≡ get_or (own_buffers layout cells) 2 []
+  pub fit : AllByRecursion (IsCellOf (shape layout (shapes_held inside))) cells
+  pub held_inside : HaveInside layout cells inside
+  pub counted : AreCounted layout cells

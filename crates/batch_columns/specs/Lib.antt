@@ -1,0 +1,5 @@
+pub mod Contents
+pub mod Coding
+pub mod Held
+pub mod Kept
+pub mod Falls

@@ -1,0 +1,8 @@
+//! Columns of batches.
+#![tactic(auto)]
+
+mod column;
+mod layout;
+
+pub use column::Column;
+pub use layout::Layout;
