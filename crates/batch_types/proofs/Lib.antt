@@ -3,3 +3,4 @@ pub mod WorkedBatches
 pub mod WorkedFaults
 pub mod Typing
 pub mod Placing
+pub mod ReadBack
