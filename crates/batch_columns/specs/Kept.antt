@@ -1,7 +1,7 @@
 -- What a column keeps: its buffers are those that are written of its cells, and the columns inside it hold no more than
 -- the cells need, with blank cells under nulls. So two columns of one shape hold the same cells where their bytes are the
 -- same, and to write one is to copy it.
-use Rattle.std.specs.Prelude.{◌≡◌, ℕ, suc, ◌<◌, ◌^◌, List, [], ◌∷◌, map, length, get_or, replicate}
+use Rattle.std.specs.Prelude.{◌≡◌, ℕ, suc, ◌-◌, ◌*◌, ◌<◌, ◌^◌, List, [], ◌∷◌, map, length, get_or, replicate}
 use Rattle.std.specs.List.{AllByRecursion, flat_map, sum_by}
 use Rattle.batch_types.specs.Cells.{Cell, null_cell}
 use Rattle.batch_types.specs.Layouts.{Layout, null_layout, bits_layout, bytes_layout, binary_layout, utf8_layout}
@@ -35,14 +35,14 @@ HaveInside (list_layout offset) cells inside = HasElements 0 cells inside
 HaveInside (fixed_size_list_layout size) cells inside = HasElements size cells inside
 HaveInside struct_layout cells inside = HaveFields 0 cells inside
 
--- what offsets count has fewer than 2^31 bytes or elements, so that a signed number of four bytes holds each
+-- what offsets count is no more than a signed number of so many bytes says
 abbrev pub AreCounted : Layout → List Cell → Type 0
 AreCounted null_layout cells = Unit {0}
 AreCounted bits_layout cells = Unit {0}
 AreCounted (bytes_layout size) cells = Unit {0}
-AreCounted (binary_layout offset) cells = sum_by (λ n. n) (bytes_lengths cells) < 2 ^ 31
-AreCounted (utf8_layout offset) cells = sum_by (λ n. n) (bytes_lengths cells) < 2 ^ 31
-AreCounted (list_layout offset) cells = sum_by (λ n. n) (elements_lengths cells) < 2 ^ 31
+AreCounted (binary_layout offset) cells = sum_by (λ n. n) (bytes_lengths cells) < 2 ^ (8 * offset - 1)
+AreCounted (utf8_layout offset) cells = sum_by (λ n. n) (bytes_lengths cells) < 2 ^ (8 * offset - 1)
+AreCounted (list_layout offset) cells = sum_by (λ n. n) (elements_lengths cells) < 2 ^ (8 * offset - 1)
 AreCounted (fixed_size_list_layout size) cells = Unit {0}
 AreCounted struct_layout cells = Unit {0}
 
