@@ -171,12 +171,16 @@ module _ (law : ReadsBack) (cells : List Cell) (inside : List Contents) (j : ℕ
     where
       lengths : List ℕ
       lengths = elements_lengths cells
+
       start : ℕ
       start = start_of offset (offsets_of offset lengths) j
+
       count : ℕ
       count = length_of offset (offsets_of offset lengths) j
+
       counted : length lengths ≡ length cells
       counted = length-map cells (λ cell. length (elements_or [] cell))
+
       bound : start + count ≤ length (flat_map (elements_or []) cells)
       bound = omega (
         arith,
@@ -185,6 +189,7 @@ module _ (law : ReadsBack) (cells : List Cell) (inside : List Contents) (j : ℕ
         sum_front lengths j (omega (arith, counted, within)),
         flat_length (elements_or []) cells,
       )
+
       listed_elements : (children : List Contents) → HasElements 0 cells children → elements_held children (range_with_len start count) ≡ inner
       listed_elements [] none = absurd none
       listed_elements (child ∷ rest) (same, alone) =
@@ -205,12 +210,14 @@ module _ (law : ReadsBack) (cells : List Cell) (inside : List Contents) (j : ℕ
       length_in : (cells : Cells) → length (cells_in cells) ≡ count_of cells
       length_in no_cell = refl
       length_in (cell_then c rest) = ap suc (length_in rest)
+
       as_long : (blank : Cell) (c : Cell) → IsList (λ inner. (count_of inner ≡ size) × AllCells Element inner) c → length (elements_or (replicate size blank) c) ≡ size
       as_long blank null_cell of = length-replicate size blank
       as_long blank (bit_cell bit) of = absurd of
       as_long blank (bytes_cell bytes) of = absurd of
       as_long blank (list_cell inner) of = length_in inner ∙ of.0
       as_long blank (tuple_cell inner) of = absurd of
+
       fixed_elements : (children : List Contents) → HasElements size cells children → elements_held children (range_with_len (size * j) size) ≡ inner
       fixed_elements [] none = absurd none
       fixed_elements (child ∷ rest) (same, alone) =
@@ -336,3 +343,14 @@ module _ (law : ReadsBack) (cells : List Cell) (inside : List Contents) (nulls :
   kept_cells layout kept =
       listed null_cell (cell_held layout validity second third inside) cells 0
       (λ j within. ap (cell_held layout validity second third inside) (zero-add j) ∙ cell_back j within layout kept)
+
+-- what a column keeps of some cells, it keeps of those that it holds
+pub kept_held : ReadsBack → (layout : Layout) (cells : List Cell) (inside : List Contents) (count nulls : ℕ) (validity second third : List ℕ)
+    → length cells ≡ count → IsKept layout cells nulls validity second third inside
+    → (cells_held layout count validity second third inside ≡ cells)
+    × IsKept layout (cells_held layout count validity second third inside) nulls validity second third inside
+kept_held law layout cells inside count nulls validity second third counted kept =
+    let same : cells_held layout count validity second third inside ≡ cells =
+    ap (λ n. cells_held layout n validity second third inside) (sym counted)
+    ∙ kept_cells law cells inside nulls validity second third layout kept in
+    (same, subst (λ x. IsKept layout x nulls validity second third inside) (sym same) kept)

@@ -1,6 +1,7 @@
 //! A column: its buffers and the columns inside it.
 
 use crate::layout::Layout;
+use batch_types::laws::written_values_are_the_cells;
 use std::marker::Model;
 
 /// The values of one field for some rows: a list of cells, each of which is null, a bit, bytes, a list of elements or one
@@ -43,12 +44,102 @@ impl Model for Column {
 }
 
 impl Column {
-    ghost use Rattle.std.specs.Prelude.{◌≡◌, length};
+    ghost use Rattle.std.specs.Prelude.{◌≡◌, ◌↔◌, ℕ, List, [], length, get_or, IsTrue};
+    ghost use Rattle.batch_types.specs.Cells.{Cell};
+    ghost use Rattle.batch_types.specs.Shapes.{shape};
+    ghost use Rattle.batch_types.specs.Canonical.{own_buffers, nulls_of};
+    ghost use Rattle.batch_columns.specs.Contents.{layout_in, shapes_in};
+    ghost use Rattle.batch_columns.specs.Held.{layout_named, shapes_held};
+    ghost use Rattle.batch_columns.specs.Kept.{IsKept, HaveInside};
+
+    /// The column of some cells, by what is written of them: `count` of them, `nulls` of them null, their validity, what
+    /// the layout has in its second and in its third buffer, and the columns inside it. A buffer that the layout does not
+    /// have is empty.
+    pub fn from_parts(
+        layout: Layout,
+        count: usize,
+        nulls: usize,
+        validity: Vec<u8>,
+        second: Vec<u8>,
+        third: Vec<u8>,
+        inside: Vec<Column>,
+    ) -> Column
+        requires { (cells : List Cell) × (length cells ≡ count)
+            × IsKept (layout_named layout) cells nulls validity.items second.items third.items inside.items }
+        ensures shape { result.shape ≡ shape (layout_named layout) (shapes_held inside.items) }
+        ensures cells { (cells : List Cell) → length cells ≡ count
+            → IsKept (layout_named layout) cells nulls validity.items second.items third.items inside.items
+            → result.cells ≡ cells }
+    {
+        written_values_are_the_cells();
+        Column {
+            layout,
+            length: count,
+            nulls,
+            validity,
+            second,
+            third,
+            inside,
+        }
+    }
+
+    /// How its values stand in buffers.
+    pub fn layout(&self) -> Layout
+        ensures { layout_named result ≡ layout_in self.now }
+    {
+        self.layout
+    }
 
     /// How many cells there are.
     pub fn len(&self) -> usize
         ensures { result ≡ length self.now.cells }
     {
         self.length
+    }
+
+    /// Whether there is no cell.
+    pub fn is_empty(&self) -> bool
+        ensures { IsTrue result ↔ (self.now.cells ≡ []) }
+    {
+        self.len() == 0
+    }
+
+    /// How many of the cells are null ("Null count").
+    pub fn null_count(&self) -> usize
+        ensures { result ≡ nulls_of self.now.cells }
+    {
+        self.nulls
+    }
+
+    /// Which cells are valid, packed as "Validity bitmaps" says; no bytes where no cell is null, and in the layout `Null`.
+    pub fn validity(&self) -> &[u8]
+        ensures { result.now ≡ get_or (own_buffers (layout_in self.now) self.now.cells) 0 [] }
+    {
+        self.validity.as_slice()
+    }
+
+    /// The second buffer as it is written: the values of fixed size, their bits in the layout `Bits`, or the offsets of
+    /// those of variable size, each a signed number of four bytes, the lowest first; no bytes in a layout without one.
+    pub fn second(&self) -> &[u8]
+        ensures { result.now ≡ get_or (own_buffers (layout_in self.now) self.now.cells) 1 [] }
+    {
+        self.second.as_slice()
+    }
+
+    /// The third buffer as it is written: the bytes that offsets lead into; no bytes in a layout without one.
+    pub fn third(&self) -> &[u8]
+        ensures { result.now ≡ get_or (own_buffers (layout_in self.now) self.now.cells) 2 [] }
+    {
+        self.third.as_slice()
+    }
+
+    /// The columns inside it: one of the elements of a list, one of each field of a struct, none in the other layouts.
+    /// They hold the elements or fields of the cells that are not null, in order, and blank ones under a null: none in
+    /// the layout `List`, as many as its size in `FixedSizeList`, one of each field in `Struct`.
+    pub fn inside(&self) -> &[Column]
+        ensures shapes { shapes_held result.now ≡ shapes_in self.now }
+        ensures held { HaveInside (layout_in self.now) self.now.cells result.now }
+    {
+        self.inside.as_slice()
     }
 }
