@@ -4,3 +4,4 @@ pub mod WorkedFaults
 pub mod Typing
 pub mod Placing
 pub mod ReadBack
+pub mod WrittenCells

@@ -56,7 +56,8 @@ even_start f size (x ∷ xs) (suc j) even within =
     let more : size * suc j ≡ size * j + size = mul-suc size j in
     omega (arith, length-append (f x) (flat_map f (take j xs)), rest, more, even.0)
 
-all_at : {X : Type 0} (P : X → Type 0) (xs : List X) (j : ℕ) (d : X) → AllByRecursion P xs → j < length xs → P (get_or xs j d)
+-- what holds of each holds of one
+pub all_at : {X : Type 0} (P : X → Type 0) (xs : List X) (j : ℕ) (d : X) → AllByRecursion P xs → j < length xs → P (get_or xs j d)
 all_at P [] j d all within = absurd (omega arith)
 all_at P (x ∷ xs) zero d all within = all.0
 all_at P (x ∷ xs) (suc j) d all within = all_at P xs j d all.1 (omega arith)

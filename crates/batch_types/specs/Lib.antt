@@ -7,5 +7,6 @@ pub mod Rules
 pub mod Order
 pub mod LaysOut
 pub mod Canonical
+pub mod Written
 pub mod Examples
 pub mod Typed

@@ -1,7 +1,7 @@
 //! Laws of the definitions that reading and writing are to be proved against.
 
-ghost use Rattle.std.specs.Prelude.{◌≡◌, ◌≢◌, ℕ, ◌-◌, ◌*◌, ◌^◌, ◌<◌, ◌≤◌, ◌%◌, pos, nat_abs, not, List, [], map, length};
-ghost use Rattle.std.specs.Prelude.{take, drop, replicate, get_or};
+ghost use Rattle.std.specs.Prelude.{◌≡◌, ◌≢◌, ℕ, ◌-◌, ◌*◌, ◌^◌, ◌<◌, ◌≤◌, ◌%◌, pos, nat_abs, not, List, []};
+ghost use Rattle.std.specs.Prelude.{map, length, take, drop, replicate, get_or};
 ghost use Rattle.std.specs.List.{AllByRecursion, flat_map, sum_by};
 ghost use Rattle.bitmaps.specs.Bits.{bit_of};
 ghost use Rattle.bitmaps.specs.Packing.{packed_bytes};
@@ -15,12 +15,14 @@ ghost use Rattle.batch_types.specs.Cells.{Cell, null_cell, Rows};
 ghost use Rattle.batch_types.specs.Layouts.{Layout, null_layout};
 ghost use Rattle.batch_types.specs.LaysOut.{LaysOut, IsFaultOf};
 ghost use Rattle.header_types.specs.Profile.{InProfile};
-ghost use Rattle.batch_types.specs.Typed.{AreBytes, AreRowsOf};
+ghost use Rattle.batch_types.specs.Shapes.{shape, Shapes};
+ghost use Rattle.batch_types.specs.Typed.{AreBytes, IsCellOf, AreRowsOf};
 ghost use Rattle.batch_types.specs.Placed.{bytes_from, bytes_at, is_valid, offset_at, start_of, length_of, value_bytes};
 ghost use Rattle.batch_types.specs.Rules.{IsInside, DoRise};
 ghost use Rattle.batch_types.specs.Canonical.{is_null, bit_in, bytes_or, elements_or, validity_of, offsets_of};
 ghost use Rattle.batch_types.specs.Canonical.{bytes_lengths, elements_lengths, body_with, ranges_from, canonical_head};
 ghost use Rattle.batch_types.specs.Canonical.{canonical_body};
+ghost use Rattle.batch_types.specs.Written.{HasRoom, written_cell};
 ghost use Rattle.batch_types.specs.Examples.{int8_table, int8_rows, int8_head, int8_body, texts_table, texts_rows};
 ghost use Rattle.batch_types.specs.Examples.{texts_head, texts_body, texts_canonical_head, texts_canonical_body};
 ghost use Rattle.batch_types.specs.Examples.{bool_table, bool_rows, bool_head, bool_body, pairs_table, pairs_rows};
@@ -63,17 +65,20 @@ pub fn written_buffers_stand_where_they_are_said()
 
 /// What is written of the cells of a column is those cells where it is read: which of them are null, their bits, their
 /// bytes, and where the bytes or the elements of each begin and end. Offsets are signed numbers of so many bytes, and say
-/// so much as such a number can: with four of them, less than 2,147,483,648 bytes or elements in all.
+/// so much as such a number can: with four of them, less than 2,147,483,648 bytes or elements in all. Put together, each
+/// cell of a column is read of the column's own buffers, where those of the columns inside it are read of theirs.
 pub fn written_values_are_the_cells()
     ensures valid { (layout : Layout) (cells : List Cell) (j : ℕ) → layout ≢ null_layout → j < length cells
         → is_valid layout (validity_of cells) j ≡ not (is_null (get_or cells j null_cell)) }
     ensures bits { (cells : List Cell) (j : ℕ)
         → bit_of (packed_bytes (map bit_in cells)) j ≡ bit_in (get_or cells j null_cell) }
-    ensures sized { (size : ℕ) (cells : List Cell) (j : ℕ) → AllByRecursion (AreBytes (λ bytes. length bytes ≡ size)) cells
-        → j < length cells → bytes_from (flat_map (bytes_or (replicate size 0)) cells) (size * j) size
+    ensures sized { (size : ℕ) (cells : List Cell) (j : ℕ)
+        → AllByRecursion (AreBytes (λ bytes. length bytes ≡ size)) cells → j < length cells
+        → bytes_from (flat_map (bytes_or (replicate size 0)) cells) (size * j) size
         ≡ bytes_or (replicate size 0) (get_or cells j null_cell) }
     ensures offsets { (size : ℕ) (lengths : List ℕ) (j : ℕ) → sum_by (λ n. n) lengths < 2 ^ (8 * size - 1)
-        → j ≤ length lengths → offset_at size (offsets_of size lengths) j ≡ pos (sum_by (λ n. n) (take j lengths)) }
+        → j ≤ length lengths
+        → offset_at size (offsets_of size lengths) j ≡ pos (sum_by (λ n. n) (take j lengths)) }
     ensures starts { (size : ℕ) (lengths : List ℕ) (j : ℕ) → sum_by (λ n. n) lengths < 2 ^ (8 * size - 1)
         → j ≤ length lengths → start_of size (offsets_of size lengths) j ≡ sum_by (λ n. n) (take j lengths) }
     ensures lengths { (size : ℕ) (lengths : List ℕ) (j : ℕ) → sum_by (λ n. n) lengths < 2 ^ (8 * size - 1)
@@ -89,6 +94,9 @@ pub fn written_values_are_the_cells()
         → take (length_of size (offsets_of size (elements_lengths cells)) j)
         (drop (start_of size (offsets_of size (elements_lengths cells)) j) (flat_map (elements_or []) cells))
         ≡ elements_or [] (get_or cells j null_cell) }
+    ensures cells { (layout : Layout) (inside : Shapes) (cells : List Cell) (j : ℕ)
+        → AllByRecursion (IsCellOf (shape layout inside)) cells → HasRoom layout cells → j < length cells
+        → written_cell layout inside cells j ≡ get_or cells j null_cell }
 {
     bits_are_packed_by_eights();
 }

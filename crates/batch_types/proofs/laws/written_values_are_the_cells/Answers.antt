@@ -1,5 +1,6 @@
 use Rattle.batch_types.proofs.ReadBack.{valid_is, bit_is, sized_is, offset_is, start_is, length_is, offsets_rise}
 use Rattle.batch_types.proofs.ReadBack.{bytes_are, elements_are}
+use Rattle.batch_types.proofs.WrittenCells.{cell_is}
 use Rattle.batch_types.proofs.laws.written_values_are_the_cells.Goals as goal
 
 pub returns-clause-valid : goal.returns-clause-valid
@@ -28,3 +29,6 @@ returns-clause-sized_by_offsets c = bytes_are
 
 pub returns-clause-elements : goal.returns-clause-elements
 returns-clause-elements c = elements_are
+
+pub returns-clause-cells : goal.returns-clause-cells
+returns-clause-cells c = cell_is c.bits_are_packed_by_eights.ensures
