@@ -1,14 +1,15 @@
 -- What a column keeps: its buffers are those that are written of its cells, and the columns inside it hold no more than
 -- the cells need, with blank cells under nulls. So two columns of one shape hold the same cells where their bytes are the
 -- same, and to write one is to copy it.
-use Rattle.std.specs.Prelude.{◌≡◌, ℕ, suc, ◌-◌, ◌*◌, ◌<◌, ◌^◌, List, [], ◌∷◌, map, length, get_or, replicate}
-use Rattle.std.specs.List.{AllByRecursion, flat_map, sum_by}
-use Rattle.batch_types.specs.Cells.{Cell, null_cell}
+use Rattle.std.specs.Prelude.{◌≡◌, ℕ, suc, List, [], ◌∷◌, map, get_or, replicate}
+use Rattle.std.specs.List.{AllByRecursion, flat_map}
+use Rattle.batch_types.specs.Cells.{Cell}
 use Rattle.batch_types.specs.Layouts.{Layout, null_layout, bits_layout, bytes_layout, binary_layout, utf8_layout}
 use Rattle.batch_types.specs.Layouts.{list_layout, fixed_size_list_layout, struct_layout}
-use Rattle.batch_types.specs.Canonical.{own_buffers, blank_of, elements_or, field_or, nulls_of, bytes_lengths, elements_lengths}
-use Rattle.batch_types.specs.Shapes.{Shape, shape}
+use Rattle.batch_types.specs.Canonical.{own_buffers, blank_of, elements_or, field_or, nulls_of}
+use Rattle.batch_types.specs.Shapes.{shape}
 use Rattle.batch_types.specs.Typed.{IsCellOf}
+use Rattle.batch_types.specs.Written.{HasRoom}
 use Rattle.batch_columns.specs.Contents.{Contents}
 use Rattle.batch_columns.specs.Held.{shapes_held}
 
@@ -35,17 +36,7 @@ HaveInside (list_layout offset) cells inside = HasElements 0 cells inside
 HaveInside (fixed_size_list_layout size) cells inside = HasElements size cells inside
 HaveInside struct_layout cells inside = HaveFields 0 cells inside
 
--- what offsets count is no more than a signed number of so many bytes says
-abbrev pub AreCounted : Layout → List Cell → Type 0
-AreCounted null_layout cells = Unit {0}
-AreCounted bits_layout cells = Unit {0}
-AreCounted (bytes_layout size) cells = Unit {0}
-AreCounted (binary_layout offset) cells = sum_by (λ n. n) (bytes_lengths cells) < 2 ^ (8 * offset - 1)
-AreCounted (utf8_layout offset) cells = sum_by (λ n. n) (bytes_lengths cells) < 2 ^ (8 * offset - 1)
-AreCounted (list_layout offset) cells = sum_by (λ n. n) (elements_lengths cells) < 2 ^ (8 * offset - 1)
-AreCounted (fixed_size_list_layout size) cells = Unit {0}
-AreCounted struct_layout cells = Unit {0}
-
+-- so many nulls, the buffers and the columns inside are those of these cells
 pub record IsKept (layout : Layout) (cells : List Cell) (nulls : ℕ) (validity second third : List ℕ)
     (inside : List Contents) : Type 0 where
   pub nulls_counted : nulls ≡ nulls_of cells
@@ -54,4 +45,4 @@ pub record IsKept (layout : Layout) (cells : List Cell) (nulls : ℕ) (validity 
   pub third_buffer : third ≡ get_or (own_buffers layout cells) 2 []
   pub fit : AllByRecursion (IsCellOf (shape layout (shapes_held inside))) cells
   pub held_inside : HaveInside layout cells inside
-  pub counted : AreCounted layout cells
+  pub room : HasRoom layout cells
