@@ -1,6 +1,7 @@
 //! Columns of batches.
 #![tactic(auto)]
 
+mod building;
 mod column;
 mod layout;
 
