@@ -1,6 +1,6 @@
 -- What is laid down of the cells of a column, read again.
-use Rattle.std.proofs.Common.{◌≡◌, ◌≢◌, refl, sym, ap, ◌∙◌, subst, ℕ, zero, suc, ◌+◌, ◌-◌, ◌*◌, ◌/◌, ◌^◌, ◌<◌, ◌≤◌, ◌==◌, ◌||◌, ℤ, pos, ◌-ℤ◌, nat_abs, ◌≤ℤ◌, Bool, true, false, not, if◌then◌else◌, List, [], ◌∷◌, ◌++◌, length, get_or, map, take, drop, replicate, arith, length-append, inl, inr, ◌⊎◌}
-use Rattle.std.specs.List.{AllByRecursion, range_with_len, flat_map, count_by, sum_by}
+use Rattle.std.proofs.Common.{◌≡◌, ◌≢◌, refl, sym, ap, ◌∙◌, subst, ℕ, zero, suc, ◌+◌, ◌-◌, ◌*◌, ◌/◌, ◌^◌, ◌<◌, ◌≤◌, ◌==◌, ◌||◌, pos, ◌-ℤ◌, nat_abs, ◌≤ℤ◌, Bool, true, false, not, if◌then◌else◌, List, [], ◌∷◌, ◌++◌, length, get_or, map, take, drop, replicate, arith, length-append}
+use Rattle.std.specs.List.{AllByRecursion, range_with_len, flat_map, sum_by}
 use Rattle.std.proofs.lemmas.Int.{ints}
 use Rattle.std.proofs.lemmas.Bool.{lt-ltb, eqb-true}
 use Rattle.std.proofs.lemmas.List.{append-nil, get_or-map, length-map}
@@ -11,14 +11,14 @@ use Rattle.std.proofs.Math.Dec.{eqb-suc-zero}
 use Rattle.std.proofs.Math.ListN.{get_or-map as get_or_map}
 use Rattle.std.proofs.Math.Nat.{mul-suc, pow-suc}
 use Rattle.std.proofs.Math.Pow.{pow_mono}
-use Rattle.std.proofs.Math.Seq.{take-append_seam, drop-append_seam, drop-append-add}
+use Rattle.std.proofs.Math.Seq.{take-append_seam, drop-append-add}
 use Rattle.byteorder.specs.Endian.{little_number, little_bytes, twos_complement}
 use Rattle.byteorder.specs.Numbers.{little_number-reads_back, length-bytes_low_first}
 use Rattle.bitmaps.specs.Bits.{bit_of}
 use Rattle.bitmaps.specs.Packed.{IsPacked}
 use Rattle.bitmaps.specs.Packing.{packed_bytes}
 use Rattle.batch_types.specs.Cells.{Cell, null_cell, bit_cell, bytes_cell, list_cell, tuple_cell}
-use Rattle.batch_types.specs.Typed.{AreBytes, IsList, count_of}
+use Rattle.batch_types.specs.Typed.{AreBytes}
 use Rattle.batch_types.specs.Rules.{DoRise}
 use Rattle.batch_types.specs.Layouts.{Layout, null_layout, bits_layout, bytes_layout, binary_layout, utf8_layout, list_layout, fixed_size_list_layout, struct_layout}
 use Rattle.batch_types.specs.Placed.{bytes_from, is_valid, offset_at, start_of, length_of, value_bytes}

@@ -1,5 +1,5 @@
 -- The cells of a column are read of its own buffers, where those of the columns inside it are read of theirs.
-use Rattle.std.proofs.Common.{◌≡◌, ◌≢◌, refl, sym, ap, ◌∙◌, subst, ℕ, zero, suc, ◌+◌, ◌-◌, ◌*◌, ◌^◌, ◌<◌, ◌≤◌, Bool, true, false, not, if◌then◌else◌, List, [], ◌∷◌, ◌++◌, length, get_or, map, take, drop, replicate, arith}
+use Rattle.std.proofs.Common.{◌≡◌, ◌≢◌, refl, sym, ap, ◌∙◌, ℕ, zero, suc, ◌+◌, ◌-◌, ◌*◌, ◌^◌, ◌<◌, ◌≤◌, Bool, true, false, not, if◌then◌else◌, List, [], ◌∷◌, length, get_or, map, take, drop, replicate, arith}
 use Rattle.std.specs.List.{AllByRecursion, range_with_len, flat_map, sum_by}
 use Rattle.std.specs.Str.{IsUtf8}
 use Rattle.std.proofs.lemmas.Bool.{true≢false, false≢true}
@@ -12,7 +12,7 @@ use Rattle.batch_types.specs.Layouts.{Layout, null_layout, bits_layout, bytes_la
 use Rattle.batch_types.specs.Shapes.{shape, Shapes, no_shape, shape_then}
 use Rattle.batch_types.specs.Typed.{IsNull, IsBit, AreBytes, IsList, IsTuple, AllCells, count_of, IsCellOf, IsElementOf, AreFieldsOf}
 use Rattle.batch_types.specs.Placed.{is_valid, start_of, length_of}
-use Rattle.batch_types.specs.Canonical.{blank_of, is_null, bit_in, bytes_or, cells_in, elements_or, nth_or, field_or, validity_of, offsets_of, bytes_lengths, elements_lengths}
+use Rattle.batch_types.specs.Canonical.{blank_of, is_null, bit_in, bytes_or, cells_in, elements_or, nth_or, field_or, validity_of, offsets_of, elements_lengths}
 use Rattle.batch_types.specs.Written.{HasRoom, written_elements, written_fields, written_cell}
 use Rattle.batch_types.proofs.ReadBack.{all_at, valid_is, bit_is, length_is, sized_is, bytes_are, elements_are, even_piece}
 

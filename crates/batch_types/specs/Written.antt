@@ -1,6 +1,6 @@
 -- The cell that is read of a column's own buffers as they are written, where the columns inside it are read as the cells
 -- that are written there: Apache Arrow, "Arrow Columnar Format", "Physical memory layout".
-use Rattle.std.specs.Prelude.{ℕ, zero, suc, ◌-◌, ◌*◌, ◌^◌, ◌<◌, if◌then◌else◌, List, [], map, replicate, get_or}
+use Rattle.std.specs.Prelude.{ℕ, suc, ◌-◌, ◌*◌, ◌^◌, ◌<◌, if◌then◌else◌, List, [], map, replicate, get_or}
 use Rattle.std.specs.List.{flat_map, sum_by}
 use Rattle.batch_types.specs.Cells.{Cell, null_cell, Cells, no_cell, cell_then, cells_of}
 use Rattle.batch_types.specs.Layouts.{Layout, null_layout, bits_layout, bytes_layout, binary_layout, utf8_layout}
