@@ -64,9 +64,9 @@ pub fn written_buffers_stand_where_they_are_said()
 {}
 
 /// What is written of the cells of a column is those cells where it is read: which of them are null, their bits, their
-/// bytes, and where the bytes or the elements of each begin and end. Offsets are signed numbers of so many bytes, and say
-/// so much as such a number can: with four of them, less than 2,147,483,648 bytes or elements in all. Put together, each
-/// cell of a column is read of the column's own buffers, where those of the columns inside it are read of theirs.
+/// bytes, and where the bytes or the elements of each begin and end. Offsets are signed numbers of so many bytes, and
+/// say so much as such a number can: with four of them, less than 2,147,483,648 bytes or elements in all. Put together,
+/// each cell of a column is read of the column's own buffers, where those of the columns inside it are read of theirs.
 pub fn written_values_are_the_cells()
     ensures valid { (layout : Layout) (cells : List Cell) (j : ℕ) → layout ≢ null_layout → j < length cells
         → is_valid layout (validity_of cells) j ≡ not (is_null (get_or cells j null_cell)) }
