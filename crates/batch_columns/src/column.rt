@@ -48,6 +48,9 @@ impl Column {
     ghost use Rattle.batch_types.specs.Cells.{Cell};
     ghost use Rattle.batch_types.specs.Shapes.{shape};
     ghost use Rattle.batch_types.specs.Canonical.{own_buffers, nulls_of};
+    ghost use Rattle.std.specs.List.{AllByRecursion};
+    ghost use Rattle.batch_types.specs.Typed.{IsCellOf};
+    ghost use Rattle.batch_types.specs.Written.{HasRoom};
     ghost use Rattle.batch_columns.specs.Contents.{layout_in, shapes_in};
     ghost use Rattle.batch_columns.specs.Held.{layout_named, shapes_held};
     ghost use Rattle.batch_columns.specs.Kept.{IsKept, HaveInside};
@@ -83,9 +86,11 @@ impl Column {
         }
     }
 
-    /// How its values stand in buffers.
+    /// How its values stand in buffers. Each cell is one of that layout, and offsets have room for what they count.
     pub fn layout(&self) -> Layout
-        ensures { layout_named result ≡ layout_in self.now }
+        ensures named { layout_named result ≡ layout_in self.now }
+        ensures fit { AllByRecursion (IsCellOf self.now.shape) self.now.cells }
+        ensures room { HasRoom (layout_in self.now) self.now.cells }
     {
         self.layout
     }
