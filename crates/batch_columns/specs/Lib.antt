@@ -3,3 +3,4 @@ pub mod Coding
 pub mod Held
 pub mod Kept
 pub mod Falls
+pub mod Looks

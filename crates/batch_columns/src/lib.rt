@@ -2,6 +2,7 @@
 #![tactic(auto)]
 
 mod building;
+mod cells;
 mod column;
 mod layout;
 
