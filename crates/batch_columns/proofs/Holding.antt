@@ -1,11 +1,11 @@
 -- A column whose buffers are those that are written of some cells holds these cells.
-use Rattle.std.proofs.Common.{◌≡◌, refl, sym, ap, ap₂, subst, ◌∙◌, ℕ, zero, suc, ◌+◌, ◌<◌, if◌then◌else◌, List, [], ◌∷◌, map, length, get_or, replicate, zero-add, arith}
-use Rattle.std.specs.List.{AllByRecursion, range_with_len, flat_map}
+use Rattle.std.proofs.Common.{◌≡◌, refl, sym, ap, ap₂, subst, ◌∙◌, ℕ, zero, suc, ◌+◌, ◌<◌, if◌then◌else◌, List, [], ◌∷◌, map, length, get_or, zero-add, arith}
+use Rattle.std.specs.List.{AllByRecursion, range_with_len}
 use Rattle.batch_types.specs.Cells.{Cell, null_cell, list_cell, tuple_cell, cell_then, cells_of}
 use Rattle.batch_types.specs.Layouts.{Layout, null_layout, bits_layout, bytes_layout, binary_layout, utf8_layout}
 use Rattle.batch_types.specs.Layouts.{list_layout, fixed_size_list_layout, struct_layout}
 use Rattle.batch_types.specs.Placed.{is_valid, value_at}
-use Rattle.batch_types.specs.Canonical.{own_buffers, blank_of, elements_or, field_or}
+use Rattle.batch_types.specs.Canonical.{own_buffers}
 use Rattle.batch_types.specs.Shapes.{shape, Shapes}
 use Rattle.batch_types.specs.Typed.{IsCellOf}
 use Rattle.batch_types.specs.Written.{HasRoom, blanks_under, written_elements, written_fields, written_cell}

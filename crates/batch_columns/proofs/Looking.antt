@@ -1,8 +1,7 @@
 -- What is seen of a column's buffers is what its cells are.
-use Rattle.std.proofs.Common.{◌≡◌, ◌≢◌, refl, sym, ap, subst, ◌∙◌, ℕ, ◌<◌, ◌==◌, ◌||◌, Bool, true, false, not, List, [], length, get_or, true≢false}
-use Rattle.std.specs.List.{AllByRecursion}
+use Rattle.std.proofs.Common.{◌≡◌, ◌≢◌, refl, sym, ap, ◌∙◌, ℕ, ◌<◌, ◌==◌, ◌||◌, Bool, true, false, not, List, [], length, get_or, true≢false}
 use Rattle.bitmaps.specs.Bits.{bit_of}
-use Rattle.batch_types.specs.Cells.{Cell, null_cell, bit_cell, bytes_cell, list_cell, tuple_cell}
+use Rattle.batch_types.specs.Cells.{Cell, null_cell}
 use Rattle.batch_types.specs.Layouts.{Layout, null_layout, bits_layout, bytes_layout, binary_layout, utf8_layout}
 use Rattle.batch_types.specs.Layouts.{list_layout, fixed_size_list_layout, struct_layout}
 use Rattle.batch_types.specs.Canonical.{own_buffers, is_null, validity_of}

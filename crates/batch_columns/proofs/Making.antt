@@ -1,13 +1,13 @@
 -- Columns that are made of cells keep what a column keeps.
-use Rattle.std.proofs.Common.{◌≡◌, refl, sym, ap, ap₂, subst, ◌∙◌, ℕ, zero, suc, ◌+◌, Bool, true, false, not, if◌then◌else◌, List, [], ◌∷◌, map, length, replicate, arith}
+use Rattle.std.proofs.Common.{◌≡◌, refl, sym, ap, ap₂, subst, ◌∙◌, ℕ, zero, suc, ◌+◌, Bool, true, false, not, if◌then◌else◌, List, [], ◌∷◌, map, replicate, arith}
 use Rattle.std.specs.List.{AllByRecursion}
 use Rattle.std.specs.Option.{is_some}
-use Rattle.std.proofs.Common.{Option, Some, None}
+use Rattle.std.proofs.Common.{Option}
 use Rattle.std.proofs.lemmas.List.Sums.{sum_by-cons}
 use Rattle.bitmaps.specs.Bits.{zeros}
 use Rattle.batch_types.specs.Cells.{Cell, null_cell}
 use Rattle.batch_types.specs.Layouts.{null_layout}
-use Rattle.batch_types.specs.Canonical.{is_null, nulls_of, validity_of}
+use Rattle.batch_types.specs.Canonical.{is_null, nulls_of}
 use Rattle.batch_types.specs.Typed.{IsCellOf}
 use Rattle.batch_types.specs.Shapes.{shape, no_shape}
 use Rattle.batch_columns.specs.Contents.{Contents}

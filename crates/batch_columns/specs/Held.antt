@@ -1,6 +1,6 @@
 -- What a column holds, by its buffers and the columns inside it: Apache Arrow, "Arrow Columnar Format", "Physical memory
 -- layout".
-use Rattle.std.specs.Prelude.{ℕ, zero, suc, ◌+◌, if◌then◌else◌, List, [], ◌∷◌, map, get_or}
+use Rattle.std.specs.Prelude.{ℕ, suc, ◌+◌, if◌then◌else◌, List, [], ◌∷◌, map, get_or}
 use Rattle.std.specs.List.{range_with_len}
 use Rattle.batch_types.specs.Cells.{Cell, null_cell, Cells, no_cell, cell_then, cells_of}
 use Rattle.batch_types.specs.Layouts.{Layout}

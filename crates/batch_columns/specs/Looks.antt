@@ -16,6 +16,17 @@ has_values (list_layout offset) = true
 has_values (fixed_size_list_layout size) = true
 has_values struct_layout = true
 
+-- whether they have a bit each
+abbrev pub has_bits : Layout → Bool
+has_bits null_layout = false
+has_bits bits_layout = true
+has_bits (bytes_layout size) = false
+has_bits (binary_layout offset) = false
+has_bits (utf8_layout offset) = false
+has_bits (list_layout offset) = false
+has_bits (fixed_size_list_layout size) = false
+has_bits struct_layout = false
+
 -- whether it is null, where there is a cell
 abbrev pub null_seen : Option Cell → Option Bool
 null_seen None = None

@@ -1,9 +1,9 @@
 //! The cells of a column, one by one.
 
-ghost use Rattle.std.specs.Prelude.{◌≡◌, ◌<◌, length, get_or, slice_get};
+ghost use Rattle.std.specs.Prelude.{◌≡◌, ◌<◌, length, get_or, slice_get, Some};
 ghost use Rattle.batch_types.specs.Cells.{null_cell};
 ghost use Rattle.batch_types.specs.Canonical.{is_null as is_null_cell, bit_in};
-ghost use Rattle.batch_columns.specs.Looks.{has_values as has_values_seen, null_seen, bit_seen, bytes_seen};
+ghost use Rattle.batch_columns.specs.Looks.{has_values as has_values_seen, has_bits as has_bits_seen, null_seen, bit_seen, bytes_seen};
 ghost use Rattle.batch_columns.specs.Held.{layout_named};
 
 use crate::column::Column;
@@ -27,6 +27,35 @@ fn has_values(layout: Layout) -> bool
     }
 }
 
+/// Whether the cells of this layout that are not null have a bit each.
+fn has_bits(layout: Layout) -> bool
+    ensures { result ≡ has_bits_seen (layout_named layout) }
+{
+    match layout {
+        Layout::Bits => true,
+        Layout::Null
+        | Layout::Bytes { .. }
+        | Layout::Binary
+        | Layout::Utf8
+        | Layout::List
+        | Layout::FixedSizeList { .. }
+        | Layout::Struct => false,
+    }
+}
+
+/// The bit of the cell of a row that is there, where the layout has bits.
+fn bit_at(column: &Column, row: usize) -> Option<bool>
+    requires { row < length column.now.cells }
+    ensures { result ≡ bit_seen (Some (get_or column.now.cells row null_cell)) }
+{
+    written_values_are_the_cells();
+    if has_bits(column.layout()) && !is_null_at(column, row) {
+        Some(bit(column.second(), row))
+    } else {
+        None
+    }
+}
+
 /// Whether the cell of a row that is there is null.
 fn is_null_at(column: &Column, row: usize) -> bool
     requires { row < length column.now.cells }
@@ -47,6 +76,17 @@ impl Column {
     {
         if row < self.len() {
             Some(is_null_at(self, row))
+        } else {
+            None
+        }
+    }
+
+    /// The bit of the cell of this row; `None` where it is null, where the layout has no bits, and behind the last row.
+    pub fn bit(&self, row: usize) -> Option<bool>
+        ensures { result ≡ bit_seen (slice_get self.now.cells row) }
+    {
+        if row < self.len() {
+            bit_at(self, row)
         } else {
             None
         }

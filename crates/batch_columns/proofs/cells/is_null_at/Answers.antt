@@ -1,4 +1,4 @@
-use Rattle.std.proofs.Common.{◌≡◌, sym, ap, ◌∙◌, not, ◌||◌}
+use Rattle.std.proofs.Common.{sym, ap, ◌∙◌, not, ◌||◌}
 use Rattle.bitmaps.specs.Bits.{bit_of}
 use Rattle.batch_columns.specs.Contents.{layout_in}
 use Rattle.batch_columns.specs.Looks.{has_values}

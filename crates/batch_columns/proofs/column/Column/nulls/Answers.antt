@@ -1,8 +1,6 @@
-use Rattle.std.proofs.Common.{◌≡◌, sym, ap, ap₂, ◌∙◌, subst, List, replicate}
+use Rattle.std.proofs.Common.{replicate}
 use Rattle.std.proofs.lemmas.List.{length-replicate}
 use Rattle.batch_types.specs.Cells.{null_cell}
-use Rattle.batch_types.specs.Layouts.{null_layout}
-use Rattle.batch_columns.specs.Kept.{IsKept}
 use Rattle.batch_columns.proofs.Making.{nulls_kept_as}
 use Rattle.batch_columns.proofs.column.Column.nulls.Goals as goal
 
