@@ -1,5 +1,6 @@
 -- The bytes that are made of a list of bits are its packed form.
-use Rattle.std.proofs.Common.{◌≡◌, refl, sym, ap, ◌∙◌, ℕ, zero, suc, ◌+◌, ◌*◌, ◌/◌, ◌%◌, ◌<◌, ◌≤◌, ◌==◌, Bool, true, false, arith, List, [], ◌∷◌, get_or, length, map, take, drop, get_or-take, get_or-drop, inl, inr, ◌⊎◌}
+use Rattle.std.proofs.Common.{◌≡◌, refl, sym, ap, ◌∙◌, ℕ, zero, suc, ◌+◌, ◌*◌, ◌/◌, ◌%◌, ◌<◌, ◌≤◌, ◌==◌, ◌^◌, Bool, true, false, arith, List, [], ◌∷◌, get_or, length, map, take, drop, get_or-take, get_or-drop, length-take, inl, inr, ◌⊎◌, pow_mono}
+use native.Mathlib.Nat.{pow-suc}
 use Rattle.std.specs.Int.{bit_at}
 use Rattle.std.specs.List.{range_with_len}
 use Rattle.std.proofs.lemmas.Bool.{cases_lt}
@@ -9,6 +10,7 @@ use Rattle.std.proofs.Math.ListN.{get_or-eq_default}
 use Rattle.bitmaps.specs.Bits.{bit_of}
 use Rattle.bitmaps.specs.Packed.{IsPacked}
 use Rattle.bitmaps.specs.Packing.{number_of, packed_bytes}
+use Rattle.bitmaps.proofs.PackedForms.{one_form}
 
 digit_of : (bits : List Bool) (i : ℕ) → (bit_at (number_of bits) i == 1) ≡ get_or bits i false
 digit_of [] i = ap (λ d. d == 1) (bit_at-zero i)
@@ -24,6 +26,16 @@ digit_of (true ∷ bits) (suc i) =
 digit_of (false ∷ bits) (suc i) =
     let half : (2 * number_of bits) / 2 ≡ number_of bits = omega arith in
     ap (λ d. d == 1) (bit_at-suc (2 * number_of bits) i ∙ ap (λ n. bit_at n i) half) ∙ digit_of bits i
+
+number_small : (bits : List Bool) → number_of bits < 2 ^ length bits
+number_small [] = omega arith
+number_small (true ∷ bits) = omega (arith, number_small bits, pow-suc 2 (length bits))
+number_small (false ∷ bits) = omega (arith, number_small bits, pow-suc 2 (length bits))
+
+number_of_eight : (bits : List Bool) → length bits ≤ 8 → number_of bits < 256
+number_of_eight bits few =
+    let most : 2 ^ length bits ≤ 2 ^ 8 = pow_mono few in
+    omega (arith, number_small bits, most)
 
 module _ (bits : List Bool) where
   abbrev byte : ℕ → ℕ
@@ -53,3 +65,22 @@ module _ (bits : List Bool) where
       at j (inr past) =
           ap (λ b. bit_at b (j % 8) == 1) (get_or-eq_default (packed_bytes bits) 0 (omega (arith, length-map-range_with_len byte 0 count)))
           ∙ ap (λ d. d == 1) (bit_at-zero (j % 8)) ∙ sym (get_or-eq_default bits false (omega arith))
+
+  pub are_bytes : (k : ℕ) → get_or (packed_bytes bits) k 0 < 256
+  are_bytes k = at (cases_lt k count)
+    where
+      at : (k < count) ⊎ (count ≤ k) → get_or (packed_bytes bits) k 0 < 256
+      at (inl within) =
+          omega (
+            arith,
+            get_or-map-range_with_len byte 0 count k k 0 within (omega arith),
+            number_of_eight (take 8 (drop (8 * k) bits)) (omega (arith, length-take 8 (drop (8 * k) bits))),
+          )
+      at (inr past) =
+          let beyond : length (packed_bytes bits) ≤ k = omega (arith, length-map-range_with_len byte 0 count) in
+          let none : get_or (packed_bytes bits) k 0 ≡ 0 = get_or-eq_default (packed_bytes bits) 0 beyond in
+          omega (arith, none)
+
+  -- any packed form in bytes is this one
+  pub only_form : (bytes : List ℕ) → ((k : ℕ) → get_or bytes k 0 < 256) → IsPacked bits bytes → bytes ≡ packed_bytes bits
+  only_form bytes small held = one_form bits bytes (packed_bytes bits) small are_bytes held is_packed

@@ -10,6 +10,7 @@ ghost use Rattle.std.specs.Bool.{beq};
 ghost use Rattle.std.proofs.Common.{rules};
 ghost use Rattle.bitmaps.specs.Bits.{bit_of, bits_of, zeros};
 ghost use Rattle.bitmaps.specs.Packed.{IsPacked, IsKept};
+ghost use Rattle.bitmaps.specs.Packing.{packed_bytes};
 
 use crate::bits::{bit, count_zeros, eight_bits, low_bits};
 use std::alloc::{AllocError, Global};
@@ -63,6 +64,13 @@ fn is_same(left: &[u8], length: usize, right: &[u8], other: usize) -> bool
 {
     *left == *right && length == other
 }
+
+/// Bytes that are kept for so many bits are the packed form of these bits. It does nothing: it is called for what it
+/// says.
+fn is_packed(bytes: &[u8], length: usize)
+    requires { IsKept bytes.now length }
+    ensures { bytes.now ≡ packed_bytes (bits_of bytes.now 0 length) }
+{}
 
 /// A list of bits that grows, packed eight a byte. It has fewer than 2^64 bits. Two are equal where their lists are.
 #[derive(Debug, Drop)]
@@ -118,9 +126,22 @@ impl Bitmap {
     /// The packed form of the list: as few bytes as will do, and zero bits behind the last bit (Apache Arrow, "Arrow
     /// Columnar Format", "Validity bitmaps").
     pub fn as_bytes(&self) -> &[u8]
-        ensures { IsPacked self.now result.now }
+        ensures packed { IsPacked self.now result.now }
+        ensures bytes { result.now ≡ packed_bytes self.now }
     {
-        self.bytes.as_slice()
+        let bytes = self.bytes.as_slice();
+        is_packed(bytes, self.length);
+        bytes
+    }
+
+    /// The packed form of the list, which is given up for it: a byte for each eight bits, the first of them its lowest,
+    /// and zero bits behind the last one (Apache Arrow, "Arrow Columnar Format", "Validity bitmaps"). It takes no
+    /// memory.
+    pub fn into_bytes(self) -> Vec<u8>
+        ensures { result.items ≡ packed_bytes self }
+    {
+        is_packed(self.bytes.as_slice(), self.length);
+        self.bytes
     }
 
     /// Puts a bit behind the others. Where memory is refused, or the list would have 2^64 bits, nothing changes and the

@@ -52,7 +52,7 @@ fn is_found(bitmap: &Bitmap, list: &[bool]) -> bool {
 }
 
 /// The bitmap has the bits of the list, and its bytes are those of the plain program. A clone has them too, and is
-/// equal to it until a bit is put behind them.
+/// equal to it until a bit is put behind them. One that is given up leaves these bytes.
 pub(super) fn compare(
     rt: &impl Abort,
     alloc: Global,
@@ -83,5 +83,7 @@ pub(super) fn compare(
         count_zeros(bitmap.as_bytes(), 0, list.len()) == zeros,
         "{bytes:?}"
     );
+    let given = bitmap.clone()?.into_bytes();
+    assert!(rt; given == bytes, "{given:?} beside {bytes:?}");
     Ok(())
 }
