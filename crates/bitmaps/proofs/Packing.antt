@@ -1,8 +1,7 @@
 -- The bytes that are made of a list of bits are its packed form.
-use Rattle.std.proofs.Common.{◌≡◌, refl, sym, ap, ◌∙◌, ℕ, zero, suc, ◌+◌, ◌*◌, ◌/◌, ◌%◌, ◌<◌, ◌≤◌, ◌==◌, ◌^◌, Bool, true, false, arith, List, [], ◌∷◌, get_or, length, map, take, drop, get_or-take, get_or-drop, length-take, inl, inr, ◌⊎◌, pow_mono}
+use Rattle.std.proofs.Common.{◌≡◌, sym, ap, ◌∙◌, ℕ, zero, suc, ◌+◌, ◌*◌, ◌/◌, ◌%◌, ◌<◌, ◌≤◌, ◌==◌, ◌^◌, Bool, true, false, arith, List, [], ◌∷◌, get_or, length, take, drop, get_or-take, get_or-drop, length-take, inl, inr, ◌⊎◌, pow_mono}
 use native.Mathlib.Nat.{pow-suc}
 use Rattle.std.specs.Int.{bit_at}
-use Rattle.std.specs.List.{range_with_len}
 use Rattle.std.proofs.lemmas.Bool.{cases_lt}
 use Rattle.std.proofs.lemmas.List.FromFn.{length-map-range_with_len, get_or-map-range_with_len}
 use Rattle.std.proofs.lemmas.Nat.Bits.{bit_at-zero, bit_at_lowest, bit_at-suc}

@@ -1,5 +1,7 @@
 -- A run of bits put behind others, some bits at a time.
-use Rattle.std.proofs.Common.{◌≡◌, sym, ap, ◌∙◌, subst, ℕ, ◌+◌, ◌<◌, ◌≤◌, ◌==◌, arith, List, ◌++◌, nat_lt, if◌then◌else◌, append_assoc, get_or, false}
+use Rattle.std.proofs.Common.{◌≡◌, sym, ap, ◌∙◌, subst, ℕ, ◌+◌, ◌<◌, ◌≤◌, ◌==◌, arith, List, ◌++◌, nat_lt, if◌then◌else◌, append_assoc, get_or, false, Bool, replicate}
+use Rattle.std.proofs.lemmas.Bool.{lt-ltb}
+use Rattle.std.proofs.lemmas.List.{get_or-replicate, length-replicate, replicate-append-replicate}
 use Rattle.std.specs.Int.{bit_at}
 use Rattle.bitmaps.specs.Bits.{bit_of, bits_of}
 use Rattle.bitmaps.specs.Packed.{IsKept}
@@ -30,3 +32,25 @@ pub kept_further : (new : List ℕ) (from done run : ℕ) → IsKept new (from +
 kept_further new from done run kept =
     let place : from + done + run ≡ from + (done + run) = omega arith in
     subst (IsKept new) place kept
+
+-- equal bits put behind others
+module _ (first old new : List ℕ) (from done run eight byte : ℕ) (bit : Bool) (few : run ≤ 8)
+    (eight_are : (i : ℕ) → i < 8 → (bit_at eight i == 1) ≡ bit)
+    (byte_are : (i : ℕ) → bit_at byte i ≡ (if nat_lt i run then bit_at eight i else 0))
+    (before : (j : ℕ) → j < from + done → bit_of new j ≡ bit_of old j)
+    (put : (i : ℕ) → bit_of new (from + done + i) ≡ (bit_at byte i == 1))
+    (so_far : bits_of old 0 (from + done) ≡ bits_of first 0 from ++ replicate done bit) where
+  equal_step : (i : ℕ) → i < run → bit_of new (from + done + i) ≡ get_or (replicate run bit) i false
+  equal_step i within =
+      put i
+      ∙ ap (λ d. d == 1) (byte_are i ∙ ap (λ test. if test then bit_at eight i else 0) (lt-ltb i run within))
+      ∙ eight_are i (omega arith) ∙ sym (get_or-replicate run i bit false within)
+
+  pub equal_further : bits_of new 0 (from + (done + run)) ≡ bits_of first 0 from ++ replicate (done + run) bit
+  equal_further =
+      let place : from + (done + run) ≡ from + done + run = omega arith in
+      ap (bits_of new 0) place
+      ∙ grown old new (from + done) run (replicate run bit) (length-replicate run bit) before equal_step
+      ∙ ap (λ bits. bits ++ replicate run bit) so_far
+      ∙ append_assoc (bits_of first 0 from) (replicate done bit) (replicate run bit)
+      ∙ ap (λ bits. bits_of first 0 from ++ bits) (replicate-append-replicate done run bit)

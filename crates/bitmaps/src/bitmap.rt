@@ -12,7 +12,7 @@ ghost use Rattle.bitmaps.specs.Bits.{bit_of, bits_of, zeros};
 ghost use Rattle.bitmaps.specs.Packed.{IsPacked, IsKept};
 ghost use Rattle.bitmaps.specs.Packing.{packed_bytes};
 
-use crate::bits::{bit, count_zeros, eight_bits, low_bits};
+use crate::bits::{bit, count_zeros, eight_bits, eight_equal, low_bits};
 use std::alloc::{AllocError, Global};
 use std::marker::Model;
 
@@ -51,6 +51,24 @@ fn put_run(bytes: &mut Vec<u8>, from: usize, source: &[u8], start: usize, count:
     while done < count {
         let run = (count - done).min(8);
         let byte = low_bits(eight_bits(source, start + done), run);
+        put_bits(bytes, from + done, byte, run);
+        done += run;
+    }
+}
+
+/// Puts equal bits behind the first `from` bits, `count` of them. There is room for them.
+fn put_equal(bytes: &mut Vec<u8>, from: usize, bit: bool, count: usize)
+    requires kept { IsKept bytes.old.items from }
+    requires room { length bytes.old.items + (count + 7) / 8 ≤ vec_capacity bytes.old }
+    requires within { from + count < 2 ^ 64 }
+    ensures put { bits_of bytes.new.items 0 (from + count) ≡ bits_of bytes.old.items 0 from ++ replicate count bit }
+    ensures kept { IsKept bytes.new.items (from + count) }
+{
+    let eight = eight_equal(bit);
+    let mut done = 0;
+    while done < count {
+        let run = (count - done).min(8);
+        let byte = low_bits(eight, run);
         put_bits(bytes, from + done, byte, run);
         done += run;
     }
@@ -179,6 +197,23 @@ impl Bitmap {
         };
         self.bytes.reserve(count / 8 + 1)?;
         put_run(&mut self.bytes, self.length, bytes, start, count);
+        self.length = length;
+        Ok(())
+    }
+
+    /// Puts equal bits behind the others, `count` of them. Where memory is refused, or the list would have 2^64 bits or
+    /// more, nothing changes and the answer is the same, `AllocError`.
+    pub fn push_run(&mut self, bit: bool, count: usize) -> Result<(), AllocError>
+        ensures fits { OnOk result (length self.old + count < 2 ^ 64) }
+        ensures extended { OnOk result (self.new ≡ self.old ++ replicate count bit) }
+        ensures same { OnErr result (self.new ≡ self.old) }
+    {
+        let Some(length) = self.length.checked_add(count) else {
+            return Err(AllocError);
+        };
+        let room = count / 8 + 1;
+        self.bytes.reserve(room)?;
+        put_equal(&mut self.bytes, self.length, bit, count);
         self.length = length;
         Ok(())
     }

@@ -48,6 +48,13 @@ pub(crate) fn low_bits(byte: u8, count: usize) -> u8
     }
 }
 
+/// The byte of eight bits that are all this one.
+pub(crate) fn eight_equal(bit: bool) -> u8
+    ensures { (i : ℕ) → i < 8 → (bit_at result i == 1) ≡ bit }
+{
+    if bit { 0xff } else { 0 }
+}
+
 /// How many of these bits are not set: `count` of them, from bit `start` on. Bits behind the last byte are not set. The
 /// run ends below bit 2^64.
 pub fn count_zeros(bytes: &[u8], start: usize, count: usize) -> usize

@@ -3,7 +3,7 @@
 ghost use Rattle.std.specs.Prelude.{◌<◌};
 
 use super::plain::put_bits;
-use super::putting::{bitmap_of, compare, extend};
+use super::putting::{bitmap_of, compare, extend, push, push_run};
 use std::alloc::{AllocError, Global};
 use std::process::Abort;
 use std::test::Fail;
@@ -68,4 +68,36 @@ fn holds_a_run_of_a_hundred_thousand_bits(rt: HostRuntime) -> Result<(), Fail> {
     compare_run(&rt, rt.alloc(), bytes.as_slice(), 5, 0)?;
     compare_run(&rt, rt.alloc(), bytes.as_slice(), 5, 3)?;
     compare_run(&rt, rt.alloc(), bytes.as_slice(), 8, 7)
+}
+
+/// Equal bits put behind so many bits, and one bit more behind them.
+fn compare_equal(
+    rt: &impl Abort,
+    alloc: Global,
+    bit: bool,
+    length: u32,
+    count: usize,
+) -> Result<(), Fail> {
+    let mut list = list(alloc, length)?;
+    let mut bitmap = bitmap_of(alloc, list.as_slice())?;
+    push_run(&mut bitmap, bit, count)?;
+    push(&mut bitmap, !bit)?;
+    for _ in 0..count {
+        list.push(bit)?;
+    }
+    list.push(!bit)?;
+    compare(rt, alloc, &bitmap, list.as_slice())
+}
+
+#[test]
+fn holds_runs_of_equal_bits(rt: HostRuntime) -> Result<(), Fail> {
+    for length in 0..10 {
+        for count in 0..20 {
+            compare_equal(&rt, rt.alloc(), true, length, count)?;
+            compare_equal(&rt, rt.alloc(), false, length, count)?;
+        }
+        compare_equal(&rt, rt.alloc(), true, length, 5_000)?;
+        compare_equal(&rt, rt.alloc(), false, length, 5_000)?;
+    }
+    Ok(())
 }

@@ -31,6 +31,14 @@ pub(super) fn extend(
     }
 }
 
+/// Puts equal bits, and again where memory is refused.
+pub(super) fn push_run(bitmap: &mut Bitmap, bit: bool, count: usize) -> Result<(), AllocError> {
+    match bitmap.push_run(bit, count) {
+        Ok(()) => Ok(()),
+        Err(_) => bitmap.push_run(bit, count),
+    }
+}
+
 /// The bitmap of a list, bit by bit.
 pub(super) fn bitmap_of(alloc: Global, list: &[bool]) -> Result<Bitmap, AllocError> {
     let mut bitmap = Bitmap::new(alloc);

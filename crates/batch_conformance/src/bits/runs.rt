@@ -114,6 +114,10 @@ fn refuses_a_list_of_two_to_the_sixty_fourth_bits(rt: HostRuntime) -> Result<(),
         bitmap.extend_from(&BYTES, 0, usize::MAX - 8).is_err(),
         "{bitmap:?}"
     );
+    assert!(rt;
+        bitmap.push_run(true, usize::MAX - 8).is_err(),
+        "{bitmap:?}"
+    );
     compare(&rt, rt.alloc(), &bitmap, list.as_slice())?;
     assert!(rt; Bitmap::new(rt.alloc()).is_empty(), "a new one has no bit");
     Ok(())
