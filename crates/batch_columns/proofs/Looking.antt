@@ -1,11 +1,17 @@
 -- What is seen of a column's buffers is what its cells are.
-use Rattle.std.proofs.Common.{◌≡◌, ◌≢◌, refl, sym, ap, ◌∙◌, ℕ, ◌<◌, ◌==◌, ◌||◌, Bool, true, false, not, List, [], length, get_or, true≢false}
+use Rattle.std.proofs.Common.{◌≡◌, ◌≢◌, refl, sym, ap, ◌∙◌, subst, ℕ, suc, ◌+◌, ◌*◌, ◌<◌, ◌≤◌, ◌==◌, ◌||◌, Bool, true, false, not, List, [], ◌∷◌, length, get_or, replicate, true≢false, arith, mul-le-mul_left, length-append}
+use Rattle.std.specs.List.{AllByRecursion, flat_map}
 use Rattle.bitmaps.specs.Bits.{bit_of}
-use Rattle.batch_types.specs.Cells.{Cell, null_cell}
+use native.Mathlib.Nat.{mul-suc}
+use Rattle.std.proofs.lemmas.List.{length-replicate}
+use Rattle.batch_types.specs.Cells.{Cell, null_cell, bit_cell, bytes_cell, list_cell, tuple_cell, Cells}
+use Rattle.batch_types.specs.Shapes.{Shape, shape}
+use Rattle.batch_types.specs.Typed.{AreBytes, FitsLayout, IsCellOf, IsElementOf, AreFieldsOf}
+use Rattle.batch_columns.specs.Contents.{layout_of_shape}
 use Rattle.batch_types.specs.Layouts.{Layout, null_layout, bits_layout, bytes_layout, binary_layout, utf8_layout}
 use Rattle.batch_types.specs.Layouts.{list_layout, fixed_size_list_layout, struct_layout}
-use Rattle.batch_types.specs.Canonical.{own_buffers, is_null, validity_of}
-use Rattle.batch_types.specs.Placed.{is_valid}
+use Rattle.batch_types.specs.Canonical.{own_buffers, is_null, bytes_or, validity_of}
+use Rattle.batch_types.specs.Placed.{is_valid, bytes_from}
 use Rattle.batch_columns.specs.Looks.{has_values}
 
 -- ---- validity
@@ -44,3 +50,39 @@ module _ (law : (layout : Layout) (cells : List Cell) (j : ℕ) → layout ≢ n
       (valid_as layout validity j has ∙ ap (λ bytes. is_valid layout bytes j) (is ∙ has_validity layout cells has)
       ∙ law layout cells j (λ same. true≢false (sym has ∙ ap has_values same)) within)
       ∙ not_not (is_null (get_or cells j null_cell))
+
+-- ---- values of one size
+
+module _ (size : ℕ) where
+  as_long : (cell : Cell) → AreBytes (λ bytes. length bytes ≡ size) cell → length (bytes_or (replicate size 0) cell) ≡ size
+  as_long null_cell fits = length-replicate size 0
+  as_long (bit_cell bit) fits = absurd fits
+  as_long (bytes_cell bytes) fits = fits
+  as_long (list_cell cells) fits = absurd fits
+  as_long (tuple_cell cells) fits = absurd fits
+
+  all_long : (cells : List Cell) → AllByRecursion (AreBytes (λ bytes. length bytes ≡ size)) cells
+      → length (flat_map (bytes_or (replicate size 0)) cells) ≡ size * length cells
+  all_long [] all = omega arith
+  all_long (cell ∷ cells) all =
+      omega (
+        arith,
+        length-append (bytes_or (replicate size 0) cell) (flat_map (bytes_or (replicate size 0)) cells),
+        as_long cell all.0,
+        all_long cells all.1,
+        mul-suc size (length cells),
+      )
+
+  module _ (law : (n : ℕ) (cells : List Cell) (j : ℕ) → AllByRecursion (AreBytes (λ bytes. length bytes ≡ n)) cells → j < length cells
+      → bytes_from (flat_map (bytes_or (replicate n 0)) cells) (n * j) n ≡ bytes_or (replicate n 0) (get_or cells j null_cell)) where
+    pub sized_block : (s : Shape) (cells : List Cell) (second : List ℕ) (j : ℕ) → layout_of_shape s ≡ bytes_layout size → j < length cells
+        → AllByRecursion (IsCellOf s) cells → second ≡ get_or (own_buffers (layout_of_shape s) cells) 1 []
+        → (size * j + size ≤ length second) × (bytes_from second (size * j) size ≡ bytes_or (replicate size 0) (get_or cells j null_cell))
+    sized_block (shape layout inside) cells second j is within fit same =
+        let fits : AllByRecursion (AreBytes (λ bytes. length bytes ≡ size)) cells =
+        subst (λ l. AllByRecursion (FitsLayout l (IsElementOf inside) (AreFieldsOf inside)) cells) is fit in
+        let whole : second ≡ flat_map (bytes_or (replicate size 0)) cells = same ∙ ap (λ l. get_or (own_buffers l cells) 1 []) is in
+        let up : size * suc j ≤ size * length cells = mul-le-mul_left size (omega arith) in (
+          omega (arith, ap length whole, all_long cells fits, up, mul-suc size j),
+          ap (λ bytes. bytes_from bytes (size * j) size) whole ∙ law size cells j fits within,
+        )

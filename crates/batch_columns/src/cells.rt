@@ -1,8 +1,11 @@
 //! The cells of a column, one by one.
 
-ghost use Rattle.std.specs.Prelude.{◌≡◌, ◌<◌, length, get_or, slice_get, Some};
+ghost use Rattle.std.specs.Prelude.{◌≡◌, ◌+◌, ◌*◌, ◌<◌, ◌≤◌, length, get_or, slice_get, replicate, Some};
 ghost use Rattle.batch_types.specs.Cells.{null_cell};
-ghost use Rattle.batch_types.specs.Canonical.{is_null as is_null_cell, bit_in};
+ghost use Rattle.batch_types.specs.Canonical.{is_null as is_null_cell, bytes_or};
+ghost use Rattle.batch_types.specs.Layouts.{bytes_layout};
+ghost use Rattle.batch_types.specs.Placed.{bytes_from};
+ghost use Rattle.batch_columns.specs.Contents.{layout_in};
 ghost use Rattle.batch_columns.specs.Looks.{has_values as has_values_seen, has_bits as has_bits_seen, null_seen, bit_seen, bytes_seen};
 ghost use Rattle.batch_columns.specs.Held.{layout_named};
 
@@ -54,6 +57,26 @@ fn bit_at(column: &Column, row: usize) -> Option<bool>
     } else {
         None
     }
+}
+
+/// The bytes of block `row` of some, each of so many bytes.
+fn block(bytes: &[u8], size: usize, row: usize) -> &[u8]
+    requires { size * row + size ≤ length bytes.now }
+    ensures { result.now ≡ bytes_from bytes.now (size * row) size }
+{
+    let start = size * row;
+    &bytes[start..start + size]
+}
+
+/// The bytes of the value of a row that is there, in the layout of so many bytes a value.
+fn sized_at(column: &Column, size: usize, row: usize) -> &[u8]
+    requires sized { layout_in column.now ≡ bytes_layout size }
+    requires within { row < length column.now.cells }
+    ensures { result.now ≡ bytes_or (replicate size 0) (get_or column.now.cells row null_cell) }
+{
+    written_values_are_the_cells();
+    column.layout();
+    block(column.second(), size, row)
 }
 
 /// Whether the cell of a row that is there is null.
