@@ -1,18 +1,24 @@
 -- What is seen of a column's buffers is what its cells are.
-use Rattle.std.proofs.Common.{◌≡◌, ◌≢◌, refl, sym, ap, ◌∙◌, subst, ℕ, suc, ◌+◌, ◌*◌, ◌<◌, ◌≤◌, ◌==◌, ◌||◌, Bool, true, false, not, List, [], ◌∷◌, length, get_or, replicate, true≢false, arith, mul-le-mul_left, length-append}
-use Rattle.std.specs.List.{AllByRecursion, flat_map}
+use Rattle.std.proofs.Common.{◌≡◌, ◌≢◌, refl, sym, ap, ◌∙◌, subst, ℕ, suc, ◌+◌, ◌-◌, ◌*◌, ◌^◌, ◌<◌, ◌≤◌, ◌==◌, ◌||◌, Bool, true, false, not, List, [], ◌∷◌, length, get_or, take, map, replicate, true≢false, arith, mul-le-mul_left, length-append}
+use Rattle.std.specs.List.{AllByRecursion, flat_map, sum_by, range_with_len}
 use Rattle.bitmaps.specs.Bits.{bit_of}
 use native.Mathlib.Nat.{mul-suc}
-use Rattle.std.proofs.lemmas.List.{length-replicate}
+use Rattle.std.proofs.lemmas.List.{length-replicate, length-map}
+use Rattle.std.proofs.lemmas.List.Sums.{sum_by-cons, sum_by-take-le, sum_by_more}
+use Rattle.std.proofs.lemmas.Bool.{eqb-true}
+use Rattle.byteorder.specs.Endian.{little_bytes}
+use Rattle.byteorder.specs.Numbers.{length-bytes_low_first}
+use Rattle.std.proofs.lemmas.List.FromFn.{length-range_with_len}
 use Rattle.batch_types.specs.Cells.{Cell, null_cell, bit_cell, bytes_cell, list_cell, tuple_cell, Cells}
 use Rattle.batch_types.specs.Shapes.{Shape, shape}
 use Rattle.batch_types.specs.Typed.{AreBytes, FitsLayout, IsCellOf, IsElementOf, AreFieldsOf}
 use Rattle.batch_columns.specs.Contents.{layout_of_shape}
 use Rattle.batch_types.specs.Layouts.{Layout, null_layout, bits_layout, bytes_layout, binary_layout, utf8_layout}
 use Rattle.batch_types.specs.Layouts.{list_layout, fixed_size_list_layout, struct_layout}
-use Rattle.batch_types.specs.Canonical.{own_buffers, is_null, bytes_or, validity_of}
-use Rattle.batch_types.specs.Placed.{is_valid, bytes_from}
-use Rattle.batch_columns.specs.Looks.{has_values}
+use Rattle.batch_types.specs.Canonical.{own_buffers, is_null, bytes_or, validity_of, offsets_of, bytes_lengths}
+use Rattle.batch_types.specs.Written.{HasRoom}
+use Rattle.batch_types.specs.Placed.{is_valid, bytes_from, start_of, value_bytes}
+use Rattle.batch_columns.specs.Looks.{has_values, has_spread}
 
 -- ---- validity
 
@@ -86,3 +92,75 @@ module _ (size : ℕ) where
           omega (arith, ap length whole, all_long cells fits, up, mul-suc size j),
           ap (λ bytes. bytes_from bytes (size * j) size) whole ∙ law size cells j fits within,
         )
+
+-- ---- values of any size
+
+offsets_long : (lengths js : List ℕ) → length (flat_map (λ j. little_bytes 4 (sum_by (λ n. n) (take j lengths))) js) ≡ 4 * length js
+offsets_long lengths [] = refl
+offsets_long lengths (j ∷ js) =
+    let one : length (little_bytes 4 (sum_by (λ n. n) (take j lengths))) ≡ 4 = length-bytes_low_first 0 4 (sum_by (λ n. n) (take j lengths)) in
+    let both : length (flat_map (λ i. little_bytes 4 (sum_by (λ n. n) (take i lengths))) (j ∷ js))
+    ≡ length (little_bytes 4 (sum_by (λ n. n) (take j lengths))) + length (flat_map (λ i. little_bytes 4 (sum_by (λ n. n) (take i lengths))) js) =
+    length-append (little_bytes 4 (sum_by (λ n. n) (take j lengths))) (flat_map (λ i. little_bytes 4 (sum_by (λ n. n) (take i lengths))) js) in
+    omega (arith, one, both, offsets_long lengths js)
+
+bytes_long : (cells : List Cell) → length (flat_map (bytes_or []) cells) ≡ sum_by (λ n. n) (bytes_lengths cells)
+bytes_long [] = refl
+bytes_long (cell ∷ cells) =
+    length-append (bytes_or [] cell) (flat_map (bytes_or []) cells) ∙ ap (λ n. length (bytes_or [] cell) + n) (bytes_long cells)
+    ∙ sym (sum_by-cons (λ n. n) (length (bytes_or [] cell)) (bytes_lengths cells))
+
+-- where a value stands by its offsets, and that it is the cell's
+abbrev IsSpread : List ℕ → List ℕ → ℕ → Cell → Type 0
+IsSpread second third j cell =
+    (4 * (j + 1) + 4 ≤ length second) × (start_of 4 second j ≤ start_of 4 second (j + 1)) × (start_of 4 second (j + 1) ≤ length third)
+    × (bytes_from third (start_of 4 second j) (start_of 4 second (j + 1) - start_of 4 second j) ≡ bytes_or [] cell)
+
+module _ (starts : (size : ℕ) (lengths : List ℕ) (j : ℕ) → sum_by (λ n. n) lengths < 2 ^ (8 * size - 1)
+    → j ≤ length lengths → start_of size (offsets_of size lengths) j ≡ sum_by (λ n. n) (take j lengths))
+    (values : (size : ℕ) (cells : List Cell) (j : ℕ) → sum_by (λ n. n) (bytes_lengths cells) < 2 ^ (8 * size - 1) → j < length cells
+    → value_bytes size (offsets_of size (bytes_lengths cells)) (flat_map (bytes_or []) cells) j ≡ bytes_or [] (get_or cells j null_cell)) where
+  spread_written : (cells : List Cell) (j : ℕ) → sum_by (λ n. n) (bytes_lengths cells) < 2 ^ (8 * 4 - 1) → j < length cells
+      → IsSpread (offsets_of 4 (bytes_lengths cells)) (flat_map (bytes_or []) cells) j (get_or cells j null_cell)
+  spread_written cells j few within =
+      let lengths : List ℕ = bytes_lengths cells in
+      let counted : length (bytes_lengths cells) ≡ length cells = length-map cells (λ cell. length (bytes_or [] cell)) in
+      let here : start_of 4 (offsets_of 4 (bytes_lengths cells)) j ≡ sum_by (λ n. n) (take j (bytes_lengths cells)) =
+      starts 4 (bytes_lengths cells) j few (omega (arith, counted, within)) in
+      let next : start_of 4 (offsets_of 4 (bytes_lengths cells)) (j + 1) ≡ sum_by (λ n. n) (take (j + 1) (bytes_lengths cells)) =
+      starts 4 (bytes_lengths cells) (j + 1) few (omega (arith, counted, within)) in
+      let more : sum_by (λ n. n) (take (j + 1) (bytes_lengths cells)) ≡ sum_by (λ n. n) (take j (bytes_lengths cells)) + get_or (bytes_lengths cells) j 0 =
+      sum_by_more (λ n. n) (bytes_lengths cells) j 0 (omega (arith, counted, within)) in
+      let all : sum_by (λ n. n) (take (j + 1) (bytes_lengths cells)) ≤ sum_by (λ n. n) (bytes_lengths cells) = sum_by-take-le (λ n. n) (bytes_lengths cells) (j + 1) in
+      let long : length (offsets_of 4 (bytes_lengths cells)) ≡ 4 * length (range_with_len 0 (length (bytes_lengths cells) + 1)) =
+      offsets_long (bytes_lengths cells) (range_with_len 0 (length (bytes_lengths cells) + 1)) in
+      let each : length (range_with_len 0 (length (bytes_lengths cells) + 1)) ≡ length (bytes_lengths cells) + 1 =
+      length-range_with_len 0 (length (bytes_lengths cells) + 1) in (
+        omega (arith, long, each, counted, within),
+        omega (arith, here, next, more),
+        omega (arith, next, all, bytes_long cells),
+        values 4 cells j few within,
+      )
+
+  spread_as : (cells : List Cell) (second third : List ℕ) (j : ℕ) → j < length cells → (offset : ℕ) → offset ≡ 4
+      → sum_by (λ n. n) (bytes_lengths cells) < 2 ^ (8 * offset - 1)
+      → second ≡ offsets_of offset (bytes_lengths cells) → third ≡ flat_map (bytes_or []) cells → IsSpread second third j (get_or cells j null_cell)
+  spread_as cells second third j within offset four few is whole =
+      let little : sum_by (λ n. n) (bytes_lengths cells) < 2 ^ (8 * 4 - 1) =
+      subst (λ n. sum_by (λ n. n) (bytes_lengths cells) < 2 ^ (8 * n - 1)) four few in
+      subst (λ x. IsSpread x third j (get_or cells j null_cell)) (sym (is ∙ ap (λ n. offsets_of n (bytes_lengths cells)) four))
+      (subst (λ x. IsSpread (offsets_of 4 (bytes_lengths cells)) x j (get_or cells j null_cell)) (sym whole) (spread_written cells j little within))
+
+  pub spread_part : (layout : Layout) (cells : List Cell) (second third : List ℕ) (j : ℕ) → has_spread layout ≡ true → j < length cells
+      → HasRoom layout cells → second ≡ get_or (own_buffers layout cells) 1 [] → third ≡ get_or (own_buffers layout cells) 2 []
+      → IsSpread second third j (get_or cells j null_cell)
+  spread_part (binary_layout offset) cells second third j has within room is whole =
+      spread_as cells second third j within offset (eqb-true offset 4 has) room is whole
+  spread_part (utf8_layout offset) cells second third j has within room is whole =
+      spread_as cells second third j within offset (eqb-true offset 4 has) room is whole
+  spread_part null_layout cells second third j has within room is whole = absurd (true≢false (sym has))
+  spread_part bits_layout cells second third j has within room is whole = absurd (true≢false (sym has))
+  spread_part (bytes_layout size) cells second third j has within room is whole = absurd (true≢false (sym has))
+  spread_part (list_layout offset) cells second third j has within room is whole = absurd (true≢false (sym has))
+  spread_part (fixed_size_list_layout size) cells second third j has within room is whole = absurd (true≢false (sym has))
+  spread_part struct_layout cells second third j has within room is whole = absurd (true≢false (sym has))

@@ -1,5 +1,5 @@
 -- What is seen of one cell.
-use Rattle.std.specs.Prelude.{ℕ, Bool, true, false, List, Option, Some, None}
+use Rattle.std.specs.Prelude.{ℕ, ◌==◌, Bool, true, false, List, Option, Some, None}
 use Rattle.batch_types.specs.Layouts.{Layout, null_layout, bits_layout, bytes_layout, binary_layout, utf8_layout}
 use Rattle.batch_types.specs.Layouts.{list_layout, fixed_size_list_layout, struct_layout}
 use Rattle.batch_types.specs.Cells.{Cell, null_cell, bit_cell, bytes_cell, list_cell, tuple_cell}
@@ -26,6 +26,17 @@ has_bits (utf8_layout offset) = false
 has_bits (list_layout offset) = false
 has_bits (fixed_size_list_layout size) = false
 has_bits struct_layout = false
+
+-- whether they have bytes of any number, by offsets of four bytes
+abbrev pub has_spread : Layout → Bool
+has_spread null_layout = false
+has_spread bits_layout = false
+has_spread (bytes_layout size) = false
+has_spread (binary_layout offset) = offset == 4
+has_spread (utf8_layout offset) = offset == 4
+has_spread (list_layout offset) = false
+has_spread (fixed_size_list_layout size) = false
+has_spread struct_layout = false
 
 -- whether it is null, where there is a cell
 abbrev pub null_seen : Option Cell → Option Bool

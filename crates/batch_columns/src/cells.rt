@@ -1,18 +1,19 @@
 //! The cells of a column, one by one.
 
-ghost use Rattle.std.specs.Prelude.{◌≡◌, ◌+◌, ◌*◌, ◌<◌, ◌≤◌, length, get_or, slice_get, replicate, Some};
+ghost use Rattle.std.specs.Prelude.{◌≡◌, ◌+◌, ◌-◌, ◌*◌, ◌<◌, ◌≤◌, length, get_or, slice_get, replicate, Some, [], true};
 ghost use Rattle.batch_types.specs.Cells.{null_cell};
 ghost use Rattle.batch_types.specs.Canonical.{is_null as is_null_cell, bytes_or};
 ghost use Rattle.batch_types.specs.Layouts.{bytes_layout};
-ghost use Rattle.batch_types.specs.Placed.{bytes_from};
+ghost use Rattle.batch_types.specs.Placed.{bytes_from, start_of};
 ghost use Rattle.batch_columns.specs.Contents.{layout_in};
-ghost use Rattle.batch_columns.specs.Looks.{has_values as has_values_seen, has_bits as has_bits_seen, null_seen, bit_seen, bytes_seen};
+ghost use Rattle.batch_columns.specs.Looks.{has_spread, has_values as has_values_seen, has_bits as has_bits_seen, null_seen, bit_seen, bytes_seen};
 ghost use Rattle.batch_columns.specs.Held.{layout_named};
 
 use crate::column::Column;
 use crate::layout::Layout;
 use batch_types::laws::written_values_are_the_cells;
 use bitmaps::bit;
+use byteorder::{ByteOrder, LittleEndian};
 
 /// Whether a column of this layout may have cells that are not null.
 fn has_values(layout: Layout) -> bool
@@ -75,8 +76,36 @@ fn sized_at(column: &Column, size: usize, row: usize) -> &[u8]
     ensures { result.now ≡ bytes_or (replicate size 0) (get_or column.now.cells row null_cell) }
 {
     written_values_are_the_cells();
-    column.layout();
     block(column.second(), size, row)
+}
+
+/// The bytes of a run of some.
+fn part(bytes: &[u8], start: usize, end: usize) -> &[u8]
+    requires { (start ≤ end) × (end ≤ length bytes.now) }
+    ensures { result.now ≡ bytes_from bytes.now start (end - start) }
+{
+    &bytes[start..end]
+}
+
+/// Offset `row` of some of four bytes each, without its sign.
+fn offset_at(offsets: &[u8], row: usize) -> usize
+    requires { 4 * row + 4 ≤ length offsets.now }
+    ensures { result ≡ start_of 4 offsets.now row }
+{
+    LittleEndian::read_int(block(offsets, 4, row), 4).unsigned_abs() as usize
+}
+
+/// The bytes of the value of a row that is there, in a layout of bytes of any number.
+fn spread_at(column: &Column, row: usize) -> &[u8]
+    requires spread { has_spread (layout_in column.now) ≡ true }
+    requires within { row < length column.now.cells }
+    ensures { result.now ≡ bytes_or [] (get_or column.now.cells row null_cell) }
+{
+    written_values_are_the_cells();
+    let offsets = column.second();
+    let start = offset_at(offsets, row);
+    let end = offset_at(offsets, row + 1);
+    part(column.third(), start, end)
 }
 
 /// Whether the cell of a row that is there is null.

@@ -125,8 +125,11 @@ impl Column {
 
     /// The second buffer as it is written: the values of fixed size, their bits in the layout `Bits`, or the offsets of
     /// those of variable size, each a signed number of four bytes, the lowest first; no bytes in a layout without one.
+    /// Each cell is one of the layout, and offsets have room for what they count.
     pub fn second(&self) -> &[u8]
-        ensures { result.now ≡ get_or (own_buffers (layout_in self.now) self.now.cells) 1 [] }
+        ensures buffer { result.now ≡ get_or (own_buffers (layout_in self.now) self.now.cells) 1 [] }
+        ensures fit { AllByRecursion (IsCellOf self.now.shape) self.now.cells }
+        ensures room { HasRoom (layout_in self.now) self.now.cells }
     {
         self.second.as_slice()
     }

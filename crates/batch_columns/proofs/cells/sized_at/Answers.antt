@@ -5,10 +5,10 @@ use Rattle.batch_columns.proofs.cells.sized_at.Goals as goal
 pub block-requires : goal.block-requires
 block-requires c =
     (sized_block c.args.size c.written_values_are_the_cells.ensures.sized c.args.column.now.shape c.args.column.now.cells c.second.result.now c.args.row
-    c.requires.sized c.requires.within c.layout.ensures.fit c.second.ensures).0
+    c.requires.sized c.requires.within c.second.ensures.fit c.second.ensures.buffer).0
 
 pub returns : goal.returns
 returns c =
     c.block.ensures
     ∙ (sized_block c.args.size c.written_values_are_the_cells.ensures.sized c.args.column.now.shape c.args.column.now.cells c.second.result.now c.args.row
-    c.requires.sized c.requires.within c.layout.ensures.fit c.second.ensures).1
+    c.requires.sized c.requires.within c.second.ensures.fit c.second.ensures.buffer).1
