@@ -1,5 +1,5 @@
 -- What is seen of a column's buffers is what its cells are.
-use Rattle.std.proofs.Common.{◌≡◌, ◌≢◌, refl, sym, ap, ◌∙◌, subst, ℕ, suc, ◌+◌, ◌-◌, ◌*◌, ◌^◌, ◌<◌, ◌≤◌, ◌==◌, ◌||◌, Bool, true, false, not, List, [], ◌∷◌, length, get_or, take, map, replicate, true≢false, arith, mul-le-mul_left, length-append}
+use Rattle.std.proofs.Common.{◌≡◌, ◌≢◌, refl, sym, ap, ◌∙◌, subst, ℕ, suc, ◌+◌, ◌-◌, ◌*◌, ◌^◌, ◌<◌, ◌≤◌, ◌==◌, ◌||◌, Bool, true, false, not, List, [], ◌∷◌, length, get_or, take, replicate, true≢false, arith, mul-le-mul_left, length-append}
 use Rattle.std.specs.List.{AllByRecursion, flat_map, sum_by, range_with_len}
 use Rattle.bitmaps.specs.Bits.{bit_of}
 use native.Mathlib.Nat.{mul-suc}
@@ -9,7 +9,7 @@ use Rattle.std.proofs.lemmas.Bool.{eqb-true}
 use Rattle.byteorder.specs.Endian.{little_bytes}
 use Rattle.byteorder.specs.Numbers.{length-bytes_low_first}
 use Rattle.std.proofs.lemmas.List.FromFn.{length-range_with_len}
-use Rattle.batch_types.specs.Cells.{Cell, null_cell, bit_cell, bytes_cell, list_cell, tuple_cell, Cells}
+use Rattle.batch_types.specs.Cells.{Cell, null_cell, bit_cell, bytes_cell, list_cell, tuple_cell}
 use Rattle.batch_types.specs.Shapes.{Shape, shape}
 use Rattle.batch_types.specs.Typed.{AreBytes, FitsLayout, IsCellOf, IsElementOf, AreFieldsOf}
 use Rattle.batch_columns.specs.Contents.{layout_of_shape}

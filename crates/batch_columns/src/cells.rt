@@ -1,6 +1,6 @@
 //! The cells of a column, one by one.
 
-ghost use Rattle.std.specs.Prelude.{◌≡◌, ◌+◌, ◌-◌, ◌*◌, ◌<◌, ◌≤◌, length, get_or, slice_get, replicate, Some, [], true};
+ghost use Rattle.std.specs.Prelude.{◌≡◌, ◌+◌, ◌-◌, ◌*◌, ◌<◌, ◌≤◌, length, get_or, slice_get, replicate, Some, None, IfSome, IfNone, [], true};
 ghost use Rattle.batch_types.specs.Cells.{null_cell};
 ghost use Rattle.batch_types.specs.Canonical.{is_null as is_null_cell, bytes_or};
 ghost use Rattle.batch_types.specs.Layouts.{bytes_layout};
@@ -121,6 +121,26 @@ fn is_null_at(column: &Column, row: usize) -> bool
     !validity.is_empty() && !bit(validity, row)
 }
 
+/// The bytes of the cell of a row that is there, where it has some.
+fn bytes_at(column: &Column, row: usize) -> Option<&[u8]>
+    requires { row < length column.now.cells }
+    ensures some { IfSome result (λ bytes. bytes_seen (Some (get_or column.now.cells row null_cell)) ≡ Some bytes.now) }
+    ensures none { IfNone result (bytes_seen (Some (get_or column.now.cells row null_cell)) ≡ None) }
+{
+    if is_null_at(column, row) {
+        return None;
+    }
+    match column.layout() {
+        Layout::Bytes { size } => Some(sized_at(column, size as usize, row)),
+        Layout::Binary | Layout::Utf8 => Some(spread_at(column, row)),
+        Layout::Null
+        | Layout::Bits
+        | Layout::List
+        | Layout::FixedSizeList { .. }
+        | Layout::Struct => None,
+    }
+}
+
 impl Column {
     /// Whether the cell of this row is null; `None` behind the last row.
     pub fn is_null(&self, row: usize) -> Option<bool>
@@ -139,6 +159,19 @@ impl Column {
     {
         if row < self.len() {
             bit_at(self, row)
+        } else {
+            None
+        }
+    }
+
+    /// The bytes of the cell of this row: of a value of fixed size, or of any bytes or a text; `None` where it is null,
+    /// where the layout has no bytes, and behind the last row.
+    pub fn bytes(&self, row: usize) -> Option<&[u8]>
+        ensures some { IfSome result (λ bytes. bytes_seen (slice_get self.now.cells row) ≡ Some bytes.now) }
+        ensures none { IfNone result (bytes_seen (slice_get self.now.cells row) ≡ None) }
+    {
+        if row < self.len() {
+            bytes_at(self, row)
         } else {
             None
         }

@@ -1,6 +1,6 @@
-use Rattle.std.proofs.Common.{◌≡◌, refl, sym, ap, ap₂, ◌∙◌, ◌+◌, ◌-◌, ◌≤◌, subst, [], get_or, length, arith}
+use Rattle.std.proofs.Common.{refl, ap₂, ◌∙◌, ◌-◌, [], get_or, arith}
 use Rattle.batch_types.specs.Canonical.{own_buffers}
-use Rattle.batch_types.specs.Placed.{start_of, bytes_from}
+use Rattle.batch_types.specs.Placed.{bytes_from}
 use Rattle.batch_columns.specs.Contents.{layout_in}
 use Rattle.batch_columns.proofs.Looking.{spread_part}
 use Rattle.batch_columns.proofs.cells.spread_at.Goals as goal
