@@ -1,13 +1,15 @@
 -- Columns that are made of cells keep what a column keeps.
-use Rattle.std.proofs.Common.{◌≡◌, refl, sym, ap, ap₂, subst, ◌∙◌, ℕ, zero, suc, ◌+◌, Bool, true, false, not, if◌then◌else◌, List, [], ◌∷◌, map, replicate, arith}
+use Rattle.std.proofs.Common.{◌≡◌, refl, sym, ap, ap₂, subst, ◌∙◌, ℕ, zero, suc, ◌+◌, ◌==◌, Bool, true, false, not, if◌then◌else◌, List, [], ◌∷◌, map, replicate, arith}
 use Rattle.std.specs.List.{AllByRecursion}
 use Rattle.std.specs.Option.{is_some}
-use Rattle.std.proofs.Common.{Option}
+use Rattle.std.proofs.Common.{Option, Some, None}
 use Rattle.std.proofs.lemmas.List.Sums.{sum_by-cons}
 use Rattle.bitmaps.specs.Bits.{zeros}
+use Rattle.bitmaps.specs.Packing.{packed_bytes}
+use Rattle.batch_columns.specs.Made.{bit_or_null, bit_or_clear, bitmap_of}
 use Rattle.batch_types.specs.Cells.{Cell, null_cell}
-use Rattle.batch_types.specs.Layouts.{null_layout}
-use Rattle.batch_types.specs.Canonical.{is_null, nulls_of}
+use Rattle.batch_types.specs.Layouts.{null_layout, bits_layout}
+use Rattle.batch_types.specs.Canonical.{is_null, bit_in, nulls_of, validity_of}
 use Rattle.batch_types.specs.Typed.{IsCellOf}
 use Rattle.batch_types.specs.Shapes.{shape, no_shape}
 use Rattle.batch_columns.specs.Contents.{Contents}
@@ -66,3 +68,38 @@ module _ {X : Type 0} (f : Option X → Cell) (null : (o : Option X) → is_null
       not_not : (b : Bool) → not (not b) ≡ b
       not_not true = refl
       not_not false = refl
+
+  -- the bitmap of what is there is the validity of the cells
+  pub validity_marked : (cells : List (Option X)) → bitmap_of (map is_some cells) ≡ validity_of (map f cells)
+  validity_marked cells =
+      ap₂ (λ n bits. if n == 0 then [] else packed_bytes bits) (sym (nulls_marked cells)) (sym (marked cells))
+
+-- ---- bits
+
+bit_null : (o : Option Bool) → is_null (bit_or_null o) ≡ not (is_some o)
+bit_null None = refl
+bit_null (Some bit) = refl
+
+bits_fit : (cells : List (Option Bool)) → AllByRecursion (IsCellOf (shape bits_layout no_shape)) (map bit_or_null cells)
+bits_fit [] = tt
+bits_fit (None ∷ cells) = (tt, bits_fit cells)
+bits_fit (Some bit ∷ cells) = (tt, bits_fit cells)
+
+bits_in : (cells : List (Option Bool)) → map bit_or_clear cells ≡ map bit_in (map bit_or_null cells)
+bits_in [] = refl
+bits_in (None ∷ cells) = ap (λ bits. false ∷ bits) (bits_in cells)
+bits_in (Some bit ∷ cells) = ap (λ bits. bit ∷ bits) (bits_in cells)
+
+pub bits_kept : (cells : List (Option Bool)) (nulls : ℕ) (validity second third : List ℕ) (inside : List Contents)
+    → nulls ≡ zeros (map is_some cells) → validity ≡ bitmap_of (map is_some cells) → second ≡ packed_bytes (map bit_or_clear cells) → third ≡ [] → inside ≡ []
+    → IsKept bits_layout (map bit_or_null cells) nulls validity second third inside
+bits_kept cells nulls validity second third inside n v s t i =
+    subst (IsKept bits_layout (map bit_or_null cells) nulls validity second third) (sym i) record {
+      nulls_counted = n ∙ sym (nulls_marked bit_or_null bit_null cells);
+      first_buffer = v ∙ validity_marked bit_or_null bit_null cells;
+      second_buffer = s ∙ ap packed_bytes (bits_in cells);
+      third_buffer = t;
+      fit = bits_fit cells;
+      held_inside = refl;
+      room = tt;
+    }

@@ -4,3 +4,4 @@ pub mod Held
 pub mod Kept
 pub mod Falls
 pub mod Looks
+pub mod Made
