@@ -2,6 +2,6 @@
 
 mod lists;
 mod long;
-mod plain;
+pub(crate) mod plain;
 mod putting;
 mod runs;

@@ -17,7 +17,7 @@ fn byte_of(bits: &[bool]) -> u8 {
 }
 
 /// The bytes of a list of bits.
-pub(super) fn packed(alloc: Global, bits: &[bool]) -> Result<Vec<u8>, AllocError> {
+pub(crate) fn packed(alloc: Global, bits: &[bool]) -> Result<Vec<u8>, AllocError> {
     let mut bytes = Vec::new(alloc);
     for eight in bits.chunks(8) {
         bytes.push(byte_of(eight))?;
