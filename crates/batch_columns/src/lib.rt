@@ -4,7 +4,9 @@
 mod building;
 mod cells;
 mod column;
+mod fitting;
 mod layout;
 
 pub use column::Column;
+pub use fitting::layout_of;
 pub use layout::Layout;
