@@ -1,3 +1,4 @@
 pub mod Holding
 pub mod Making
 pub mod Looking
+pub mod Beside

@@ -5,3 +5,4 @@ pub mod Kept
 pub mod Falls
 pub mod Looks
 pub mod Made
+pub mod FieldShapes

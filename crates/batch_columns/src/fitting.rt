@@ -1,13 +1,17 @@
 //! Which columns are of which fields.
 
-ghost use Rattle.std.specs.Prelude.{◌≡◌};
+ghost use Rattle.std.specs.Prelude.{◌≡◌, ◌↔◌, IsTrue};
 ghost use Rattle.header_types.specs.Views.{data_type_of};
 ghost use Rattle.batch_types.specs.Layouts.{layout_of as layout_of_type, int_size as int_bytes, float_size as float_bytes};
 ghost use Rattle.batch_types.specs.Layouts.{decimal_size as decimal_bytes, date_size as date_bytes, time_size as time_bytes};
-ghost use Rattle.batch_columns.specs.Held.{layout_named};
+ghost use Rattle.header_types.specs.FieldView.{field_head_of};
+ghost use Rattle.batch_columns.specs.Contents.{layout_in};
+ghost use Rattle.batch_columns.specs.Held.{layout_named, shapes_held};
+ghost use Rattle.batch_columns.specs.FieldShapes.{field_shapes};
 
+use crate::column::Column;
 use crate::layout::Layout;
-use header_types::{BitWidth, DateUnit, DecimalWidth, Precision, TimeUnit, Ty};
+use header_types::{BitWidth, DateUnit, DecimalWidth, Field, Precision, TimeUnit, Ty};
 
 /// How many bytes an integer has.
 fn int_size(width: BitWidth) -> u32
@@ -93,4 +97,28 @@ fn time_size(unit: TimeUnit) -> u32
         TimeUnit::Second | TimeUnit::Millisecond => 4,
         TimeUnit::Microsecond | TimeUnit::Nanosecond => 8,
     }
+}
+
+/// Whether a column's values stand in buffers as those of the field's type do.
+fn has_layout(column: &Column, field: &Field) -> bool
+    ensures { IsTrue result ↔ (layout_in column.now ≡ layout_of_type (field_head_of field.now).data_type) }
+{
+    column.layout() == layout_of(&field.ty)
+}
+
+/// Whether these columns are of these fields, one of each, in order: their values stand in buffers as those of the
+/// fields' types do, and so those of the columns inside them, at all levels. It takes no memory.
+pub fn are_of(columns: &[Column], fields: &[Field]) -> bool
+    ensures { IsTrue result ↔ (shapes_held columns.now ≡ field_shapes fields.now) }
+{
+    if columns.len() != fields.len() {
+        return false;
+    }
+    for index in 0..fields.len() {
+        let (column, field) = (&columns[index], &fields[index]);
+        if !has_layout(column, field) || !are_of(column.inside(), &field.children) {
+            return false;
+        }
+    }
+    true
 }

@@ -8,5 +8,5 @@ mod fitting;
 mod layout;
 
 pub use column::Column;
-pub use fitting::layout_of;
+pub use fitting::{are_of, layout_of};
 pub use layout::Layout;

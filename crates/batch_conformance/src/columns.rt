@@ -1,7 +1,8 @@
 //! Columns of `batch_columns` beside the lists of cells that they are made of.
 
 use crate::bits::plain::packed;
-use batch_columns::{Column, Layout};
+use batch_columns::{Column, Layout, are_of, layout_of};
+use header_types::{DateUnit, Field, TimeUnit, Ty};
 use std::alloc::{AllocError, Global};
 use std::process::Abort;
 use std::test::Fail;
@@ -120,5 +121,68 @@ fn columns_of_nulls_have_nulls_alone(rt: HostRuntime) -> Result<(), Fail> {
             "{count}"
         );
     }
+    Ok(())
+}
+
+/// A field of this type that has none inside it.
+fn field(alloc: Global, ty: Ty) -> Field {
+    Field {
+        name: String::new(alloc),
+        nullable: true,
+        ty,
+        children: Vec::new(alloc),
+        metadata: Vec::new(alloc),
+    }
+}
+
+/// Whether the columns of one bit and of one null, in this order, are of these two fields.
+fn fits(alloc: Global, first: Ty, second: Ty) -> Result<bool, AllocError> {
+    let mut columns = Vec::new(alloc);
+    columns.push(Column::from_bits(alloc, &[Some(true)])?)?;
+    columns.push(Column::nulls(alloc, 1))?;
+    let mut fields = Vec::new(alloc);
+    fields.push(field(alloc, first))?;
+    fields.push(field(alloc, second))?;
+    let is_one_less = are_of(columns.as_slice(), &fields[..1]);
+    Ok(!is_one_less && are_of(columns.as_slice(), fields.as_slice()))
+}
+
+#[test]
+fn columns_are_of_fields_of_their_layouts(rt: HostRuntime) -> Result<(), Fail> {
+    assert!(rt; fits(rt.alloc(), Ty::Bool, Ty::Null)?, "of their own types");
+    assert!(rt; !fits(rt.alloc(), Ty::Null, Ty::Bool)?, "in another order");
+    assert!(rt; !fits(rt.alloc(), Ty::Bool, Ty::Bool)?, "a null of Bool");
+    assert!(rt;
+        !fits(rt.alloc(), Ty::Struct, Ty::Null)?,
+        "a bit of a struct"
+    );
+    assert!(rt; !fits(rt.alloc(), Ty::Utf8, Ty::Null)?, "a bit of a text");
+    Ok(())
+}
+
+#[test]
+fn types_of_one_size_have_one_layout(rt: HostRuntime) -> Result<(), Fail> {
+    let date = Ty::Date {
+        unit: DateUnit::Day,
+    };
+    let time = Ty::Time {
+        unit: TimeUnit::Nanosecond,
+    };
+    let bytes = Ty::FixedSizeBinary { byte_width: 7 };
+    let list = Ty::FixedSizeList { list_size: 3 };
+    assert!(rt; layout_of(&date) == Layout::Bytes { size: 4 }, "a day");
+    assert!(rt;
+        layout_of(&time) == Layout::Bytes { size: 8 },
+        "nanoseconds"
+    );
+    assert!(rt;
+        layout_of(&bytes) == Layout::Bytes { size: 7 },
+        "seven bytes"
+    );
+    assert!(rt;
+        layout_of(&list) == Layout::FixedSizeList { size: 3 },
+        "three elements"
+    );
+    assert!(rt; layout_of(&Ty::Binary) == Layout::Binary, "bytes");
     Ok(())
 }
