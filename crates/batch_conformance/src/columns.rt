@@ -1,7 +1,7 @@
 //! Columns of `batch_columns` beside the lists of cells that they are made of.
 
 use crate::bits::plain::packed;
-use batch_columns::{Column, Layout, are_of, layout_of};
+use batch_columns::{Column, ColumnFault, Layout, are_of, layout_of};
 use header_types::{DateUnit, Field, TimeUnit, Ty};
 use std::alloc::{AllocError, Global};
 use std::process::Abort;
@@ -184,5 +184,77 @@ fn types_of_one_size_have_one_layout(rt: HostRuntime) -> Result<(), Fail> {
         "three elements"
     );
     assert!(rt; layout_of(&Ty::Binary) == Layout::Binary, "bytes");
+    Ok(())
+}
+
+/// The column that was made; no fault but want of memory is awaited.
+fn made(made: Result<Column, ColumnFault>) -> Result<Column, AllocError> {
+    made.map_err(|_| AllocError)
+}
+
+/// Whether the column has these bytes, cell by cell, and none behind them.
+fn has_bytes(column: &Column, cells: &[Option<&[u8]>]) -> bool {
+    let mut is_right = column.len() == cells.len() && column.bit(0).is_none();
+    for row in 0..cells.len().saturating_add(3) {
+        let cell = cells.get(row).copied();
+        let is_null = cell.map(|bytes| bytes.is_none());
+        is_right = is_right
+            && column.bytes(row) == cell.flatten()
+            && column.is_null(row) == is_null;
+    }
+    is_right
+}
+
+#[test]
+fn texts_stand_one_behind_the_other(rt: HostRuntime) -> Result<(), Fail> {
+    let column = made(Column::from_texts(rt.alloc(), &[Some("ab"), None, Some(""), Some("cde")]))?;
+    assert!(rt;
+        column.layout() == Layout::Utf8 && column.null_count() == 1,
+        "texts"
+    );
+    assert!(rt; column.validity() == [0b1101].as_slice(), "their bitmap");
+    assert!(rt; column.third() == b"abcde".as_slice(), "their bytes");
+    let offsets = [0, 0, 0, 0, 2, 0, 0, 0, 2, 0, 0, 0, 2, 0, 0, 0, 5, 0, 0, 0];
+    assert!(rt; column.second() == offsets.as_slice(), "their offsets");
+    let cells: [Option<&[u8]>; 4] = [Some(b"ab"), None, Some(b""), Some(b"cde")];
+    assert!(rt; has_bytes(&column, cells.as_slice()), "their cells");
+    Ok(())
+}
+
+#[test]
+fn thousands_of_bytes_of_any_number_are_found(rt: HostRuntime) -> Result<(), Fail> {
+    let text: [u8; 9] = *b"012345678";
+    let mut cells: Vec<Option<&[u8]>> = Vec::new(rt.alloc());
+    for row in 0..5_000_usize {
+        cells.push(if row % 7 == 3 {
+            None
+        } else {
+            text.get(..row % 10)
+        })?;
+    }
+    let column = made(Column::from_binary(rt.alloc(), cells.as_slice()))?;
+    assert!(rt; column.layout() == Layout::Binary, "bytes");
+    assert!(rt; has_bytes(&column, cells.as_slice()), "their cells");
+    Ok(())
+}
+
+#[test]
+fn values_of_one_size_are_found(rt: HostRuntime) -> Result<(), Fail> {
+    let cells: [Option<&[u8]>; 3] = [Some(&[1, 2]), None, Some(&[3, 4])];
+    let column = made(Column::from_sized(rt.alloc(), 2, cells.as_slice()))?;
+    assert!(rt;
+        column.layout() == Layout::Bytes { size: 2 },
+        "two bytes each"
+    );
+    assert!(rt;
+        column.second() == [1, 2, 0, 0, 3, 4].as_slice(),
+        "zero bytes under a null"
+    );
+    assert!(rt; has_bytes(&column, cells.as_slice()), "their cells");
+    let other = Column::from_sized(rt.alloc(), 3, cells.as_slice());
+    assert!(rt;
+        matches!(other, Err(ColumnFault::WrongSize)),
+        "another size"
+    );
     Ok(())
 }
