@@ -6,3 +6,4 @@ pub mod Falls
 pub mod Looks
 pub mod Made
 pub mod FieldShapes
+pub mod Batches

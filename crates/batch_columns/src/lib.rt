@@ -1,6 +1,7 @@
 //! Columns of batches.
 #![tactic(auto)]
 
+mod batch;
 mod building;
 mod cells;
 mod column;
@@ -8,6 +9,7 @@ mod fault;
 mod fitting;
 mod layout;
 
+pub use batch::Batch;
 pub use column::Column;
 pub use fault::ColumnFault;
 pub use fitting::{are_of, layout_of};
