@@ -52,7 +52,7 @@ abbrev count_shapes : Shapes → ℕ
 count_shapes no_shape = 0
 count_shapes (shape_then s rest) = suc (count_shapes rest)
 
-whole_shape : (s : Shape) → s ≡ shape (layout_of_shape s) (shapes_of_shape s)
+pub whole_shape : (s : Shape) → s ≡ shape (layout_of_shape s) (shapes_of_shape s)
 whole_shape (shape layout inside) = refl
 
 -- the shape of a field

@@ -2,3 +2,4 @@ pub mod Holding
 pub mod Making
 pub mod Looking
 pub mod Beside
+pub mod Counting

@@ -1,19 +1,15 @@
 -- What a batch of columns holds, and of which schema it is: Apache Arrow, "Arrow Columnar Format", "Terminology" and
 -- "RecordBatch message".
-use Rattle.std.specs.Prelude.{◌≡◌, ◌≤◌, pos, ◌≤ℤ◌, List, map, length}
+use Rattle.std.specs.Prelude.{◌≡◌, ◌≤◌, pos, ◌≤ℤ◌, length}
 use Rattle.std.specs.List.{AllByRecursion}
 use Rattle.header_types.specs.Fields.{SchemaTree}
-use Rattle.batch_types.specs.Cells.{Cell, Rows}
+use Rattle.batch_types.specs.Cells.{Rows}
 use Rattle.batch_types.specs.Canonical.{canonical_parts}
 use Rattle.batch_types.specs.LaysOut.{rows_limit, values_limit}
 use Rattle.batch_types.specs.Shapes.{shapes_of}
-use Rattle.batch_columns.specs.Contents.{Contents}
+use Rattle.batch_columns.specs.Few.{columns_cells}
 use Rattle.batch_columns.specs.Held.{shapes_held}
 use Rattle.batch_columns.specs.declared.batch.Batch.{Batch}
-
--- the cells of each column
-abbrev pub columns_cells : List Contents → List (List Cell)
-columns_cells columns = map (λ column. column.cells) columns
 
 -- its rows
 abbrev pub rows_of : Batch → Rows

@@ -6,4 +6,5 @@ pub mod Falls
 pub mod Looks
 pub mod Made
 pub mod FieldShapes
+pub mod Few
 pub mod Batches
