@@ -5,3 +5,4 @@ pub mod Typing
 pub mod Placing
 pub mod ReadBack
 pub mod WrittenCells
+pub mod Standing

@@ -12,10 +12,10 @@ length_zeros zero = refl
 length_zeros (suc n) = ap suc (length_zeros n)
 
 -- a buffer with the zero bytes behind it
-abbrev filled : List ℕ → List ℕ
+abbrev pub filled : List ℕ → List ℕ
 filled buffer = buffer ++ replicate (padded (length buffer) - length buffer) 0
 
-length_filled : (buffer : List ℕ) → length (filled buffer) ≡ padded (length buffer)
+pub length_filled : (buffer : List ℕ) → length (filled buffer) ≡ padded (length buffer)
 length_filled buffer =
     let n : ℕ = length buffer in
     omega (arith, length-append buffer (replicate (padded (length buffer) - length buffer) 0), length_zeros (padded (length buffer) - length buffer))

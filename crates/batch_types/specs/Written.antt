@@ -1,13 +1,20 @@
 -- The cell that is read of a column's own buffers as they are written, where the columns inside it are read as the cells
 -- that are written there: Apache Arrow, "Arrow Columnar Format", "Physical memory layout".
-use Rattle.std.specs.Prelude.{ℕ, suc, ◌-◌, ◌*◌, ◌^◌, ◌<◌, if◌then◌else◌, List, [], map, replicate, get_or}
-use Rattle.std.specs.List.{flat_map, sum_by}
-use Rattle.batch_types.specs.Cells.{Cell, null_cell, Cells, no_cell, cell_then, cells_of}
+use Rattle.std.specs.Prelude.{ℕ, suc, ◌-◌, ◌*◌, ◌^◌, ◌<◌, ◌≤◌, pos, ◌≤ℤ◌, if◌then◌else◌, List, [], ◌∷◌, map}
+use Rattle.std.specs.Prelude.{replicate, get_or}
+use Rattle.std.specs.List.{AllByRecursion, flat_map, sum_by}
+use Rattle.header_types.specs.Fields.{SchemaTree}
+use Rattle.batch_types.specs.Cells.{Cell, null_cell, Cells, no_cell, cell_then, cells_of, Rows}
 use Rattle.batch_types.specs.Layouts.{Layout, null_layout, bits_layout, bytes_layout, binary_layout, utf8_layout}
 use Rattle.batch_types.specs.Layouts.{list_layout, fixed_size_list_layout, struct_layout}
-use Rattle.batch_types.specs.Shapes.{Shapes, no_shape, shape_then}
+use Rattle.batch_types.specs.Shapes.{Shape, shape, Shapes, no_shape, shape_then, shapes_of}
 use Rattle.batch_types.specs.Placed.{is_valid, value_at}
+use Rattle.batch_types.specs.LaysOut.{rows_limit, values_limit}
+use Rattle.batch_types.specs.Typed.{AreRowsOf}
 use Rattle.batch_types.specs.Canonical.{blank_of, elements_or, field_or, bytes_lengths, elements_lengths, own_buffers}
+use Rattle.batch_types.specs.Canonical.{canonical_parts}
+
+-- ---- room
 
 -- what the cells of a column have in all is a signed number of as many bytes as its offsets have
 abbrev pub HasRoom : Layout → List Cell → Type 0
@@ -19,6 +26,50 @@ HasRoom (utf8_layout offset) cells = sum_by (λ n. n) (bytes_lengths cells) < 2 
 HasRoom (list_layout offset) cells = sum_by (λ n. n) (elements_lengths cells) < 2 ^ (8 * offset - 1)
 HasRoom (fixed_size_list_layout size) cells = Unit {0}
 HasRoom struct_layout cells = Unit {0}
+
+-- what the columns inside a column of this layout have: elements, so many blank ones for each null, or fields
+abbrev pub HasInside : Layout → (ℕ → Type 0) → Type 0 → Type 0
+HasInside null_layout Elements Fields = Unit {0}
+HasInside bits_layout Elements Fields = Unit {0}
+HasInside (bytes_layout size) Elements Fields = Unit {0}
+HasInside (binary_layout offset) Elements Fields = Unit {0}
+HasInside (utf8_layout offset) Elements Fields = Unit {0}
+HasInside (list_layout offset) Elements Fields = Elements 0
+HasInside (fixed_size_list_layout size) Elements Fields = Elements size
+HasInside struct_layout Elements Fields = Fields
+
+abbrev mutual
+  -- there is room in a column of these cells and in all columns inside it
+  pub AreRooms : Shape → List Cell → Type 0
+  AreRooms (shape layout inside) cells =
+      HasRoom layout cells × HasInside layout (AreElementRooms inside cells) (AreFieldRooms inside 0 cells)
+
+  -- in a column of the elements of these cells, so many blank ones for each null
+  pub AreElementRooms : Shapes → List Cell → ℕ → Type 0
+  AreElementRooms no_shape cells blanks = Unit {0}
+  AreElementRooms (shape_then s rest) cells blanks = AreRooms s (flat_map (elements_or (replicate blanks (blank_of s))) cells)
+
+  -- in columns of the fields of these cells from this one on
+  pub AreFieldRooms : Shapes → ℕ → List Cell → Type 0
+  AreFieldRooms no_shape k cells = Unit {0}
+  AreFieldRooms (shape_then s rest) k cells =
+      AreRooms s (map (field_or (blank_of s) k) cells) × AreFieldRooms rest (suc k) cells
+
+-- in the columns of a batch
+abbrev pub HaveRooms : Shapes → List (List Cell) → Type 0
+HaveRooms no_shape columns = Unit {0}
+HaveRooms (shape_then s rest) [] = Unit {0}
+HaveRooms (shape_then s rest) (cells ∷ columns) = AreRooms s cells × HaveRooms rest columns
+
+-- Rows of the schema that a batch has room for: no more rows and no more values in a node than it may have, and no more
+-- bytes or elements in a column than its offsets can say.
+pub record CanBeWritten (schema : SchemaTree) (rows : Rows) : Type 0 where
+  pub of_schema : AreRowsOf schema rows
+  pub few : rows.count ≤ rows_limit
+  pub few_values : AllByRecursion (λ node. node.0 ≤ℤ pos values_limit) (canonical_parts schema rows).nodes
+  pub room : HaveRooms (shapes_of schema.fields) rows.columns
+
+-- ---- one column
 
 -- how many blank elements stand under a null
 abbrev pub blanks_under : Layout → ℕ
