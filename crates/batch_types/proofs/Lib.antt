@@ -6,3 +6,6 @@ pub mod Placing
 pub mod ReadBack
 pub mod WrittenCells
 pub mod Standing
+pub mod WrittenColumns
+pub mod WrittenInside
+pub mod WrittenBack

@@ -205,11 +205,11 @@ module _ (packed : (bits : List Bool) → IsPacked bits (packed_bytes bits)) whe
 
 -- ---- values
 
-length_zeros : (n : ℕ) → length {A = ℕ} (replicate n 0) ≡ n
+pub length_zeros : (n : ℕ) → length {A = ℕ} (replicate n 0) ≡ n
 length_zeros zero = refl
 length_zeros (suc n) = ap suc (length_zeros n)
 
-even_bytes : (size : ℕ) (cells : List Cell) → AllByRecursion (AreBytes (λ bytes. length bytes ≡ size)) cells
+pub even_bytes : (size : ℕ) (cells : List Cell) → AllByRecursion (AreBytes (λ bytes. length bytes ≡ size)) cells
     → AllByRecursion (λ cell. length (bytes_or (replicate size 0) cell) ≡ size) cells
 even_bytes size [] all = tt
 even_bytes size (null_cell ∷ cells) all = (length_zeros size, even_bytes size cells all.1)

@@ -93,7 +93,7 @@ cell_fits : (Element : Cell → Type 0) (Fields : Cells → Type 0) (l : Layout)
 cell_fits Element Fields l value valid true is fits = fits is
 cell_fits Element Fields l value valid false is fits = null_fits Element Fields l
 
-mapped : {X Y : Type 0} (P : X → Type 0) (Q : Y → Type 0) (f : X → Y) → ((x : X) → P x → Q (f x)) → (xs : List X) → AllByRecursion P xs → AllByRecursion (λ x. Q (f x)) xs
+pub mapped : {X Y : Type 0} (P : X → Type 0) (Q : Y → Type 0) (f : X → Y) → ((x : X) → P x → Q (f x)) → (xs : List X) → AllByRecursion P xs → AllByRecursion (λ x. Q (f x)) xs
 mapped P Q f each [] all = tt
 mapped P Q f each (x ∷ xs) all = (each x all.0, mapped P Q f each xs all.1)
 
@@ -171,10 +171,10 @@ some_offset (duration_type unit) = omega arith
 -- ---- bounds
 
 -- of values of one size side by side
-within_size : (size j count : ℕ) → j < count → size * j + size ≤ size * count
+pub within_size : (size j count : ℕ) → j < count → size * j + size ≤ size * count
 within_size size j count below = omega (arith, mul-le-mul_left size below, mul-suc size j)
 
-all_true : {X : Type 0} (P : X → Type 0) → ((x : X) → P x) → (xs : List X) → AllByRecursion P xs
+pub all_true : {X : Type 0} (P : X → Type 0) → ((x : X) → P x) → (xs : List X) → AllByRecursion P xs
 all_true P each [] = tt
 all_true P each (x ∷ xs) = (each x, all_true P each xs)
 
@@ -182,11 +182,11 @@ both : {X : Type 0} (P Q : X → Type 0) (xs : List X) → AllByRecursion P xs �
 both P Q [] ps qs = tt
 both P Q (x ∷ xs) ps qs = ((ps.0, qs.0), both P Q xs ps.1 qs.1)
 
-run_below : (start count limit : ℕ) → start + count ≤ limit → AllByRecursion (λ p. p < limit) (range_with_len start count)
+pub run_below : (start count limit : ℕ) → start + count ≤ limit → AllByRecursion (λ p. p < limit) (range_with_len start count)
 run_below start zero limit fits = tt
 run_below start (suc count) limit fits = (omega arith, run_below (start + 1) count limit (omega arith))
 
-flat_below : (f : ℕ → List ℕ) (limit : ℕ) (xs : List ℕ) → AllByRecursion (λ x. AllByRecursion (λ p. p < limit) (f x)) xs → AllByRecursion (λ p. p < limit) (flat_map f xs)
+pub flat_below : (f : ℕ → List ℕ) (limit : ℕ) (xs : List ℕ) → AllByRecursion (λ x. AllByRecursion (λ p. p < limit) (f x)) xs → AllByRecursion (λ p. p < limit) (flat_map f xs)
 flat_below f limit [] all = tt
 flat_below f limit (x ∷ xs) all = joined (f x) (flat_map f xs) all.0 (flat_below f limit xs all.1)
   where
@@ -194,7 +194,7 @@ flat_below f limit (x ∷ xs) all = joined (f x) (flat_map f xs) all.0 (flat_bel
     joined [] zs ps qs = qs
     joined (y ∷ ys) zs ps qs = (ps.0, joined ys zs ps.1 qs)
 
-filtered_all : {X : Type 0} (P : X → Type 0) (p : X → Bool) (xs : List X) → AllByRecursion P xs → AllByRecursion P (filter p xs)
+pub filtered_all : {X : Type 0} (P : X → Type 0) (p : X → Bool) (xs : List X) → AllByRecursion P xs → AllByRecursion P (filter p xs)
 filtered_all P p [] all = tt
 filtered_all P p (x ∷ xs) all = kept (p x) (filtered_all P p xs all.1)
   where
@@ -215,7 +215,7 @@ rises_from size offsets count limit rise (suc j) within =
     subst (λ k. pos 0 ≤ℤ offset_at size offsets k) (sym next)
     (omega (arith, ints, rise.rises j (omega arith), rises_from size offsets count limit rise j (omega arith)))
 
-span_within : (size : ℕ) (offsets : List ℕ) (count limit j : ℕ) → DoRise size offsets count limit → j < count
+pub span_within : (size : ℕ) (offsets : List ℕ) (count limit j : ℕ) → DoRise size offsets count limit → j < count
     → start_of size offsets j + length_of size offsets j ≤ limit
 span_within size offsets count limit j rise below =
     omega (
@@ -240,7 +240,7 @@ elements_are body Element no_column [] all = (refl, tt)
 elements_are body Element no_column (p ∷ places) all = absurd all.0
 elements_are body Element (column_then c rest) places all = (elements_counted body c places, elements_fit body Element c places all)
 
-length_run : (start count : ℕ) → length (range_with_len start count) ≡ count
+pub length_run : (start count : ℕ) → length (range_with_len start count) ≡ count
 length_run start zero = refl
 length_run start (suc count) = ap suc (length_run (start + 1) count)
 

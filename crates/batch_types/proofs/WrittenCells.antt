@@ -19,7 +19,7 @@ use Rattle.batch_types.proofs.ReadBack.{all_at, valid_is, bit_is, length_is, siz
 -- ---- elements by their places
 
 -- places side by side have what stands there
-cut : {X : Type 0} (xs : List X) (start count : ℕ) (d : X) → count ≤ length xs - start
+pub cut : {X : Type 0} (xs : List X) (start count : ℕ) (d : X) → count ≤ length xs - start
     → map (λ k. get_or xs k d) (range_with_len start count) ≡ take count (drop start xs)
 cut xs start zero d within = refl
 cut xs start (suc count) d within =
@@ -123,11 +123,11 @@ list_value offset inside cells j room within cs is fit =
     elements_of_cells inside cells 0 (start_of offset (offsets_of offset lengths) j) (length_of offset (offsets_of offset lengths) j) cs fit
     (λ blank. elements_are offset cells j room within ∙ here) long
 
-length_blanks : (n : ℕ) (blank : Cell) → length (replicate n blank) ≡ n
+pub length_blanks : (n : ℕ) (blank : Cell) → length (replicate n blank) ≡ n
 length_blanks zero blank = refl
 length_blanks (suc n) blank = ap suc (length_blanks n blank)
 
-even_elements : (Element : Cell → Type 0) (size : ℕ) (blank : Cell) (cells : List Cell)
+pub even_elements : (Element : Cell → Type 0) (size : ℕ) (blank : Cell) (cells : List Cell)
     → AllByRecursion (IsList (λ cs. (count_of cs ≡ size) × AllCells Element cs)) cells
     → AllByRecursion (λ cell. length (elements_or (replicate size blank) cell) ≡ size) cells
 even_elements Element size blank [] all = tt
