@@ -92,7 +92,7 @@ module _ (size : ℕ) (lengths : List ℕ) where
   abbrev sum_to : ℕ → ℕ
   sum_to j = sum_by (λ n. n) (take j lengths)
 
-  numbers_even : (js : List ℕ) → AllByRecursion (λ j. length (little_bytes size (sum_to j)) ≡ size) js
+  pub numbers_even : (js : List ℕ) → AllByRecursion (λ j. length (little_bytes size (sum_to j)) ≡ size) js
   numbers_even [] = tt
   numbers_even (j ∷ js) = (length-bytes_low_first 0 size (sum_to j), numbers_even js)
 

@@ -4,7 +4,6 @@ use Rattle.std.proofs.Common.{◌≡◌, refl, sym, ap, ◌∙◌, subst, ℕ, z
 use Rattle.std.specs.List.{AllByRecursion, flat_map, sum_by}
 use Rattle.std.specs.Str.{IsUtf8}
 use Rattle.std.proofs.lemmas.List.{length-map}
-use Rattle.std.proofs.lemmas.List.Concat.{length-flat_map}
 use Rattle.std.proofs.lemmas.List.Sums.{sum_by-cons}
 use Rattle.header_types.specs.Fields.{Tree, tree, Forest, no_more, more, width}
 use Rattle.header_types.specs.Profile.{IsWellFormedTree, IsWellFormedForest}
@@ -132,23 +131,22 @@ elements_fit Element Fit each blanks blank (bit_cell bit ∷ cells) fit = absurd
 elements_fit Element Fit each blanks blank (bytes_cell bytes ∷ cells) fit = absurd fit.0
 elements_fit Element Fit each blanks blank (tuple_cell inside ∷ cells) fit = absurd fit.0
 
--- as many as the lengths say in all
-pub elements_long : (cells : List Cell) → length (flat_map (elements_or []) cells) ≡ sum_by (λ n. n) (elements_lengths cells)
-elements_long cells = length-flat_map (elements_or []) cells ∙ summed cells
-  where
-    summed : (cells : List Cell) → sum_by (λ cell. length (elements_or [] cell)) cells ≡ sum_by (λ n. n) (elements_lengths cells)
-    summed [] = refl
-    summed (cell ∷ cells) =
-        sum_by-cons (λ cell. length (elements_or [] cell)) cell cells
-        ∙ ap (λ n. length (elements_or [] cell) + n) (summed cells)
-        ∙ sym (sum_by-cons (λ n. n) (length (elements_or [] cell)) (elements_lengths cells))
+-- ---- pieces one behind the other
 
--- or of one size each
-pub even_long : (f : Cell → List Cell) (size : ℕ) (cells : List Cell) → AllByRecursion (λ cell. length (f cell) ≡ size) cells
-    → length (flat_map f cells) ≡ size * length cells
+-- as long as their lengths say in all
+pub long_in_all : {X A : Type 0} (f : X → List A) (xs : List X) → length (flat_map f xs) ≡ sum_by (λ n. n) (map (λ x. length (f x)) xs)
+long_in_all f [] = refl
+long_in_all f (x ∷ xs) =
+    length-append (f x) (flat_map f xs)
+    ∙ ap (λ n. length (f x) + n) (long_in_all f xs)
+    ∙ sym (sum_by-cons (λ n. n) (length (f x)) (map (λ x. length (f x)) xs))
+
+-- or each of one length
+pub even_long : {X A : Type 0} (f : X → List A) (size : ℕ) (xs : List X) → AllByRecursion (λ x. length (f x) ≡ size) xs
+    → length (flat_map f xs) ≡ size * length xs
 even_long f size [] even = omega arith
-even_long f size (cell ∷ cells) even =
-    omega (arith, length-append (f cell) (flat_map f cells), even.0, even_long f size cells even.1, mul-suc size (length cells))
+even_long f size (x ∷ xs) even =
+    omega (arith, length-append (f x) (flat_map f xs), even.0, even_long f size xs even.1, mul-suc size (length xs))
 
 -- ---- fields
 
@@ -210,7 +208,7 @@ list_elements : (inside : Shapes) (cells : List Cell) → AllByRecursion (IsList
     → ColumnsFit (sum_by (λ n. n) (elements_lengths cells)) inside (element_columns inside cells 0)
 list_elements no_shape cells fit = tt
 list_elements (shape_then s rest) cells fit = (
-  omega (arith, elements_long cells),
+  omega (arith, long_in_all (elements_or []) cells),
   elements_fit (IsCellOf s) (AllCells (IsCellOf s)) (λ cs all. all) [] tt cells fit,
   no_columns_fit _ rest,
 )
