@@ -9,3 +9,4 @@ pub mod Standing
 pub mod WrittenColumns
 pub mod WrittenInside
 pub mod WrittenBack
+pub mod WrittenRows

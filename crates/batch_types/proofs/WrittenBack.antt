@@ -55,7 +55,7 @@ fields_same no_shape k cells j = refl
 fields_same (shape_then s rest) k cells j =
     ap (cell_then (get_or (map (field_or (blank_of s) k) cells) j null_cell)) (fields_same rest (suc k) cells j)
 
-map_same : {A : Type 0} (f g : ℕ → A) (P : ℕ → Type 0) → ((k : ℕ) → P k → f k ≡ g k) → (ks : List ℕ) → AllByRecursion P ks → map f ks ≡ map g ks
+pub map_same : {A : Type 0} (f g : ℕ → A) (P : ℕ → Type 0) → ((k : ℕ) → P k → f k ≡ g k) → (ks : List ℕ) → AllByRecursion P ks → map f ks ≡ map g ks
 map_same f g P same [] all = refl
 map_same f g P same (k ∷ ks) all = ap₂ (λ x xs. x ∷ xs) (same k all.0) (map_same f g P same ks all.1)
 

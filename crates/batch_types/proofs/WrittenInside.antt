@@ -106,7 +106,7 @@ mutual
 -- ---- elements
 
 module _ {X : Type 0} (P : X → Type 0) where
-  all_joined : (xs ys : List X) → AllByRecursion P xs → AllByRecursion P ys → AllByRecursion P (xs ++ ys)
+  pub all_joined : (xs ys : List X) → AllByRecursion P xs → AllByRecursion P ys → AllByRecursion P (xs ++ ys)
   all_joined [] ys ps qs = qs
   all_joined (x ∷ xs) ys ps qs = (ps.0, all_joined xs ys ps.1 qs)
 

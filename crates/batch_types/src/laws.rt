@@ -22,7 +22,7 @@ ghost use Rattle.batch_types.specs.Rules.{IsInside, DoRise};
 ghost use Rattle.batch_types.specs.Canonical.{is_null, bit_in, bytes_or, elements_or, validity_of, offsets_of};
 ghost use Rattle.batch_types.specs.Canonical.{bytes_lengths, elements_lengths, body_with, ranges_from, canonical_head};
 ghost use Rattle.batch_types.specs.Canonical.{canonical_body};
-ghost use Rattle.batch_types.specs.Written.{HasRoom, written_cell};
+ghost use Rattle.batch_types.specs.Written.{HasRoom, CanBeWritten, written_cell};
 ghost use Rattle.batch_types.specs.Examples.{int8_table, int8_rows, int8_head, int8_body, texts_table, texts_rows};
 ghost use Rattle.batch_types.specs.Examples.{texts_head, texts_body, texts_canonical_head, texts_canonical_body};
 ghost use Rattle.batch_types.specs.Examples.{bool_table, bool_rows, bool_head, bool_body, pairs_table, pairs_rows};
@@ -97,6 +97,17 @@ pub fn written_values_are_the_cells()
     ensures cells { (layout : Layout) (inside : Shapes) (cells : List Cell) (j : ℕ)
         → AllByRecursion (IsCellOf (shape layout inside)) cells → HasRoom layout cells → j < length cells
         → written_cell layout inside cells j ≡ get_or cells j null_cell }
+{
+    bits_are_packed_by_eights();
+}
+
+/// What is written of rows that a batch has room for, of a schema in profile, lays out these rows and no others: rows
+/// that are written are read again as they were.
+pub fn written_rows_are_laid_out()
+    ensures laid { (schema : SchemaTree) (rows : Rows) → InProfile schema → CanBeWritten schema rows
+        → LaysOut schema (canonical_head schema rows) (canonical_body schema rows) rows }
+    ensures only { (schema : SchemaTree) (rows others : Rows) → InProfile schema → CanBeWritten schema rows
+        → LaysOut schema (canonical_head schema rows) (canonical_body schema rows) others → others ≡ rows }
 {
     bits_are_packed_by_eights();
 }
