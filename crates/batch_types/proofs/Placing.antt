@@ -1,9 +1,9 @@
 -- Buffers placed one behind the other in a body.
-use Rattle.std.proofs.Common.{◌≡◌, refl, sym, ap, ◌∙◌, subst, ℕ, zero, suc, ◌+◌, ◌-◌, ◌*◌, ◌/◌, ◌%◌, ◌<◌, ◌≤◌, ℤ, pos, nat_abs, ◌≤ℤ◌, List, [], ◌∷◌, ◌++◌, length, get_or, take, drop, replicate, arith, append_assoc, length-append}
+use Rattle.std.proofs.Common.{◌≡◌, refl, sym, ap, ◌∙◌, subst, ℕ, zero, suc, ◌+◌, ◌-◌, ◌%◌, ◌<◌, nat_abs, List, [], ◌∷◌, ◌++◌, length, get_or, take, replicate, arith, append_assoc, length-append}
 use Rattle.std.proofs.lemmas.Int.{ints}
 use Rattle.std.proofs.Math.Seq.{take-append_seam, drop-append_seam}
 use Rattle.batch_types.specs.Laid.{Range}
-use Rattle.batch_types.specs.Placed.{bytes_from, bytes_at}
+use Rattle.batch_types.specs.Placed.{bytes_at}
 use Rattle.batch_types.specs.Rules.{IsInside}
 use Rattle.batch_types.specs.Canonical.{padded, body_with, ranges_from}
 

@@ -1,5 +1,5 @@
 -- Buffers that stand in a body from one place on, each at the next multiple of eight.
-use Rattle.std.proofs.Common.{◌≡◌, refl, sym, ap, ap₂, ◌∙◌, subst, ℕ, zero, suc, ◌+◌, ◌<◌, ◌≤◌, pos, List, [], ◌∷◌, ◌++◌, length, get_or, map, arith, append_assoc, length-append}
+use Rattle.std.proofs.Common.{◌≡◌, refl, ap, ap₂, ◌∙◌, subst, ℕ, zero, suc, ◌+◌, ◌<◌, ◌≤◌, pos, List, [], ◌∷◌, ◌++◌, length, get_or, map, arith, append_assoc, length-append}
 use Rattle.batch_types.specs.Placed.{bytes_from, bytes_at}
 use Rattle.batch_types.specs.Rules.{IsInside}
 use Rattle.batch_types.specs.Canonical.{padded, body_with, ranges_from}
@@ -45,8 +45,7 @@ stand_whole front [] = tt
 stand_whole front (b ∷ bs) =
     let length_is : length (front ++ filled b) ≡ length front + padded (length b) = length-append front (filled b) ∙ ap (λ n. length front + n) (length_filled b) in
     let rest : Stand ((front ++ filled b) ++ body_with bs) (length front + padded (length b)) bs =
-    subst (λ n. Stand ((front ++ filled b) ++ body_with bs) n bs) length_is (stand_whole (front ++ filled b) bs) in
-    (
+    subst (λ n. Stand ((front ++ filled b) ++ body_with bs) n bs) length_is (stand_whole (front ++ filled b) bs) in (
       placed front (b ∷ bs) zero (pos 0, pos 0) (omega arith),
       omega (arith, length-append front (filled b ++ body_with bs), length-append (filled b) (body_with bs), length_filled b),
       subst (λ body. Stand body (length front + padded (length b)) bs) (append_assoc front (filled b) (body_with bs)) rest,

@@ -5,18 +5,18 @@ use Rattle.header_types.specs.TypeIds.{AllowsChildren}
 use Rattle.header_types.specs.Fields.{DataType, null_type, int_type, floating_point_type, binary_type, utf8_type}
 use Rattle.header_types.specs.Fields.{bool_type, decimal_type, date_type, time_type, timestamp_type, list_type}
 use Rattle.header_types.specs.Fields.{struct_type, fixed_size_binary_type, fixed_size_list_type, duration_type}
-use Rattle.std.proofs.Common.{◌≡◌, ◌⊎◌, inl, inr, refl, sym, ap, ◌∙◌, subst, ℕ, zero, suc, ◌+◌, ◌-◌, ◌*◌, ◌<◌, ◌≤◌, ◌==◌, Bool, true, false, cond, if◌then◌else◌, ℤ, pos, nat_abs, List, [], ◌∷◌, ◌++◌, map, length, get_or, take, drop, arith, length-take, length-drop, true≢false, ◌≤ℤ◌, mul-le-mul_left, length-append, lt_of_lt_of_le}
+use Rattle.std.proofs.Common.{◌≡◌, inl, inr, refl, sym, ap, ◌∙◌, subst, ℕ, zero, suc, ◌+◌, ◌-◌, ◌*◌, ◌<◌, ◌≤◌, Bool, true, false, cond, if◌then◌else◌, pos, nat_abs, List, [], ◌∷◌, ◌++◌, map, length, get_or, drop, arith, length-take, length-drop, true≢false, ◌≤ℤ◌, mul-le-mul_left, lt_of_lt_of_le}
 use Rattle.std.specs.List.{AllByRecursion, filter, flat_map, range_with_len}
 use Rattle.std.specs.Str.{IsUtf8}
 use Rattle.header_types.specs.Fields.{Tree, tree, Forest, no_more, more, width, SchemaTree}
-use Rattle.batch_types.specs.Cells.{Cell, null_cell, bit_cell, bytes_cell, list_cell, tuple_cell, Cells, no_cell}
-use Rattle.batch_types.specs.Cells.{cell_then, cells_of, Rows}
+use Rattle.batch_types.specs.Cells.{Cell, null_cell, Cells}
+use Rattle.batch_types.specs.Cells.{cells_of, Rows}
 use Rattle.batch_types.specs.Layouts.{Layout, null_layout, bits_layout, bytes_layout, binary_layout, utf8_layout}
 use Rattle.batch_types.specs.Layouts.{list_layout, fixed_size_list_layout, struct_layout, layout_of, buffers_in_layout}
 use Rattle.batch_types.specs.Shapes.{shape_of, shapes_of}
 use Rattle.batch_types.specs.Laid.{Node, Range, LaidColumn, laid, LaidColumns, no_column, column_then, IsColumnOf, AreColumnsOf}
 use Rattle.batch_types.specs.Placed.{buffer_at, bytes_from, is_valid, value_at, cell_at, cells_inside, fields_at, value_bytes, start_of, length_of, offset_at}
-use Rattle.batch_types.specs.Rules.{HasBuffers, AreOffsetsLong, DoRise, OffsetsRise, AreUtf8, HasOffsets, first_length, asked_inside, places_of, places_inside}
+use Rattle.batch_types.specs.Rules.{HasBuffers, AreOffsetsLong, DoRise, OffsetsRise, AreUtf8, first_length, places_of, places_inside}
 use Rattle.batch_types.specs.LaysOut.{KeepsRule, IsSound, AreSound, LaysOut, columns_at, body_of}
 use Rattle.batch_types.specs.Order.{AreKept, column_order}
 use Rattle.header_types.specs.Profile.{IsWellFormedTree, IsWellFormedForest, InProfile}

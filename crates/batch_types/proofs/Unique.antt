@@ -1,12 +1,12 @@
 -- A header and a body lay out at most one batch, and at most one fault is told of them.
-use Rattle.std.proofs.Common.{◌≡◌, ◌⊎◌, inl, inr, refl, sym, ap, ap₂, subst, ◌∙◌, ℕ, zero, suc, ℤ, pos, nat_abs, List, [], ◌∷◌, ◌++◌, length, take, drop, get_or, append_assoc, arith}
+use Rattle.std.proofs.Common.{◌≡◌, inl, inr, refl, sym, ap, ap₂, subst, ◌∙◌, ℕ, nat_abs, List, [], ◌∷◌, ◌++◌, length, take, drop, get_or, append_assoc}
 use Rattle.std.proofs.Math.Seq.{take-append_seam, drop-append_seam}
 use Rattle.std.specs.List.{range_with_len}
 use Rattle.header_types.specs.Fields.{Tree, tree, Forest, no_more, more, SchemaTree}
 use Rattle.header_types.specs.Header.{Head}
 use Rattle.batch_types.specs.declared.fault.BatchFault.{BatchFault}
-use Rattle.batch_types.specs.Cells.{Cell, Rows}
-use Rattle.batch_types.specs.Layouts.{Layout, buffers_in_layout}
+use Rattle.batch_types.specs.Cells.{Rows}
+use Rattle.batch_types.specs.Layouts.{buffers_in_layout}
 use Rattle.batch_types.specs.Laid.{Node, Range, LaidColumn, laid, LaidColumns, no_column, column_then}
 use Rattle.batch_types.specs.Laid.{nodes_of, nodes_in, buffers_of, buffers_in, IsColumnOf, AreColumnsOf}
 use Rattle.batch_types.specs.Order.{AreKept, IsFirstBroken, head_order, column_order}

@@ -1,5 +1,5 @@
 -- Batches worked out by hand are laid out as the definitions say, and broken ones are told by their fault.
-use Rattle.std.proofs.Common.{◌≡◌, ◌⊎◌, inl, inr, refl, sym, ap, ◌∙◌, ℕ, zero, suc, ◌+◌, ◌<◌, ◌≤◌, ℤ, pos, ◌≤ℤ◌, nat_abs, List, [], ◌∷◌, length, take, get_or, arith, subst}
+use Rattle.std.proofs.Common.{◌≡◌, ◌⊎◌, inl, inr, refl, ap, ℕ, zero, suc, ◌+◌, ◌<◌, ◌≤◌, ℤ, pos, ◌≤ℤ◌, nat_abs, List, [], ◌∷◌, length, get_or, arith, subst}
 use Rattle.std.specs.List.{filter}
 use Rattle.std.specs.Str.{IsUtf8}
 use Rattle.std.proofs.lemmas.Bool.{cases_lt}
@@ -7,11 +7,10 @@ use Rattle.std.proofs.lemmas.Int.{ints}
 use Rattle.header_types.specs.Header.{Head}
 use Rattle.batch_types.specs.declared.fault.BatchFault.TheVariants as fault
 use Rattle.batch_types.specs.Layouts.{bytes_layout, utf8_layout, list_layout}
-use Rattle.batch_types.specs.Laid.{Node, Range, laid, no_column, column_then, LaidColumns}
+use Rattle.batch_types.specs.Laid.{Range, laid, no_column, column_then, LaidColumns}
 use Rattle.batch_types.specs.Placed.{buffer_at, offset_at, is_valid, value_bytes}
 use Rattle.batch_types.specs.Rules.{IsInside, HasBuffers, DoRise, OffsetsRise, AreUtf8}
-use Rattle.batch_types.specs.Order.{AreKept, IsFirstBroken, head_order}
-use Rattle.batch_types.specs.LaysOut.{KeepsHeadRule, HasRowsWithin, HasBody, HasColumns, LaysOut, IsFaultOf}
+use Rattle.batch_types.specs.LaysOut.{HasRowsWithin, HasBody, LaysOut, IsFaultOf}
 use Rattle.batch_types.specs.Examples.{int8_table, int8_rows, int8_head, int8_body, miscounted_head, texts_table, texts_rows, texts_head, texts_body, no_texts_table, falling_head, falling_body}
 
 -- ---- short words

@@ -1,5 +1,5 @@
 -- One worked header and body for each fault.
-use Rattle.std.proofs.Common.{◌≡◌, inl, inr, refl, ap, ℕ, zero, suc, ◌+◌, ◌<◌, ◌≤◌, ℤ, pos, ◌≤ℤ◌, nat_abs, List, [], ◌∷◌, length, get_or, arith, true≢false}
+use Rattle.std.proofs.Common.{◌≡◌, inl, inr, refl, zero, suc, ◌+◌, ◌≤◌, pos, ◌≤ℤ◌, List, [], ◌∷◌, get_or, arith, true≢false}
 use Rattle.std.proofs.lemmas.Int.{ints}
 use Rattle.std.specs.Str.{IsUtf8, is_utf8, chars}
 use Rattle.std.specs.Str.Lossy.{utf8_valid_len}
@@ -9,7 +9,7 @@ use Rattle.batch_types.specs.Layouts.{bytes_layout, utf8_layout}
 use Rattle.batch_types.specs.Laid.{Range, laid, no_column, column_then}
 use Rattle.batch_types.specs.Placed.{buffer_at, offset_at}
 use Rattle.batch_types.specs.Rules.{IsInside, HasBuffers, DoRise}
-use Rattle.batch_types.specs.LaysOut.{HasRowsWithin, HasBody, IsFaultOf}
+use Rattle.batch_types.specs.LaysOut.{HasBody, IsFaultOf}
 use Rattle.batch_types.specs.Examples.{int8_table, int8_body, no_texts_table, compressed_head, long_head, nodeless_head}
 use Rattle.batch_types.specs.Examples.{bufferless_head, bodiless_head, cut_head, short_head, garbled_head, garbled_body}
 use Rattle.batch_types.proofs.WorkedBatches.{all_below, few_of, body_there, some_node, range_within, below}

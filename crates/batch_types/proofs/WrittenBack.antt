@@ -1,14 +1,12 @@
 -- What is written of columns keeps all rules, and is read as their cells.
-use Rattle.std.proofs.Common.{◌≡◌, ◌≢◌, inl, inr, refl, sym, ap, ap₂, ◌∙◌, subst, ℕ, zero, suc, ◌+◌, ◌-◌, ◌*◌, ◌/◌, ◌^◌, ◌<◌, ◌≤◌, ◌==◌, Bool, true, false, not, if◌then◌else◌, pos, List, [], ◌∷◌, length, get_or, map, take, replicate, arith, length-append}
+use Rattle.std.proofs.Common.{◌≡◌, ◌≢◌, inl, inr, refl, sym, ap, ap₂, ◌∙◌, subst, ℕ, suc, ◌+◌, ◌-◌, ◌*◌, ◌^◌, ◌<◌, ◌≤◌, ◌==◌, Bool, true, false, not, if◌then◌else◌, pos, List, [], ◌∷◌, length, get_or, map, take, replicate, arith}
 use Rattle.std.specs.List.{AllByRecursion, range_with_len, filter, flat_map, sum_by, count_by}
 use Rattle.std.specs.Str.{IsUtf8}
 use Rattle.std.proofs.lemmas.List.{length-map}
-use Rattle.std.proofs.lemmas.List.Concat.{length-flat_map}
 use Rattle.std.proofs.lemmas.List.FromFn.{length-range_with_len}
 use Rattle.std.proofs.lemmas.List.Sums.{sum_by-cons}
 use Rattle.std.proofs.lemmas.Bool.{eqb-true}
 use Rattle.byteorder.specs.Endian.{little_bytes}
-use Rattle.byteorder.specs.Numbers.{length-bytes_low_first}
 use Rattle.bitmaps.specs.Packed.{IsPacked}
 use Rattle.bitmaps.specs.Packing.{packed_bytes}
 use Rattle.batch_types.specs.Cells.{Cell, null_cell, bit_cell, bytes_cell, list_cell, tuple_cell, Cells, no_cell, cell_then, cells_of}
@@ -16,12 +14,12 @@ use Rattle.batch_types.specs.Layouts.{Layout, null_layout, bits_layout, bytes_la
 use Rattle.batch_types.specs.Layouts.{list_layout, fixed_size_list_layout, struct_layout}
 use Rattle.batch_types.specs.Shapes.{Shape, shape, Shapes, no_shape, shape_then}
 use Rattle.batch_types.specs.Typed.{AreBytes, IsCellOf}
-use Rattle.batch_types.specs.Laid.{LaidColumn, LaidColumns, no_column, column_then}
+use Rattle.batch_types.specs.Laid.{LaidColumns}
 use Rattle.batch_types.specs.Placed.{bytes_at, buffer_at, is_valid, value_at, value_bytes, start_of, length_of, cell_at, cells_inside, fields_at}
-use Rattle.batch_types.specs.Rules.{IsValidityLong, AreOffsetsLong, AreLong, HasBuffers, HasNullCount, nulls_in, DoRise, OffsetsRise, HasOffsets, AreUtf8, first_length, asked_inside, places_of, places_inside, bytes_for}
+use Rattle.batch_types.specs.Rules.{IsValidityLong, AreOffsetsLong, AreLong, HasNullCount, nulls_in, DoRise, OffsetsRise, HasOffsets, AreUtf8, first_length, asked_inside, places_of, places_inside}
 use Rattle.batch_types.specs.LaysOut.{KeepsRule, IsSound, AreSound}
 use Rattle.batch_types.specs.Order.{AreKept, column_order}
-use Rattle.batch_types.specs.Canonical.{blank_of, is_null, bit_in, bytes_or, elements_or, field_or, nulls_of, validity_of, offsets_of, bytes_lengths, elements_lengths, own_buffers, parts_of, ranges_from}
+use Rattle.batch_types.specs.Canonical.{blank_of, is_null, bit_in, bytes_or, elements_or, field_or, nulls_of, validity_of, offsets_of, elements_lengths, own_buffers, parts_of, ranges_from}
 use Rattle.batch_types.specs.Written.{HasRoom, blanks_under, written_elements, written_fields}
 use Rattle.batch_types.proofs.Typing.{mapped, run_below, flat_below, filtered_all, span_within, within_size}
 use Rattle.batch_types.proofs.ReadBack.{all_at, valid_is, bytes_are, offsets_rise, even_bytes, numbers_even}
@@ -322,8 +320,7 @@ module _ (packed : (bits : List Bool) → IsPacked bits (packed_bytes bits)) (bo
       (columns_of (end_of place (own_buffers l cells)) inside (columns_in l inside cells)) asked places) column_order
   own_sound l inside place cells written asked places few bound =
       let stand = own_stand body place l inside cells written in
-      let own : ReadsOwn body place l cells = stand_read body place (own_buffers l cells) stand in
-      (
+      let own : ReadsOwn body place l cells = stand_read body place (own_buffers l cells) stand in (
         record {
           within = stand_inside body place (own_buffers l cells) stand;
           long_enough =
@@ -343,8 +340,7 @@ module _ (packed : (bits : List Bool) → IsPacked bits (packed_bytes bits)) (bo
     sound_column : (s : Shape) (place : ℕ) (cells : List Cell) → IsWritten body place s cells → (asked : ℕ) (places : List ℕ)
         → asked ≤ length cells → AllByRecursion (λ j. j < length cells) places → IsSound body (column_of place s cells) asked places
     sound_column (shape l inside) place cells written asked places few bound =
-        let own : ReadsOwn body place l cells = stand_read body place (own_buffers l cells) (own_stand body place l inside cells written) in
-        (
+        let own : ReadsOwn body place l cells = stand_read body place (own_buffers l cells) (own_stand body place l inside cells written) in (
           own_sound l inside place cells written asked places few bound,
           sound_columns inside (end_of place (own_buffers l cells)) (columns_in l inside cells) (count_inside l cells)
               (inside_written body place l inside cells written) (asked_inside l (length cells))

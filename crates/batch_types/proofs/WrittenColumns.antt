@@ -1,6 +1,6 @@
 -- The columns of a batch as they are written: their nodes and ranges are those of the canonical header, and they are
 -- columns of the fields.
-use Rattle.std.proofs.Common.{◌≡◌, refl, sym, ap, ap₂, ◌∙◌, ℕ, zero, suc, ◌+◌, pos, List, [], ◌∷◌, ◌++◌, length, map, replicate, arith, length-append}
+use Rattle.std.proofs.Common.{◌≡◌, refl, sym, ap, ap₂, ◌∙◌, ℕ, suc, pos, List, [], ◌∷◌, ◌++◌, length, map, replicate, arith, length-append}
 use Rattle.std.proofs.lemmas.List.{append-nil}
 use Rattle.std.specs.List.{flat_map}
 use Rattle.header_types.specs.TypeIds.{AllowsChildren}
@@ -15,7 +15,7 @@ use Rattle.batch_types.specs.Layouts.{Layout, null_layout, bits_layout, bytes_la
 use Rattle.batch_types.specs.Layouts.{list_layout, fixed_size_list_layout, struct_layout, layout_of, buffers_in_layout}
 use Rattle.batch_types.specs.Shapes.{Shape, shape, Shapes, no_shape, shape_then, shape_of, shapes_of}
 use Rattle.batch_types.specs.Laid.{LaidColumn, laid, LaidColumns, no_column, column_then, nodes_of, nodes_in, buffers_of, buffers_in, IsColumnOf, AreColumnsOf}
-use Rattle.batch_types.specs.Canonical.{blank_of, elements_or, field_or, nulls_of, own_buffers, Parts, no_parts, both_parts, own_parts, parts_inside}
+use Rattle.batch_types.specs.Canonical.{blank_of, elements_or, field_or, nulls_of, own_buffers, Parts, no_parts, both_parts, parts_inside}
 use Rattle.batch_types.specs.Canonical.{parts_of, elements_parts, fields_parts, columns_parts, ranges_from}
 use Rattle.batch_types.proofs.Standing.{end_of, ranges_both}
 

@@ -15,7 +15,6 @@ use Rattle.batch_types.specs.Typed.{IsList, IsTuple, AllCells, count_of, IsCellO
 use Rattle.batch_types.specs.Canonical.{blank_of, first_blank, blanks_of, cells_in, elements_or, nth_or, field_or, own_buffers, parts_of, columns_parts}
 use Rattle.batch_types.specs.Canonical.{elements_lengths}
 use Rattle.batch_types.specs.Written.{HasInside, AreRooms, AreElementRooms, AreFieldRooms, HaveRooms}
-use Rattle.batch_types.proofs.Typing.{mapped}
 use Rattle.batch_types.proofs.ReadBack.{length_zeros}
 use Rattle.batch_types.proofs.WrittenCells.{even_elements}
 use Rattle.batch_types.proofs.Standing.{end_of, Stand, stand_both}
@@ -290,8 +289,7 @@ pub all_written : (body : List ℕ) (limit place : ℕ) (inside : Shapes) (colum
 all_written body limit place no_shape columns stand formed fit room = tt
 all_written body limit place (shape_then s rest) [] stand formed fit room = tt
 all_written body limit place (shape_then s rest) (cells ∷ columns) stand formed fit room =
-    let both = stand_both body place (parts_of s cells).buffers (columns_parts rest columns).buffers stand in
-    (
+    let both = stand_both body place (parts_of s cells).buffers (columns_parts rest columns).buffers stand in (
       fit.0,
       record { stand = both.0; formed = formed.0; fit = fit.1; room = room.0 },
       all_written body limit (end_of place (parts_of s cells).buffers) rest columns both.1 formed.1 fit.2 room.1,

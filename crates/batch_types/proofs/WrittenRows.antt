@@ -1,5 +1,5 @@
 -- What is written of rows lays out these rows.
-use Rattle.std.proofs.Common.{◌≡◌, refl, sym, ap, ap₂, ◌∙◌, subst, ℕ, ◌<◌, ◌≤◌, Bool, pos, ◌≤ℤ◌, nat_abs, List, [], ◌∷◌, length, get_or, map, take, arith}
+use Rattle.std.proofs.Common.{◌≡◌, refl, sym, ap, ap₂, ◌∙◌, subst, ℕ, ◌<◌, Bool, pos, ◌≤ℤ◌, List, [], ◌∷◌, length, get_or, map, arith}
 use Rattle.std.specs.List.{AllByRecursion, range_with_len}
 use Rattle.std.proofs.lemmas.Int.{ints}
 use Rattle.std.proofs.lemmas.List.{take_all}
@@ -7,15 +7,14 @@ use Rattle.std.proofs.Math.Seq.{take-length}
 use Rattle.bitmaps.specs.Packed.{IsPacked}
 use Rattle.bitmaps.specs.Packing.{packed_bytes}
 use Rattle.header_types.specs.Fields.{SchemaTree}
-use Rattle.header_types.specs.Header.{Head}
 use Rattle.header_types.specs.Profile.{InProfile}
 use Rattle.batch_types.specs.Cells.{Cell, null_cell, Rows}
 use Rattle.batch_types.specs.Shapes.{Shape, shape, Shapes, no_shape, shape_then, shapes_of}
 use Rattle.batch_types.specs.Typed.{AreColumnsOfRows}
 use Rattle.batch_types.specs.Laid.{Node, LaidColumns}
 use Rattle.batch_types.specs.Placed.{cell_at}
-use Rattle.batch_types.specs.LaysOut.{HasRowsWithin, HasColumns, LaysOut, AreSound, body_of, columns_at}
-use Rattle.batch_types.specs.Canonical.{own_buffers, parts_of, columns_parts, canonical_parts, canonical_body, canonical_head, body_with, ranges_from}
+use Rattle.batch_types.specs.LaysOut.{HasRowsWithin, LaysOut, AreSound, body_of, columns_at}
+use Rattle.batch_types.specs.Canonical.{parts_of, columns_parts, canonical_parts, canonical_body, canonical_head}
 use Rattle.batch_types.specs.Written.{CanBeWritten}
 use Rattle.batch_types.proofs.Typing.{run_below}
 use Rattle.batch_types.proofs.ReadBack.{all_at}

@@ -1,7 +1,7 @@
 -- The one body that is written of a batch, and its header. The columnar format leaves free what stands under a null,
 -- where a buffer begins and how long it is; here each has one answer. Apache Arrow, "Arrow Columnar Format", "Physical
 -- memory layout", "Buffer alignment and padding" and "RecordBatch message".
-use Rattle.std.specs.Prelude.{ℕ, zero, suc, ◌+◌, ◌-◌, ◌*◌, ◌/◌, ◌==◌, ℤ, pos, Bool, true, false, not, if◌then◌else◌}
+use Rattle.std.specs.Prelude.{ℕ, zero, suc, ◌+◌, ◌-◌, ◌*◌, ◌/◌, ◌==◌, pos, Bool, true, false, not, if◌then◌else◌}
 use Rattle.std.specs.Prelude.{List, [], ◌∷◌, ◌++◌, map, length, take, replicate}
 use Rattle.std.specs.List.{range_with_len, flat_map, count_by, sum_by}
 use Rattle.byteorder.specs.Endian.{little_bytes}

@@ -1,11 +1,11 @@
 -- Batches worked out by hand from the columnar format: Apache Arrow, "Arrow Columnar Format", "Physical memory layout".
 -- They stand beside the definitions, which have to say the same of them.
-use Rattle.std.specs.Prelude.{ℕ, ◌*◌, pos, true, false, List, [], ◌∷◌, ◌++◌, replicate}
+use Rattle.std.specs.Prelude.{ℕ, pos, true, false, List, [], ◌∷◌, ◌++◌, replicate}
 use Rattle.header_types.specs.declared.field_type.BitWidth.TheVariants.{Eight}
 use Rattle.header_types.specs.Fields.{DataType, null_type, int_type, utf8_type, bool_type, list_type, fixed_size_list_type}
-use Rattle.header_types.specs.Fields.{struct_type, Tree, tree, Forest, no_more, more, SchemaTree}
+use Rattle.header_types.specs.Fields.{Tree, tree, Forest, no_more, more, SchemaTree}
 use Rattle.header_types.specs.Header.{Head}
-use Rattle.batch_types.specs.Cells.{Cell, null_cell, bit_cell, bytes_cell, list_cell, tuple_cell, cells_of, Rows}
+use Rattle.batch_types.specs.Cells.{Cell, null_cell, bit_cell, bytes_cell, list_cell, cells_of, Rows}
 use Rattle.batch_types.specs.Laid.{Node, Range}
 
 -- ---- short words

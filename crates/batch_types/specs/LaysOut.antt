@@ -1,6 +1,6 @@
 -- A header and a body lay out a batch, or which fault is told of them: Apache Arrow, "Arrow Columnar Format",
 -- "RecordBatch message".
-use Rattle.std.specs.Prelude.{◌≡◌, ◌⊎◌, ℕ, ◌<◌, ◌≤◌, pos, ◌≤ℤ◌, nat_abs, true, false, List, [], ◌∷◌, map}
+use Rattle.std.specs.Prelude.{◌≡◌, ◌⊎◌, ℕ, ◌<◌, ◌≤◌, pos, ◌≤ℤ◌, nat_abs, false, List, [], ◌∷◌, map}
 use Rattle.std.specs.Prelude.{length, take, get_or}
 use Rattle.std.specs.List.{range_with_len}
 use Rattle.header_types.specs.Fields.{SchemaTree}

@@ -1,4 +1,4 @@
-use Rattle.std.proofs.Common.{◌≡◌, refl, ℕ, ◌+◌, pos, [], length, get_or, subst, arith}
+use Rattle.std.proofs.Common.{◌≡◌, refl, ◌+◌, pos, [], length, get_or, subst, arith}
 use Rattle.batch_types.specs.Rules.{IsInside}
 use Rattle.batch_types.specs.Canonical.{body_with, ranges_from}
 use Rattle.batch_types.proofs.Placing.{placed, aligned, inside, whole_body}
