@@ -10,3 +10,4 @@ pub mod WrittenColumns
 pub mod WrittenInside
 pub mod WrittenBack
 pub mod WrittenRows
+pub mod WorkedRows

@@ -3,9 +3,9 @@
 use Rattle.std.specs.Prelude.{ℕ, pos, true, false, List, [], ◌∷◌, ◌++◌, replicate}
 use Rattle.header_types.specs.declared.field_type.BitWidth.TheVariants.{Eight}
 use Rattle.header_types.specs.Fields.{DataType, null_type, int_type, utf8_type, bool_type, list_type, fixed_size_list_type}
-use Rattle.header_types.specs.Fields.{Tree, tree, Forest, no_more, more, SchemaTree}
+use Rattle.header_types.specs.Fields.{struct_type, Tree, tree, Forest, no_more, more, SchemaTree}
 use Rattle.header_types.specs.Header.{Head}
-use Rattle.batch_types.specs.Cells.{Cell, null_cell, bit_cell, bytes_cell, list_cell, cells_of, Rows}
+use Rattle.batch_types.specs.Cells.{Cell, null_cell, bit_cell, bytes_cell, list_cell, tuple_cell, cells_of, Rows}
 use Rattle.batch_types.specs.Laid.{Node, Range}
 
 -- ---- short words
@@ -106,6 +106,34 @@ pairs_head =
 
 abbrev pub pairs_body : List ℕ
 pairs_body = 1 ∷ zeros 7 ++ 1 ∷ 2 ∷ zeros 6
+
+-- ---- Struct of Int of eight bits and Bool: (1, true) and null
+
+abbrev pub points_table : SchemaTree
+points_table =
+    table (field struct_type (more (field (int_type Eight true) no_more) (more (field bool_type no_more) no_more)))
+
+abbrev pub points_rows : Rows
+points_rows = one_column (tuple_cell (cells_of (bytes_cell (1 ∷ []) ∷ bit_cell true ∷ [])) ∷ null_cell ∷ []) 2
+
+abbrev pub points_head : Head
+points_head =
+    head 2 ((pos 2, pos 1) ∷ (pos 2, pos 0) ∷ (pos 2, pos 0) ∷ [])
+    ((pos 0, pos 1) ∷ (pos 8, pos 0) ∷ (pos 8, pos 2) ∷ (pos 16, pos 0) ∷ (pos 16, pos 1) ∷ []) 24
+
+abbrev pub points_body : List ℕ
+points_body = 1 ∷ zeros 7 ++ 1 ∷ zeros 7 ++ 1 ∷ zeros 7
+
+-- ---- five rows of no column
+
+abbrev pub bare_table : SchemaTree
+bare_table = record { fields = no_more; metadata = [] }
+
+abbrev pub bare_rows : Rows
+bare_rows = record { count = 5; columns = [] }
+
+abbrev pub bare_head : Head
+bare_head = head 5 [] [] 0
 
 -- ---- no row of Utf8, and three rows of nulls
 

@@ -1,5 +1,6 @@
--- The cell that is read of a column's own buffers as they are written, where the columns inside it are read as the cells
--- that are written there: Apache Arrow, "Arrow Columnar Format", "Physical memory layout".
+-- Which rows a batch has room for, and which cell is read of a column's own buffers as they are written, where the
+-- columns inside it are read as the cells that are written there: Apache Arrow, "Arrow Columnar Format", "Physical
+-- memory layout".
 use Rattle.std.specs.Prelude.{ℕ, suc, ◌-◌, ◌*◌, ◌^◌, ◌<◌, ◌≤◌, pos, ◌≤ℤ◌, if◌then◌else◌, List, [], ◌∷◌, map}
 use Rattle.std.specs.Prelude.{replicate, get_or}
 use Rattle.std.specs.List.{AllByRecursion, flat_map, sum_by}
@@ -47,7 +48,8 @@ abbrev mutual
   -- in a column of the elements of these cells, so many blank ones for each null
   pub AreElementRooms : Shapes → List Cell → ℕ → Type 0
   AreElementRooms no_shape cells blanks = Unit {0}
-  AreElementRooms (shape_then s rest) cells blanks = AreRooms s (flat_map (elements_or (replicate blanks (blank_of s))) cells)
+  AreElementRooms (shape_then s rest) cells blanks =
+      AreRooms s (flat_map (elements_or (replicate blanks (blank_of s))) cells)
 
   -- in columns of the fields of these cells from this one on
   pub AreFieldRooms : Shapes → ℕ → List Cell → Type 0

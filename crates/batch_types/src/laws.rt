@@ -27,6 +27,8 @@ ghost use Rattle.batch_types.specs.Examples.{int8_table, int8_rows, int8_head, i
 ghost use Rattle.batch_types.specs.Examples.{texts_head, texts_body, texts_canonical_head, texts_canonical_body};
 ghost use Rattle.batch_types.specs.Examples.{bool_table, bool_rows, bool_head, bool_body, pairs_table, pairs_rows};
 ghost use Rattle.batch_types.specs.Examples.{pairs_head, pairs_body, no_texts_table, no_texts_rows, no_texts_head};
+ghost use Rattle.batch_types.specs.Examples.{points_table, points_rows, points_head, points_body, bare_table, bare_rows};
+ghost use Rattle.batch_types.specs.Examples.{bare_head};
 ghost use Rattle.batch_types.specs.Examples.{zeros, nulls_table, nulls_rows, nulls_head, miscounted_head, falling_head};
 ghost use Rattle.batch_types.specs.Examples.{falling_body, compressed_head, long_head, nodeless_head, bufferless_head};
 ghost use Rattle.batch_types.specs.Examples.{bodiless_head, cut_head, short_head, garbled_head, garbled_body};
@@ -120,17 +122,24 @@ pub fn worked_bodies_are_canonical()
     ensures bool { (canonical_head bool_table bool_rows ≡ bool_head) × (canonical_body bool_table bool_rows ≡ bool_body) }
     ensures pairs { (canonical_head pairs_table pairs_rows ≡ pairs_head)
         × (canonical_body pairs_table pairs_rows ≡ pairs_body) }
+    ensures points { (canonical_head points_table points_rows ≡ points_head)
+        × (canonical_body points_table points_rows ≡ points_body) }
     ensures no_texts { (canonical_head no_texts_table no_texts_rows ≡ no_texts_head)
         × (canonical_body no_texts_table no_texts_rows ≡ zeros 8) }
     ensures nulls { (canonical_head nulls_table nulls_rows ≡ nulls_head) × (canonical_body nulls_table nulls_rows ≡ []) }
 {}
 
 /// Batches that were worked out by hand are laid out: numbers with a null, and lists of texts in a body with more than
-/// they need.
+/// they need; and, because they can be written, a struct and a null, no row of texts, and rows of no column.
 pub fn worked_batches_are_laid_out()
     ensures int8 { LaysOut int8_table int8_head int8_body int8_rows }
     ensures texts { LaysOut texts_table texts_head texts_body texts_rows }
-{}
+    ensures points { LaysOut points_table points_head points_body points_rows }
+    ensures no_texts { LaysOut no_texts_table no_texts_head (zeros 8) no_texts_rows }
+    ensures bare { LaysOut bare_table bare_head [] bare_rows }
+{
+    bits_are_packed_by_eights();
+}
 
 /// Of each fault one header and body that were worked out by hand, of which it is told.
 pub fn worked_faults_are_told()
