@@ -4,8 +4,8 @@
 //! `Cells` has what a batch holds, `Typed` which cells a field may have, `Layouts` how the values of each type stand in
 //! buffers, `Laid` the nodes and buffers of a header column by column, `Placed` which cell stands at a place of a column,
 //! `Rules` what a column has to keep, `Order` which broken rule is told, `LaysOut` a batch or a fault, `Canonical` the one
-//! body that is written, `Written` the cell that is read of a column of it, and `Examples` batches that were worked out by
-//! hand.
+//! body that is written, `Written` which rows can be written and the cell that is read of a column of them, and `Examples`
+//! batches that were worked out by hand.
 //!
 //! No call reads or writes a batch yet: [`BatchFault`] has what will be told, and the functions of `laws`, which do
 //! nothing, have laws of the definitions as their contracts.
