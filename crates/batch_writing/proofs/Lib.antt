@@ -1,0 +1,4 @@
+pub mod Adding
+pub mod Inside
+pub mod Lengths
+pub mod Whole

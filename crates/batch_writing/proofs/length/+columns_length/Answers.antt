@@ -1,0 +1,19 @@
+use Rattle.std.proofs.Common.{◌<◌, ◌-◌, ◌^◌, subst}
+use Rattle.batch_columns.specs.Held.{shapes_held, heights}
+use Rattle.batch_writing.proofs.Inside.{falls}
+use Rattle.batch_writing.proofs.Lengths.{length_next}
+use Rattle.batch_writing.proofs.length.+columns_length.Goals as goal
+
+pub columns_length-requires : goal.columns_length-requires
+columns_length-requires t c = (
+  subst (λ n. heights (shapes_held c.inside.result.now) < n) c.decreases
+      (falls c.args.columns.now c.loop-column.column-index c.column-item.result c.loop-column-test.true c.column-item.is c.inside.result.now c.inside.ensures.shapes),
+  tt,
+)
+
+pub loop-column-preserved : goal.loop-column-preserved
+loop-column-preserved t c =
+    length_next (2 ^ 64 - 1) c.args.columns.now c.loop-column.column-index c.column-item.result c.loop-column-test.true c.column-item.is
+    c.inside.result.now c.inside.ensures.shapes c.inside.ensures.held c.loop-column.total c.own_length.result c.saturating_add.result
+    c.columns_length.result c.saturating_add-total.result c.loop-column.invariant c.own_length.ensures c.saturating_add.ensures
+    c.columns_length.ensures c.saturating_add-total.ensures

@@ -1,0 +1,49 @@
+//! A batch written as a header and a body.
+
+ghost use Rattle.std.specs.Prelude.{◌≡◌, IfOk};
+ghost use Rattle.header_types.specs.Views.{schema_of};
+ghost use Rattle.header_types.specs.HeaderViews.{head_of};
+ghost use Rattle.batch_types.specs.Canonical.{canonical_head, canonical_body};
+ghost use Rattle.batch_columns.specs.Batches.{rows_of, IsBatchOf};
+
+use crate::length::columns_length;
+use crate::writer::{Writer, put_columns};
+use batch_columns::Batch;
+use header_types::{BatchHead, Schema};
+use std::alloc::{AllocError, Global};
+
+/// The header and the body of a batch (Apache Arrow, "Arrow Columnar Format", "RecordBatch message"). The header has a
+/// node for each column and says where in the body each buffer stands: one behind the other, each from a multiple of
+/// eight bytes on, with zero bytes between them and at the end ("Buffer alignment and padding"), not compressed. A
+/// bitmap is left out where nothing is null, offsets begin at 0, and nothing but zero bytes and blanks stands under a
+/// null, so that a batch has one header and body. Columns say themselves how their values stand in buffers: of the
+/// schema, which the batch has to be of, nothing is read.
+///
+/// The body is asked of memory at once, [`crate::body_length`] bytes, and buffers are copied whole. [`AllocError`] says
+/// that memory was refused, and nothing is left of what was begun.
+pub fn write_body(
+    alloc: Global,
+    schema: &Schema,
+    batch: &Batch,
+) -> Result<(BatchHead, Vec<u8>), AllocError>
+    requires of_schema { IsBatchOf (schema_of schema.now) batch.now }
+    ensures head { IfOk result
+        (λ written. head_of written.0 ≡ canonical_head (schema_of schema.now) (rows_of batch.now)) }
+    ensures body { IfOk result
+        (λ written. written.1.items ≡ canonical_body (schema_of schema.now) (rows_of batch.now)) }
+{
+    let mut writer = Writer {
+        nodes: Vec::new(alloc),
+        buffers: Vec::new(alloc),
+        body: Vec::with_capacity(alloc, columns_length(&batch.columns) as usize)?,
+    };
+    put_columns(&mut writer, &batch.columns)?;
+    let head = BatchHead {
+        length: batch.rows as i64,
+        body_length: writer.body.len() as i64,
+        nodes: writer.nodes,
+        buffers: writer.buffers,
+        compressed: false,
+    };
+    Ok((head, writer.body))
+}
