@@ -11,7 +11,7 @@ use Rattle.batch_types.specs.Layouts.{Layout, null_layout, bits_layout, bytes_la
 use Rattle.batch_types.specs.Layouts.{list_layout, fixed_size_list_layout, struct_layout}
 use Rattle.batch_types.specs.Shapes.{Shape, shape}
 use Rattle.batch_types.specs.Canonical.{Parts, no_parts, both_parts, own_parts, parts_inside, parts_of, elements_parts, fields_parts, columns_parts}
-use Rattle.batch_columns.specs.Batches.{columns_cells}
+use Rattle.batch_columns.specs.Few.{columns_cells}
 use Rattle.batch_columns.specs.Contents.{Contents, layout_of_shape, shapes_of_shape, layout_in, shapes_in}
 use Rattle.batch_columns.specs.Held.{shapes_held, height, heights}
 use Rattle.batch_columns.specs.Kept.{HasElements, HaveFields, HaveInside}

@@ -4,7 +4,8 @@ use Rattle.std.proofs.lemmas.List.{take_more}
 use Rattle.header_types.specs.Fields.{SchemaTree}
 use Rattle.batch_types.specs.Canonical.{Parts, both_parts, own_buffers, own_parts, parts_of, columns_parts, body_with, canonical_parts, canonical_body}
 use Rattle.batch_types.specs.Shapes.{shapes_of}
-use Rattle.batch_columns.specs.Batches.{rows_of, columns_cells}
+use Rattle.batch_columns.specs.Batches.{rows_of}
+use Rattle.batch_columns.specs.Few.{columns_cells}
 use Rattle.batch_columns.specs.Contents.{Contents, layout_in, shapes_in}
 use Rattle.batch_columns.specs.Held.{shapes_held}
 use Rattle.batch_columns.specs.Kept.{HaveInside}

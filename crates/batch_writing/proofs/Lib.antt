@@ -2,3 +2,4 @@ pub mod Adding
 pub mod Inside
 pub mod Lengths
 pub mod Whole
+pub mod Rooms

@@ -3,12 +3,15 @@
 ghost use Rattle.std.specs.Prelude.{◌≡◌, IfOk};
 ghost use Rattle.header_types.specs.Views.{schema_of};
 ghost use Rattle.header_types.specs.HeaderViews.{head_of};
+ghost use Rattle.header_types.specs.Profile.{InProfile};
 ghost use Rattle.batch_types.specs.Canonical.{canonical_head, canonical_body};
+ghost use Rattle.batch_types.specs.LaysOut.{LaysOut};
 ghost use Rattle.batch_columns.specs.Batches.{rows_of, IsBatchOf};
 
 use crate::length::columns_length;
 use crate::writer::{Writer, put_columns};
 use batch_columns::Batch;
+use batch_types::laws::written_rows_are_laid_out;
 use header_types::{BatchHead, Schema};
 use std::alloc::{AllocError, Global};
 
@@ -17,7 +20,8 @@ use std::alloc::{AllocError, Global};
 /// eight bytes on, with zero bytes between them and at the end ("Buffer alignment and padding"), not compressed. A
 /// bitmap is left out where nothing is null, offsets begin at 0, and nothing but zero bytes and blanks stands under a
 /// null, so that a batch has one header and body. Columns say themselves how their values stand in buffers: of the
-/// schema, which the batch has to be of, nothing is read.
+/// schema, which the batch has to be of, nothing is read. Of a schema in profile, what is written lays out the batch's rows
+/// and no others, so that they are read again as they were.
 ///
 /// The body is asked of memory at once, [`crate::body_length`] bytes, and buffers are copied whole. [`AllocError`] says
 /// that memory was refused, and nothing is left of what was begun.
@@ -31,7 +35,10 @@ pub fn write_body(
         (λ written. head_of written.0 ≡ canonical_head (schema_of schema.now) (rows_of batch.now)) }
     ensures body { IfOk result
         (λ written. written.1.items ≡ canonical_body (schema_of schema.now) (rows_of batch.now)) }
+    ensures laid { IfOk result (λ written. InProfile (schema_of schema.now)
+        → LaysOut (schema_of schema.now) (head_of written.0) written.1.items (rows_of batch.now)) }
 {
+    written_rows_are_laid_out();
     let mut writer = Writer {
         nodes: Vec::new(alloc),
         buffers: Vec::new(alloc),

@@ -9,6 +9,9 @@ ghost use Rattle.batch_columns.specs.Contents.{layout_in};
 ghost use Rattle.batch_columns.specs.Held.{layout_named};
 ghost use Rattle.batch_writing.specs.Parts.{parts_held, buffers_alone};
 ghost use Rattle.batch_writing.specs.Adds.{Adds};
+ghost use Rattle.batch_writing.specs.Sound.{AreSound};
+ghost use Rattle.batch_types.specs.Typed.{IsCellOf};
+ghost use Rattle.batch_types.specs.Written.{HasRoom};
 
 use batch_columns::{Column, Layout};
 use std::alloc::AllocError;
@@ -69,10 +72,13 @@ impl Writer {
         Ok(())
     }
 
-    /// Puts the node and the buffers of a column, those of the columns inside it aside.
+    /// Puts the node and the buffers of a column, those of the columns inside it aside. A column says that its cells are
+    /// such of its shape, and that there is room for them.
     fn put_own(&mut self, column: &Column) -> Result<(), AllocError>
         requires few { length column.now.cells ≤ values_limit }
-        ensures { OnOk result (Adds self.old self.new (own_parts (layout_in column.now) column.now.cells)) }
+        ensures adds { OnOk result (Adds self.old self.new (own_parts (layout_in column.now) column.now.cells)) }
+        ensures fit { OnOk result (AllByRecursion (IsCellOf column.now.shape) column.now.cells) }
+        ensures room { OnOk result (HasRoom (layout_in column.now) column.now.cells) }
     {
         self.nodes
             .push((column.len() as i64, column.null_count() as i64))?;
@@ -84,7 +90,8 @@ impl Writer {
 /// Puts the columns and those inside them, depth first.
 pub(crate) fn put_columns(writer: &mut Writer, columns: &[Column]) -> Result<(), AllocError>
     requires few { AllByRecursion (λ node. node.0 ≤ℤ pos values_limit) (parts_held columns.now).nodes }
-    ensures { OnOk result (Adds writer.old writer.new (parts_held columns.now)) }
+    ensures adds { OnOk result (Adds writer.old writer.new (parts_held columns.now)) }
+    ensures sound { OnOk result (AreSound columns.now) }
 {
     for column in columns {
         writer.put_own(column)?;

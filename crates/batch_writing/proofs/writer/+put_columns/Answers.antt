@@ -1,6 +1,7 @@
 use Rattle.std.proofs.Common.{◌<◌, subst}
 use Rattle.batch_columns.specs.Held.{shapes_held, heights}
 use Rattle.batch_writing.proofs.Inside.{falls, few_own, few_rest, few_inside, adds_next, adds_end}
+use Rattle.batch_writing.proofs.Rooms.{sound_column, sound_next, sound_end}
 use Rattle.batch_writing.proofs.writer.+put_columns.Goals as goal
 
 pub put_own-requires : goal.put_own-requires
@@ -23,10 +24,19 @@ loop-column-preserved t c = record {
       c.loop-column.invariant.added after
       (adds_next c.args.columns.now c.loop-column.column-index c.column-item.result c.loop-column-test.true c.column-item.is c.inside.result.now
       c.inside.ensures.shapes c.inside.ensures.held c.loop-column.writer c.put_own.new.self c.put_columns.new.writer after
-      c.in_ok-put_own.ensures c.in_ok-put_columns.ensures rest);
+      c.in_ok-put_own.ensures.adds c.in_ok-put_columns.ensures.adds rest);
+  sound = λ rest.
+      c.loop-column.invariant.sound
+      (sound_next c.args.columns.now c.loop-column.column-index c.column-item.result c.loop-column-test.true c.column-item.is
+      (sound_column c.column-item.result c.inside.result.now c.inside.ensures.shapes c.inside.ensures.held
+      c.in_ok-put_own.ensures.fit c.in_ok-put_own.ensures.room c.in_ok-put_columns.ensures.sound) rest);
 }
 
-pub returns : goal.returns
-returns t c =
+pub returns-clause-sound : goal.returns-clause-sound
+returns-clause-sound t c =
+    c.loop-column.invariant.sound (sound_end c.args.columns.now c.loop-column.column-index c.loop-column-test.false)
+
+pub returns-clause-adds : goal.returns-clause-adds
+returns-clause-adds t c =
     c.loop-column.invariant.added c.loop-column.writer
     (adds_end c.loop-column.writer c.args.columns.now c.loop-column.column-index c.loop-column-test.false)

@@ -4,6 +4,7 @@ use Rattle.batch_types.specs.LaysOut.{values_limit}
 use Rattle.batch_columns.specs.Held.{shapes_held, heights}
 use Rattle.batch_writing.specs.Adds.{Adds}
 use Rattle.batch_writing.specs.Parts.{parts_held}
+use Rattle.batch_writing.specs.Sound.{AreSound}
 use Rattle.batch_writing.specs.declared.writer.Writer.{Writer}
 use Rattle.batch_writing.proofs.writer.+put_columns.Given as goal
 
@@ -14,4 +15,5 @@ abbrev pub invariant-loop-column : goal.invariant-loop-column
 invariant-loop-column l = record {
   few : AllByRecursion (λ node. node.0 ≤ℤ pos values_limit) (parts_held (drop l.column-index l.columns)).nodes;
   added : (after : Writer) → Adds l.writer after (parts_held (drop l.column-index l.columns)) → Adds l.fn.writer after (parts_held l.columns);
+  sound : AreSound (drop l.column-index l.columns) → AreSound l.columns;
 }
