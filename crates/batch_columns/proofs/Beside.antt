@@ -40,11 +40,11 @@ one_name x y same = sym (named_back x) ∙ ap name_of same ∙ named_back y
 
 -- ---- shapes, one at a time
 
-abbrev first_of : Shapes → Shape → Shape
+abbrev pub first_of : Shapes → Shape → Shape
 first_of no_shape s = s
 first_of (shape_then s rest) other = s
 
-abbrev behind : Shapes → Shapes
+abbrev pub behind : Shapes → Shapes
 behind no_shape = no_shape
 behind (shape_then s rest) = rest
 
@@ -63,7 +63,7 @@ fields_next : (fields : List Field) (i : ℕ) (x : Field) → i < length fields 
     → field_shapes (drop i fields) ≡ shape_then (shape_in x) (field_shapes (drop (i + 1) fields))
 fields_next fields i x there is = ap shapes_of (forest_next fields i x there is)
 
-columns_next : (columns : List Contents) (i : ℕ) (x : Contents) → i < length columns → x ≡ slice_index_or columns i x
+pub columns_next : (columns : List Contents) (i : ℕ) (x : Contents) → i < length columns → x ≡ slice_index_or columns i x
     → shapes_held (drop i columns) ≡ shape_then x.shape (shapes_held (drop (i + 1) columns))
 columns_next columns i x there is =
     at_drop_more shapes_held columns i x there ∙ ap (λ y. shape_then y.shape (shapes_held (drop (i + 1) columns))) (sym is)

@@ -3,3 +3,4 @@ pub mod Making
 pub mod Looking
 pub mod Beside
 pub mod Counting
+pub mod Comparing

@@ -6,5 +6,7 @@ pub mod Falls
 pub mod Looks
 pub mod Made
 pub mod FieldShapes
+pub mod Same
+pub mod Alike
 pub mod Few
 pub mod Batches

@@ -6,6 +6,7 @@ mod building;
 mod cells;
 mod column;
 mod counts;
+mod equal;
 mod fault;
 mod fitting;
 mod layout;
