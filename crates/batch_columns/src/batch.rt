@@ -7,7 +7,7 @@ use header_types::Schema;
 
 /// Some rows of a table, column by column (Apache Arrow, "Arrow Columnar Format", "RecordBatch message"). Each column has
 /// one cell a row; a batch that has no column still has its number of rows.
-#[derive(Drop)]
+#[derive(Clone, PartialEq, Eq, Drop)]
 pub struct Batch {
     /// How many rows there are.
     pub rows: u64,

@@ -1,7 +1,9 @@
 //! A column: its buffers and the columns inside it.
 
+use crate::copy::{copies, with_inside};
 use crate::layout::Layout;
 use batch_types::laws::written_values_are_the_cells;
+use std::alloc::AllocError;
 use std::marker::Model;
 
 /// The values of one field for some rows: a list of cells, each of which is null, a bit, bytes, a list of elements or one
@@ -149,5 +151,20 @@ impl Column {
         ensures held { HaveInside (layout_in self.now) self.now.cells result.now }
     {
         self.inside.as_slice()
+    }
+}
+
+impl Clone for Column {
+    ghost use Rattle.std.specs.Prelude.{◌≡◌, IfOk};
+
+    ghost is_clone = { λ old new. new ≡ old };
+
+    /// A column of the same shape and cells, with buffers of its own, or memory is refused.
+    fn clone(&self) -> Result<Column, AllocError>
+        ensures { IfOk result (λ new. new ≡ self.now) }
+    {
+        let alloc = *self.inside.allocator();
+        let inside = copies(alloc, self.inside())?;
+        with_inside(alloc, self, inside)
     }
 }

@@ -5,6 +5,7 @@ mod batch;
 mod building;
 mod cells;
 mod column;
+mod copy;
 mod counts;
 mod equal;
 mod fault;
