@@ -1,0 +1,5 @@
+use Rattle.batch_checking.specs.SourceRules.{Rises}
+use Rattle.batch_checking.proofs.offsets.rise.Given as goal
+
+abbrev pub invariant-loop-row : goal.invariant-loop-row
+invariant-loop-row l = Rises l.offsets l.row

@@ -1,0 +1,50 @@
+-- The rules of one column in their order, of what is read of it and of the header and the body.
+use Rattle.std.specs.Prelude.{ℕ, ◌<◌, ◌≤◌, ℤ, pos, nat_abs, List, length}
+use Rattle.std.specs.List.{AllByRecursion}
+use Rattle.batch_types.specs.declared.fault.BatchFault.{BatchFault}
+use Rattle.batch_types.specs.declared.fault.BatchFault.TheVariants as fault
+use Rattle.batch_types.specs.Layouts.{Layout}
+use Rattle.batch_types.specs.Laid.{Node, Range, LaidColumn, laid, LaidColumns}
+use Rattle.batch_types.specs.Order.{column_order, AreKept, IsFirstBroken}
+use Rattle.batch_types.specs.Rules.{AreLong, HasNullCount}
+use Rattle.batch_types.specs.LaysOut.{KeepsRule}
+use Rattle.batch_columns.specs.Held.{layout_named}
+use Rattle.batch_sources.specs.declared.source.Source.{Source}
+use Rattle.batch_checking.specs.SourceRules.{OffsetsHold}
+use Rattle.batch_checking.specs.Around.{TextsHold}
+
+-- by its layout, its node and its three buffers, with how many values the first column inside it has
+abbrev pub PartsKeep : Layout → ℕ → ℤ → List ℕ → List ℕ → List ℕ → ℕ → ℕ → List ℕ → BatchFault → Type 0
+PartsKeep layout count nulls validity second third first asked places fault.Compressed = Unit {0}
+PartsKeep layout count nulls validity second third first asked places fault.TooManyRows = Unit {0}
+PartsKeep layout count nulls validity second third first asked places fault.NodeCount = Unit {0}
+PartsKeep layout count nulls validity second third first asked places fault.BufferCount = Unit {0}
+PartsKeep layout count nulls validity second third first asked places fault.BufferRange =
+    AreLong layout count nulls (length validity) (length second)
+PartsKeep layout count nulls validity second third first asked places fault.NullCount =
+    HasNullCount layout validity (pos count, nulls)
+PartsKeep layout count nulls validity second third first asked places fault.OffsetsFall =
+    OffsetsHold layout count second third first
+PartsKeep layout count nulls validity second third first asked places fault.ChildShort = asked ≤ count
+PartsKeep layout count nulls validity second third first asked places fault.NotUtf8 =
+    TextsHold layout validity second third places
+PartsKeep layout count nulls validity second third first asked places fault.OutOfMemory = Unit {0}
+
+abbrev pub SourceKeeps : Source → ℕ → ℕ → List ℕ → BatchFault → Type 0
+SourceKeeps source first asked places told =
+    PartsKeep (layout_named source.layout) source.length source.nulls source.validity.now source.second.now
+    source.third.now first asked places told
+
+-- the column keeps its own rules
+abbrev pub KeepsOwn : List ℕ → LaidColumn → ℕ → List ℕ → Type 0
+KeepsOwn body (laid layout node ranges inner) asked places =
+    AreKept (KeepsRule body layout node ranges inner asked places) column_order
+
+-- this is the first of its own rules that it breaks
+abbrev pub BreaksOwn : List ℕ → LaidColumn → ℕ → List ℕ → BatchFault → Type 0
+BreaksOwn body (laid layout node ranges inner) asked places told =
+    IsFirstBroken (KeepsRule body layout node ranges inner asked places) column_order told
+
+-- where the column has as many values as are asked of it, these places are among them
+abbrev pub ReachesIf : ℕ → ℕ → List ℕ → Type 0
+ReachesIf asked count places = asked ≤ count → AllByRecursion (λ row. row < count) places

@@ -1,0 +1,3 @@
+pub mod SourceRules
+pub mod Around
+pub mod Checked

@@ -1,0 +1,76 @@
+//! Whether a place of a column belongs to the batch, by the columns around it.
+
+ghost use Rattle.std.specs.Prelude.{◌≡◌, ◌↔◌, ◌+◌, ◌*◌, ◌<◌, ◌≤◌, ℕ, Some, IsTrue, IfSome};
+ghost use Rattle.std.specs.List.{range_with_len};
+ghost use Rattle.batch_checking.specs.Around.{Holds, IsValidAt, StandsInside, places_around, IsSteadySource, AreSteady};
+
+use crate::offsets::row_around;
+use crate::validity::is_valid;
+use batch_columns::Layout;
+use batch_sources::Source;
+
+/// The block that has the element at a place, where each has so many.
+fn block_around(size: usize, place: usize) -> Option<usize>
+    ensures stands { IfSome result (λ row. (size * row ≤ place) × (place < size * row + size)) }
+    ensures found { (row : ℕ) → size * row ≤ place → place < size * row + size → result ≡ Some row }
+{
+    if size == 0 {
+        None
+    } else {
+        Some(place / size)
+    }
+}
+
+/// The row whose value has the element or the field at a place inside a column.
+fn row_of(source: &Source, place: usize) -> Option<usize>
+    requires { IsSteadySource source.now }
+    ensures stands { IfSome result (λ row. StandsInside source.now row place) }
+    ensures found { (row : ℕ) → row < source.now.length → StandsInside source.now row place → result ≡ Some row }
+{
+    match source.layout {
+        Layout::Struct => Some(place),
+        Layout::FixedSizeList { size } => block_around(size as usize, place),
+        Layout::List => row_around(source.second, source.length, place),
+        Layout::Null | Layout::Bits | Layout::Bytes { .. } | Layout::Binary | Layout::Utf8 => None,
+    }
+}
+
+/// That row, where its value is valid.
+fn valid_row_of(source: &Source, place: usize) -> Option<usize>
+    requires { IsSteadySource source.now }
+    ensures stands { IfSome result (λ row. IsValidAt source.now row × StandsInside source.now row place) }
+    ensures found { (row : ℕ) → row < source.now.length → IsValidAt source.now row → StandsInside source.now row place
+        → result ≡ Some row }
+{
+    let row = row_of(source, place)?;
+    if is_valid(source, row) {
+        Some(row)
+    } else {
+        None
+    }
+}
+
+/// Whether there is a row of this number.
+fn is_row(row: usize, rows: usize) -> bool
+    ensures { IsTrue result ↔ (row < rows) }
+{
+    row < rows
+}
+
+/// Whether a place inside these columns, each around the next, belongs to the batch: there is a row among the first ones,
+/// as many as these, and all the values around the place are valid. It takes no memory, and walks up once.
+pub(crate) fn belongs(rows: usize, around: &[Source], place: usize) -> bool
+    requires { AreSteady (range_with_len 0 rows) around.now }
+    ensures { IsTrue result ↔ Holds (places_around (range_with_len 0 rows) around.now) place }
+{
+    let mut place = place;
+    let mut depth = around.len();
+    while depth > 0 {
+        match valid_row_of(&around[depth - 1], place) {
+            Some(row) => place = row,
+            None => return false,
+        }
+        depth -= 1;
+    }
+    is_row(place, rows)
+}

@@ -1,0 +1,10 @@
+//! Whether a header and a body lay out a batch.
+#![tactic(auto)]
+
+mod around;
+mod column;
+mod head;
+mod lengths;
+mod offsets;
+mod texts;
+mod validity;

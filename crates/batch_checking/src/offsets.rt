@@ -1,0 +1,113 @@
+//! Offsets, which say where values of any size begin and end.
+
+ghost use Rattle.std.specs.Prelude.{◌≡◌, ◌↔◌, ◌+◌, ◌*◌, ◌<◌, ◌≤◌, ◌≤ℤ◌, ℕ, pos, IsTrue, IfSome, IfNone, length};
+ghost use Rattle.batch_types.specs.Placed.{bytes_from, offset_at as offset_seen, start_of};
+ghost use Rattle.batch_types.specs.Rules.{AreOffsetsLong, DoRise, OffsetsRise};
+ghost use Rattle.batch_types.specs.LaysOut.{values_limit};
+ghost use Rattle.batch_checking.specs.SourceRules.{Rises, AreSpread, StandsIn};
+
+use byteorder::{ByteOrder, LittleEndian};
+
+/// The four bytes of offset `row`.
+fn block(offsets: &[u8], row: usize) -> &[u8]
+    requires { 4 * row + 4 ≤ length offsets.now }
+    ensures { result.now ≡ bytes_from offsets.now (4 * row) 4 }
+{
+    let start = 4 * row;
+    &offsets[start..start + 4]
+}
+
+/// Offset `row`, a signed number of four bytes (Apache Arrow, "Arrow Columnar Format", "Variable-size Binary Layout").
+pub(crate) fn offset_at(offsets: &[u8], row: usize) -> i64
+    requires { 4 * row + 4 ≤ length offsets.now }
+    ensures { result ≡ offset_seen 4 offsets.now row }
+{
+    LittleEndian::read_int(block(offsets, row), 4)
+}
+
+/// Where value `row` begins, by its offset without its sign.
+pub(crate) fn start_at(offsets: &[u8], row: usize) -> usize
+    requires { 4 * row + 4 ≤ length offsets.now }
+    ensures { result ≡ start_of 4 offsets.now row }
+{
+    offset_at(offsets, row).unsigned_abs() as usize
+}
+
+/// Whether the offset behind offset `row` is not below it.
+fn rises_at(offsets: &[u8], row: usize) -> bool
+    requires { 4 * row + 8 ≤ length offsets.now }
+    ensures { IsTrue result ↔ (offset_seen 4 offsets.now row ≤ℤ offset_seen 4 offsets.now (row + 1)) }
+{
+    offset_at(offsets, row) <= offset_at(offsets, row + 1)
+}
+
+/// Whether no offset of so many values is below the one before.
+fn rise(offsets: &[u8], count: usize) -> bool
+    requires { 4 * (count + 1) ≤ length offsets.now }
+    ensures { IsTrue result ↔ Rises offsets.now count }
+{
+    for row in 0..count {
+        if !rises_at(offsets, row) {
+            return false;
+        }
+    }
+    true
+}
+
+/// Whether a number is no higher than a limit.
+fn is_within(number: i64, limit: usize) -> bool
+    ensures { IsTrue result ↔ (number ≤ℤ pos limit) }
+{
+    number < 0 || number.unsigned_abs() as usize <= limit
+}
+
+/// Whether the offsets of so many values begin no lower than at 0, do not fall, and end no higher than at the limit.
+fn do_rise(offsets: &[u8], count: usize, limit: usize) -> bool
+    requires { 4 * (count + 1) ≤ length offsets.now }
+    ensures { IsTrue result ↔ DoRise 4 offsets.now count limit }
+{
+    if offset_at(offsets, 0) < 0 {
+        return false;
+    }
+    if !rise(offsets, count) {
+        return false;
+    }
+    is_within(offset_at(offsets, count), limit)
+}
+
+/// The same, where offsets are there.
+pub(crate) fn have_risen(offsets: &[u8], count: usize, limit: usize) -> bool
+    requires few { count ≤ values_limit }
+    requires long { AreOffsetsLong 4 count (length offsets.now) }
+    ensures { IsTrue result ↔ OffsetsRise 4 offsets.now count limit }
+{
+    offsets.is_empty() || do_rise(offsets, count, limit)
+}
+
+/// The row whose value has the element at a place, by offsets that do not fall.
+pub(crate) fn row_around(offsets: &[u8], count: usize, place: usize) -> Option<usize>
+    requires few { count ≤ values_limit }
+    requires spread { AreSpread offsets.now count }
+    ensures some { IfSome result (λ row. (row < count) × StandsIn offsets.now row place) }
+    ensures none { IfNone result ((row : ℕ) → row < count → ¬ (StandsIn offsets.now row place)) }
+{
+    if count == 0 {
+        return None;
+    }
+    if place < start_at(offsets, 0) {
+        return None;
+    }
+    if place >= start_at(offsets, count) {
+        return None;
+    }
+    let (mut low, mut high) = (0, count);
+    while high - low > 1 {
+        let middle = low + (high - low) / 2;
+        if place < start_at(offsets, middle) {
+            high = middle;
+        } else {
+            low = middle;
+        }
+    }
+    Some(low)
+}

@@ -1,0 +1,84 @@
+//! Whether texts are UTF-8.
+
+ghost use Rattle.std.specs.Prelude.{◌≡◌, ◌↔◌, ◌+◌, ◌-◌, ◌*◌, ◌<◌, ◌≤◌, ℕ, IsTrue, length};
+ghost use Rattle.std.specs.List.{AllByRecursion, range_with_len};
+ghost use Rattle.std.specs.Str.{IsUtf8};
+ghost use Rattle.batch_types.specs.Placed.{bytes_from, start_of, value_bytes};
+ghost use Rattle.batch_columns.specs.Held.{layout_named};
+ghost use Rattle.batch_checking.specs.SourceRules.{AreSpreadWithin, TextsSpread};
+ghost use Rattle.batch_checking.specs.Around.{Holds, IsValidAt, places_around, AreSteady, TextsHold};
+
+use crate::around::belongs;
+use crate::offsets::start_at;
+use crate::validity::is_valid;
+use batch_columns::Layout;
+use batch_sources::Source;
+use simdutf8::is_utf8;
+
+/// The bytes of a run of some.
+fn part(bytes: &[u8], start: usize, end: usize) -> &[u8]
+    requires { (start ≤ end) × (end ≤ length bytes.now) }
+    ensures { result.now ≡ bytes_from bytes.now start (end - start) }
+{
+    &bytes[start..end]
+}
+
+/// Whether the text of a row that is there is UTF-8, by itself.
+fn is_text(source: &Source, row: usize) -> bool
+    requires within { row < source.now.length }
+    requires spread { AreSpreadWithin source.now.second.now source.now.length (length source.now.third.now) }
+    ensures { IsTrue result ↔ IsUtf8 (value_bytes 4 source.now.second.now source.now.third.now row) }
+{
+    let start = start_at(source.second, row);
+    let end = start_at(source.second, row + 1);
+    is_utf8(part(source.third, start, end))
+}
+
+/// Whether a row that is there has no text, or one in UTF-8, or none that belongs to the batch.
+fn is_fine(source: &Source, rows: usize, around: &[Source], row: usize) -> bool
+    requires within { row < source.now.length }
+    requires spread { AreSpreadWithin source.now.second.now source.now.length (length source.now.third.now) }
+    requires steady { AreSteady (range_with_len 0 rows) around.now }
+    ensures { IsTrue result ↔ (Holds (places_around (range_with_len 0 rows) around.now) row → IsValidAt source.now row
+        → IsUtf8 (value_bytes 4 source.now.second.now source.now.third.now row)) }
+{
+    !is_valid(source, row) || is_text(source, row) || !belongs(rows, around, row)
+}
+
+/// Whether each text that belongs to the batch and is valid is UTF-8.
+fn are_texts(source: &Source, rows: usize, around: &[Source]) -> bool
+    requires spread { AreSpreadWithin source.now.second.now source.now.length (length source.now.third.now) }
+    requires steady { AreSteady (range_with_len 0 rows) around.now }
+    ensures { IsTrue result ↔ ((row : ℕ) → row < source.now.length
+        → Holds (places_around (range_with_len 0 rows) around.now) row → IsValidAt source.now row
+        → IsUtf8 (value_bytes 4 source.now.second.now source.now.third.now row)) }
+{
+    for row in 0..source.length {
+        if !is_fine(source, rows, around, row) {
+            return false;
+        }
+    }
+    true
+}
+
+/// The same of a column of any layout: only one of texts has texts.
+pub(crate) fn has_texts(source: &Source, rows: usize, around: &[Source]) -> bool
+    requires spread { TextsSpread (layout_named source.now.layout) source.now.length source.now.second.now
+        source.now.third.now }
+    requires steady { AreSteady (range_with_len 0 rows) around.now }
+    requires within { AllByRecursion (λ row. row < source.now.length)
+        (places_around (range_with_len 0 rows) around.now) }
+    ensures { IsTrue result ↔ TextsHold (layout_named source.now.layout) source.now.validity.now source.now.second.now
+        source.now.third.now (places_around (range_with_len 0 rows) around.now) }
+{
+    match source.layout {
+        Layout::Utf8 => are_texts(source, rows, around),
+        Layout::Null
+        | Layout::Bits
+        | Layout::Bytes { .. }
+        | Layout::Binary
+        | Layout::List
+        | Layout::FixedSizeList { .. }
+        | Layout::Struct => true,
+    }
+}
