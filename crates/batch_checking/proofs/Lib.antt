@@ -4,3 +4,7 @@ pub mod Held
 pub mod Walking
 pub mod Rows
 pub mod Steady
+pub mod Keeping
+pub mod Placing
+pub mod Going
+pub mod Came

@@ -7,6 +7,7 @@ use Rattle.batch_columns.specs.declared.layout.Layout.{Layout as Declared}
 use Rattle.batch_columns.specs.declared.layout.Layout.TheVariants.{Null, Bits, Bytes, Binary, Utf8, List as Lists, FixedSizeList, Struct}
 use Rattle.batch_checking.specs.SourceRules.{OffsetsHold, TextsSpread}
 use Rattle.batch_checking.specs.Around.{IsSteady}
+use Rattle.batch_checking.specs.Columns.{LeadsInto}
 use Rattle.batch_checking.proofs.Spread.{spread_by}
 
 pub texts_spread : (layout : Declared) (count : ℕ) (nulls : ℤ) (first : ℕ) (validity second third : List ℕ)
@@ -32,3 +33,15 @@ steady_by Utf8 count nulls first validity second third long hold = tt
 steady_by Lists count nulls first validity second third long hold = (spread_by second count first long.1 hold).0
 steady_by (FixedSizeList size) count nulls first validity second third long hold = tt
 steady_by Struct count nulls first validity second third long hold = tt
+
+pub leads_by : (layout : Declared) (count : ℕ) (nulls : ℤ) (first : ℕ) (validity second third : List ℕ)
+    → AreLong (layout_named layout) count nulls (length validity) (length second) → OffsetsHold (layout_named layout) count second third first
+    → LeadsInto (layout_named layout) count second first
+leads_by Null count nulls first validity second third long hold = tt
+leads_by Bits count nulls first validity second third long hold = tt
+leads_by (Bytes size) count nulls first validity second third long hold = tt
+leads_by Binary count nulls first validity second third long hold = tt
+leads_by Utf8 count nulls first validity second third long hold = tt
+leads_by Lists count nulls first validity second third long hold = spread_by second count first long.1 hold
+leads_by (FixedSizeList size) count nulls first validity second third long hold = tt
+leads_by Struct count nulls first validity second third long hold = tt

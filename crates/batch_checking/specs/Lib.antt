@@ -1,3 +1,5 @@
 pub mod SourceRules
 pub mod Around
 pub mod Checked
+pub mod Columns
+pub mod Walk

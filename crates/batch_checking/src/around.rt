@@ -1,13 +1,53 @@
 //! Whether a place of a column belongs to the batch, by the columns around it.
 
-ghost use Rattle.std.specs.Prelude.{◌≡◌, ◌↔◌, ◌+◌, ◌*◌, ◌<◌, ◌≤◌, ℕ, Some, IsTrue, IfSome};
+ghost use Rattle.std.specs.Prelude.{◌≡◌, ◌↔◌, ◌+◌, ◌*◌, ◌<◌, ◌≤◌, ℕ, Some, IsTrue, IfSome, [], ◌∷◌, ◌++◌};
 ghost use Rattle.std.specs.List.{range_with_len};
 ghost use Rattle.batch_checking.specs.Around.{Holds, IsValidAt, StandsInside, places_around, IsSteadySource, AreSteady};
+
+ghost use Rattle.batch_checking.specs.Columns.{sources_around};
 
 use crate::offsets::row_around;
 use crate::validity::is_valid;
 use batch_columns::Layout;
 use batch_sources::Source;
+use header_types::MAX_DEPTH;
+
+/// The columns around a column, the outermost first, and how many rows the batch has.
+#[derive(Clone, Copy)]
+pub(crate) struct Around<'a> {
+    /// How many rows the batch has.
+    pub(crate) rows: usize,
+    /// How many columns there are.
+    pub(crate) depth: usize,
+    /// They come first of these.
+    pub(crate) levels: [Source<'a>; MAX_DEPTH],
+}
+
+impl<'a> Around<'a> {
+    /// The columns.
+    pub(crate) fn sources(&self) -> &[Source<'a>]
+        requires { self.now.depth ≤ 16 }
+        ensures { result.now ≡ sources_around self.now }
+    {
+        &self.levels[..self.depth]
+    }
+
+    /// The columns around those inside one of which these are around.
+    pub(crate) fn with(&self, source: &Source<'a>) -> Around<'a>
+        requires { self.now.depth < 16 }
+        ensures rows { result.rows ≡ self.now.rows }
+        ensures depth { result.depth ≡ self.now.depth + 1 }
+        ensures sources { sources_around result ≡ sources_around self.now ++ source.now ∷ [] }
+    {
+        let mut levels = self.levels;
+        levels[self.depth] = *source;
+        Around {
+            rows: self.rows,
+            depth: self.depth + 1,
+            levels,
+        }
+    }
+}
 
 /// The block that has the element at a place, where each has so many.
 fn block_around(size: usize, place: usize) -> Option<usize>

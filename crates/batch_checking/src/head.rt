@@ -6,7 +6,7 @@ ghost use Rattle.header_types.specs.HeaderViews.{head_of};
 ghost use Rattle.header_types.specs.Profile.{InProfile};
 ghost use Rattle.batch_types.specs.Laid.{node_count, buffer_count};
 ghost use Rattle.batch_types.specs.Order.{head_order, AreKept, IsFirstBroken};
-ghost use Rattle.batch_types.specs.LaysOut.{KeepsHeadRule, HasRowsWithin, HasBody, values_limit};
+ghost use Rattle.batch_types.specs.LaysOut.{KeepsHeadRule, HasRowsWithin, HasBody, rows_limit, values_limit};
 
 use batch_columns::layout_of;
 use batch_sources::Place;
@@ -42,12 +42,22 @@ fn is_counted(node: (i64, i64)) -> bool
     0 <= node.0 && node.0 <= MAX_VALUES
 }
 
+/// Whether there may be so many rows.
+fn is_row_count(count: i64) -> bool
+    ensures { IsTrue result ↔ ((pos 0 ≤ℤ count) × (count ≤ℤ pos rows_limit)) }
+{
+    0 <= count && count <= MAX_ROWS
+}
+
 /// Whether there are no more rows than a batch may have, no more values in a node than one may have, and nowhere less
 /// than none.
 fn has_rows_within(head: &BatchHead) -> bool
     ensures { IsTrue result ↔ HasRowsWithin (head_of head.now) }
 {
-    0 <= head.length && head.length <= MAX_ROWS && are_counted(&head.nodes)
+    if !is_row_count(head.length) {
+        return false;
+    }
+    are_counted(head.nodes.as_slice())
 }
 
 /// Whether this is so of each of these nodes.

@@ -3,6 +3,7 @@
 
 mod around;
 mod column;
+mod fields;
 mod head;
 mod lengths;
 mod offsets;

@@ -1,0 +1,13 @@
+use Rattle.std.proofs.Common.{◌≡◌, ◌+◌, refl, sym, ap, ◌∙◌, subst, nat_abs, get_or, pos, List, ℤ, [], length}
+use Rattle.batch_checking.proofs.Placing.{first_there, first_not_there}
+use Rattle.batch_checking.proofs.fields.first_inside.Goals as goal
+
+pub returns-then-is_empty : goal.returns-then-is_empty
+returns-then-is_empty c = 
+    first_not_there c.args.field.now c.args.head.now c.args.place ?
+
+pub returns-else-is_empty : goal.returns-else-is_empty
+returns-else-is_empty c = 
+    c.length_at.ensures
+    ∙ subst (λ (l : List (ℤ × ℤ)). nat_abs (get_or c.deref.result.now (c.args.place.node + 1) (pos 0, pos 0)).0 ≡ nat_abs (get_or l (c.args.place.node + 1) (pos 0, pos 0)).0) c.deref.ensures.value refl
+    ∙ first_there c.args.field.now c.args.head.now c.args.place ?
