@@ -38,6 +38,7 @@ module _ (body : List ℕ) (head : BatchHead) (asked : ℕ) (around : Around) wh
     buffers = omega (arith, may.buffers);
     formed = (may.formed.0, tt);
     shallow = omega (arith, may.shallow);
+    room = may.room;
     steady = may.steady;
     reach = (may.reach.0, tt);
   }
@@ -46,7 +47,7 @@ module _ (body : List ℕ) (head : BatchHead) (asked : ℕ) (around : Around) wh
 
   module _ (x : Field) (place inside : Place) (s : Source) (next : Around) (n : ℕ) (of : IsSourceOf body (column_at x head place) s)
       (node : inside.node ≡ place.node + 1) (buffer : inside.buffer ≡ place.buffer + buffers_in_layout (layout_named s.layout))
-      (rows : next.rows ≡ around.rows) (depth : next.depth ≡ around.depth + 1) (sources : sources_around next ≡ sources_around around ++ s ∷ [])
+      (rows : next.rows ≡ around.rows) (depth : next.depth ≡ around.depth + 1) (room : length next.levels ≡ 16) (sources : sources_around next ≡ sources_around around ++ s ∷ [])
       (few : n ≡ asked_inside (layout_named s.layout) s.length) where
     firsts : first_places next ≡ first_places around
     firsts = ap (range_with_len 0) rows
@@ -54,7 +55,7 @@ module _ (body : List ℕ) (head : BatchHead) (asked : ℕ) (around : Around) wh
     places_next : places_in next ≡ source_places s (places_in around)
     places_next = ap₂ places_around firsts sources ∙ around_more (first_places around) (sources_around around) s
 
-    buffer_is : inside.buffer ≡ place.buffer + buffers_in_layout (layout_of (field_head_of x).data_type)
+    pub buffer_is : inside.buffer ≡ place.buffer + buffers_in_layout (layout_of (field_head_of x).data_type)
     buffer_is = buffer ∙ ap (λ l. place.buffer + buffers_in_layout l) of.layout_is
 
     columns_inside : columns_at (fields_in x) head inside ≡ inside_of (column_at x head place)
@@ -71,6 +72,7 @@ module _ (body : List ℕ) (head : BatchHead) (asked : ℕ) (around : Around) wh
       buffers = omega (arith, may.buffers, buffer_is);
       formed = may.formed.0.2;
       shallow = omega (arith, may.shallow, depth);
+      room = room;
       steady =
           subst (λ (ps : List ℕ). AreSteady ps (sources_around next)) (sym firsts)
           (subst (AreSteady (first_places around)) (sym sources) (steady_more (first_places around) (sources_around around) s may.steady open_.below open_.steady));
@@ -120,6 +122,15 @@ module _ (body : List ℕ) (head : BatchHead) (asked : ℕ) (around : Around) wh
         → BreaksOwn body (column_at x head place) asked (places_in around) told → HaveFault body (columns_at fields head first) asked (places_in around) told
     own_fault x rest place told came breaks = came.fault told (inl (inl breaks))
 
+    pub inside_fault : (x : Field) (rest : Forest) (place : Place) (told : BatchFault) → CameTo (more (seen x) rest) place
+        → KeepsOwn body (column_at x head place) asked (places_in around)
+        → HaveFault body (inside_of (column_at x head place))
+        (asked_inside (layout_of (field_head_of x).data_type) (nat_abs (get_or (drop place.node head.nodes.items) 0 (pos 0, pos 0)).0))
+        (places_inside body (layout_of (field_head_of x).data_type)
+        (take (buffers_in_layout (layout_of (field_head_of x).data_type)) (drop place.buffer head.buffers.items)) (places_in around)) told
+        → HaveFault body (columns_at fields head first) asked (places_in around) told
+    inside_fault x rest place told came kept has = came.fault told (inl (inr (kept, has)))
+
     pub went_on : (x : Field) (rest : Forest) (place after : Place) → CameTo (more (seen x) rest) place
         → IsSound body (column_at x head place) asked (places_in around) → after.node ≡ place.node + nodes_of_tree (seen x)
         → after.buffer ≡ place.buffer + buffers_of_tree (seen x) → CameTo rest after
@@ -130,6 +141,7 @@ module _ (body : List ℕ) (head : BatchHead) (asked : ℕ) (around : Around) wh
         buffers = omega (arith, came.may.buffers, buffer);
         formed = came.may.formed.1;
         shallow = omega (arith, came.may.shallow);
+        room = came.may.room;
         steady = came.may.steady;
         reach = subst (λ (cs : LaidColumns). AllReach asked cs (places_in around)) columns_rest came.may.reach.1;
       };
@@ -168,3 +180,15 @@ pub came_next : (body : List ℕ) (head : BatchHead) (asked : ℕ) (around : Aro
     → Came body head asked around (forest_seen fields) first (more (seen x) (forest_seen (drop (i + 1) fields))) place
 came_next body head asked around fields first place i x there is came =
     subst (λ r. Came body head asked around (forest_seen fields) first r place) (forest_next fields i x there is) came
+
+-- ---- what is inside a field is less deep
+
+depth_left : (fields : List Field) (i : ℕ) → forest_depth (forest_seen (drop i fields)) ≤ forest_depth (forest_seen fields)
+depth_left [] zero = omega arith
+depth_left [] (suc i) = omega arith
+depth_left (x ∷ xs) zero = omega arith
+depth_left (x ∷ xs) (suc i) = omega (arith, depth_left xs i)
+
+pub depth_falls : (fields : List Field) (i : ℕ) (x : Field) → i < length fields → x ≡ slice_index_or fields i x
+    → forest_depth (fields_in x) < forest_depth (forest_seen fields)
+depth_falls fields i x there is = omega (arith, depth_left fields i, ap forest_depth (forest_next fields i x there is))

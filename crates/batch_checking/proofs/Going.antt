@@ -42,7 +42,7 @@ fewer : (m n : ℕ) (xs : List ℕ) → m ≤ n → Below m xs → Below n xs
 fewer m n [] up all = tt
 fewer m n (x ∷ xs) up all = (omega (arith, all.0), fewer m n xs up all.1)
 
-all_reach : (asked : ℕ) (cs : LaidColumns) (xs : List ℕ) → Below asked xs → AllReach asked cs xs
+pub all_reach : (asked : ℕ) (cs : LaidColumns) (xs : List ℕ) → Below asked xs → AllReach asked cs xs
 all_reach asked no_column xs all = tt
 all_reach asked (column_then (laid l n r i) rest) xs all = (λ enough. fewer asked (nat_abs n.0) xs enough all, all_reach asked rest xs all)
 
@@ -99,7 +99,7 @@ module _ (validity second : List ℕ) (count : ℕ) (places : List ℕ) (below :
       let found = filter_held (is_valid (layout_named l) validity) places row there in
       (row, below_held count places row below found.0, stands)
 
-  reach_inside : (l : Declared) (d : DataType) (f : Forest) (nodes : List Node) (ranges : List Range) → layout_named l ≡ layout_of d
+  pub reach_inside : (l : Declared) (d : DataType) (f : Forest) (nodes : List Node) (ranges : List Range) → layout_named l ≡ layout_of d
       → AllowsChildren d (width f) → LeadsInto (layout_named l) count second (first_length (columns_from f nodes ranges))
       → AllReach (asked_inside (layout_named l) count) (columns_from f nodes ranges) (inside_at l)
   reach_inside Null d f nodes ranges is allows leads = nothing_reaches 0 (columns_from f nodes ranges) (inside_at Null) (λ x held. (stands_in Null x held).2)

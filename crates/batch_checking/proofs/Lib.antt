@@ -8,3 +8,4 @@ pub mod Keeping
 pub mod Placing
 pub mod Going
 pub mod Came
+pub mod Whole

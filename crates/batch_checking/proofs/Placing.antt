@@ -1,7 +1,8 @@
 -- A column at its place of a header.
-use Rattle.std.proofs.Common.{◌≡◌, ◌⊎◌, inl, inr, refl, sym, ap, ap₂, ◌∙◌, subst, ℕ, zero, suc, ◌+◌, ◌-◌, ◌*◌, ◌<◌, ◌≤◌, ◌≤ℤ◌, Bool, true, false, true≢false, ℤ, pos, nat_abs, List, [], ◌∷◌, length, get_or, drop, map, max, slice_index_or, arith}
+use Rattle.std.proofs.Common.{◌≡◌, ◌⊎◌, inl, inr, refl, sym, ap, ap₂, ◌∙◌, subst, ℕ, zero, suc, ◌+◌, ◌-◌, ◌*◌, ◌<◌, ◌≤◌, ◌≤ℤ◌, ◌==◌, Bool, true, false, true≢false, ℤ, pos, nat_abs, List, [], ◌∷◌, length, get_or, drop, map, max, slice_index_or, arith}
 use Rattle.std.specs.List.{AllByRecursion}
 use Rattle.std.proofs.lemmas.List.{get_or-drop}
+use Rattle.std.proofs.lemmas.Bool.{eqb-true}
 use Rattle.std.proofs.lemmas.Int.{ints}
 use Rattle.header_types.specs.declared.schema.Field.{Field, out-Field}
 use Rattle.header_types.specs.declared.header.BatchHead.{BatchHead}
@@ -25,7 +26,7 @@ use Rattle.batch_checking.specs.Columns.{forest_seen, columns_at, inside_of, Rea
 -- ---- parts of lists
 
 module _ {X : Type 0} where
-  drop_nothing : (xs : List X) → drop 0 xs ≡ xs
+  pub drop_nothing : (xs : List X) → drop 0 xs ≡ xs
   drop_nothing [] = refl
   drop_nothing (x ∷ xs) = refl
 
@@ -33,7 +34,7 @@ module _ {X : Type 0} where
   drop_none zero = refl
   drop_none (suc n) = refl
 
-  drop_both : (m n : ℕ) (xs : List X) → drop m (drop n xs) ≡ drop (n + m) xs
+  pub drop_both : (m n : ℕ) (xs : List X) → drop m (drop n xs) ≡ drop (n + m) xs
   drop_both m zero xs = ap (drop m) (drop_nothing xs) ∙ ap (λ k. drop k xs) (sum m)
     where
       sum : (k : ℕ) → k ≡ 0 + k
@@ -111,3 +112,12 @@ module _ (body : List ℕ) (field : Field) (head : BatchHead) (place : Place) (a
 
   pub reaches : (s : Source) → IsSourceOf body (column_at field head place) s → ReachesIf asked s.length (places_in around)
   reaches s of = subst (λ (n : Node). ReachesIf asked (nat_abs n.0) (places_in around)) of.node_is may.reach.0
+
+-- ---- lists with and without an element
+
+pub no_items : (xs : List Field) (n : ℕ) → n ≡ length xs → (n == 0) ≡ true → xs ≡ []
+no_items [] n all none = refl
+no_items (x ∷ xs) n all none = absurd (omega (arith, all, eqb-true n 0 none))
+
+pub some_items : (xs : List Field) (n : ℕ) → n ≡ length xs → (n == 0) ≡ false → xs ≡ [] → ⊥
+some_items xs n all some none = true≢false (sym (ap (λ k. k == 0) (all ∙ ap length none)) ∙ some)

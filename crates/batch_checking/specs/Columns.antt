@@ -68,6 +68,7 @@ pub record MayCheck (fields : Forest) (head : BatchHead) (place : Place) (asked 
   pub buffers : place.buffer + buffer_count fields ≤ length head.buffers.items
   pub formed : IsWellFormedForest fields
   pub shallow : around.depth + forest_depth fields ≤ 16
+  pub room : length around.levels ≡ 16
   pub steady : AreSteady (first_places around) (sources_around around)
   pub reach : AllReach asked (columns_at fields head place) (places_in around)
 

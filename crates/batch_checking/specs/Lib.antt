@@ -3,3 +3,4 @@ pub mod Around
 pub mod Checked
 pub mod Columns
 pub mod Walk
+pub mod Whole

@@ -1,6 +1,6 @@
 //! Whether a place of a column belongs to the batch, by the columns around it.
 
-ghost use Rattle.std.specs.Prelude.{◌≡◌, ◌↔◌, ◌+◌, ◌*◌, ◌<◌, ◌≤◌, ℕ, Some, IsTrue, IfSome, [], ◌∷◌, ◌++◌};
+ghost use Rattle.std.specs.Prelude.{◌≡◌, ◌↔◌, ◌+◌, ◌*◌, ◌<◌, ◌≤◌, ℕ, Some, IsTrue, IfSome, length, [], ◌∷◌, ◌++◌};
 ghost use Rattle.std.specs.List.{range_with_len};
 ghost use Rattle.batch_checking.specs.Around.{Holds, IsValidAt, StandsInside, places_around, IsSteadySource, AreSteady};
 
@@ -24,6 +24,27 @@ pub(crate) struct Around<'a> {
 }
 
 impl<'a> Around<'a> {
+    /// No column, and so many rows.
+    pub(crate) fn none(rows: usize) -> Around<'a>
+        ensures rows { result.rows ≡ rows }
+        ensures depth { result.depth ≡ 0 }
+        ensures room { length result.levels ≡ 16 }
+    {
+        let source = Source {
+            layout: Layout::Null,
+            length: 0,
+            nulls: 0,
+            validity: &[],
+            second: &[],
+            third: &[],
+        };
+        Around {
+            rows,
+            depth: 0,
+            levels: [source; MAX_DEPTH],
+        }
+    }
+
     /// The columns.
     pub(crate) fn sources(&self) -> &[Source<'a>]
         requires { self.now.depth ≤ 16 }
@@ -34,7 +55,9 @@ impl<'a> Around<'a> {
 
     /// The columns around those inside one of which these are around.
     pub(crate) fn with(&self, source: &Source<'a>) -> Around<'a>
-        requires { self.now.depth < 16 }
+        requires free { self.now.depth < 16 }
+        requires room { length self.now.levels ≡ 16 }
+        ensures room { length result.levels ≡ 16 }
         ensures rows { result.rows ≡ self.now.rows }
         ensures depth { result.depth ≡ self.now.depth + 1 }
         ensures sources { sources_around result ≡ sources_around self.now ++ source.now ∷ [] }

@@ -2,6 +2,7 @@
 #![tactic(auto)]
 
 mod around;
+mod batch;
 mod column;
 mod fields;
 mod head;
@@ -9,3 +10,5 @@ mod lengths;
 mod offsets;
 mod texts;
 mod validity;
+
+pub use batch::check_batch;
