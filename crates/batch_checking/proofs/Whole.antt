@@ -53,7 +53,7 @@ may_check fields head rows around within all every formed shallow same none room
   reach =
       all_reach rows (columns_at (forest_seen fields) head top) (places_in around)
       (subst (AllByRecursion (λ row. row < rows)) (sym (top_places around rows none same))
-      (held_below rows (range_with_len 0 rows) (λ x held. (range_held 0 rows x held).1)));
+      (held_below rows (range_with_len 0 rows) (λ x held. let found = range_held 0 rows x held in omega (arith, found.1))));
 }
 
 columns_top : (fields : List Field) (head : BatchHead)
