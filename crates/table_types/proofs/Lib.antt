@@ -1,0 +1,4 @@
+pub mod Growing
+pub mod Counting
+pub mod Shapes
+pub mod Bare

@@ -1,0 +1,5 @@
+pub mod Uploads
+pub mod Served
+pub mod Valid
+pub mod Tables
+pub mod Answers

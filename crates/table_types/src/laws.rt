@@ -1,0 +1,67 @@
+//! Laws of the tables that a list of uploads makes.
+
+ghost use Rattle.std.specs.Prelude.{◌≡◌, ◌≢◌, ℕ, ◌-◌, ◌<◌, ◌≤◌, List, ◌++◌, length, take, get_or, Some, true, false, ◌↔◌};
+ghost use Rattle.flatbuf_meta.specs.Writable.{IsWritable};
+ghost use Rattle.header_types.specs.Header.{schema_header};
+ghost use Rattle.header_types.specs.SameShape.{SameShape};
+ghost use Rattle.table_types.specs.Uploads.{Upload};
+ghost use Rattle.table_types.specs.Tables.{bare_schema};
+ghost use Rattle.std.specs.List.{list_any};
+ghost use Rattle.table_types.specs.Tables.{has_id, shape_text, is_same, effective, Version, version_of, Outcome, applied};
+ghost use Rattle.table_types.specs.Tables.{conflicting, unknown, first_named, outcome_of};
+
+use flatbuf_meta::laws::written_headers_differ;
+
+/// Tables only grow: where one list of uploads begins another, each effective upload of the one is the other's too, at the
+/// same place, and so is each version of each table; and what is told of an upload whose name has come never changes.
+pub fn tables_grow()
+    ensures effective { (table : List ℕ) (before after : List Upload)
+        → take (length (effective table before)) (effective table (before ++ after)) ≡ effective table before }
+    ensures versions { (table : List ℕ) (number : ℕ) (before after : List Upload) (version : Version)
+        → version_of table number before ≡ Some version → version_of table number (before ++ after) ≡ Some version }
+    ensures outcomes { (before after : List Upload) (upload : Upload) (outcome : Outcome)
+        → outcome_of before upload ≡ outcome → outcome ≢ unknown → outcome_of (before ++ after) upload ≡ outcome }
+{}
+
+/// An upload counts once: the uploads of a version have different names; and an upload that is told to be applied as some
+/// version is the last of that version's uploads, and stands at that place of each later one.
+pub fn uploads_count_once()
+    ensures apart { (table : List ℕ) (uploads : List Upload) (i j : ℕ) (none : Upload)
+        → i < j → j < length (effective table uploads)
+        → (get_or (effective table uploads) i none).id ≢ (get_or (effective table uploads) j none).id }
+    ensures placed { (uploads : List Upload) (upload none : Upload) (number : ℕ)
+        → outcome_of uploads upload ≡ applied number → (number ≤ length (effective upload.table uploads))
+        × (1 ≤ number)
+        × (is_same (get_or (effective upload.table uploads) (number - 1) none) upload ≡ true) }
+{}
+
+/// A table has one shape: its effective uploads are to it, each of the shape of the first.
+pub fn tables_have_one_shape()
+    ensures table { (table : List ℕ) (uploads : List Upload) (i : ℕ) (none : Upload) → i < length (effective table uploads)
+        → (get_or (effective table uploads) i none).table ≡ table }
+    ensures shape { (table : List ℕ) (uploads : List Upload) (i : ℕ) (none : Upload) → i < length (effective table uploads)
+        → shape_text (get_or (effective table uploads) i none) ≡ shape_text (get_or (effective table uploads) 0 none) }
+{}
+
+/// No upload is lost: one that came first of its name is applied where it has the shape of its table, and so is the first
+/// upload to a table. Nothing is known of an upload exactly where none of its name has come; and a conflict is told only
+/// where another came first under its name.
+pub fn no_upload_is_lost()
+    ensures counted { (uploads : List Upload) (upload none : Upload) → first_named upload.id uploads ≡ Some upload
+        → shape_text upload ≡ shape_text (get_or (effective upload.table uploads) 0 none)
+        → (number : ℕ) × (outcome_of uploads upload ≡ applied number) }
+    ensures unknown { (uploads : List Upload) (upload : Upload)
+        → (outcome_of uploads upload ≡ unknown) ↔ (list_any (has_id upload.id) uploads ≡ false) }
+    ensures conflict { (uploads : List Upload) (upload : Upload) → outcome_of uploads upload ≡ conflicting
+        → (first : Upload) × (first_named upload.id uploads ≡ Some first) × (is_same first upload ≡ false) }
+{}
+
+/// A shape is a schema without its metadata: uploads whose schemas differ in metadata alone have one shape; and where two
+/// have one, their schemas differ in no more, if they can be written without it.
+pub fn shapes_are_without_metadata()
+    ensures same { (x y : Upload) → SameShape x.schema y.schema → shape_text x ≡ shape_text y }
+    ensures apart { (x y : Upload) → IsWritable (schema_header (bare_schema x.schema)) → IsWritable (schema_header (bare_schema y.schema))
+        → shape_text x ≡ shape_text y → SameShape x.schema y.schema }
+{
+    written_headers_differ();
+}
