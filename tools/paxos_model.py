@@ -11,7 +11,7 @@ import itertools
 import sys
 from pathlib import Path
 
-from wire_model import Faults, bytes_field, file_of, number_field, put, split, told, varint
+from wire_model import Faults, bytes_field, file_of, number_field, put, rows, split, varint
 
 DATA = Path(__file__).resolve().parent.parent / "crates" / "paxos_stories" / "data"
 MAX_NODE, MAX_SLOT, MAX_ROUND = 6, 999_999, 4_000_000_000
@@ -147,12 +147,12 @@ def decoded(command, call, begun, fields):
     """Each field behind each beginning, and each pair of fields behind the last beginning of each kind."""
     texts = [begin + field for begin in begun for field in (b"", *fields)]
     texts += [begun[-1] + one + other for one, other in itertools.product(fields, fields)]
-    lines = []
-    for text in dict.fromkeys(texts):
-        given = told(call, text)
-        if given is not None:
-            lines += [f"{command} {text.hex()}".rstrip(), *(f"  {it}" for it in given)]
-    return lines
+    return rows(command, call, dict.fromkeys(texts))
+
+
+def cuts(command, call, text):
+    """Each beginning of a text."""
+    return rows(command, call, [text[:length] for length in range(len(text) + 1)])
 
 
 def messages():
@@ -392,6 +392,10 @@ FEW = [
 ]
 
 
+# Nodes 0 and 1 promise 1.0, at which node 0 proposes.
+PROPOSED = [FEW[0], FEW[1], FEW[5]]
+
+
 def history_line(it):
     words = [f"node {it['sender']} slot 0 {it['what']}"]
     words += [shown_ballot(it["ballot"])] if it["ballot"] else []
@@ -400,9 +404,10 @@ def history_line(it):
     return " ".join(words)
 
 
-def histories(members, most):
-    """Every lawful history of at most so many of these messages, and whether each of them may follow it. No message comes twice."""
-    lines, level = [], [[]]
+def histories(members, most, start=()):
+    """Every lawful history of at most so many of these messages behind the first ones, and whether each of them may follow it. No
+    message comes twice."""
+    lines, level = [], [list(start)]
     for _ in range(most + 1):
         longer = []
         for before in level:
@@ -425,8 +430,10 @@ def stories():
         texts,
         ("Messages of each kind, with numbers at the edges of what they may be.", encoded()),
         ("Fields behind beginnings of a message.", decoded("decode", told_message, beginnings(range(1, 8), MESSAGE_ROUNDS), IN_MESSAGES)),
+        ("Each beginning of a Promise with a report.", cuts("decode", told_message, bytes.fromhex("08021003180528033002380240014a03616263"))),
         ("Records of each kind, likewise.", kept()),
         ("Fields behind beginnings of a record.", decoded("decode-record", told_record, beginnings(range(1, 4), RECORD_ROUNDS), IN_RECORDS)),
+        ("Each beginning of an Accepted.", cuts("decode-record", told_record, bytes.fromhex("08031005180320022a03616263"))),
     )
     calls = file_of(
         made,
@@ -439,8 +446,9 @@ def stories():
     judged = file_of(
         "Every short lawful history of a few messages, and which of them may follow it, as tools/paxos_model.py says.",
         ("Of one member: node 1 is none.", histories(1, 3)),
-        ("Of two members.", histories(2, 3)),
-        ("Of three members.", histories(3, 3)),
+        ("Of two members.", histories(2, 2)),
+        ("Of two members, behind two promises and a proposal.", histories(2, 3, PROPOSED)),
+        ("Of four members, behind the same: two are no majority.", histories(4, 1, FEW[:2])),
     )
     return {"every_meaning.txt": meanings, "every_call.txt": calls, "every_history.txt": judged}
 
