@@ -4,8 +4,9 @@ the crate, that of its tests, its must-fail edits, and the runs of its program a
 
     tools/gate_costs.py [--write] [COMMAND ..]
 
-With --write the table goes into docs/TESTS.md, between the two lines that mark its place. The gate is ./test, or the command that
-is given, as `rt must-fail ballots` at the top of the repository.
+With --write the table goes into docs/TESTS.md, between the two lines that mark its place. Below the table the edits are named that
+took 20 seconds or more, the dearest first; they are printed alone. The gate is ./test, or the command that is given, as
+`rt must-fail ballots` at the top of the repository.
 
 Every process that the gate starts is looked at five times a second, and its time goes to the crate that its words name. The total
 is the kernel's own figure, so that what was missed shows."""
@@ -23,6 +24,8 @@ FIRST = "<!-- The table below is made by tools/gate_costs.py. -->"
 LAST = "<!-- The table above is made by tools/gate_costs.py. -->"
 KINDS = ("proof", "tests", "edits", "runs")
 TICKS = os.sysconf("SC_CLK_TCK")
+# The processor seconds from which on an edit is named.
+DEAR = 20
 
 
 def crates():
@@ -38,18 +41,25 @@ def stat(pid):
     return int(words[1]), words[19], int(words[11]) + int(words[12])
 
 
+def edit_of(crate, words):
+    """The name of the edit that is tried, which is told by its place among those of the crate; nothing where it is not told."""
+    kept = Path(words[words.index("--incremental") + 1]).name if "--incremental" in words else ""
+    edits = sorted((TOP / "crates" / crate / "must-fail").glob("*.edit"))
+    return edits[int(kept)].stem if kept.isdigit() and int(kept) < len(edits) else None
+
+
 def what_it_is(pid, names):
-    """The crate that a process works for, and at what."""
+    """The crate that a process works for, at what, and with which edit."""
     words = Path(f"/proc/{pid}/cmdline").read_bytes().decode(errors="replace").split("\0")
     ran = re.fullmatch(r"(.*?)(_tests)?", os.path.basename(words[0]))
     if ran.group(1) in names and "/out/" in words[0]:
-        return ran.group(1), "runs"
+        return ran.group(1), "runs", None
     if "--crate-name" not in words:
         return None
     crate = words[words.index("--crate-name") + 1]
     if "rt-edit-" in os.readlink(f"/proc/{pid}/cwd"):
-        return crate, "edits"
-    return crate, "tests" if "--test" in words else "proof"
+        return crate, "edits", edit_of(crate, words)
+    return crate, "tests" if "--test" in words else "proof", None
 
 
 class Costs:
@@ -94,7 +104,16 @@ class Costs:
 
     def seconds(self, crate, kind):
         """Processor seconds of one crate at one kind of work."""
-        return sum(it for key, it in self.ticks.items() if self.labels.get(key) == (crate, kind)) / TICKS
+        return sum(it for key, it in self.ticks.items() if (self.labels.get(key) or ())[:2] == (crate, kind)) / TICKS
+
+    def dear_edits(self):
+        """The edits that took long, each with its crate and its seconds, the dearest first."""
+        taken = {}
+        for key, ticks in self.ticks.items():
+            crate, _, edit = self.labels.get(key) or (None, None, None)
+            if edit is not None:
+                taken[crate, edit] = taken.get((crate, edit), 0) + ticks / TICKS
+        return sorted(((it, *key) for key, it in taken.items() if it >= DEAR), reverse=True)
 
 
 def page_of(costs, total, wall, ending):
@@ -153,6 +172,8 @@ def main():
     used = resource.getrusage(resource.RUSAGE_CHILDREN)
     lines = page_of(costs, used.ru_utime + used.ru_stime, time.monotonic() - began, ending)
     print("\n".join(lines))
+    for seconds, crate, edit in costs.dear_edits():
+        print(f"{seconds:6.1f} s  {crate}/{edit}")
     if writes:
         write(lines)
     return status
