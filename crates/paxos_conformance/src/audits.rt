@@ -1,6 +1,4 @@
-//! The judge of histories beside a plain program, and over a long one.
+//! The judge of histories over a long one.
 
-mod comparison;
 mod histories;
 mod long;
-mod plain;
