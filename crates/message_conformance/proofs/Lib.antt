@@ -1,2 +1,0 @@
-pub mod PlainMeanings
-pub mod AllFields

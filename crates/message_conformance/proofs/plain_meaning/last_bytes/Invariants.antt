@@ -1,8 +1,0 @@
-use Rattle.std.proofs.Common.{◌≡◌, Some}
-use Rattle.proto_fields.specs.Meaning.{bytes_meant}
-use Rattle.message_conformance.proofs.PlainMeanings.{seen}
-use Rattle.message_conformance.proofs.plain_meaning.last_bytes.Given as goal
-
--- what the fields met so far mean
-abbrev pub invariant-loop-of : goal.invariant-loop-of
-invariant-loop-of l = bytes_meant l.number (seen l.fields l.of-index) ≡ Some l.last
