@@ -1,9 +1,11 @@
-//! Conformance tests of `proto_fields`, `proto_messages` and `proto_wire`: rows of outside vectors, and plain programs
-//! that compute their definitions on every small input, compared with their public calls. It has no code but tests, so
-//! that what is proved below is not proved again with them, and one message with a field of every kind, for these
-//! tests.
+//! Conformance tests of `grpc_frames`, `proto_fields` and `proto_messages`, of which rows cannot tell: readers and writers
+//! that fail, long inputs, bytes that are shared, and messages with a field of every kind. Rows are told as stories,
+//! in `wire_stories`.
+//!
+//! The crate has no code but tests, so that what is proved below is not proved again with them.
 #![tactic(auto)]
 
-pub mod sample;
+#[cfg(test)]
+mod sample;
 #[cfg(test)]
 mod tests;

@@ -1,5 +1,5 @@
-//! A message of our own that has a field of every kind, read and written by the public calls of `proto_messages` and
-//! `proto_fields` alone: a sample, which has numbers and words.
+//! Two messages of our own with a field of every kind of number and of bytes, read and written by the public calls of
+//! `proto_messages` and `proto_fields` alone.
 
 use proto_fields::{
     ContentRef, WireFault, bool_of, bytes_of, check_bytes, check_number, check_string, enum_of,
@@ -7,9 +7,8 @@ use proto_fields::{
 };
 use proto_messages::{
     CanonicalMessage, ProtoMessage, append_bool, append_bytes, append_enum, append_int64,
-    append_messages, append_one, append_string, append_strings, append_uint64, check_embedded,
-    merge_one, push_message, push_string, strip_bool, strip_bytes, strip_enum, strip_int64,
-    strip_messages, strip_one, strip_string, strip_strings, strip_uint64,
+    append_string, append_strings, append_uint64, push_string, strip_bool, strip_bytes, strip_enum,
+    strip_int64, strip_string, strip_strings, strip_uint64,
 };
 use std::alloc::{AllocError, Global};
 
@@ -37,23 +36,13 @@ pub struct Words {
     pub tags: Vec<String>,
 }
 
-/// A field of each kind of embedded message.
-#[derive(Debug, PartialEq, Eq, Drop)]
-pub struct Sample {
-    /// An embedded message, field 1.
-    pub numbers: Option<Numbers>,
-    /// Repeated embedded messages, field 2047.
-    pub words: Vec<Words>,
-}
-
 impl ProtoMessage for Numbers {
     ghost use Rattle.std.proofs.Common.{rules};
     ghost use Rattle.wire_conformance.specs.Sample.{numbers_descriptor};
-    ghost use Rattle.wire_conformance.specs.SampleValues.{numbers_values};
 
     ghost descriptor = { numbers_descriptor };
 
-    ghost values = { numbers_values };
+    ghost values = { λ m. (m.kind, (m.change, (m.count, (m.is_last, tt)))) };
 
     fn empty(_alloc: Global) -> Numbers {
         Numbers {
@@ -112,11 +101,12 @@ impl CanonicalMessage for Numbers {
 impl ProtoMessage for Words {
     ghost use Rattle.std.proofs.Common.{rules};
     ghost use Rattle.wire_conformance.specs.Sample.{words_descriptor};
-    ghost use Rattle.wire_conformance.specs.SampleValues.{words_values};
+    ghost use Rattle.std.specs.Prelude.{map};
+    ghost use Rattle.std.specs.String.{string_bytes};
 
     ghost descriptor = { words_descriptor };
 
-    ghost values = { words_values };
+    ghost values = { λ m. (m.payload.items, (string_bytes m.name, (map string_bytes m.tags.items, tt))) };
 
     fn empty(alloc: Global) -> Words {
         Words {
@@ -166,60 +156,5 @@ impl CanonicalMessage for Words {
         let bytes = strip_bytes(bytes, 1, &self.payload)?;
         let bytes = strip_string(bytes, 2, &self.name)?;
         strip_strings(bytes, 3, &self.tags)
-    }
-}
-
-impl ProtoMessage for Sample {
-    ghost use Rattle.std.proofs.Common.{rules};
-    ghost use Rattle.wire_conformance.specs.Sample.{sample_descriptor};
-    ghost use Rattle.wire_conformance.specs.SampleValues.{sample_values};
-
-    ghost descriptor = { sample_descriptor };
-
-    ghost values = { sample_values };
-
-    fn empty(alloc: Global) -> Sample {
-        Sample {
-            numbers: None,
-            words: Vec::new(alloc),
-        }
-    }
-
-    fn check_field(number: u32, content: ContentRef<'_>) -> Result<(), WireFault> {
-        match number {
-            1 => check_embedded::<Numbers>(content),
-            2047 => check_embedded::<Words>(content),
-            _ => Ok(()),
-        }
-    }
-
-    fn take(
-        &mut self,
-        alloc: Global,
-        number: u32,
-        content: ContentRef<'_>,
-    ) -> Result<(), WireFault> {
-        match number {
-            1 => merge_one(alloc, &mut self.numbers, content),
-            2047 => push_message(alloc, &mut self.words, content),
-            _ => Ok(()),
-        }
-    }
-
-    #[tactic(auto, using(proto_messages::proofs::CallerLemmas::chains))]
-    fn append(&self, out: &mut Vec<u8>) -> Result<(), AllocError> {
-        append_one(out, 1, &self.numbers)?;
-        append_messages(out, 2047, &self.words)?;
-        Ok(())
-    }
-
-    ghost rises = { Prim.search rules };
-}
-
-impl CanonicalMessage for Sample {
-    #[tactic(auto, using(proto_messages::proofs::CallerLemmas::strips))]
-    fn strip<'a>(&self, bytes: &'a [u8]) -> Option<&'a [u8]> {
-        let bytes = strip_one(bytes, 1, &self.numbers)?;
-        strip_messages(bytes, 2047, &self.words)
     }
 }

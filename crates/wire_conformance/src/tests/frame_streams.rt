@@ -1,7 +1,7 @@
 //! Streams of frames: a payload of every length, thousands of frames in one text, and readers and writers whose calls
 //! fail, each in its turn.
 
-use super::frames::{read, spelled, write};
+use super::frames::{read, write};
 use super::texts::are_equal;
 use grpc_frames::{END_FLAG, Frame, FrameFault, MESSAGE_FLAG};
 use std::alloc::{AllocError, Global};
@@ -66,7 +66,7 @@ impl Write for FailingWriter {
 fn payload_of(alloc: Global, len: usize) -> Result<Vec<u8>, AllocError> {
     let mut payload = Vec::new(alloc);
     for place in 0..len {
-        payload.push(((place % 251) ^ (len % 256)) as u8)?;
+        payload.push((place.wrapping_add(len) % 251) as u8)?;
     }
     Ok(payload)
 }
@@ -106,16 +106,14 @@ fn append(text: &mut Vec<u8>, alloc: Global, number: usize, len: usize) -> Resul
     Ok(())
 }
 
-/// Whether a payload of so many bytes is written as it is spelled, and read back to the end of the input.
+/// Whether a payload of so many bytes is written with five bytes before it, and read back to the end of the input.
 fn comes_back(alloc: Global, len: usize) -> Result<bool, Fail> {
     let mut text = Vec::new(alloc);
     append(&mut text, alloc, len, len)?;
-    let payload = payload_of(alloc, len)?;
-    let want = spelled(alloc, flag_of(len), payload.as_slice())?;
+    let is_long = text.len() == len.saturating_add(5);
     let mut rest = text.as_slice();
-    let is_spelled = are_equal(rest, want.as_slice());
     let is_next = is_next(alloc, &mut rest, len, len)?;
-    Ok(is_spelled && is_next && is_end(alloc, &mut rest))
+    Ok(is_long && is_next && is_end(alloc, &mut rest))
 }
 
 #[test]
@@ -189,7 +187,8 @@ fn is_read_within(alloc: Global, text: &[u8], step: usize, calls: usize) -> Resu
 /// The text of the frame whose calls fail, with bytes behind it that are none of its own.
 fn cut_text(alloc: Global) -> Result<Vec<u8>, Fail> {
     let payload = payload_of(alloc, CUT_PAYLOAD)?;
-    let mut text = spelled(alloc, MESSAGE_FLAG, payload.as_slice())?;
+    let mut text = Vec::new(alloc);
+    write(&mut text, MESSAGE_FLAG, payload.as_slice())??;
     text.extend_from_slice(b"\x00\x00\x00\x00\x01\x07")?;
     Ok(text)
 }
