@@ -3,7 +3,6 @@
 use crate::support::spelled;
 use acceptor_command::answer_frames;
 use std::alloc::Global;
-use std::process::Abort;
 use std::test::Fail;
 
 /// Inputs, each behind how many bytes of it a run reads: an end frame, with and without a payload; a flag that is none
@@ -22,14 +21,12 @@ const STOPS: [(usize, &str); 7] = [
 /// What stands behind each of them: Asks.
 const BEHIND: &str = "00 00000002 0806 00 00000002 0806 00 00000002 0806";
 
-/// A run over the bytes fails, and has read so many of them.
-fn expect_read(rt: &impl Abort, alloc: Global, input: &[u8], read: usize) {
+/// Whether a run over the bytes fails without an answer, and has read so many of them.
+fn is_read(alloc: Global, input: &[u8], read: usize) -> bool {
     let mut reader = input;
     let mut output = Vec::new(alloc);
     let ending = answer_frames(alloc, &mut reader, &mut output);
-    assert!(rt; ending.is_err(), "{read} bytes");
-    assert!(rt; input.get(read..) == Some(reader), "{read} bytes");
-    assert!(rt; output.is_empty(), "{read} bytes");
+    ending.is_err() && input.get(read..) == Some(reader) && output.is_empty()
 }
 
 #[test]
@@ -38,7 +35,7 @@ fn reads_no_more_than_the_frame_that_ends_it(rt: HostRuntime) -> Result<(), Fail
     for (read, stop) in STOPS {
         let mut input = spelled(alloc, stop)?;
         input.extend_from_slice(&spelled(alloc, BEHIND)?)?;
-        expect_read(&rt, alloc, &input, read);
+        assert!(rt; is_read(alloc, &input, read), "{read} bytes");
     }
     Ok(())
 }
@@ -54,7 +51,7 @@ fn reads_no_more_behind_thousands_of_frames(rt: HostRuntime) -> Result<(), Fail>
     }
     input.extend_from_slice(&spelled(alloc, "80 00000000")?)?;
     input.extend_from_slice(&ask)?;
-    expect_read(&rt, alloc, &input, 35_005);
+    assert!(rt; is_read(alloc, &input, 35_005));
     Ok(())
 }
 
@@ -78,8 +75,6 @@ fn promises_thousands_of_slots(rt: HostRuntime) -> Result<(), Fail> {
     let mut reader = input.as_slice();
     let mut output = Vec::new(alloc);
     let ending = answer_frames(alloc, &mut reader, &mut output);
-    assert!(rt; ending == Ok(()));
-    assert!(rt; reader.is_empty());
-    assert!(rt; output == wanted);
+    assert!(rt; ending == Ok(()) && reader.is_empty() && output == wanted);
     Ok(())
 }

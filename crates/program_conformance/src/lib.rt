@@ -1,12 +1,9 @@
 //! Conformance tests of `acceptor_command`, `audit_command` and `command_line`, over their public calls, of what no
-//! clause says: bytes worked out by hand, the lines on standard error, streams that fail, and the words; and plain
-//! programs that compute the definitions on every small input and are compared with those calls.
+//! clause says: bytes worked out by hand, the lines on standard error, streams that fail, long runs, and the words.
 //!
 //! The crate has no code but tests, so that what is proved in the crates below is not proved again together with them.
 #![tactic(auto)]
 
-#[cfg(test)]
-mod all_runs;
 #[cfg(test)]
 mod audit;
 #[cfg(test)]
@@ -15,16 +12,6 @@ mod conversations;
 mod left_behind;
 #[cfg(test)]
 mod long_runs;
-#[cfg(test)]
-mod plain;
-#[cfg(test)]
-mod plain_requests;
-#[cfg(test)]
-mod plain_runs;
-#[cfg(test)]
-mod plain_traces;
-#[cfg(test)]
-mod plain_words;
 #[cfg(test)]
 mod streams;
 #[cfg(test)]

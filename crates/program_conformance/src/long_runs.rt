@@ -1,55 +1,48 @@
-//! Runs of the acceptor where a limit is met, a million frames or payloads of 4 MiB: beside the plain program for them,
-//! and with the answers and the lines worked out by hand.
+//! Runs of the acceptor where a limit is met, a million frames or payloads of 4 MiB, with the answers and the lines
+//! worked out by hand.
 
-use crate::all_runs::{compare, expect_met, new_tally};
-use crate::plain_runs::Room;
+use crate::streams::Narrow;
 use crate::support::{run_over, spelled, tells};
-use acceptor_command::ServeFault;
+use acceptor_command::{ServeFault, answer_frames};
 use std::alloc::Global;
+use std::process::Abort;
 use std::test::Fail;
 
-/// Room for a short answer, for one byte less than the longest Accepted below, for that, for one byte more, and for
-/// all.
-const ROOMS: [usize; 5] = [1_000, 4_194_307, 4_194_308, 4_194_309, 20_000_000];
+/// So many Asks, each a frame that needs no reply.
+fn asks(alloc: Global, count: usize) -> Result<Vec<u8>, Fail> {
+    let ask = spelled(alloc, "00 00000002 0806")?;
+    let mut text = Vec::new(alloc);
+    for _ in 0..count {
+        text.extend_from_slice(&ask)?;
+    }
+    Ok(text)
+}
 
-/// Counts of frames, each with what the line of a run over so many says. Without a line the status is 0.
-const COUNTS: [(usize, &str); 3] = [
-    (999_999, ""),
-    (1_000_000, "frame 1000000: Io"),
-    (1_000_001, "frame 1000000: Io"),
-];
+/// A run over so many Asks ends with this line, and with none where it is empty.
+fn expect_asks(rt: &impl Abort, alloc: Global, count: usize, line: &str) -> Result<(), Fail> {
+    let text = asks(alloc, count)?;
+    let outcome = run_over(alloc, &text);
+    assert!(rt; outcome.output.is_empty(), "over {count}");
+    let is_told = tells(alloc, outcome.status, &outcome.said, line)?;
+    assert!(rt; is_told, "over {count}");
+    Ok(())
+}
 
 #[test]
-fn ends_as_it_may_about_the_limit_of_frames(rt: HostRuntime) -> Result<(), Fail> {
-    let alloc = rt.alloc();
-    let enough = Room {
-        bytes: 100,
-        flushes: 1,
-    };
-    let ask = spelled(alloc, "00 00000002 0806")?;
-    let mut tally = new_tally(alloc);
-    for (count, line) in COUNTS {
-        // So many Asks, each a frame that needs no reply.
-        let mut text = Vec::new(alloc);
-        for _ in 0..count {
-            text.extend_from_slice(&ask)?;
-        }
-        let outcome = run_over(alloc, &text);
-        assert!(rt; outcome.output.is_empty(), "over {count}");
-        let is_told = tells(alloc, outcome.status, &outcome.said, line)?;
-        assert!(rt; is_told, "over {count}");
+fn answers_a_million_frames_and_no_more(rt: HostRuntime) -> Result<(), Fail> {
+    expect_asks(&rt, rt.alloc(), 999_999, "")?;
+    expect_asks(&rt, rt.alloc(), 1_000_000, "frame 1000000: Io")?;
+    expect_asks(&rt, rt.alloc(), 1_000_001, "frame 1000000: Io")
+}
 
-        compare(&rt, alloc, &text, enough, &mut tally)?;
-        text.extend_from_slice(&[0x80, 0, 0, 0, 0])?;
-        compare(&rt, alloc, &text, enough, &mut tally)?;
-    }
-    assert_eq!(rt; tally.runs, 6);
-    let endings = [
-        Ok(()),
-        Err(ServeFault::EndFlag),
-        Err(ServeFault::FrameLimit),
-    ];
-    expect_met(&rt, &tally, &endings, &[]);
+/// The limit of frames is told before what the next one would be.
+#[test]
+fn tells_the_limit_before_an_end(rt: HostRuntime) -> Result<(), Fail> {
+    let mut text = asks(rt.alloc(), 999_999)?;
+    text.extend_from_slice(&[0x80, 0, 0, 0, 0])?;
+    let mut reader = text.as_slice();
+    let ending = answer_frames(rt.alloc(), &mut reader, &mut Vec::new(rt.alloc()));
+    assert!(rt; ending == Err((999_999, ServeFault::EndFlag)));
     Ok(())
 }
 
@@ -65,56 +58,69 @@ fn push_with_value(
     Ok(())
 }
 
-/// How long a value is, the Accept that brings it, its Accepted, and the Promise that reports it. That is two bytes
-/// longer than the Accept, since it has a second round, so of the two values only the first is reported: its Promise is
-/// the longest that a frame carries, and the other one would be one byte longer.
-const VALUES: [(usize, &str, &str, Option<&str>); 2] = [
-    (
-        4_194_293,
-        "00 003ffffe 0804 2801 4af5ffff01",
-        "00 003ffffe 0805 2801 4af5ffff01",
-        Some("00 00400000 0802 2802 3801 4af5ffff01"),
-    ),
-    (
-        4_194_294,
-        "00 003fffff 0804 2801 4af6ffff01",
-        "00 003fffff 0805 2801 4af6ffff01",
-        None,
-    ),
-];
+/// The longest Accept whose value a Promise can report: the Promise is two bytes longer, since it has a second round,
+/// and as long as a payload may be.
+const REPORTED: usize = 4_194_293;
+
+/// An Accept of a value of so many bytes, and a Prepare above it.
+fn accept_and_prepare(alloc: Global, beginning: &str, count: usize) -> Result<Vec<u8>, Fail> {
+    let mut text = Vec::new(alloc);
+    push_with_value(alloc, &mut text, beginning, count)?;
+    text.extend_from_slice(&spelled(alloc, "00 00000004 08012802")?)?;
+    Ok(text)
+}
+
+/// The Accepted of the value, and the Promise that reports it.
+fn longest_answers(alloc: Global) -> Result<Vec<u8>, Fail> {
+    let mut wanted = Vec::new(alloc);
+    let accepted = "00 003ffffe 0805 2801 4af5ffff01";
+    push_with_value(alloc, &mut wanted, accepted, REPORTED)?;
+    let promise = "00 00400000 0802 2802 3801 4af5ffff01";
+    push_with_value(alloc, &mut wanted, promise, REPORTED)?;
+    Ok(wanted)
+}
 
 #[test]
-fn ends_as_it_may_about_the_limit_of_payloads(rt: HostRuntime) -> Result<(), Fail> {
+fn reports_the_longest_value(rt: HostRuntime) -> Result<(), Fail> {
     let alloc = rt.alloc();
-    let mut tally = new_tally(alloc);
-    for (count, accept, accepted, promise) in VALUES {
-        let mut text = Vec::new(alloc);
-        push_with_value(alloc, &mut text, accept, count)?;
-        text.extend_from_slice(&spelled(alloc, "00 00000004 08012802")?)?;
-        let mut wanted = Vec::new(alloc);
-        push_with_value(alloc, &mut wanted, accepted, count)?;
-        let mut line = "frame 1: TooLong";
-        if let Some(beginning) = promise {
-            push_with_value(alloc, &mut wanted, beginning, count)?;
-            line = "";
-        }
-        let outcome = run_over(alloc, &text);
-        assert!(rt; outcome.output == wanted, "at {count}");
-        let is_told = tells(alloc, outcome.status, &outcome.said, line)?;
-        assert!(rt; is_told, "at {count}");
+    let text = accept_and_prepare(alloc, "00 003ffffe 0804 2801 4af5ffff01", REPORTED)?;
+    let outcome = run_over(alloc, &text);
+    assert!(rt; outcome.output == longest_answers(alloc)?);
+    assert!(rt; outcome.status == 0 && outcome.said.is_empty());
+    Ok(())
+}
 
-        for bytes in ROOMS {
-            let room = Room { bytes, flushes: 9 };
-            compare(&rt, alloc, &text, room, &mut tally)?;
-        }
+/// The Promise of a value of one byte more would be longer than a payload may be.
+#[test]
+fn tells_an_answer_that_is_too_long(rt: HostRuntime) -> Result<(), Fail> {
+    let alloc = rt.alloc();
+    let text = accept_and_prepare(alloc, "00 003fffff 0804 2801 4af6ffff01", REPORTED + 1)?;
+    let mut wanted = Vec::new(alloc);
+    let accepted = "00 003fffff 0805 2801 4af6ffff01";
+    push_with_value(alloc, &mut wanted, accepted, REPORTED + 1)?;
+    let outcome = run_over(alloc, &text);
+    assert!(rt; outcome.output == wanted);
+    let is_told = tells(alloc, outcome.status, &outcome.said, "frame 1: TooLong")?;
+    assert!(rt; is_told);
+    Ok(())
+}
+
+/// Whether the first answer goes out where there is room for so many bytes, and else a failed write is told of it.
+fn is_written_within(alloc: Global, text: &[u8], room: usize) -> bool {
+    let mut reader = text;
+    let mut writer = Narrow::new(alloc, room, 9);
+    let ending = answer_frames(alloc, &mut reader, &mut writer);
+    // The Accepted is 14 bytes beside its value.
+    let frame = if room < REPORTED + 14 { 0 } else { 1 };
+    writer.written.len() == room && ending == Err((frame, ServeFault::Write))
+}
+
+#[test]
+fn tells_a_long_answer_that_is_cut(rt: HostRuntime) -> Result<(), Fail> {
+    let alloc = rt.alloc();
+    let text = accept_and_prepare(alloc, "00 003ffffe 0804 2801 4af5ffff01", REPORTED)?;
+    for room in [1_000, REPORTED + 13, REPORTED + 14, REPORTED + 15] {
+        assert!(rt; is_written_within(alloc, &text, room), "in {room}");
     }
-    assert_eq!(rt; tally.runs, 10);
-    let endings = [
-        Ok(()),
-        Err(ServeFault::Write),
-        Err(ServeFault::AnswerTooLong),
-    ];
-    // The Accepted, and the Promise that reports the value.
-    expect_met(&rt, &tally, &endings, &[(5, false), (2, true)]);
     Ok(())
 }

@@ -6,7 +6,6 @@ use std::alloc::{AllocError, Global};
 use std::cell::Cell;
 use std::io;
 use std::io::{Read, Write};
-use std::process::Abort;
 use std::test::Fail;
 
 /// Gives its bytes, and then ends or fails. It looks at each read whether the answers to the frames that it has given
@@ -95,14 +94,14 @@ fn io_line(alloc: Global, frame: usize) -> Result<String, AllocError> {
     format!(in alloc; "frame {frame}: Io")
 }
 
-/// Runs over so many bytes of the conversation, behind which the reader fails or ends.
-fn expect_in_order(
-    rt: &impl Abort,
+/// Whether a run over so many bytes of the conversation, behind which the reader fails or ends, has answered each frame
+/// before the next read, and has told the end.
+fn is_in_order(
     alloc: Global,
     spelled: &Spelled,
     given: usize,
     fails: bool,
-) -> Result<(), Fail> {
+) -> Result<bool, AllocError> {
     let flushed = Cell::new(0);
     let mut reader = Watching {
         bytes: spelled.input.get(..given).unwrap_or(&[]),
@@ -122,13 +121,9 @@ fn expect_in_order(
         String::new(alloc)
     };
     let is_told = tells(alloc, status, &said, &line)?;
-    assert!(rt; is_told, "behind {given} bytes");
     let is_answered = spelled.answers.get(..written) == Some(writer.written.as_slice());
-    assert!(rt; is_answered, "behind {given} bytes");
-    assert!(rt; reader.is_in_order, "behind {given} bytes");
-    assert_eq!(rt; reader.given, given);
-    assert_eq!(rt; flushed.get(), written, "behind {given} bytes");
-    Ok(())
+    let is_read = reader.is_in_order && reader.given == given;
+    Ok(is_told && is_answered && is_read && flushed.get() == written)
 }
 
 /// The reader fails behind every number of bytes, and at last it ends behind all of them: the answers to the whole
@@ -139,9 +134,13 @@ fn answers_before_the_next_read(rt: HostRuntime) -> Result<(), Fail> {
     let spelled = conversation(alloc)?;
     let len = spelled.input.len();
     for given in 0..=len {
-        expect_in_order(&rt, alloc, &spelled, given, true)?;
+        assert!(rt;
+            is_in_order(alloc, &spelled, given, true)?,
+            "behind {given} bytes"
+        );
     }
-    expect_in_order(&rt, alloc, &spelled, len, false)
+    assert!(rt; is_in_order(alloc, &spelled, len, false)?);
+    Ok(())
 }
 
 /// How many answers fit into the room and are flushed, and how much has gone out of them and of the next one.
@@ -159,14 +158,14 @@ fn sent_into(room: usize, flushes: usize) -> (usize, usize) {
     (sent, written)
 }
 
-/// Runs over the conversation into a writer of this room, which takes so many flushes.
-fn expect_sent(
-    rt: &impl Abort,
+/// Whether a run over the conversation into a writer of this room, which takes so many flushes, has sent what fits, has
+/// told where it failed, and has read no further than the frame whose answer was lost.
+fn is_sent(
     alloc: Global,
     spelled: &Spelled,
     room: usize,
     flushes: usize,
-) -> Result<(), Fail> {
+) -> Result<bool, AllocError> {
     let mut reader = spelled.input.as_slice();
     let mut writer = Narrow::new(alloc, room, flushes);
     let mut said = Vec::new(alloc);
@@ -178,18 +177,12 @@ fn expect_sent(
         String::new(alloc)
     };
     let is_told = tells(alloc, status, &said, &line)?;
-    assert!(rt; is_told, "at {room}, {flushes}");
-    let left = writer.flushes.saturating_add(sent);
-    assert!(rt; left == flushes, "at {room}, {flushes}");
+    let is_flushed = writer.flushes.saturating_add(sent) == flushes;
     let is_written = spelled.answers.get(..written) == Some(writer.written.as_slice());
-    assert!(rt; is_written, "at {room}, {flushes}");
     // The frame whose answer is lost is the last that was read.
     let read = ENDS.get(sent).map_or(spelled.input.len(), |ends| ends.0);
-    assert!(rt;
-        spelled.input.get(read..) == Some(reader),
-        "at {room}, {flushes}"
-    );
-    Ok(())
+    let is_read = spelled.input.get(read..) == Some(reader);
+    Ok(is_told && is_flushed && is_written && is_read)
 }
 
 /// Into writers of every room, with every number of flushes up to one for each answer, and none else.
@@ -198,27 +191,28 @@ fn tells_a_write_or_a_flush_that_fails(rt: HostRuntime) -> Result<(), Fail> {
     let alloc = rt.alloc();
     let spelled = conversation(alloc)?;
     for number in 0..49 * 5 {
-        expect_sent(&rt, alloc, &spelled, number / 5, number % 5)?;
+        assert!(rt;
+            is_sent(alloc, &spelled, number / 5, number % 5)?,
+            "at {number}"
+        );
     }
     Ok(())
 }
 
-/// The line's first bytes go out, as many as there is room for.
-fn expect_cut_line(rt: &impl Abort, alloc: Global, line: &[u8], room: usize) {
+/// Whether the line's first bytes go out, as many as there is room for, and the run fails.
+fn is_cut_line(alloc: Global, line: &[u8], room: usize) -> bool {
     let mut reader: &[u8] = &[0x00, 0x00, 0x00, 0x00, 0x02, 0x08, 0x09];
     let mut output = Vec::new(alloc);
     let mut said = Narrow::new(alloc, room, 0);
     let status = acceptor_run(alloc, &mut reader, &mut output, &mut said);
-    assert!(rt; status == 1, "in {room} bytes");
-    assert!(rt; output.is_empty());
     let is_cut = line.get(..room) == Some(said.written.as_slice());
-    assert!(rt; is_cut, "in {room} bytes");
+    status == 1 && output.is_empty() && is_cut
 }
 
 #[test]
 fn fails_where_its_line_cannot_be_written(rt: HostRuntime) {
     let line = b"flightd: frame 0: BadKind\n";
     for room in 0..=line.len() {
-        expect_cut_line(&rt, rt.alloc(), line, room);
+        assert!(rt; is_cut_line(rt.alloc(), line, room), "in {room} bytes");
     }
 }

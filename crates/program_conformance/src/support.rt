@@ -82,22 +82,3 @@ pub(crate) fn spelled(alloc: Global, digits: &str) -> Result<Vec<u8>, Fail> {
     }
     Ok(bytes)
 }
-
-/// The list of this number, where 0 is the empty list, and then those of one number below `base`, of two, and so on,
-/// each once: every digit counts from 1 on, so that no list comes again with a 0 more.
-pub(crate) fn digits_of(
-    alloc: Global,
-    base: usize,
-    number: usize,
-) -> Result<Vec<usize>, AllocError> {
-    let mut digits = Vec::new(alloc);
-    let mut left = number;
-    for _ in 0..8 {
-        let Some(below) = left.checked_sub(1) else {
-            break;
-        };
-        digits.push(below.checked_rem(base).unwrap_or(0))?;
-        left = below.checked_div(base).unwrap_or(0);
-    }
-    Ok(digits)
-}
