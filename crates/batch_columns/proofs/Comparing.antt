@@ -1,19 +1,21 @@
 -- Columns that are alike, and whose columns inside are equal, are equal.
-use Rattle.std.proofs.Common.{◌≡◌, refl, sym, ap, ap₂, subst, ◌∙◌, ℕ, suc, ◌+◌, ◌<◌, Bool, true, false, List, [], ◌∷◌, map, drop, length, get_or, replicate, slice_index_or, ◌↔◌, IsTrue}
+use Rattle.std.proofs.Common.{◌≡◌, refl, sym, ap, ap₂, subst, ◌∙◌, ℕ, suc, ◌+◌, ◌<◌, Bool, List, [], ◌∷◌, map, drop, length, get_or, replicate, slice_index_or, ◌↔◌, IsTrue}
 use Rattle.std.proofs.lemmas.List.{at_drop_more}
 use Rattle.std.specs.List.{AllByRecursion, flat_map}
 use Rattle.batch_types.specs.Cells.{Cell}
 use Rattle.batch_types.specs.Layouts.{Layout, null_layout, bits_layout, bytes_layout, binary_layout, utf8_layout}
 use Rattle.batch_types.specs.Layouts.{list_layout, fixed_size_list_layout, struct_layout}
 use Rattle.batch_types.specs.Canonical.{own_buffers, blank_of, elements_or, field_or, nulls_of}
-use Rattle.batch_types.specs.Shapes.{Shape, shape, Shapes}
+use Rattle.batch_types.specs.Shapes.{Shape, shape}
 use Rattle.batch_types.specs.Typed.{IsCellOf}
 use Rattle.batch_types.specs.Written.{HasRoom}
-use Rattle.batch_columns.specs.Contents.{Contents, layout_of_shape, layout_in, shapes_in}
+use Rattle.batch_columns.specs.Contents.{Contents, layout_in, shapes_in}
 use Rattle.batch_columns.specs.Held.{shapes_held}
 use Rattle.batch_columns.specs.Kept.{HasElements, HaveFields, HaveInside, IsKept}
 use Rattle.batch_columns.specs.Alike.{AreAlike}
-use Rattle.batch_columns.specs.Same.{same_contents, equal, same}
+use Rattle.batch_columns.specs.Same.{same_contents, equal, same, either_way}
+use Rattle.batch_columns.specs.SameBatches.{same_batches, batches_equal, batches_same}
+use Rattle.batch_columns.specs.declared.batch.Batch.{Batch}
 use Rattle.batch_columns.proofs.Holding.{ReadsBack, kept_cells}
 use Rattle.batch_columns.proofs.Beside.{first_of, behind, whole_shape}
 
@@ -159,11 +161,13 @@ module _ (left right : List Contents) (i : ℕ) (x y : Contents) (p : i < length
 
 -- ---- as a test
 
-either_way : (a b : Bool) → (a ≡ true → b ≡ true) → (b ≡ true → a ≡ true) → a ≡ b
-either_way true b to from = sym (to refl)
-either_way false true to from = from refl
-either_way false false to from = refl
-
 pub test_is_same : (x y : Contents) (result : Bool) → (IsTrue result ↔ (x ≡ y)) → result ≡ same_contents x y
 test_is_same x y result told =
     either_way result (same_contents x y) (λ is. same x y (told.0 is)) (λ is. told.1 (equal x y is))
+
+pub test_is_same_batches : (x y : Batch) (xs ys : List Contents) (result : Bool) → x.rows ≡ y.rows → xs ≡ x.columns.items → ys ≡ y.columns.items
+    → (IsTrue result ↔ (xs ≡ ys)) → result ≡ same_batches x y
+test_is_same_batches x y xs ys result rows left right told =
+    either_way result (same_batches x y)
+    (λ is. batches_same x y (record { rows = rows; columns = sym left ∙ told.0 is ∙ right }))
+    (λ is. told.1 (left ∙ (batches_equal x y is).columns ∙ sym right))

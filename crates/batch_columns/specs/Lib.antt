@@ -10,3 +10,4 @@ pub mod Same
 pub mod Alike
 pub mod Few
 pub mod Batches
+pub mod SameBatches

@@ -1,6 +1,6 @@
 -- Whether two columns hold the same: one shape, and the same cells in order. Every value of the definitions is coded as a
 -- tree of numbers, no two of them alike, and trees can be compared.
-use Rattle.std.specs.Prelude.{◌≡◌, ◌==◌, ◌&&◌, ℕ, Bool, true, false, refl}
+use Rattle.std.specs.Prelude.{◌≡◌, ◌==◌, ◌&&◌, Bool, true, false, refl}
 use Rattle.std.specs.Cmp.{IsPartialEquivalence, IsEquivalence}
 use Rattle.std.proofs.Common.{sym, ap, ap₂, ◌∙◌, eq-eqb}
 use Rattle.std.proofs.lemmas.Bool.{eqb-true, and_parts}
@@ -49,16 +49,19 @@ equal x y same = coded_contents.inj x y (one_code (coded_contents.code x) (coded
 
 pub same : (x y : Contents) → x ≡ y → same_contents x y ≡ true
 unfolding same_contents
-same x y is = ap (λ z. same_code (coded_contents.code x) (coded_contents.code z)) (sym is) ∙ own_code (coded_contents.code x)
+same x y is =
+    ap (λ z. same_code (coded_contents.code x) (coded_contents.code z)) (sym is)
+    ∙ own_code (coded_contents.code x)
 
-either_way : (a b : Bool) → (a ≡ true → b ≡ true) → (b ≡ true → a ≡ true) → a ≡ b
+pub either_way : (a b : Bool) → (a ≡ true → b ≡ true) → (b ≡ true → a ≡ true) → a ≡ b
 either_way true b to from = sym (to refl)
 either_way false true to from = from refl
 either_way false false to from = refl
 
 pub same_is_mutual : (x y : Contents) → same_contents x y ≡ same_contents y x
 same_is_mutual x y =
-    either_way (same_contents x y) (same_contents y x) (λ is. same y x (sym (equal x y is))) (λ is. same x y (sym (equal y x is)))
+    either_way (same_contents x y) (same_contents y x) (λ is. same y x (sym (equal x y is)))
+    (λ is. same x y (sym (equal y x is)))
 
 pub same_laws : IsPartialEquivalence same_contents
 same_laws = record {

@@ -9,7 +9,7 @@ use std::marker::Model;
 /// The values of one field for some rows: a list of cells, each of which is null, a bit, bytes, a list of elements or one
 /// value of each field inside.
 #[cycle(column)]
-#[derive(Drop)]
+#[derive(Debug, Drop)]
 pub struct Column {
     layout: Layout,
     length: usize,

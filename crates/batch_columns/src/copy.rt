@@ -9,7 +9,11 @@ use crate::column::Column;
 use std::alloc::{AllocError, Global};
 
 /// A copy of a column with buffers of its own, around copies of the columns inside it.
-pub fn with_inside(alloc: Global, column: &Column, inside: Vec<Column>) -> Result<Column, AllocError>
+pub fn with_inside(
+    alloc: Global,
+    column: &Column,
+    inside: Vec<Column>,
+) -> Result<Column, AllocError>
     requires shapes { shapes_held inside.items ≡ shapes_in column.now }
     requires held { HaveInside (layout_in column.now) column.now.cells inside.items }
     ensures { IfOk result (λ new. new ≡ column.now) }

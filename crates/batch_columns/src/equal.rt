@@ -34,7 +34,7 @@ fn alike_are_equal(left: &Column, right: &Column)
 }
 
 /// Whether these columns are equal one by one.
-fn are_equal(left: &[Column], right: &[Column]) -> bool
+pub fn are_equal(left: &[Column], right: &[Column]) -> bool
     ensures { IsTrue result ↔ (left.now ≡ right.now) }
 {
     if left.len() != right.len() {

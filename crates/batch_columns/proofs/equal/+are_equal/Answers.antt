@@ -1,4 +1,4 @@
-use Rattle.std.proofs.Common.{◌<◌, refl, sym, ap, ◌∙◌, subst}
+use Rattle.std.proofs.Common.{◌<◌, refl, subst}
 use Rattle.std.proofs.lemmas.Bool.{false≢true}
 use Rattle.batch_columns.specs.Held.{shapes_held, heights}
 use Rattle.batch_columns.proofs.Beside.{falls}
@@ -20,7 +20,7 @@ returns-then-not-are_alike t c =
       λ no. absurd (false≢true no),
       λ same.
           let here = equal_here c.args.left.now c.args.right.now c.loop-index.index c.index-left-index.result c.index-right-index.result
-              c.loop-index-test.true there c.index-left-index.is c.index-right-index.is (c.loop-index.invariant.1 same) in
+          c.loop-index-test.true there c.index-left-index.is c.index-right-index.is (c.loop-index.invariant.1 same) in
           elim c.then-not-are_alike.branch [
             | then-not-are_alike-via-then-not-are_alike w ↦
                 w.if-not-are_alike.ensures.1 (equal_alike c.index-left-index.result c.index-right-index.result here)
