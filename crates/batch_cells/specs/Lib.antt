@@ -1,0 +1,2 @@
+pub mod CellViews
+pub mod Places
