@@ -1,22 +1,22 @@
 -- A walk over fields that checks their columns, step by step.
-use Rattle.std.proofs.Common.{◌≡◌, ◌⊎◌, inl, inr, refl, sym, ap, ap₂, ◌∙◌, subst, ℕ, zero, suc, ◌+◌, ◌<◌, ◌≤◌, ℤ, pos, nat_abs, List, [], ◌∷◌, ◌++◌, length, get_or, take, drop, map, max, slice_index_or, arith}
+use Rattle.std.proofs.Common.{◌≡◌, inl, inr, refl, sym, ap, ap₂, ◌∙◌, subst, ℕ, zero, suc, ◌+◌, ◌<◌, ◌≤◌, pos, nat_abs, List, [], ◌∷◌, ◌++◌, length, get_or, take, drop, slice_index_or, arith}
 use Rattle.std.specs.List.{range_with_len, filter, flat_map}
-use Rattle.header_types.specs.declared.schema.Field.{Field, out-Field}
+use Rattle.header_types.specs.declared.schema.Field.{Field}
 use Rattle.header_types.specs.declared.header.BatchHead.{BatchHead}
-use Rattle.header_types.specs.Fields.{Tree, tree, Forest, no_more, more, width}
+use Rattle.header_types.specs.Fields.{Tree, tree, Forest, no_more, more}
 use Rattle.header_types.specs.FieldView.{field_head_of, entries_in, fields_in}
-use Rattle.header_types.specs.Limits.{tree_sum, forest_sum, tree_depth, forest_depth}
+use Rattle.header_types.specs.Limits.{forest_depth}
 use Rattle.header_types.proofs.FieldTrees.{forest_next}
 use Rattle.batch_types.specs.declared.fault.BatchFault.{BatchFault}
 use Rattle.batch_types.specs.Layouts.{Layout, layout_of, buffers_in_layout}
-use Rattle.batch_types.specs.Laid.{Node, Range, LaidColumn, laid, LaidColumns, no_column, column_then, node_count, buffer_count}
-use Rattle.batch_types.specs.Placed.{buffer_at, is_valid}
+use Rattle.batch_types.specs.Laid.{Node, Range, LaidColumns}
+use Rattle.batch_types.specs.Placed.{is_valid}
 use Rattle.batch_types.specs.Rules.{places_of, places_inside, asked_inside}
 use Rattle.batch_types.specs.LaysOut.{IsSound, AreSound, HaveFault}
 use Rattle.batch_columns.specs.Held.{layout_named}
 use Rattle.batch_sources.specs.declared.place.Place.{Place}
 use Rattle.batch_sources.specs.declared.source.Source.{Source}
-use Rattle.batch_sources.specs.Sources.{nodes_of_tree, buffers_of_tree, column_from, columns_from}
+use Rattle.batch_sources.specs.Sources.{nodes_of_tree, buffers_of_tree, columns_from}
 use Rattle.batch_sources.specs.Read.{IsSourceOf, column_at}
 use Rattle.batch_checking.specs.declared.around.Around.{Around}
 use Rattle.batch_checking.specs.Around.{source_places, places_around, AreSteady}

@@ -1,37 +1,25 @@
 -- From a column on to those inside it, and to the next.
-use Rattle.std.proofs.Common.{◌≡◌, ◌⊎◌, inl, inr, refl, sym, ap, ap₂, ◌∙◌, subst, ℕ, zero, suc, ◌+◌, ◌-◌, ◌*◌, ◌<◌, ◌≤◌, Bool, true, false, true≢false, ℤ, pos, nat_abs, List, [], ◌∷◌, ◌++◌, length, get_or, take, drop, map, max, slice_index_or, arith, mul-le-mul_left}
+use Rattle.std.proofs.Common.{◌≡◌, inl, inr, ap, subst, ℕ, suc, ◌*◌, ◌<◌, ◌≤◌, Bool, true, false, true≢false, nat_abs, List, [], ◌∷◌, arith, mul-le-mul_left}
 use native.Mathlib.Nat.{mul-suc}
-use Rattle.std.specs.List.{AllByRecursion, filter, flat_map, range_with_len}
-use Rattle.header_types.specs.declared.schema.Field.{Field, out-Field}
-use Rattle.header_types.specs.declared.header.BatchHead.{BatchHead}
+use Rattle.std.specs.List.{AllByRecursion, filter, flat_map}
 use Rattle.header_types.specs.Fields.{DataType, null_type, int_type, floating_point_type, binary_type, utf8_type}
 use Rattle.header_types.specs.Fields.{bool_type, decimal_type, date_type, time_type, timestamp_type, list_type}
 use Rattle.header_types.specs.Fields.{struct_type, fixed_size_binary_type, fixed_size_list_type, duration_type}
 use Rattle.header_types.specs.Fields.{Tree, tree, Forest, no_more, more, width}
-use Rattle.header_types.specs.FieldView.{field_head_of, entries_in, fields_in}
 use Rattle.header_types.specs.TypeIds.{AllowsChildren}
-use Rattle.header_types.specs.Limits.{tree_sum, forest_sum, tree_depth, forest_depth}
-use Rattle.batch_types.specs.Layouts.{Layout, layout_of, buffers_in_layout, null_layout, bits_layout, bytes_layout, binary_layout, utf8_layout}
+use Rattle.batch_types.specs.Layouts.{Layout, layout_of, null_layout, bits_layout, bytes_layout, binary_layout, utf8_layout}
 use Rattle.batch_types.specs.Layouts.{list_layout, fixed_size_list_layout, struct_layout}
-use Rattle.batch_types.specs.Laid.{Node, Range, LaidColumn, laid, LaidColumns, no_column, column_then, node_count, buffer_count}
-use Rattle.batch_types.specs.Placed.{buffer_at, is_valid, start_of, length_of}
-use Rattle.batch_types.specs.Rules.{first_length, places_of, places_inside, asked_inside}
+use Rattle.batch_types.specs.Laid.{Node, Range, laid, LaidColumns, no_column, column_then}
+use Rattle.batch_types.specs.Placed.{is_valid, start_of, length_of}
+use Rattle.batch_types.specs.Rules.{first_length, places_of, asked_inside}
 use Rattle.batch_columns.specs.Held.{layout_named}
 use Rattle.batch_columns.specs.declared.layout.Layout.{Layout as Declared}
 use Rattle.batch_columns.specs.declared.layout.Layout.TheVariants.{Null, Bits, Bytes, Binary, Utf8, List as Lists, FixedSizeList, Struct}
-use Rattle.batch_sources.specs.declared.place.Place.{Place}
-use Rattle.batch_sources.specs.declared.source.Source.{Source}
-use Rattle.batch_sources.specs.Sources.{nodes_of_tree, buffers_of_tree, column_from, columns_from}
-use Rattle.batch_sources.specs.Read.{IsSourceOf, column_at}
-use Rattle.batch_checking.specs.declared.around.Around.{Around}
-use Rattle.batch_checking.specs.SourceRules.{AreSpreadWithin}
-use Rattle.batch_checking.specs.Around.{Holds, source_places, places_around, AreSteady}
-use Rattle.batch_checking.specs.Checked.{ReachesIf}
-use Rattle.batch_checking.specs.Columns.{sources_around, first_places, places_in, forest_seen, columns_at, inside_of, Reaches, AllReach, MayCheck, MayCheckOne, IsBehind, LeadsInto, IsOpen}
+use Rattle.batch_sources.specs.Sources.{column_from, columns_from}
+use Rattle.batch_checking.specs.Around.{Holds}
+use Rattle.batch_checking.specs.Columns.{Reaches, AllReach, LeadsInto}
 use Rattle.batch_checking.proofs.Held.{held_below, below_held, flat_held, filter_held, range_held}
 use Rattle.batch_checking.proofs.Spread.{value_ends}
-use Rattle.batch_checking.proofs.Walking.{around_more, steady_more}
-use Rattle.batch_checking.proofs.Placing.{drop_both}
 
 -- ---- the places inside a column are among those of the columns inside it
 
@@ -114,6 +102,7 @@ module _ (validity second : List ℕ) (count : ℕ) (places : List ℕ) (below :
     where
       lists : layout_named Lists ≡ layout_of d → true ≡ has_offsets (layout_of d)
       lists same = ap has_offsets same
+
       leads_within : (x : ℕ) → (row : ℕ) × (row < count) × Holds (places_of (layout_named Lists) second row) x
           → x < first_length (columns_from f nodes ranges)
       leads_within x (row, there, stands) =

@@ -1,11 +1,7 @@
 -- The rules of what is read of a column are those of the column.
-use Rattle.std.proofs.Common.{◌≡◌, ◌⊎◌, inl, inr, refl, sym, ap, ◌∙◌, subst, ℕ, ◌+◌, ◌<◌, ◌≤◌, ◌≤ℤ◌, Bool, true, false, true≢false, ℤ, pos, nat_abs, List, [], ◌∷◌, length, get_or, drop, arith}
-use Rattle.std.specs.List.{AllByRecursion, filter}
+use Rattle.std.proofs.Common.{◌≡◌, inl, inr, refl, sym, subst, ℕ, ◌<◌, true, ℤ, pos, nat_abs, List, [], ◌∷◌, length, get_or}
+use Rattle.std.specs.List.{filter}
 use Rattle.std.specs.Str.{IsUtf8}
-use Rattle.std.proofs.lemmas.List.{get_or-drop}
-use Rattle.std.proofs.lemmas.Int.{ints}
-use Rattle.header_types.specs.declared.schema.Field.{Field}
-use Rattle.header_types.specs.declared.header.BatchHead.{BatchHead}
 use Rattle.batch_types.specs.declared.fault.BatchFault.{BatchFault}
 use Rattle.batch_types.specs.declared.fault.BatchFault.TheVariants as fault
 use Rattle.batch_types.specs.Layouts.{Layout, null_layout, bits_layout, bytes_layout, binary_layout, utf8_layout}
@@ -13,12 +9,11 @@ use Rattle.batch_types.specs.Layouts.{list_layout, fixed_size_list_layout, struc
 use Rattle.batch_types.specs.Laid.{Node, Range, LaidColumn, laid, LaidColumns}
 use Rattle.batch_types.specs.Order.{column_order, AreKept, IsFirstBroken}
 use Rattle.batch_types.specs.Placed.{buffer_at, is_valid, value_bytes}
-use Rattle.batch_types.specs.Rules.{IsInside, HasBuffers, AreLong, HasNullCount, HasOffsets, AreUtf8, first_length}
-use Rattle.batch_types.specs.LaysOut.{KeepsRule, values_limit}
+use Rattle.batch_types.specs.Rules.{IsInside, HasNullCount, HasOffsets, AreUtf8, first_length}
+use Rattle.batch_types.specs.LaysOut.{KeepsRule}
 use Rattle.batch_columns.specs.Held.{layout_named}
-use Rattle.batch_sources.specs.declared.place.Place.{Place}
 use Rattle.batch_sources.specs.declared.source.Source.{Source}
-use Rattle.batch_sources.specs.Read.{IsSource, IsSourceOf, LiesInside, column_at}
+use Rattle.batch_sources.specs.Read.{IsSource, IsSourceOf, LiesInside}
 use Rattle.batch_checking.specs.SourceRules.{OffsetsHold}
 use Rattle.batch_checking.specs.Around.{Holds, TextsHold}
 use Rattle.batch_checking.specs.Checked.{PartsKeep, SourceKeeps, KeepsOwn, BreaksOwn}

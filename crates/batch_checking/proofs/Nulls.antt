@@ -1,8 +1,8 @@
 -- How many values a bitmap says are null.
-use Rattle.std.proofs.Common.{IsTrue, ◌≡◌, refl, sym, ap, ◌∙◌, subst, ℕ, ◌+◌, ◌==◌, ◌||◌, Bool, true, false, not, cond, if◌then◌else◌, ℤ, pos, List, [], ◌∷◌, map, length, true≢false, arith}
+use Rattle.std.proofs.Common.{IsTrue, ◌≡◌, refl, sym, ap, ◌∙◌, ℕ, ◌+◌, ◌==◌, ◌||◌, Bool, true, false, not, cond, ℤ, pos, List, [], ◌∷◌, map, length, true≢false}
 use Rattle.std.specs.List.{range_with_len, count_by}
 use Rattle.std.proofs.lemmas.List.Sums.{sum_by-cons}
-use Rattle.bitmaps.specs.Bits.{bit_of, bits_of, zeros}
+use Rattle.bitmaps.specs.Bits.{bit_of}
 use Rattle.batch_types.specs.Layouts.{Layout, null_layout, bits_layout, bytes_layout, binary_layout, utf8_layout}
 use Rattle.batch_types.specs.Layouts.{list_layout, fixed_size_list_layout, struct_layout}
 use Rattle.batch_types.specs.Rules.{HasNullCount}

@@ -1,18 +1,15 @@
 -- A column at its place of a header.
-use Rattle.std.proofs.Common.{◌≡◌, ◌⊎◌, inl, inr, refl, sym, ap, ap₂, ◌∙◌, subst, ℕ, zero, suc, ◌+◌, ◌-◌, ◌*◌, ◌<◌, ◌≤◌, ◌≤ℤ◌, ◌==◌, Bool, true, false, true≢false, ℤ, pos, nat_abs, List, [], ◌∷◌, length, get_or, drop, map, max, slice_index_or, arith}
-use Rattle.std.specs.List.{AllByRecursion}
+use Rattle.std.proofs.Common.{◌≡◌, refl, sym, ap, ◌∙◌, subst, ℕ, zero, suc, ◌+◌, ◌<◌, ◌≤◌, ◌≤ℤ◌, ◌==◌, true, false, true≢false, ℤ, pos, nat_abs, List, [], ◌∷◌, length, get_or, drop, arith}
 use Rattle.std.proofs.lemmas.List.{get_or-drop}
 use Rattle.std.proofs.lemmas.Bool.{eqb-true}
 use Rattle.std.proofs.lemmas.Int.{ints}
 use Rattle.header_types.specs.declared.schema.Field.{Field, out-Field}
 use Rattle.header_types.specs.declared.header.BatchHead.{BatchHead}
-use Rattle.header_types.specs.Fields.{Tree, tree, Forest, no_more, more}
-use Rattle.header_types.specs.FieldView.{field_head_of, entries_in, fields_in}
-use Rattle.header_types.specs.Views.{tree_of, forest_of}
-use Rattle.header_types.specs.Limits.{tree_sum, forest_sum, forest_depth}
-use Rattle.header_types.proofs.FieldTrees.{forest_next}
+use Rattle.header_types.specs.Fields.{Tree, tree}
+use Rattle.header_types.specs.FieldView.{field_head_of}
+use Rattle.header_types.specs.Views.{tree_of}
 use Rattle.batch_types.specs.Layouts.{layout_of, buffers_in_layout}
-use Rattle.batch_types.specs.Laid.{Node, Range, LaidColumn, laid, LaidColumns, no_column, column_then, node_count, buffer_count}
+use Rattle.batch_types.specs.Laid.{Node, Range, LaidColumns, column_then}
 use Rattle.batch_types.specs.Rules.{first_length}
 use Rattle.batch_types.specs.LaysOut.{values_limit}
 use Rattle.batch_sources.specs.declared.place.Place.{Place}
@@ -21,7 +18,7 @@ use Rattle.batch_sources.specs.Sources.{nodes_of_tree, buffers_of_tree, column_f
 use Rattle.batch_sources.specs.Read.{IsSourceOf, column_at}
 use Rattle.batch_checking.specs.declared.around.Around.{Around}
 use Rattle.batch_checking.specs.Checked.{ReachesIf}
-use Rattle.batch_checking.specs.Columns.{forest_seen, columns_at, inside_of, Reaches, AllReach, AreCounted, MayCheck, MayCheckOne, IsBehind, places_in}
+use Rattle.batch_checking.specs.Columns.{forest_seen, inside_of, MayCheckOne, places_in}
 
 -- ---- parts of lists
 

@@ -1,8 +1,7 @@
 -- The row whose value has a place inside it.
-use Rattle.std.proofs.Common.{◌≡◌, ◌⊎◌, inl, inr, refl, sym, ap, ◌∙◌, subst, ℕ, ◌+◌, ◌-◌, ◌*◌, ◌<◌, ◌≤◌, List, [], ◌∷◌, length, Option, Some, None, IfSome, IfNone, arith, true}
+use Rattle.std.proofs.Common.{◌≡◌, inl, inr, sym, ap, subst, ℕ, ◌+◌, ◌*◌, ◌<◌, ◌≤◌, List, Option, Some, None, IfSome, IfNone, arith, true}
 use Rattle.std.specs.List.{AllByRecursion, range_with_len}
 use Rattle.std.specs.Str.{IsUtf8}
-use Rattle.batch_types.specs.Layouts.{Layout, utf8_layout}
 use Rattle.batch_types.specs.Placed.{is_valid, start_of, length_of, value_bytes}
 use Rattle.batch_types.specs.Rules.{places_of}
 use Rattle.batch_columns.specs.Held.{layout_named}
@@ -10,7 +9,7 @@ use Rattle.batch_columns.specs.declared.layout.Layout.{Layout as Declared}
 use Rattle.batch_columns.specs.declared.layout.Layout.TheVariants.{List as Lists, FixedSizeList, Utf8}
 use Rattle.batch_sources.specs.declared.source.Source.{Source}
 use Rattle.batch_checking.specs.SourceRules.{AreSpread, StandsIn}
-use Rattle.batch_checking.specs.Around.{Holds, IsValidAt, StandsInside, IsSteady, IsSteadySource, TextsHold}
+use Rattle.batch_checking.specs.Around.{Holds, StandsInside, IsSteady, IsSteadySource, TextsHold}
 use Rattle.batch_checking.proofs.Held.{held_range, range_held, below_held}
 use Rattle.batch_checking.proofs.Spread.{one_row}
 

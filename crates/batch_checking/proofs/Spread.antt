@@ -1,9 +1,9 @@
 -- Values that begin and end at offsets.
-use Rattle.std.proofs.Common.{◌≡◌, ◌⊎◌, inl, inr, refl, sym, ap, ◌∙◌, subst, ℕ, zero, suc, ◌+◌, ◌-◌, ◌*◌, ◌<◌, ◌≤◌, ℤ, pos, negsuc, nat_abs, ◌≤ℤ◌, List, [], ◌∷◌, length, arith}
+use Rattle.std.proofs.Common.{◌≡◌, ◌⊎◌, inl, inr, ap, subst, ℕ, zero, suc, ◌+◌, ◌-◌, ◌*◌, ◌<◌, ◌≤◌, ℤ, pos, negsuc, nat_abs, ◌≤ℤ◌, List, length, arith}
 use Rattle.std.proofs.lemmas.Int.{ints}
 use Rattle.batch_types.specs.Placed.{offset_at, start_of}
 use Rattle.batch_types.specs.Rules.{DoRise, OffsetsRise, AreOffsetsLong}
-use Rattle.batch_checking.specs.SourceRules.{Rises, AreSpread, AreSpreadWithin, StandsIn}
+use Rattle.batch_checking.specs.SourceRules.{AreSpread, AreSpreadWithin, StandsIn}
 
 -- ---- numbers with a sign
 

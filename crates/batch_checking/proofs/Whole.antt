@@ -1,5 +1,5 @@
 -- A whole batch, by its header and its columns.
-use Rattle.std.proofs.Common.{◌≡◌, ◌⊎◌, inl, inr, refl, sym, ap, ap₂, ◌∙◌, subst, ℕ, zero, suc, ◌+◌, ◌<◌, ◌≤◌, ◌≤ℤ◌, ℤ, pos, negsuc, nat_abs, List, [], ◌∷◌, length, take, drop, get_or, Result, Ok, Err, OnOk, IfOk, IfErr, arith}
+use Rattle.std.proofs.Common.{◌≡◌, inr, refl, sym, ap, ap₂, ◌∙◌, subst, ℕ, ◌<◌, ◌≤◌, ◌≤ℤ◌, ℤ, pos, negsuc, nat_abs, List, [], ◌∷◌, length, take, Result, Ok, Err, OnOk, IfOk, IfErr, arith}
 use Rattle.std.specs.List.{AllByRecursion, range_with_len}
 use Rattle.std.proofs.lemmas.Int.{ints}
 use Rattle.header_types.specs.declared.schema.Field.{Field}
@@ -12,7 +12,7 @@ use Rattle.header_types.specs.Profile.{IsWellFormedForest}
 use Rattle.batch_types.specs.declared.fault.BatchFault.{BatchFault}
 use Rattle.batch_types.specs.Cells.{Rows}
 use Rattle.batch_types.specs.Laid.{LaidColumns, node_count, buffer_count}
-use Rattle.batch_types.specs.Order.{head_order, AreKept, IsFirstBroken}
+use Rattle.batch_types.specs.Order.{head_order, AreKept}
 use Rattle.batch_types.specs.LaysOut.{HasRowsWithin, KeepsHeadRule, HasColumns, LaysOut, IsFaultOf, body_of, columns_at as cells_of_columns}
 use Rattle.batch_sources.specs.declared.place.Place.{Place}
 use Rattle.batch_sources.specs.declared.source.Source.{Source}

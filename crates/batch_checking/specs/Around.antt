@@ -1,6 +1,7 @@
--- Which places of a column belong to a batch, where other columns stand around it: Apache Arrow, "Arrow Columnar Format",
--- "Physical memory layout". A tool of contracts: the places themselves are defined in `Rules` of `batch_types`.
-use Rattle.std.specs.Prelude.{◌≡◌, ◌⊎◌, ℕ, ◌<◌, ◌≤◌, true, List, [], ◌∷◌, take}
+-- Which places of a column belong to a batch, where other columns stand around it: Apache Arrow, "Arrow Columnar
+-- Format", "Physical memory layout". A tool of contracts: the places themselves are defined in `Rules` of
+-- `batch_types`.
+use Rattle.std.specs.Prelude.{◌≡◌, ◌⊎◌, ℕ, ◌<◌, ◌≤◌, true, List, [], ◌∷◌}
 use Rattle.std.specs.List.{AllByRecursion, filter, flat_map}
 use Rattle.std.specs.Str.{IsUtf8}
 use Rattle.batch_types.specs.Layouts.{Layout, null_layout, bits_layout, bytes_layout, binary_layout, utf8_layout}
@@ -56,7 +57,8 @@ pub record IsSteadySource (source : Source) : Type 0 where
 abbrev pub AreSteady : List ℕ → List Source → Type 0
 AreSteady places [] = Unit {0}
 AreSteady places (source ∷ rest) =
-    AllByRecursion (λ row. row < source.length) places × IsSteadySource source × AreSteady (source_places source places) rest
+    AllByRecursion (λ row. row < source.length) places × IsSteadySource source
+    × AreSteady (source_places source places) rest
 
 -- each valid text at these places is UTF-8
 abbrev pub TextsHold : Layout → List ℕ → List ℕ → List ℕ → List ℕ → Type 0

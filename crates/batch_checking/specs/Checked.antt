@@ -1,10 +1,10 @@
 -- The rules of one column in their order, of what is read of it and of the header and the body.
-use Rattle.std.specs.Prelude.{ℕ, ◌<◌, ◌≤◌, ℤ, pos, nat_abs, List, length}
+use Rattle.std.specs.Prelude.{ℕ, ◌<◌, ◌≤◌, ℤ, pos, List, length}
 use Rattle.std.specs.List.{AllByRecursion}
 use Rattle.batch_types.specs.declared.fault.BatchFault.{BatchFault}
 use Rattle.batch_types.specs.declared.fault.BatchFault.TheVariants as fault
 use Rattle.batch_types.specs.Layouts.{Layout}
-use Rattle.batch_types.specs.Laid.{Node, Range, LaidColumn, laid, LaidColumns}
+use Rattle.batch_types.specs.Laid.{LaidColumn, laid}
 use Rattle.batch_types.specs.Order.{column_order, AreKept, IsFirstBroken}
 use Rattle.batch_types.specs.Rules.{AreLong, HasNullCount}
 use Rattle.batch_types.specs.LaysOut.{KeepsRule}

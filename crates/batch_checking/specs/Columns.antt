@@ -3,7 +3,7 @@ use Rattle.std.specs.Prelude.{◌≡◌, ℕ, ◌+◌, ◌<◌, ◌≤◌, pos, 
 use Rattle.std.specs.List.{AllByRecursion, range_with_len}
 use Rattle.header_types.specs.declared.schema.Field.{Field}
 use Rattle.header_types.specs.declared.header.BatchHead.{BatchHead}
-use Rattle.header_types.specs.Fields.{Tree, tree, Forest, more, no_more}
+use Rattle.header_types.specs.Fields.{tree, Forest, more, no_more}
 use Rattle.header_types.specs.FieldView.{field_head_of, entries_in, fields_in}
 use Rattle.header_types.specs.Views.{tree_of, forest_of}
 use Rattle.header_types.specs.Limits.{forest_depth}
@@ -40,7 +40,8 @@ abbrev pub forest_seen : List Field → Forest
 forest_seen fields = forest_of (map tree_of fields)
 
 abbrev pub columns_at : Forest → BatchHead → Place → LaidColumns
-columns_at fields head place = columns_from fields (drop place.node head.nodes.items) (drop place.buffer head.buffers.items)
+columns_at fields head place =
+    columns_from fields (drop place.node head.nodes.items) (drop place.buffer head.buffers.items)
 
 abbrev pub inside_of : LaidColumn → LaidColumns
 inside_of (laid layout node ranges inner) = inner

@@ -1,6 +1,7 @@
--- The rules of a column, of what is read of it: Apache Arrow, "Arrow Columnar Format", "Physical memory layout". `Rules` of
--- `batch_types` has the rules themselves.
-use Rattle.std.specs.Prelude.{ℕ, ◌+◌, ◌*◌, ◌<◌, ◌≤◌, ◌⊎◌, ◌≡◌, ◌≤ℤ◌, ◌==◌, if◌then◌else◌, Bool, true, false, List, length}
+-- The rules of a column, of what is read of it: Apache Arrow, "Arrow Columnar Format", "Physical memory layout".
+-- `Rules` of `batch_types` has the rules themselves.
+use Rattle.std.specs.Prelude.{◌≡◌, ◌⊎◌, ℕ, ◌+◌, ◌*◌, ◌<◌, ◌≤◌, ◌≤ℤ◌, ◌==◌, Bool, true, false, if◌then◌else◌}
+use Rattle.std.specs.Prelude.{List, length}
 use Rattle.bitmaps.specs.Bits.{bits_of, zeros}
 use Rattle.batch_types.specs.Layouts.{Layout, null_layout, bits_layout, bytes_layout, binary_layout, utf8_layout}
 use Rattle.batch_types.specs.Layouts.{list_layout, fixed_size_list_layout, struct_layout}
@@ -52,8 +53,8 @@ TextsSpread (list_layout offset) count second third = Unit {0}
 TextsSpread (fixed_size_list_layout size) count second third = Unit {0}
 TextsSpread struct_layout count second third = Unit {0}
 
--- offsets begin no lower than at 0, do not fall, and end no higher than at the end of what they lead into: so many bytes,
--- or the values of the first column inside
+-- offsets begin no lower than at 0, do not fall, and end no higher than at the end of what they lead into: so many
+-- bytes, or the values of the first column inside
 abbrev pub OffsetsHold : Layout → ℕ → List ℕ → List ℕ → ℕ → Type 0
 OffsetsHold null_layout count second third first = Unit {0}
 OffsetsHold bits_layout count second third first = Unit {0}

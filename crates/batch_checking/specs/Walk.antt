@@ -3,7 +3,7 @@ use Rattle.std.specs.Prelude.{ℕ, ◌+◌, ◌≡◌, List}
 use Rattle.header_types.specs.declared.header.BatchHead.{BatchHead}
 use Rattle.header_types.specs.Fields.{Forest}
 use Rattle.batch_types.specs.declared.fault.BatchFault.{BatchFault}
-use Rattle.batch_types.specs.Laid.{LaidColumns, node_count, buffer_count}
+use Rattle.batch_types.specs.Laid.{node_count, buffer_count}
 use Rattle.batch_types.specs.LaysOut.{AreSound, HaveFault}
 use Rattle.batch_sources.specs.declared.place.Place.{Place}
 use Rattle.batch_checking.specs.declared.around.Around.{Around}

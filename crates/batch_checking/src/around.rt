@@ -3,7 +3,6 @@
 ghost use Rattle.std.specs.Prelude.{◌≡◌, ◌↔◌, ◌+◌, ◌*◌, ◌<◌, ◌≤◌, ℕ, Some, IsTrue, IfSome, length, [], ◌∷◌, ◌++◌};
 ghost use Rattle.std.specs.List.{range_with_len};
 ghost use Rattle.batch_checking.specs.Around.{Holds, IsValidAt, StandsInside, places_around, IsSteadySource, AreSteady};
-
 ghost use Rattle.batch_checking.specs.Columns.{sources_around};
 
 use crate::offsets::row_around;
@@ -77,11 +76,7 @@ fn block_around(size: usize, place: usize) -> Option<usize>
     ensures stands { IfSome result (λ row. (size * row ≤ place) × (place < size * row + size)) }
     ensures found { (row : ℕ) → size * row ≤ place → place < size * row + size → result ≡ Some row }
 {
-    if size == 0 {
-        None
-    } else {
-        Some(place / size)
-    }
+    if size == 0 { None } else { Some(place / size) }
 }
 
 /// The row whose value has the element or the field at a place inside a column.
@@ -120,8 +115,8 @@ fn is_row(row: usize, rows: usize) -> bool
     row < rows
 }
 
-/// Whether a place inside these columns, each around the next, belongs to the batch: there is a row among the first ones,
-/// as many as these, and all the values around the place are valid. It takes no memory, and walks up once.
+/// Whether a place inside these columns, each around the next, belongs to the batch: there is a row among the first
+/// ones, as many as these, and all the values around the place are valid. It takes no memory, and walks up once.
 pub(crate) fn belongs(rows: usize, around: &[Source], place: usize) -> bool
     requires { AreSteady (range_with_len 0 rows) around.now }
     ensures { IsTrue result ↔ Holds (places_around (range_with_len 0 rows) around.now) place }

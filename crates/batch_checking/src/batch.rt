@@ -51,15 +51,17 @@ fn check_columns(schema: &Schema, head: &BatchHead, body: &[u8]) -> Result<(), B
 /// Whether a header and a body lay out a batch of rows of a table of this schema, and if not, which fault is the first:
 /// those of the header come first ([`BatchFault`]), then those of each column, depth first, a parent before the columns
 /// inside it (Apache Arrow, "Arrow Columnar Format", "Physical memory layout" and "RecordBatch message"). The schema is
-/// in profile. It takes no memory, so it never answers `OutOfMemory`, and it takes time in proportion to the header and
-/// the body; where texts are not UTF-8, for each of them a search in the columns around it more.
+/// in profile. It takes no memory, so it never answers `OutOfMemory`. It takes time in proportion to the bytes of the
+/// columns' buffers, those of two columns that overlap counted twice; and for each text that is not UTF-8, a search by
+/// halves in each of the columns around it, of which there are at most 15.
 ///
 /// # Errors
 ///
 /// [`BatchFault`], but for `OutOfMemory`: the first rule that is broken.
 pub fn check_batch(schema: &Schema, head: &BatchHead, body: &[u8]) -> Result<(), BatchFault>
     requires profile { InProfile (schema_of schema.now) }
-    ensures kept { IfOk result (λ done. (rows : Rows) × LaysOut (schema_of schema.now) (head_of head.now) body.now rows) }
+    ensures kept { IfOk result (λ done. (rows : Rows)
+        × LaysOut (schema_of schema.now) (head_of head.now) body.now rows) }
     ensures fault { IfErr result (λ fault. IsFaultOf (schema_of schema.now) (head_of head.now) body.now fault) }
 {
     sources_are_the_columns();

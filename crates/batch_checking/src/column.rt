@@ -18,8 +18,9 @@ use batch_columns::Layout;
 use batch_sources::Source;
 use batch_types::BatchFault;
 
-/// Whether the offsets of a column, where it has some, lead into its bytes or into the first column inside it, which has
-/// so many values (Apache Arrow, "Arrow Columnar Format", "Variable-size Binary Layout" and "Variable-size List Layout").
+/// Whether the offsets of a column, where it has some, lead into its bytes or into the first column inside it, which
+/// has so many values (Apache Arrow, "Arrow Columnar Format", "Variable-size Binary Layout" and "Variable-size List
+/// Layout").
 fn has_offsets(source: &Source, first: usize) -> bool
     requires few { source.now.length ≤ values_limit }
     requires long { AreLong (layout_named source.now.layout) source.now.length source.now.nulls
@@ -40,9 +41,9 @@ fn has_offsets(source: &Source, first: usize) -> bool
     }
 }
 
-/// The first of its own rules that a column breaks whose buffers lie inside the body, if it breaks one: `first` is how many
-/// values the first column inside it has, `asked` how many it has to have, and `rows` and `around` say which of its places
-/// belong to the batch.
+/// The first of its own rules that a column breaks whose buffers lie inside the body, if it breaks one: `first` is how
+/// many values the first column inside it has, `asked` how many it has to have, and `rows` and `around` say which of
+/// its places belong to the batch.
 pub(crate) fn check_source(
     source: &Source,
     first: usize,

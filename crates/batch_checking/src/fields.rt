@@ -6,7 +6,8 @@ ghost use Rattle.batch_types.specs.LaysOut.{AreSound, HaveFault, values_limit};
 ghost use Rattle.batch_columns.specs.Held.{layout_named};
 ghost use Rattle.batch_sources.specs.Read.{column_at, IsSourceOf};
 ghost use Rattle.batch_checking.specs.Checked.{KeepsOwn, BreaksOwn};
-ghost use Rattle.batch_checking.specs.Columns.{places_in, forest_seen, columns_at, inside_of, MayCheck, MayCheckOne, IsBehind, IsOpen};
+ghost use Rattle.batch_checking.specs.Columns.{places_in, forest_seen, columns_at, inside_of, MayCheck, MayCheckOne};
+ghost use Rattle.batch_checking.specs.Columns.{IsBehind, IsOpen};
 
 use crate::around::Around;
 use crate::column::check_source;
@@ -82,8 +83,8 @@ fn check_column<'a>(
     }
 }
 
-/// The place behind the columns of these fields, if they and those inside them keep their rules, and else the first rule
-/// that is broken, depth first.
+/// The place behind the columns of these fields, if they and those inside them keep their rules, and else the first
+/// rule that is broken, depth first.
 pub(crate) fn check_fields<'a>(
     fields: &[Field],
     head: &BatchHead,

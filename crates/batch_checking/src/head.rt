@@ -1,6 +1,7 @@
 //! Whether a header keeps its own rules.
 
-ghost use Rattle.std.specs.Prelude.{◌≡◌, ◌↔◌, ◌+◌, ◌*◌, ◌<◌, ◌≤◌, ◌≤ℤ◌, ℕ, pos, IsTrue, IfErr, OnOk, map, length, get_or};
+ghost use Rattle.std.specs.Prelude.{◌≡◌, ◌↔◌, ◌+◌, ◌*◌, ◌<◌, ◌≤◌, ◌≤ℤ◌, ℕ, pos, map, length, get_or};
+ghost use Rattle.std.specs.Prelude.{IsTrue, IfErr, OnOk};
 ghost use Rattle.header_types.specs.Views.{tree_of, forest_of, schema_of};
 ghost use Rattle.header_types.specs.HeaderViews.{head_of};
 ghost use Rattle.header_types.specs.Profile.{InProfile};

@@ -17,7 +17,8 @@ fn is_validity_long(count: usize, nulls: i64, bytes: usize) -> bool
     (nulls == 0 && bytes == 0) || (count + 7) / 8 <= bytes
 }
 
-/// Whether so many bytes have the offsets of so many values, four bytes each; there may be none where there is no value.
+/// Whether so many bytes have the offsets of so many values, four bytes each; there may be none where there is no
+/// value.
 fn are_offsets_long(count: usize, bytes: usize) -> bool
     requires { count ≤ values_limit }
     ensures { IsTrue result ↔ AreOffsetsLong 4 count bytes }

@@ -1,6 +1,6 @@
--- The columns that a header lists for some fields: Apache Arrow, "Arrow Columnar Format", "RecordBatch message". Its nodes
--- and buffers follow the fields depth first: those of a field stand before those of the fields inside it, and these before
--- those of the next field.
+-- The columns that a header lists for some fields: Apache Arrow, "Arrow Columnar Format", "RecordBatch message". Its
+-- nodes and buffers follow the fields depth first: those of a field stand before those of the fields inside it, and
+-- these before those of the next field.
 use Rattle.std.specs.Prelude.{ℕ, pos, List, take, drop, get_or}
 use Rattle.header_types.specs.Fields.{Tree, tree, Forest, no_more, more}
 use Rattle.header_types.specs.Limits.{tree_sum}

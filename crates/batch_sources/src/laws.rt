@@ -7,8 +7,8 @@ ghost use Rattle.batch_types.specs.Laid.{node_count, buffer_count};
 ghost use Rattle.batch_types.specs.LaysOut.{HasColumns};
 ghost use Rattle.batch_sources.specs.Sources.{columns_from};
 
-/// Where a header has as many nodes and buffers as the fields of a schema have, the columns that are read of it one after
-/// the other are its columns for that schema.
+/// Where a header has as many nodes and buffers as the fields of a schema have, the columns that are read of it one
+/// after the other are its columns for that schema.
 pub fn sources_are_the_columns()
     ensures { (schema : SchemaTree) (head : Head) → length head.nodes ≡ node_count schema.fields
         → length head.buffers ≡ buffer_count schema.fields

@@ -13,7 +13,8 @@ use crate::place::{Place, buffers_in};
 use batch_columns::{Layout, layout_of};
 use header_types::{BatchHead, Field};
 
-/// A column as a header and a body have it, the columns inside it aside. A buffer that its layout does not have is empty.
+/// A column as a header and a body have it, the columns inside it aside. A buffer that its layout does not have is
+/// empty.
 #[derive(Clone, Copy, Debug)]
 pub struct Source<'a> {
     /// How its values stand in its buffers.
@@ -46,8 +47,8 @@ fn bytes_in<'a>(body: &'a [u8], range: (i64, i64)) -> Option<&'a [u8]>
     Some(&body[begin..begin + count])
 }
 
-/// The bytes of buffer `n` of the buffers of a column, which are `count` from buffer `first` of a header on; empty where
-/// it has no more than `n`.
+/// The bytes of buffer `n` of the buffers of a column, which are `count` from buffer `first` of a header on; empty
+/// where it has no more than `n`.
 fn buffer_in<'a>(
     buffers: &[(i64, i64)],
     first: usize,
@@ -79,8 +80,8 @@ fn node_at(nodes: &[(i64, i64)], n: usize) -> (usize, i64)
     (length.unsigned_abs() as usize, nulls)
 }
 
-/// The column of a field at a place of a header, of the bytes of this body: `None` where one of its buffers does not lie
-/// inside the body. So many nodes and buffers are there, and its node does not say that it has less than no values.
+/// The column of a field at a place of a header, of the bytes of this body: `None` where one of its buffers does not
+/// lie inside the body. So many nodes and buffers are there, and its node does not say that it has less than no values.
 pub fn source_at<'a>(
     field: &Field,
     head: &BatchHead,

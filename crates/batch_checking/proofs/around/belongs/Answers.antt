@@ -1,7 +1,6 @@
 use Rattle.std.proofs.Common.{◌≡◌, ◌+◌, ◌-◌, ◌<◌, refl, length, None, get_or, arith}
 use Rattle.std.specs.List.{range_with_len}
 use Rattle.std.proofs.lemmas.Bool.{false≢true}
-use Rattle.batch_sources.specs.declared.source.Source.{Source}
 use Rattle.batch_checking.proofs.Walking.{steady_at, up_held, held_up, none_up, top_held, held_top, no_source}
 use Rattle.batch_checking.proofs.around.belongs.Goals as goal
 

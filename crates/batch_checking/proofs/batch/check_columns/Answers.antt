@@ -1,4 +1,4 @@
-use Rattle.std.proofs.Common.{refl, sym, ap, ◌∙◌, subst, ℕ, List}
+use Rattle.std.proofs.Common.{sym, subst, ℕ, List}
 use Rattle.header_types.specs.declared.schema.Field.{Field}
 use Rattle.header_types.specs.HeaderViews.{head_of}
 use Rattle.batch_types.specs.Laid.{LaidColumns}

@@ -1,14 +1,12 @@
-use Rattle.std.proofs.Common.{◌≡◌, ◌+◌, ◌<◌, refl, sym, ap, ◌∙◌, subst, ℕ, List, drop, arith}
+use Rattle.std.proofs.Common.{◌+◌, ◌<◌, sym, subst, ℕ, List, drop, arith}
 use Rattle.std.proofs.lemmas.Result.{err_from_is_err_and}
 use Rattle.header_types.specs.declared.schema.Field.{Field}
 use Rattle.header_types.specs.FieldView.{fields_in}
 use Rattle.header_types.specs.Limits.{forest_depth}
-use Rattle.batch_types.specs.Laid.{LaidColumns, node_count, buffer_count}
+use Rattle.batch_types.specs.Laid.{LaidColumns}
 use Rattle.batch_types.specs.LaysOut.{AreSound, HaveFault}
-use Rattle.batch_sources.specs.Sources.{nodes_of_tree, buffers_of_tree}
 use Rattle.batch_checking.specs.Columns.{forest_seen, columns_at, places_in, MayCheck, IsBehind}
-use Rattle.batch_checking.specs.Walk.{Came}
-use Rattle.batch_checking.proofs.Came.{seen, one_may, inside_may, buffer_is, moved_inside, own_fault, inside_fault, went_on, came_next, depth_falls}
+use Rattle.batch_checking.proofs.Came.{one_may, inside_may, buffer_is, moved_inside, own_fault, inside_fault, went_on, came_next, depth_falls}
 use Rattle.batch_checking.proofs.fields.+check_fields.Goals as goal
 
 pub check_column-requires : goal.check_column-requires
@@ -76,12 +74,13 @@ loop-field-preserved t c =
     c.inside-inside.ensures.buffer c.with-around.ensures.rows c.with-around.ensures.depth c.with-around.ensures.room c.with-around.ensures.sources
     c.asked_inside-asked.ensures in
     went_on c.args.body.now c.args.head.now c.args.asked c.args.around.now (forest_seen c.args.fields.now) c.args.place c.field-item.result
-    (forest_seen (drop (c.loop-field.field-index + 1) c.args.fields.now)) c.loop-field.place c.in_ok-place.place came
-    (c.in_ok-source.ensures.kept,
-    moved_inside c.args.body.now c.args.head.now c.args.asked c.args.around.now c.field-item.result c.loop-field.place c.inside-inside.result
-    c.in_ok-source.source c.with-around.result c.asked_inside-asked.result c.in_ok-source.ensures.source c.inside-inside.ensures.node
-    c.inside-inside.ensures.buffer c.with-around.ensures.rows c.with-around.ensures.depth c.with-around.ensures.room c.with-around.ensures.sources
-    c.asked_inside-asked.ensures (AreSound c.args.body.now)
-    (subst (λ (l : List Field). AreSound c.args.body.now (columns_at (forest_seen l) c.args.head.now c.inside-inside.result) c.asked_inside-asked.result
-    (places_in c.with-around.result)) c.deref.ensures.value c.in_ok-place.ensures.sound))
+    (forest_seen (drop (c.loop-field.field-index + 1) c.args.fields.now)) c.loop-field.place c.in_ok-place.place came (
+      c.in_ok-source.ensures.kept,
+      moved_inside c.args.body.now c.args.head.now c.args.asked c.args.around.now c.field-item.result c.loop-field.place c.inside-inside.result
+          c.in_ok-source.source c.with-around.result c.asked_inside-asked.result c.in_ok-source.ensures.source c.inside-inside.ensures.node
+          c.inside-inside.ensures.buffer c.with-around.ensures.rows c.with-around.ensures.depth c.with-around.ensures.room c.with-around.ensures.sources
+          c.asked_inside-asked.ensures (AreSound c.args.body.now)
+          (subst (λ (l : List Field). AreSound c.args.body.now (columns_at (forest_seen l) c.args.head.now c.inside-inside.result) c.asked_inside-asked.result
+          (places_in c.with-around.result)) c.deref.ensures.value c.in_ok-place.ensures.sound),
+    )
     (omega (arith, behind.0, c.inside-inside.ensures.node)) (omega (arith, behind.1, buffer))

@@ -1,17 +1,14 @@
-use Rattle.std.proofs.Common.{◌≡◌, refl, sym, ap, ◌∙◌, subst, pos, get_or, take, drop, length, List}
-use Rattle.std.proofs.lemmas.Bool.{false≢true}
-use Rattle.std.specs.List.{AllByRecursion}
+use Rattle.std.proofs.Common.{refl, subst, pos, get_or, take, drop, List}
 use Rattle.header_types.specs.FieldView.{field_head_of}
 use Rattle.batch_types.specs.Layouts.{layout_of, buffers_in_layout}
 use Rattle.batch_types.specs.Order.{column_order, AreKept, IsFirstBroken}
-use Rattle.batch_types.specs.Rules.{first_length}
 use Rattle.batch_columns.specs.Held.{layout_named}
 use Rattle.batch_sources.specs.declared.source.Source.{Source}
 use Rattle.batch_sources.specs.Read.{column_at}
 use Rattle.batch_checking.specs.Around.{places_around}
 use Rattle.batch_checking.specs.Checked.{SourceKeeps}
 use Rattle.batch_checking.specs.Columns.{first_places, places_in, inside_of, LeadsInto}
-use Rattle.batch_checking.proofs.Keeping.{source_kept, source_breaks, not_inside}
+use Rattle.batch_checking.proofs.Keeping.{source_kept, source_breaks}
 use Rattle.batch_checking.proofs.Steady.{steady_by, leads_by}
 use Rattle.batch_checking.proofs.Placing.{few_values, reaches}
 use Rattle.batch_checking.proofs.fields.check_column.Goals as goal

@@ -1,4 +1,4 @@
-use Rattle.std.proofs.Common.{ℕ, ◌<◌, ◌≤ℤ◌, pos, length, get_or, refl, List, ℤ, subst, sym, ap, w64, FitsSigned, rules}
+use Rattle.std.proofs.Common.{ℕ, ◌<◌, ◌≤ℤ◌, pos, length, get_or, refl, List, ℤ, subst, sym, w64, FitsSigned, rules}
 use Rattle.std.proofs.lemmas.Int.{to_z-of_z}
 use Rattle.batch_types.specs.LaysOut.{values_limit, rows_limit}
 use Rattle.batch_checking.proofs.head.has_rows_within.Goals as goal

@@ -1,4 +1,4 @@
-use Rattle.std.proofs.Common.{◌≡◌, ◌+◌, ◌<◌, ◌≤◌, subst, arith}
+use Rattle.std.proofs.Common.{◌≡◌, ◌+◌, ◌<◌, subst, arith}
 use Rattle.batch_types.specs.Placed.{start_of}
 use Rattle.batch_checking.proofs.Spread.{none_before, none_behind, rising}
 use Rattle.batch_checking.proofs.offsets.row_around.Goals as goal

@@ -1,4 +1,4 @@
-use Rattle.std.proofs.Common.{◌+◌, length, arith}
+use Rattle.std.proofs.Common.{length, arith}
 use Rattle.batch_checking.proofs.Spread.{value_ends}
 use Rattle.batch_checking.proofs.texts.is_text.Goals as goal
 

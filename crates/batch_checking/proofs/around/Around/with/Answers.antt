@@ -1,7 +1,6 @@
-use Rattle.std.proofs.Common.{◌≡◌, ◌+◌, ◌<◌, suc, length, take, ap, ◌∙◌, arith, ℕ, List}
+use Rattle.std.proofs.Common.{◌≡◌, ◌+◌, ◌<◌, suc, length, take, ap, ◌∙◌, arith, ℕ}
 use Rattle.std.proofs.Math.Seq.{take-suc-set}
 use Rattle.std.proofs.Math.ListN.{set}
-use Rattle.batch_sources.specs.declared.source.Source.{Source}
 use Rattle.batch_checking.proofs.around.Around.with.Goals as goal
 
 plus_one : (n : ℕ) → n + 1 ≡ suc n
