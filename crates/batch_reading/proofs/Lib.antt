@@ -1,0 +1,15 @@
+pub mod Running
+pub mod Marking
+pub mod Sizing
+pub mod Spanning
+pub mod Gathering
+pub mod Keeping
+pub mod Planning
+pub mod Holding
+pub mod Finishing
+pub mod Bounding
+pub mod Fitting
+pub mod Reading
+pub mod Stepping
+pub mod Counting
+pub mod Whole

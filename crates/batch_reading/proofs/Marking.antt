@@ -1,0 +1,101 @@
+-- Which cells are null and which values are taken.
+use Rattle.std.proofs.Common.{◌≡◌, refl, sym, ap, ap₂, ◌∙◌, ℕ, ◌+◌, ◌<◌, ◌==◌, ◌||◌, ◌&&◌, Bool, true, false, not, if◌then◌else◌, Option, Some, List, [], ◌∷◌, map, length, arith, ne_eqb}
+use Rattle.std.proofs.lemmas.List.{length-map}
+use Rattle.std.proofs.lemmas.List.Sums.{sum_by-cons}
+use Rattle.std.specs.List.{zip}
+use Rattle.bitmaps.specs.Bits.{bit_of, zeros}
+use Rattle.bitmaps.specs.Packing.{packed_bytes}
+use Rattle.batch_columns.specs.Made.{validity_bytes}
+use Rattle.batch_reading.specs.declared.wanted.Wanted.{Wanted}
+use Rattle.batch_reading.specs.Spots.{places_of, marks_of, Spot, spots_at, spots_of, IsWanted}
+use Rattle.batch_reading.specs.Taken.{valid_in, is_shown, seen, bit_taken}
+use Rattle.batch_reading.proofs.Running.{marks_long, spots_long}
+
+-- ---- nothing is null
+
+zeros_first : (bit : Bool) (bits : List Bool) → zeros (bit ∷ bits) ≡ (if not bit then 1 else 0) + zeros bits
+zeros_first bit bits = sum_by-cons (λ b. if not b then 1 else 0) bit bits
+
+set_first : (bit : Bool) (bits : List Bool) → zeros (bit ∷ bits) ≡ 0 → (bit ≡ true) × (zeros bits ≡ 0)
+set_first true bits none = (refl, omega (arith, zeros_first true bits, none))
+set_first false bits none = absurd (omega (arith, zeros_first false bits, none))
+
+-- where no cell is null, the values that are wanted are taken
+seen_shown : (mark valid : Bool) → not mark || valid ≡ true → mark && valid ≡ mark
+seen_shown true valid shown = shown
+seen_shown false valid shown = refl
+
+pub all_seen : (validity : List ℕ) (spots : List Spot) → zeros (map (is_shown validity) spots) ≡ 0 → map (seen validity) spots ≡ spots
+all_seen validity [] none = refl
+all_seen validity (spot ∷ spots) none =
+    let first = set_first (is_shown validity spot) (map (is_shown validity) spots) none in
+    ap₂ (λ mark rest. (spot.0, mark) ∷ rest) (seen_shown spot.1 (valid_in validity spot.0) first.0) (all_seen validity spots first.1)
+
+-- nothing is null where there is no bitmap
+shown_valid : (mark valid : Bool) → valid ≡ true → not mark || valid ≡ true
+shown_valid true valid is = is
+shown_valid false valid is = refl
+
+pub none_null : (validity : List ℕ) (spots : List Spot) → validity ≡ [] → zeros (map (is_shown validity) spots) ≡ 0
+none_null validity [] is = refl
+none_null validity (spot ∷ spots) is =
+    let first : is_shown validity spot ≡ true =
+    shown_valid spot.1 (valid_in validity spot.0) (ap (λ bytes. valid_in bytes spot.0) is) in
+    let one : zeros (is_shown validity spot ∷ map (is_shown validity) spots) ≡ zeros (true ∷ map (is_shown validity) spots) =
+    ap (λ bit. zeros (bit ∷ map (is_shown validity) spots)) first in
+    omega (arith, one, zeros_first true (map (is_shown validity) spots), none_null validity spots is)
+
+-- ---- bits of a bitmap
+
+valid_bit : (validity : List ℕ) (j : ℕ) → 0 < length validity → valid_in validity j ≡ bit_of validity j
+valid_bit validity j some =
+    ap (λ empty. empty || bit_of validity j) (ne_eqb (length validity) 0 (λ e. omega (arith, e, some)))
+
+shown_bit : (mark bit : Bool) → (if mark then bit else true) ≡ not mark || bit
+shown_bit true bit = refl
+shown_bit false bit = refl
+
+seen_bit : (mark bit : Bool) → (if mark then bit else false) ≡ mark && bit
+seen_bit true bit = refl
+seen_bit false bit = refl
+
+pub bits_shown : (validity : List ℕ) (spots : List Spot) → 0 < length validity → map (bit_taken validity true) spots ≡ map (is_shown validity) spots
+bits_shown validity [] some = refl
+bits_shown validity (spot ∷ spots) some =
+    ap₂ (λ bit rest. bit ∷ rest)
+    (shown_bit spot.1 (bit_of validity spot.0) ∙ ap (λ valid. not spot.1 || valid) (sym (valid_bit validity spot.0 some)))
+    (bits_shown validity spots some)
+
+zip_seen : (validity places : List ℕ) (marks : List Bool) → 0 < length validity → length marks ≡ length places
+    → zip places (map (bit_taken validity false) (zip places marks)) ≡ map (seen validity) (zip places marks)
+zip_seen validity [] marks some same = refl
+zip_seen validity (p ∷ ps) [] some same = absurd (omega (arith, same))
+zip_seen validity (p ∷ ps) (mark ∷ marks) some same =
+    ap₂ (λ bit rest. (p, bit) ∷ rest)
+    (seen_bit mark (bit_of validity p) ∙ ap (λ valid. mark && valid) (sym (valid_bit validity p some)))
+    (zip_seen validity ps marks some (omega (arith, same)))
+
+module _ (limit : ℕ) (wanted : Wanted) (is : IsWanted limit wanted) (validity : List ℕ) where
+  -- the marks that were made
+  pub bits_seen : (taken : List Bool) → 0 < length validity → taken ≡ map (bit_taken validity false) (spots_of wanted)
+      → spots_at wanted.runs.now wanted.count (Some taken) ≡ map (seen validity) (spots_of wanted)
+  bits_seen taken some made =
+      ap (zip (places_of wanted.runs.now)) made
+      ∙ zip_seen validity (places_of wanted.runs.now) (marks_of wanted.count wanted.there.now) some
+      (marks_long wanted.count wanted.there.now is.marked ∙ is.counted)
+
+  pub bits_marked : (taken : List Bool) → taken ≡ map (bit_taken validity false) (spots_of wanted) → length taken ≡ wanted.count
+  bits_marked taken made =
+      ap length made ∙ length-map (spots_of wanted) (bit_taken validity false) ∙ spots_long limit wanted is
+
+  pub same_seen : (marks : Option (List Bool)) → marks ≡ wanted.there.now → zeros (map (is_shown validity) (spots_of wanted)) ≡ 0
+      → spots_at wanted.runs.now wanted.count marks ≡ map (seen validity) (spots_of wanted)
+  same_seen marks same none =
+      ap (spots_at wanted.runs.now wanted.count) same ∙ sym (all_seen validity (spots_of wanted) none)
+
+pub no_validity : (bits : List Bool) → zeros bits ≡ 0 → validity_bytes bits ≡ []
+no_validity bits none = ap (λ n. if n == 0 then [] else packed_bytes bits) none
+
+pub some_validity : (bits : List Bool) → 0 < zeros bits → validity_bytes bits ≡ packed_bytes bits
+some_validity bits some =
+    ap (λ empty. if empty then [] else packed_bytes bits) (ne_eqb (zeros bits) 0 (λ e. omega (arith, e, some)))

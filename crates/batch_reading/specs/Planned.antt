@@ -1,0 +1,102 @@
+-- What a column is built of, its layout and its cells aside: Apache Arrow, "Arrow Columnar Format", "Physical memory
+-- layout".
+use Rattle.std.specs.Prelude.{◌≡◌, ℕ, ◌*◌, true, false, if◌then◌else◌, List, [], ◌∷◌, map, length}
+use Rattle.std.specs.List.{flat_map, range_with_len}
+use Rattle.bitmaps.specs.Bits.{zeros}
+use Rattle.bitmaps.specs.Packing.{packed_bytes}
+use Rattle.batch_types.specs.Canonical.{offsets_of}
+use Rattle.batch_types.specs.Layouts.{Layout, null_layout, bits_layout, bytes_layout, binary_layout, utf8_layout}
+use Rattle.batch_types.specs.Layouts.{list_layout, fixed_size_list_layout, struct_layout}
+use Rattle.batch_types.specs.Placed.{start_of, length_of}
+use Rattle.batch_columns.specs.Made.{validity_bytes}
+use Rattle.batch_reading.specs.declared.plan.Inside.{Inside}
+use Rattle.batch_reading.specs.declared.plan.Plan.{Plan}
+use Rattle.batch_reading.specs.Spots.{DoRun, places_of, HasMarks, Spot, spots_at}
+use Rattle.batch_reading.specs.Taken.{is_shown, seen, bit_taken, block_taken, span_taken}
+
+-- ---- nulls
+
+abbrev pub nulls_planned : Layout → List ℕ → List Spot → ℕ
+nulls_planned null_layout validity spots = length spots
+nulls_planned bits_layout validity spots = zeros (map (is_shown validity) spots)
+nulls_planned (bytes_layout size) validity spots = zeros (map (is_shown validity) spots)
+nulls_planned (binary_layout offset) validity spots = zeros (map (is_shown validity) spots)
+nulls_planned (utf8_layout offset) validity spots = zeros (map (is_shown validity) spots)
+nulls_planned (list_layout offset) validity spots = zeros (map (is_shown validity) spots)
+nulls_planned (fixed_size_list_layout size) validity spots = zeros (map (is_shown validity) spots)
+nulls_planned struct_layout validity spots = zeros (map (is_shown validity) spots)
+
+abbrev pub validity_planned : Layout → List ℕ → List Spot → List ℕ
+validity_planned null_layout validity spots = []
+validity_planned bits_layout validity spots = validity_bytes (map (is_shown validity) spots)
+validity_planned (bytes_layout size) validity spots = validity_bytes (map (is_shown validity) spots)
+validity_planned (binary_layout offset) validity spots = validity_bytes (map (is_shown validity) spots)
+validity_planned (utf8_layout offset) validity spots = validity_bytes (map (is_shown validity) spots)
+validity_planned (list_layout offset) validity spots = validity_bytes (map (is_shown validity) spots)
+validity_planned (fixed_size_list_layout size) validity spots = validity_bytes (map (is_shown validity) spots)
+validity_planned struct_layout validity spots = validity_bytes (map (is_shown validity) spots)
+
+-- ---- values, of those that are taken
+
+-- the places of the elements of a list, none where it is not taken
+abbrev pub elements_taken : List ℕ → Spot → List ℕ
+elements_taken offsets spot =
+    if spot.1 then range_with_len (start_of 4 offsets spot.0) (length_of 4 offsets spot.0) else []
+
+abbrev pub second_planned : Layout → List ℕ → List ℕ → List Spot → List ℕ
+second_planned null_layout second third taken = []
+second_planned bits_layout second third taken = packed_bytes (map (bit_taken second false) taken)
+second_planned (bytes_layout size) second third taken = flat_map (block_taken size second) taken
+second_planned (binary_layout offset) second third taken =
+    offsets_of 4 (map (λ spot. length (span_taken second third spot)) taken)
+second_planned (utf8_layout offset) second third taken =
+    offsets_of 4 (map (λ spot. length (span_taken second third spot)) taken)
+second_planned (list_layout offset) second third taken =
+    offsets_of 4 (map (λ spot. length (elements_taken second spot)) taken)
+second_planned (fixed_size_list_layout size) second third taken = []
+second_planned struct_layout second third taken = []
+
+abbrev pub third_planned : Layout → List ℕ → List ℕ → List Spot → List ℕ
+third_planned null_layout second third taken = []
+third_planned bits_layout second third taken = []
+third_planned (bytes_layout size) second third taken = []
+third_planned (binary_layout offset) second third taken = flat_map (span_taken second third) taken
+third_planned (utf8_layout offset) second third taken = flat_map (span_taken second third) taken
+third_planned (list_layout offset) second third taken = []
+third_planned (fixed_size_list_layout size) second third taken = []
+third_planned struct_layout second third taken = []
+
+-- ---- what is wanted inside
+
+-- Inside a list the elements of those that are taken, inside a list of one size and inside a struct blank cells for the
+-- others.
+abbrev pub spots_under : Layout → List ℕ → Spot → List Spot
+spots_under null_layout second spot = []
+spots_under bits_layout second spot = []
+spots_under (bytes_layout size) second spot = []
+spots_under (binary_layout offset) second spot = []
+spots_under (utf8_layout offset) second spot = []
+spots_under (list_layout offset) second spot = map (λ place. (place, true)) (elements_taken second spot)
+spots_under (fixed_size_list_layout size) second spot =
+    map (λ place. (place, spot.1)) (range_with_len (size * spot.0) size)
+spots_under struct_layout second spot = spot ∷ []
+
+abbrev pub spots_inside : Layout → List ℕ → List Spot → List Spot
+spots_inside layout second taken = flat_map (spots_under layout second) taken
+
+-- these spots are wanted inside, in order
+pub record AreInside (spots : List Spot) (inside : Inside) : Type 0 where
+  pub rising : (end : ℕ) × DoRun 0 end inside.runs.items
+  pub counted : inside.count ≡ length (places_of inside.runs.items)
+  pub marked : HasMarks inside.count inside.there
+  pub spots_are : spots_at inside.runs.items inside.count inside.there ≡ spots
+
+-- ---- all of it
+
+-- by the bytes of the three buffers, for these spots
+pub record IsPlanned (layout : Layout) (validity second third : List ℕ) (spots : List Spot) (plan : Plan) : Type 0 where
+  pub nulls_are : plan.nulls ≡ nulls_planned layout validity spots
+  pub validity_is : plan.validity.items ≡ validity_planned layout validity spots
+  pub second_is : plan.second.items ≡ second_planned layout second third (map (seen validity) spots)
+  pub third_is : plan.third.items ≡ third_planned layout second third (map (seen validity) spots)
+  pub inside_is : AreInside (spots_inside layout second (map (seen validity) spots)) plan.inside

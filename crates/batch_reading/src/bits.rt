@@ -1,0 +1,158 @@
+//! The bits of wanted places.
+
+ghost use Rattle.std.specs.Prelude.{◌≡◌, ℕ, ◌<◌, ◌≤◌, map, length, IfOk};
+ghost use Rattle.std.specs.List.{zip};
+ghost use Rattle.bitmaps.specs.Bits.{bit_of, zeros};
+ghost use Rattle.batch_types.specs.LaysOut.{values_limit};
+ghost use Rattle.batch_columns.specs.Made.{validity_bytes};
+ghost use Rattle.batch_reading.specs.Spots.{DoRun, places_of, HasMarks, spots_at, spots_of, IsWanted};
+ghost use Rattle.batch_reading.specs.Taken.{is_shown, seen, bit_taken};
+
+use crate::wanted::{Cursor, Run, Wanted, is_marked, next_place};
+use bitmaps::{Bitmap, bit};
+use std::alloc::{AllocError, Global};
+
+/// The bits at the places of some runs.
+fn run_bits(alloc: Global, bytes: &[u8], runs: &[Run]) -> Result<Bitmap, AllocError>
+    requires { DoRun 0 values_limit runs.now }
+    ensures { IfOk result (λ bits. bits ≡ map (bit_of bytes.now) (places_of runs.now)) }
+{
+    let mut bits = Bitmap::new(alloc);
+    for run in runs {
+        bits.extend_from(bytes, run.start, run.count)?;
+    }
+    Ok(bits)
+}
+
+/// The bit at a place, or the other one.
+fn bit_or(bytes: &[u8], place: usize, taken: bool, other: bool) -> bool
+    ensures { result ≡ bit_taken bytes.now other (place, taken) }
+{
+    if taken { bit(bytes, place) } else { other }
+}
+
+/// The bits at the wanted places, and the other bit where the cell is not wanted, one by one.
+fn marked_bits(
+    alloc: Global,
+    bytes: &[u8],
+    wanted: &Wanted<'_>,
+    other: bool,
+) -> Result<Bitmap, AllocError>
+    requires { (limit : ℕ) × IsWanted limit wanted.now }
+    ensures { IfOk result (λ bits. bits ≡ map (bit_taken bytes.now other) (spots_of wanted.now)) }
+{
+    let mut bits = Bitmap::new(alloc);
+    let mut cursor = Cursor::FIRST;
+    for number in 0..wanted.count {
+        let place = next_place(wanted.runs, &mut cursor);
+        let taken = is_marked(wanted.there, wanted.count, number);
+        bits.push(bit_or(bytes, place, taken, other))?;
+    }
+    Ok(bits)
+}
+
+/// The bits at the wanted places, and the other bit where the cell is not wanted.
+pub(crate) fn bits_taken(
+    alloc: Global,
+    bytes: &[u8],
+    wanted: &Wanted<'_>,
+    other: bool,
+) -> Result<Bitmap, AllocError>
+    requires { (limit : ℕ) × IsWanted limit wanted.now }
+    ensures { IfOk result (λ bits. bits ≡ map (bit_taken bytes.now other) (spots_of wanted.now)) }
+{
+    match wanted.there {
+        Some(_) => marked_bits(alloc, bytes, wanted, other),
+        None => run_bits(alloc, bytes, wanted.runs),
+    }
+}
+
+/// Which of the wanted cells are null, and which values are taken.
+#[derive(Drop)]
+pub(crate) struct Marks {
+    /// The validity bitmap of the column that is built, no bytes where nothing is null.
+    pub validity: Vec<u8>,
+    /// How many cells are null.
+    pub nulls: usize,
+    /// Which values are taken, all where there is no bitmap.
+    pub taken: Option<Bitmap>,
+}
+
+/// The same marks.
+fn same_marks(marks: &Option<Bitmap>) -> Result<Option<Bitmap>, AllocError>
+    ensures { IfOk result (λ copy. copy ≡ marks.now) }
+{
+    match marks {
+        Some(bits) => Ok(Some(bits.clone()?)),
+        None => Ok(None),
+    }
+}
+
+/// The marks where all wanted cells are valid.
+fn without_nulls(alloc: Global, validity: &[u8], wanted: &Wanted<'_>) -> Result<Marks, AllocError>
+    requires wanted { (limit : ℕ) × IsWanted limit wanted.now }
+    requires valid { zeros (map (is_shown validity.now) (spots_of wanted.now)) ≡ 0 }
+    ensures validity { IfOk result (λ marks. marks.validity.items
+        ≡ validity_bytes (map (is_shown validity.now) (spots_of wanted.now))) }
+    ensures nulls { IfOk result (λ marks. marks.nulls ≡ zeros (map (is_shown validity.now) (spots_of wanted.now))) }
+    ensures taken { IfOk result (λ marks. spots_at wanted.now.runs.now wanted.now.count marks.taken
+        ≡ map (seen validity.now) (spots_of wanted.now)) }
+    ensures marked { IfOk result (λ marks. HasMarks wanted.now.count marks.taken) }
+{
+    Ok(Marks {
+        validity: Vec::new(alloc),
+        nulls: 0,
+        taken: same_marks(wanted.there)?,
+    })
+}
+
+/// The marks where so many of the wanted cells are null.
+fn with_nulls(
+    alloc: Global,
+    validity: &[u8],
+    wanted: &Wanted<'_>,
+    shown: Bitmap,
+    nulls: usize,
+) -> Result<Marks, AllocError>
+    requires wanted { (limit : ℕ) × IsWanted limit wanted.now }
+    requires some { (0 < length validity.now) × (0 < nulls) }
+    requires shown { shown ≡ map (is_shown validity.now) (spots_of wanted.now) }
+    requires nulls { nulls ≡ zeros shown }
+    ensures validity { IfOk result (λ marks. marks.validity.items
+        ≡ validity_bytes (map (is_shown validity.now) (spots_of wanted.now))) }
+    ensures nulls { IfOk result (λ marks. marks.nulls ≡ zeros (map (is_shown validity.now) (spots_of wanted.now))) }
+    ensures taken { IfOk result (λ marks. spots_at wanted.now.runs.now wanted.now.count marks.taken
+        ≡ map (seen validity.now) (spots_of wanted.now)) }
+    ensures marked { IfOk result (λ marks. HasMarks wanted.now.count marks.taken) }
+{
+    Ok(Marks {
+        taken: Some(bits_taken(alloc, validity, wanted, false)?),
+        validity: shown.into_bytes(),
+        nulls,
+    })
+}
+
+/// Which of the wanted cells are null by this validity bitmap, and which values are taken.
+pub(crate) fn marks_at(
+    alloc: Global,
+    validity: &[u8],
+    wanted: &Wanted<'_>,
+) -> Result<Marks, AllocError>
+    requires { (limit : ℕ) × IsWanted limit wanted.now }
+    ensures validity { IfOk result (λ marks. marks.validity.items
+        ≡ validity_bytes (map (is_shown validity.now) (spots_of wanted.now))) }
+    ensures nulls { IfOk result (λ marks. marks.nulls ≡ zeros (map (is_shown validity.now) (spots_of wanted.now))) }
+    ensures taken { IfOk result (λ marks. spots_at wanted.now.runs.now wanted.now.count marks.taken
+        ≡ map (seen validity.now) (spots_of wanted.now)) }
+    ensures marked { IfOk result (λ marks. HasMarks wanted.now.count marks.taken) }
+{
+    if validity.is_empty() {
+        return without_nulls(alloc, validity, wanted);
+    }
+    let shown = bits_taken(alloc, validity, wanted, true)?;
+    let nulls = shown.count_zeros();
+    if nulls == 0 {
+        return without_nulls(alloc, validity, wanted);
+    }
+    with_nulls(alloc, validity, wanted, shown, nulls)
+}

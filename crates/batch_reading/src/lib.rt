@@ -1,0 +1,19 @@
+//! The columns of a batch, built of a header and a body that are known to lay it out.
+//!
+//! Of each column some places are wanted: at the top all rows, inside a list the places of the elements of its valid
+//! cells, inside a struct its own places, inside a list of one size so many for each of its places. They are handed
+//! down as runs of following places, with one bit a place that says whether the cell there is wanted, where some are
+//! not: what stands under a null of a struct or of a list of one size is blank (Apache Arrow, "Arrow Columnar Format",
+//! "Physical memory layout"; `Spots` in `specs/`).
+#![tactic(auto)]
+
+mod batch;
+mod bits;
+mod blocks;
+mod building;
+mod inside;
+mod plan;
+mod spans;
+mod wanted;
+
+pub use batch::build_batch;

@@ -1,0 +1,322 @@
+//! What a column is built of, layout by layout.
+
+ghost use Rattle.std.specs.Prelude.{◌≡◌, ℕ, ◌*◌, ◌≤◌, List, [], length, IfOk};
+ghost use Rattle.batch_types.specs.Layouts.{null_layout, bits_layout, bytes_layout, list_layout};
+ghost use Rattle.batch_types.specs.Layouts.{fixed_size_list_layout, struct_layout};
+ghost use Rattle.batch_types.specs.LaysOut.{values_limit};
+ghost use Rattle.batch_columns.specs.Held.{layout_named};
+ghost use Rattle.batch_reading.specs.Planned.{spots_inside, AreInside, IsPlanned};
+ghost use Rattle.batch_reading.specs.Spots.{spots_of, IsWanted};
+ghost use Rattle.batch_reading.specs.Spread.{HasSpans, IsSpread, ReadsWithin};
+
+use crate::bits::{Marks, bits_taken, marks_at};
+use crate::blocks::blocks_taken;
+use crate::inside::{fixed_inside, lists_inside};
+use crate::spans::spans_taken;
+use crate::wanted::{Run, Wanted};
+use batch_columns::Layout;
+use batch_sources::Source;
+use bitmaps::Bitmap;
+use std::alloc::{AllocError, Global};
+
+/// The places that are wanted of the columns inside a column.
+#[derive(Drop)]
+pub(crate) struct Inside {
+    /// How many there are.
+    pub count: usize,
+    /// The places, as runs that are not empty and lie behind one another.
+    pub runs: Vec<Run>,
+    /// Which of the cells there are wanted, all where there is no bitmap.
+    pub there: Option<Bitmap>,
+}
+
+impl Inside {
+    ghost use Rattle.std.specs.Prelude.{◌≡◌};
+
+    /// The places, lent.
+    pub fn wanted(&self) -> Wanted<'_>
+        ensures count { result.count ≡ self.now.count }
+        ensures runs { result.runs.now ≡ self.now.runs.items }
+        ensures there { result.there.now ≡ self.now.there }
+    {
+        Wanted {
+            count: self.count,
+            runs: self.runs.as_slice(),
+            there: &self.there,
+        }
+    }
+}
+
+/// What a column is built of, its layout and the number of its cells aside.
+#[derive(Drop)]
+pub(crate) struct Plan {
+    /// How many cells are null.
+    pub nulls: usize,
+    /// The validity bitmap, no bytes where nothing is null.
+    pub validity: Vec<u8>,
+    /// The second buffer.
+    pub second: Vec<u8>,
+    /// The third buffer.
+    pub third: Vec<u8>,
+    /// What is wanted of the columns inside.
+    pub inside: Inside,
+}
+
+/// Nothing inside.
+fn nothing_inside(alloc: Global) -> Inside
+    ensures { AreInside [] result }
+{
+    Inside {
+        count: 0,
+        runs: Vec::new(alloc),
+        there: None,
+    }
+}
+
+/// The plan in the layout `Null`. It takes no memory.
+fn plan_nulls(alloc: Global, wanted: &Wanted<'_>) -> Plan
+    requires { (limit : ℕ) × IsWanted limit wanted.now }
+    ensures { (validity second third : List ℕ)
+        → IsPlanned null_layout validity second third (spots_of wanted.now) result }
+{
+    Plan {
+        nulls: wanted.count,
+        validity: Vec::new(alloc),
+        second: Vec::new(alloc),
+        third: Vec::new(alloc),
+        inside: nothing_inside(alloc),
+    }
+}
+
+/// The plan in the layout `Bits`.
+fn plan_bits(
+    alloc: Global,
+    validity: &[u8],
+    second: &[u8],
+    wanted: &Wanted<'_>,
+) -> Result<Plan, AllocError>
+    requires { (limit : ℕ) × IsWanted limit wanted.now }
+    ensures { IfOk result (λ plan. (third : List ℕ)
+        → IsPlanned bits_layout validity.now second.now third (spots_of wanted.now) plan) }
+{
+    let Marks {
+        validity,
+        nulls,
+        taken,
+    } = marks_at(alloc, validity, wanted)?;
+    let values = Wanted {
+        there: &taken,
+        ..*wanted
+    };
+    let bits = bits_taken(alloc, second, &values, false)?;
+    Ok(Plan {
+        nulls,
+        validity,
+        second: bits.into_bytes(),
+        third: Vec::new(alloc),
+        inside: nothing_inside(alloc),
+    })
+}
+
+/// The plan in the layout `Bytes` of this size.
+fn plan_blocks(
+    alloc: Global,
+    size: u32,
+    validity: &[u8],
+    second: &[u8],
+    wanted: &Wanted<'_>,
+) -> Result<Plan, AllocError>
+    requires { (limit : ℕ) × IsWanted limit wanted.now × (size * limit ≤ length second.now) }
+    ensures { IfOk result
+        (λ plan. (third : List ℕ)
+        → IsPlanned (bytes_layout size) validity.now second.now third (spots_of wanted.now) plan) }
+{
+    let Marks {
+        validity,
+        nulls,
+        taken,
+    } = marks_at(alloc, validity, wanted)?;
+    let values = Wanted {
+        there: &taken,
+        ..*wanted
+    };
+    Ok(Plan {
+        nulls,
+        validity,
+        second: blocks_taken(alloc, size as usize, second, &values)?,
+        third: Vec::new(alloc),
+        inside: nothing_inside(alloc),
+    })
+}
+
+/// The plan in the layouts `Binary` and `Utf8`.
+fn plan_spans(
+    alloc: Global,
+    layout: Layout,
+    validity: &[u8],
+    second: &[u8],
+    third: &[u8],
+    wanted: &Wanted<'_>,
+) -> Result<Plan, AllocError>
+    requires layout { IsSpread (layout_named layout) }
+    requires wanted { (limit : ℕ) × IsWanted limit wanted.now × HasSpans second.now limit (length third.now) }
+    ensures { IfOk result
+        (λ plan. IsPlanned (layout_named layout) validity.now second.now third.now (spots_of wanted.now) plan) }
+{
+    let Marks {
+        validity,
+        nulls,
+        taken,
+    } = marks_at(alloc, validity, wanted)?;
+    let values = Wanted {
+        there: &taken,
+        ..*wanted
+    };
+    let (offsets, bytes) = spans_taken(alloc, second, third, &values)?;
+    Ok(Plan {
+        nulls,
+        validity,
+        second: offsets,
+        third: bytes,
+        inside: nothing_inside(alloc),
+    })
+}
+
+/// The same runs.
+fn same_runs(alloc: Global, runs: &[Run]) -> Result<Vec<Run>, AllocError>
+    ensures { IfOk result (λ copy. copy.items ≡ runs.now) }
+{
+    let mut copy = Vec::new(alloc);
+    for run in runs {
+        copy.push(*run)?;
+    }
+    Ok(copy)
+}
+
+/// The plan in the layout `Struct`.
+fn plan_struct(alloc: Global, validity: &[u8], wanted: &Wanted<'_>) -> Result<Plan, AllocError>
+    requires { (limit : ℕ) × IsWanted limit wanted.now }
+    ensures { IfOk result (λ plan. (second third : List ℕ)
+        → IsPlanned struct_layout validity.now second third (spots_of wanted.now) plan) }
+{
+    let Marks {
+        validity,
+        nulls,
+        taken,
+    } = marks_at(alloc, validity, wanted)?;
+    Ok(Plan {
+        nulls,
+        validity,
+        second: Vec::new(alloc),
+        third: Vec::new(alloc),
+        inside: Inside {
+            count: wanted.count,
+            runs: same_runs(alloc, wanted.runs)?,
+            there: taken,
+        },
+    })
+}
+
+/// What is wanted inside a list of this size.
+fn sized_inside(alloc: Global, size: u32, wanted: &Wanted<'_>) -> Result<Inside, AllocError>
+    requires { (limit : ℕ) × IsWanted limit wanted.now × (size * limit ≤ values_limit) }
+    ensures { IfOk result
+        (λ inside. AreInside (spots_inside (fixed_size_list_layout size) [] (spots_of wanted.now)) inside) }
+{
+    if size == 0 {
+        return Ok(nothing_inside(alloc));
+    }
+    fixed_inside(alloc, size as usize, wanted)
+}
+
+/// The plan in the layout `FixedSizeList` of this size.
+fn plan_sized_lists(
+    alloc: Global,
+    size: u32,
+    validity: &[u8],
+    wanted: &Wanted<'_>,
+) -> Result<Plan, AllocError>
+    requires { (limit : ℕ) × IsWanted limit wanted.now × (size * limit ≤ values_limit) }
+    ensures { IfOk result
+        (λ plan. (second third : List ℕ)
+        → IsPlanned (fixed_size_list_layout size) validity.now second third (spots_of wanted.now) plan) }
+{
+    let Marks {
+        validity,
+        nulls,
+        taken,
+    } = marks_at(alloc, validity, wanted)?;
+    let values = Wanted {
+        there: &taken,
+        ..*wanted
+    };
+    Ok(Plan {
+        nulls,
+        validity,
+        second: Vec::new(alloc),
+        third: Vec::new(alloc),
+        inside: sized_inside(alloc, size, &values)?,
+    })
+}
+
+/// The plan in the layout `List`.
+fn plan_lists(
+    alloc: Global,
+    validity: &[u8],
+    second: &[u8],
+    wanted: &Wanted<'_>,
+) -> Result<Plan, AllocError>
+    requires { (limit : ℕ) × (total : ℕ) × IsWanted limit wanted.now × HasSpans second.now limit total
+        × (total ≤ values_limit) }
+    ensures { IfOk result (λ plan. (third : List ℕ)
+        → IsPlanned (list_layout 4) validity.now second.now third (spots_of wanted.now) plan) }
+{
+    let Marks {
+        validity,
+        nulls,
+        taken,
+    } = marks_at(alloc, validity, wanted)?;
+    let values = Wanted {
+        there: &taken,
+        ..*wanted
+    };
+    let (offsets, inside) = lists_inside(alloc, second, &values)?;
+    Ok(Plan {
+        nulls,
+        validity,
+        second: offsets,
+        third: Vec::new(alloc),
+        inside,
+    })
+}
+
+/// The plan of the column of the wanted cells of a source.
+pub(crate) fn plan_column(
+    alloc: Global,
+    source: &Source<'_>,
+    wanted: &Wanted<'_>,
+) -> Result<Plan, AllocError>
+    requires { (limit : ℕ) × (total : ℕ) × IsWanted limit wanted.now
+        × ReadsWithin (layout_named source.now.layout) limit total source.now.second.now source.now.third.now }
+    ensures { IfOk result (λ plan. IsPlanned (layout_named source.now.layout) source.now.validity.now
+        source.now.second.now source.now.third.now (spots_of wanted.now) plan) }
+{
+    let (validity, second) = (source.validity, source.second);
+    match source.layout {
+        Layout::Null => Ok(plan_nulls(alloc, wanted)),
+        Layout::Bits => plan_bits(alloc, validity, second, wanted),
+        Layout::Bytes { size } => plan_blocks(alloc, size, validity, second, wanted),
+        Layout::Binary => plan_spans(
+            alloc,
+            Layout::Binary,
+            validity,
+            second,
+            source.third,
+            wanted,
+        ),
+        Layout::Utf8 => plan_spans(alloc, Layout::Utf8, validity, second, source.third, wanted),
+        Layout::List => plan_lists(alloc, validity, second, wanted),
+        Layout::FixedSizeList { size } => plan_sized_lists(alloc, size, validity, wanted),
+        Layout::Struct => plan_struct(alloc, validity, wanted),
+    }
+}

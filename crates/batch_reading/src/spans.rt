@@ -1,0 +1,96 @@
+//! The bytes of wanted values that stand where offsets say.
+
+ghost use Rattle.std.specs.Prelude.{◌≡◌, ℕ, ◌+◌, ◌-◌, ◌*◌, ◌<◌, ◌≤◌, ◌++◌, [], map, length, IfOk, OnOk};
+ghost use Rattle.std.specs.List.{flat_map};
+ghost use Rattle.byteorder.specs.Endian.{little_bytes};
+ghost use Rattle.batch_types.specs.Canonical.{offsets_of};
+ghost use Rattle.batch_types.specs.Placed.{bytes_from, start_of, value_bytes};
+ghost use Rattle.batch_reading.specs.Spots.{spots_of, IsWanted};
+ghost use Rattle.batch_reading.specs.Spread.{HasSpans};
+ghost use Rattle.batch_reading.specs.Taken.{span_taken};
+
+use crate::wanted::{Cursor, Wanted, is_marked, next_place};
+use byteorder::{ByteOrder, LittleEndian};
+use std::alloc::{AllocError, Global};
+
+/// Offset `number` of some of four bytes each, without its sign.
+pub(crate) fn offset_at(offsets: &[u8], number: usize) -> usize
+    requires { 4 * number + 4 ≤ length offsets.now }
+    ensures { result ≡ start_of 4 offsets.now number }
+{
+    let start = 4 * number;
+    LittleEndian::read_int(&offsets[start..start + 4], 4).unsigned_abs() as usize
+}
+
+/// Appends an offset, the lowest four bytes of a number.
+pub(crate) fn put_offset(offsets: &mut Vec<u8>, number: usize) -> Result<(), AllocError>
+    ensures { OnOk result (offsets.new.items ≡ offsets.old.items ++ little_bytes 4 number) }
+{
+    offsets.extend_from_slice(&(number as u64).to_le_bytes()[..4])
+}
+
+/// A part of some bytes.
+fn part(bytes: &[u8], start: usize, end: usize) -> &[u8]
+    requires { (start ≤ end) × (end ≤ length bytes.now) }
+    ensures { result.now ≡ bytes_from bytes.now start (end - start) }
+{
+    &bytes[start..end]
+}
+
+/// The bytes of the value at a place.
+fn span<'a>(offsets: &[u8], bytes: &'a [u8], place: usize) -> &'a [u8]
+    requires { (limit : ℕ) × HasSpans offsets.now limit (length bytes.now) × (place < limit) }
+    ensures { result.now ≡ value_bytes 4 offsets.now bytes.now place }
+{
+    let start = offset_at(offsets, place);
+    let end = offset_at(offsets, place + 1);
+    part(bytes, start, end)
+}
+
+/// The bytes of the value at a place, or none.
+fn span_or<'a>(offsets: &[u8], bytes: &'a [u8], place: usize, taken: bool) -> &'a [u8]
+    requires { (limit : ℕ) × HasSpans offsets.now limit (length bytes.now) × (place < limit) }
+    ensures { result.now ≡ span_taken offsets.now bytes.now (place, taken) }
+{
+    if taken {
+        span(offsets, bytes, place)
+    } else {
+        &[]
+    }
+}
+
+/// Appends the bytes of a value, and the offset where they end.
+fn put_span(offsets: &mut Vec<u8>, bytes: &mut Vec<u8>, more: &[u8]) -> Result<(), AllocError>
+    ensures bytes { OnOk result (bytes.new.items ≡ bytes.old.items ++ more.now) }
+    ensures offsets { OnOk result
+        (offsets.new.items ≡ offsets.old.items ++ little_bytes 4 (length (bytes.old.items ++ more.now))) }
+{
+    bytes.extend_from_slice(more)?;
+    put_offset(offsets, bytes.len())
+}
+
+/// The offsets and the bytes of the wanted values, no bytes where the value is not wanted.
+pub(crate) fn spans_taken(
+    alloc: Global,
+    offsets: &[u8],
+    bytes: &[u8],
+    wanted: &Wanted<'_>,
+) -> Result<(Vec<u8>, Vec<u8>), AllocError>
+    requires { (limit : ℕ) × IsWanted limit wanted.now × HasSpans offsets.now limit (length bytes.now) }
+    ensures offsets { IfOk result (λ made. made.0.items
+        ≡ offsets_of 4 (map (λ spot. length (span_taken offsets.now bytes.now spot)) (spots_of wanted.now))) }
+    ensures bytes { IfOk result (λ made. made.1.items
+        ≡ flat_map (span_taken offsets.now bytes.now) (spots_of wanted.now)) }
+{
+    let mut ends = Vec::new(alloc);
+    let mut spans = Vec::new(alloc);
+    let mut cursor = Cursor::FIRST;
+    put_offset(&mut ends, 0)?;
+    for number in 0..wanted.count {
+        let place = next_place(wanted.runs, &mut cursor);
+        let taken = is_marked(wanted.there, wanted.count, number);
+        let more = span_or(offsets, bytes, place, taken);
+        put_span(&mut ends, &mut spans, more)?;
+    }
+    Ok((ends, spans))
+}
