@@ -2,3 +2,5 @@ pub mod Growing
 pub mod Counting
 pub mod Shapes
 pub mod Bare
+pub mod Bounds
+pub mod OneEncoding

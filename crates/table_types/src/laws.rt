@@ -4,13 +4,26 @@ ghost use Rattle.std.specs.Prelude.{◌≡◌, ◌≢◌, ℕ, ◌-◌, ◌<◌,
 ghost use Rattle.flatbuf_meta.specs.Writable.{IsWritable};
 ghost use Rattle.header_types.specs.Header.{schema_header};
 ghost use Rattle.header_types.specs.SameShape.{SameShape};
-ghost use Rattle.table_types.specs.Uploads.{Upload};
+ghost use Rattle.table_types.specs.Uploads.{Upload, upload_text};
+ghost use Rattle.table_types.specs.Valid.{IsUpload};
 ghost use Rattle.table_types.specs.Tables.{bare_schema};
 ghost use Rattle.std.specs.List.{list_any};
 ghost use Rattle.table_types.specs.Tables.{has_id, shape_text, is_same, effective, Version, version_of, Outcome, applied};
 ghost use Rattle.table_types.specs.Tables.{conflicting, unknown, first_named, outcome_of};
 
+use batch_types::laws::{batches_are_one, written_rows_are_laid_out};
 use flatbuf_meta::laws::written_headers_differ;
+use proto_messages::laws::canonical_messages_are_one;
+
+/// An encoding is that of one upload: two uploads that are taken are one where their encodings are, cell for cell.
+pub fn uploads_have_one_encoding()
+    ensures { (x y : Upload) → IsUpload x → IsUpload y → upload_text x ≡ upload_text y → x ≡ y }
+{
+    batches_are_one();
+    written_rows_are_laid_out();
+    written_headers_differ();
+    canonical_messages_are_one();
+}
 
 /// Tables only grow: where one list of uploads begins another, each effective upload of the one is the other's too, at the
 /// same place, and so is each version of each table; and what is told of an upload whose name has come never changes.
