@@ -10,7 +10,8 @@ use Rattle.batch_types.specs.Layouts.{list_layout, fixed_size_list_layout, struc
 use Rattle.batch_types.specs.LaysOut.{rows_limit, values_limit}
 use Rattle.batch_types.specs.Shapes.{Shape, shape, no_shape, shapes_of}
 use Rattle.batch_types.specs.Canonical.{parts_of, columns_parts}
-use Rattle.batch_columns.specs.Batches.{columns_cells, IsBatchOf}
+use Rattle.batch_columns.specs.Batches.{IsBatchOf}
+use Rattle.batch_columns.specs.Few.{columns_cells}
 use Rattle.batch_columns.specs.Contents.{Contents, shapes_of_shape, shapes_in}
 use Rattle.batch_columns.specs.Held.{shapes_held}
 use Rattle.batch_columns.specs.declared.batch.Batch.{Batch}
