@@ -14,6 +14,8 @@ mod checking;
 #[cfg(test)]
 mod columns;
 #[cfg(test)]
+mod compared;
+#[cfg(test)]
 mod plain_cells;
 #[cfg(test)]
 mod writing;
