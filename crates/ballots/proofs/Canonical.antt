@@ -10,7 +10,7 @@ use Rattle.proto_fields.proofs.Texts.{fields_text-encodes}
 use Rattle.proto_fields.proofs.Meanings.{number_meant-present, bytes_meant-present}
 use Rattle.ballots.specs.declared.node.TheConstants.{MAX_NODE}
 use Rattle.ballots.specs.declared.slot.TheConstants.{MAX_SLOT}
-use Rattle.ballots.specs.declared.message.numbers.TheConstants.{KIND, SENDER, SLOT, ROUND, NODE, SECOND_ROUND, SECOND_NODE, VALUE, PREPARE, PROMISE, NACK, ACCEPT, ACCEPTED, ASK, DECIDED}
+use Rattle.ballots.specs.declared.message.numbers.TheConstants.{KIND, SENDER, SLOT, ROUND, NODE, SECOND_ROUND, SECOND_NODE, VALUE, DECIDED}
 use Rattle.ballots.specs.declared.value.Value.{Value}
 use Rattle.ballots.specs.declared.value.Value.TheVariants.{Noop, Upload}
 use Rattle.ballots.specs.declared.message.Message.{Message}

@@ -1,9 +1,8 @@
 -- Gathering what the fields of a text mean, one field after the other.
-use Rattle.std.proofs.Common.{◌≡◌, ℕ, cond, List, [], ◌∷◌, ◌++◌, Option, Some, None, Result, Ok, Err, Bor, sym, ap, subst, ◌∙◌, refl, arith}
+use Rattle.std.proofs.Common.{◌≡◌, ℕ, cond, List, [], ◌∷◌, ◌++◌, Option, sym, ap, subst, ◌∙◌, refl, arith}
 use Rattle.std.specs.Prelude.{◌==◌}
-use Rattle.std.specs.Option.{option_map}
 use Rattle.proto_fields.specs.Field.{Field, FieldsThen, IsFields, BeginsWith}
-use Rattle.proto_fields.specs.Meaning.{after, number_in, bytes_in, number_meant, bytes_meant}
+use Rattle.proto_fields.specs.Meaning.{after, number_in, bytes_in}
 use Rattle.proto_fields.proofs.Fronts.{fields_push, fields_same}
 use Rattle.proto_fields.proofs.Meanings.{number_meant-push, bytes_meant-push}
 use Rattle.ballots.specs.declared.fields.Fields.{Fields}
@@ -11,7 +10,7 @@ use Rattle.ballots.specs.declared.message.numbers.TheConstants as in_message
 use Rattle.ballots.specs.declared.record.numbers.TheConstants as in_record
 use Rattle.ballots.specs.Message.{parts_of}
 use Rattle.ballots.specs.Record.{record_parts_of}
-use Rattle.ballots.specs.Gathering.{number_of, Notes, Gathers, value_of, parts_in, record_parts_in}
+use Rattle.ballots.specs.Gathering.{Notes, Gathers, value_of, parts_in, record_parts_in}
 
 -- the text begins with some fields, and this is what they mean
 pub record GatheredSoFar (value : ℕ) (text rest : List ℕ) (numbers : List (Option ℕ)) (bytes : Option (List ℕ)) : Type 0 where

@@ -1,22 +1,20 @@
 -- How long the canonical encodings are at most.
-use Rattle.std.proofs.Common.{◌≡◌, ℕ, zero, suc, ◌+◌, ◌*◌, ◌/◌, ◌^◌, ◌<◌, ◌≤◌, inl, inr, Bool, true, false, List, [], ◌∷◌, ◌++◌, length, Some, None, refl, sym, ap, subst, ◌∙◌, arith, append-nil}
+use Rattle.std.proofs.Common.{◌≡◌, ℕ, zero, suc, ◌+◌, ◌*◌, ◌/◌, ◌^◌, ◌<◌, ◌≤◌, inl, inr, Bool, true, false, List, [], ◌∷◌, length, Some, None, refl, ap, ◌∙◌, arith, append-nil}
 use Rattle.std.proofs.lemmas.Bool.{le-ltb, lt-ltb, cases_lt}
 use Rattle.std.proofs.lemmas.Nat.{div_below}
 use Rattle.std.proofs.lemmas.List.{length-append}
 use Rattle.std.proofs.Math.Nat.{pow-suc}
 use Rattle.proto_fields.specs.Varint.{digits, varint_text}
-use Rattle.proto_fields.specs.Field.{Field, Held, Varint, Bytes, wire_type, is_default, held_text, field_text}
+use Rattle.proto_fields.specs.Field.{Field, Bytes, wire_type, is_default, held_text, field_text}
 use Rattle.ballots.specs.declared.record.Record.{Record}
 use Rattle.ballots.specs.declared.record.Record.TheVariants.{Began, Promised, Accepted as Kept}
-use Rattle.ballots.specs.declared.acceptance.Acceptance.{Acceptance}
 use Rattle.ballots.specs.declared.value.Value.{Value}
 use Rattle.ballots.specs.declared.value.Value.TheVariants.{Noop, Upload}
 use Rattle.ballots.specs.declared.message.Message.{Message}
 use Rattle.ballots.specs.declared.message.Body.{Body}
 use Rattle.ballots.specs.declared.message.Body.TheVariants.{Prepare, Promise, Nack, Accept, Accepted, Ask, Decided}
-use Rattle.ballots.specs.Ballot.{Ballot}
 use Rattle.ballots.specs.Limits.{max_upload_bytes, max_message_bytes, max_record_bytes}
-use Rattle.ballots.specs.Message.{message, number_field, value_bytes, written, canonical, IsValue, IsAcceptanceInRange, IsBodyInRange, IsInRange}
+use Rattle.ballots.specs.Message.{message, number_field, value_bytes, written, canonical, IsValue, IsBodyInRange, IsInRange}
 use Rattle.ballots.specs.Record.{canonical_record, IsRecordInRange}
 use Rattle.ballots.specs.AllFields.{all_fields_text, all_record_fields_text}
 use Rattle.ballots.proofs.AllFields.{prepare_writes, promise_writes, report_writes, nack_writes, accept_writes, accepted_writes, ask_writes, decided_writes, began_writes, promised_writes, kept_writes}

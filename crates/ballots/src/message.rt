@@ -11,7 +11,7 @@ pub const MAX_MESSAGE_BYTES: usize = 16_777_245;
 
 /// A message: who sends it, for which slot, and what it says. It names its sender and never its receiver: any node may
 /// be handed any message at any time.
-#[derive(Debug, PartialEq, Eq, Drop)]
+#[derive(Clone, Debug, PartialEq, Eq, Drop)]
 pub struct Message {
     /// Who sends it.
     pub sender: NodeId,
@@ -22,7 +22,7 @@ pub struct Message {
 }
 
 /// What a message says of its slot.
-#[derive(Debug, PartialEq, Eq, Drop)]
+#[derive(Clone, Debug, PartialEq, Eq, Drop)]
 pub enum Body {
     /// Phase 1a: asks for a promise to take no Accept below the ballot for this slot.
     Prepare {

@@ -10,7 +10,7 @@ pub const MAX_RECORD_BYTES: usize = 16_777_235;
 /// What a node keeps before it answers (Lamport, *Paxos Made Simple*, section 2.5: an acceptor records its response in
 /// stable storage before it sends it, and a proposer the greatest number that it has begun with). A record does not say
 /// whose it is: each node keeps its own.
-#[derive(Debug, PartialEq, Eq, Drop)]
+#[derive(Clone, Debug, PartialEq, Eq, Drop)]
 pub enum Record {
     /// The node began an attempt at this ballot.
     Began(Ballot),

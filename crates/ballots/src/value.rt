@@ -49,6 +49,22 @@ impl UploadBytes {
     {
         self.bytes.as_slice()
     }
+
+    /// The bytes, as they are shared: a clone of them copies no byte.
+    pub fn as_bytes(&self) -> &Bytes
+        ensures value { result.now ≡ self.now }
+        ensures within { IsUploadBytes self.now }
+    {
+        &self.bytes
+    }
+
+    /// Gives the bytes up, and copies none.
+    pub fn into_bytes(self) -> Bytes
+        ensures value { result ≡ self }
+        ensures within { IsUploadBytes self }
+    {
+        self.bytes
+    }
 }
 
 impl Clone for UploadBytes {

@@ -1,4 +1,4 @@
-use Rattle.std.proofs.Common.{ℕ, List, [], Bor, Option, Some, refl}
+use Rattle.std.proofs.Common.{ℕ, List, [], Bor, Some, refl}
 use Rattle.std.specs.Option.{option_map}
 use Rattle.std.proofs.lemmas.List.{get_or-replicate}
 use Rattle.std.proofs.lemmas.Result.{err_from_is_err_and}
