@@ -4,7 +4,9 @@ the crate, that of its tests, its must-fail edits, and the runs of its program a
 
     tools/gate_costs.py [--write] [COMMAND ..]
 
-With --write the table goes into docs/TESTS.md, between the two lines that mark its place. Below the table the edits are named that
+With --write the table goes into docs/TESTS.md, between the two lines that mark its place. What a run did not do, since it was kept
+from an earlier one, has the figure of the table that stands there, so that a run over what changed is enough to bring the table up to
+date. Where the run is ended early (SIGTERM), what was under way keeps its old figure too. Below the table the edits are named that
 took 20 seconds or more, the dearest first; they are printed alone. The gate is ./test, or the command that is given, as
 `rt must-fail ballots` at the top of the repository.
 
@@ -13,6 +15,7 @@ is the kernel's own figure, so that what was missed shows."""
 import os
 import re
 import resource
+import signal
 import subprocess
 import sys
 import time
@@ -68,6 +71,7 @@ class Costs:
     def __init__(self, top, names):
         self.top, self.names = top, names
         self.ticks, self.labels = {}, {}
+        self.under_way = set()
 
     def look(self):
         """Looks at each process below the top once."""
@@ -78,9 +82,12 @@ class Costs:
                     found[int(entry)] = stat(entry)
                 except (OSError, IndexError, ValueError):
                     pass
-        for pid in found:
-            if self.is_below(pid, found):
-                self.note(pid, found[pid])
+        below = [pid for pid in found if self.is_below(pid, found)]
+        for pid in below:
+            self.note(pid, found[pid])
+        if below:
+            labels = [self.labels.get((pid, found[pid][1])) for pid in below]
+            self.under_way = {label[:2] for label in labels if label}
 
     def is_below(self, pid, found):
         """Whether the process was started by the top one, or by one that was."""
@@ -116,22 +123,45 @@ class Costs:
         return sorted(((it, *key) for key, it in taken.items() if it >= DEAR), reverse=True)
 
 
-def page_of(costs, total, wall, ending):
+def kept_cells():
+    """For each crate of the table that stands, the processor seconds of each kind of work."""
+    kept = {}
+    for line in PAGE.read_text(encoding="utf-8").partition(FIRST)[2].partition(LAST)[0].splitlines():
+        cells = [cell.strip() for cell in line.strip("|").split("|")]
+        if line.startswith("| `") and len(cells) == 7:
+            seconds = [float(cell.split(" ")[0] or 0) for cell in (cells[1], cells[2], cells[3], cells[5])]
+            kept[cells[0].strip("`")] = dict(zip(KINDS, seconds))
+    return kept
+
+
+def seconds_of(costs, crate, kept, ended):
+    """What a crate cost at each kind of work, in this run or, where it did not do it whole, as the table has it."""
+    found = {}
+    for kind in KINDS:
+        seconds = costs.seconds(crate, kind)
+        is_whole = seconds > 0 and not (ended and (crate, kind) in costs.under_way)
+        found[kind] = seconds if is_whole else kept.get(crate, {}).get(kind, 0)
+    return found
+
+
+def page_of(costs, total, wall, ending, ended):
     """The table, as lines of the page."""
     rows = ["| Crate | First check | Tests | Edits | An edit | Runs | Lines of `.rt` |", "|---|---|---|---|---|---|---|"]
-    known = 0
+    kept, known = kept_cells(), 0
     for crate in crates():
-        seconds = {kind: costs.seconds(crate, kind) for kind in KINDS}
+        seconds = seconds_of(costs, crate, kept, ended)
         known += sum(seconds.values())
         edits = len(list((TOP / "crates" / crate / "must-fail").glob("*.edit")))
         sources = (TOP / "crates" / crate / "src").rglob("*.rt")
         lines = sum(file.read_text(encoding="utf-8").count("\n") for file in sources)
         tests, edit, runs = seconds["tests"], seconds["edits"] / max(edits, 1), seconds["runs"]
-        cells = [f"`{crate}`", f"{seconds['proof']:.0f}", f"{tests:.0f}" if tests else "", f"{seconds['edits']:.0f} ({edits})" if edits else ""]
-        cells += [f"{edit:.1f}" if edits else "", f"{runs:.0f}" if runs >= 0.5 else "", f"{lines:,}"]
+        cells = [f"`{crate}`", f"{seconds['proof']:.0f}", f"{tests:.0f}" if tests else ""]
+        cells += [f"{seconds['edits']:.0f} ({edits})" if edits else "", f"{edit:.1f}" if edits else ""]
+        cells += [f"{runs:.0f}" if runs >= 0.5 else "", f"{lines:,}"]
         rows.append("| " + " | ".join(cells) + " |")
-    text = f"The gate printed `{ending}`. It took {wall / 60:.0f} minutes on {len(os.sched_getaffinity(0))} processors, and {total / 60:.0f} processor "
-    return [text + f"minutes in all, of which {max(total - known, 0) / 60:.0f} are of no crate. The table has processor seconds.", "", *rows]
+    text = f"The last gate that was measured printed `{ending}`. It took {wall / 60:.0f} minutes on {len(os.sched_getaffinity(0))} processors, and "
+    text += f"{total / 60:.0f} processor minutes. The table has processor seconds, {known / 60:.0f} minutes in all, each as it was when the crate "
+    return [text + "was last proved from nothing.", "", *rows]
 
 
 def write(lines):
@@ -146,7 +176,8 @@ def write(lines):
 
 def run(words, names):
     """Runs the command, passes on what it prints, and gives how it ended, its last line, and what was seen of its costs."""
-    gate = subprocess.Popen(words, cwd=TOP, stdout=subprocess.PIPE, stderr=subprocess.STDOUT)
+    gate = subprocess.Popen(words, cwd=TOP, stdout=subprocess.PIPE, stderr=subprocess.STDOUT, start_new_session=True)
+    signal.signal(signal.SIGTERM, lambda *_: os.killpg(gate.pid, signal.SIGTERM))
     os.set_blocking(gate.stdout.fileno(), False)
     costs, told = Costs(gate.pid, names), b""
     while True:
@@ -170,7 +201,7 @@ def main():
     began = time.monotonic()
     status, ending, costs = run(words, set(crates()))
     used = resource.getrusage(resource.RUSAGE_CHILDREN)
-    lines = page_of(costs, used.ru_utime + used.ru_stime, time.monotonic() - began, ending)
+    lines = page_of(costs, used.ru_utime + used.ru_stime, time.monotonic() - began, ending, status < 0)
     print("\n".join(lines))
     for seconds, crate, edit in costs.dear_edits():
         print(f"{seconds:6.1f} s  {crate}/{edit}")
