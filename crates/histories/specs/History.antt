@@ -1,0 +1,16 @@
+-- A history: what happened, and all messages that were sent. A sent message stays for good, for all nodes.
+use Rattle.std.specs.Prelude.{ℕ, List}
+use Rattle.ballots.specs.declared.message.Message.{Message}
+use Rattle.histories.specs.Event.{Event}
+use Rattle.histories.specs.Gave.{Gave}
+use Rattle.histories.specs.Views.{Config}
+
+pub record Step : Type 0 where
+  pub event : Event
+  pub gave : Gave
+
+pub record History : Type 0 where
+  pub config : Config
+  -- in the order of sending
+  pub sent : List Message
+  pub steps : List Step
