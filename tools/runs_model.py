@@ -1,0 +1,474 @@
+#!/usr/bin/env python3
+"""A model of nodes that agree on uploads: it plays a schedule event by event and says what each gives. It is written from Lamport,
+"Paxos Made Simple", from the columnar format and Flight.proto of Apache Arrow and from docs/FORMATS.md, and not from the code, and
+keeps whole lists: every message ever sent, every step, and of a node all that ever came to it.
+
+    tools/runs_model.py FILE      plays a schedule, and prints a line for each event
+    tools/runs_model.py --check   plays each schedule in examples/ that has its lines beside it, and says which differ; plays
+                                  thousands of drawn ones, and says of each whether what the nodes sent is lawful and what
+                                  clients were told is safe
+    tools/runs_model.py --write   writes the lines of those schedules
+
+A value is its bytes, none for a no-op; a ballot a pair of its round and its node; a message a dictionary as in paxos_model.py."""
+import json
+import random
+import sys
+from pathlib import Path
+
+TOP = Path(__file__).resolve().parent.parent
+sys.dont_write_bytecode = True
+sys.path.append(str(TOP / "crates" / "flatbuf_meta" / "vectors"))
+
+import canonical
+from batch_model import canonical as canonical_batch
+from batch_model import type_of
+from paxos_model import MAX_ROUND, is_majority, may_follow
+from wire_model import bytes_field, number_field
+
+EXAMPLES = TOP / "examples"
+MOST_LEFT, MOST_ASKED = 7, 16
+# how many runs are drawn
+DRAWN = 1000
+
+
+# ---- uploads, and what is served of them
+
+
+def schema_text(name):
+    """The header of a schema with one column of Int8 that may be null."""
+    column = {"name": name, "nullable": True, "type_type": "Int", "type": {"bitWidth": 8, "is_signed": True}, "children": []}
+    return bytes.fromhex(canonical.message({"header_type": "Schema", "header": {"fields": [column]}}))
+
+
+def batch_texts(values):
+    """The header and the body of a batch of these values."""
+    cells = [None if it is None else it.to_bytes(1, "little", signed=True) for it in values]
+    head, body = canonical_batch([type_of("Int(8,true)")], len(cells), [cells])
+    said = {"length": len(cells), "nodes": [dict(zip(("length", "null_count"), it)) for it in head.nodes]}
+    said["buffers"] = [dict(zip(("offset", "length"), it)) for it in head.buffers]
+    header = canonical.message({"header_type": "RecordBatch", "header": said, "bodyLength": len(body)})
+    return bytes.fromhex(header), body
+
+
+class Upload:
+    """An upload: its table, its own name, the name of its column, and its batches as headers and bodies; and its encoding."""
+
+    def __init__(self, table, id, name, batches):
+        self.table, self.id, self.name = table, bytes.fromhex(id), name
+        self.batches = [batch_texts(it) for it in batches]
+        parts = [bytes_field(1, table.encode()), bytes_field(2, self.id), bytes_field(3, schema_text(name))]
+        parts += [bytes_field(4, bytes_field(1, header) + (bytes_field(2, body) if body else b"")) for header, body in self.batches]
+        self.text = b"".join(parts)
+
+    def messages(self):
+        """The messages that are served of it."""
+        named = bytes_field(3, self.id)
+        if not self.batches:
+            return [named]
+        return [bytes_field(2, header) + named + (bytes_field(1000, body) if body else b"") for header, body in self.batches]
+
+
+def answer(uploads):
+    """The frames of a version with these uploads."""
+    messages = [bytes_field(2, schema_text(uploads[0].name))] + [it for upload in uploads for it in upload.messages()]
+    return b"".join(b"\0" + len(it).to_bytes(4, "big") + it for it in messages)
+
+
+def effective(uploads, table):
+    """Those to the table that come first of their names in the whole list, and have the shape of the first of them."""
+    firsts = [it for place, it in enumerate(uploads) if it.id not in {earlier.id for earlier in uploads[:place]}]
+    of_table = [it for it in firsts if it.table == table]
+    return [it for it in of_table if it.name == of_table[0].name]
+
+
+def outcome(uploads, upload):
+    """What is told of an upload by these."""
+    named = [it for it in uploads if it.id == upload.id]
+    if not named:
+        return "unknown"
+    if named[0].text != upload.text:
+        return "conflict"
+    ids = [it.id for it in effective(uploads, upload.table)]
+    return f"applied {1 + ids.index(upload.id)}" if upload.id in ids else "mismatch"
+
+
+# ---- what was learned, by a list of messages
+
+
+def learned(members, messages):
+    """The value of each slot that was decided, or that a majority accepted at one ballot; the first that came so."""
+    values = {}
+    for count, message in enumerate(messages, 1):
+        slot, what = message["slot"], message["what"]
+        if slot in values or what not in ("Accepted", "Decided"):
+            continue
+        votes = [it for it in messages[:count] if it["slot"] == slot and it["what"] == "Accepted" and it["ballot"] == message["ballot"]]
+        votes = [it for it in votes if it["sender"] < members]
+        if what == "Decided":
+            values[slot] = message["value"]
+        elif message["sender"] < members and is_majority(members, {it["sender"] for it in votes}):
+            values[slot] = votes[0]["value"]
+    return values
+
+
+def prefix(values):
+    """The values up to the first slot that has none."""
+    count = next(it for it in range(len(values) + 1) if it not in values)
+    return [values[it] for it in range(count)]
+
+
+# ---- one node: its records, and what came since it started
+
+
+class Refused(Exception):
+    """Why an event was refused."""
+
+
+def message(sender, slot, what, ballot=None, value=b"", report=None, promised=None):
+    return {"sender": sender, "slot": slot, "what": what, "ballot": ballot, "value": value, "report": report, "promised": promised}
+
+
+def ballots_in(said):
+    """Every ballot that a message names."""
+    return [it for it in (said["ballot"], said["promised"], said["report"] and said["report"][0]) if it]
+
+
+class Node:
+    def __init__(self, run, me, records):
+        self.run, self.me, self.records = run, me, records
+        self.heard, self.waiting, self.begun = [], [], []
+
+    def tables(self):
+        return self.run.uploads_of(prefix(learned(self.run.members, self.heard)))
+
+    def promised(self, slot):
+        return max((it["ballot"] for it in self.records if it["what"] != "began" and it["slot"] == slot), default=(0, 0))
+
+    def accepted(self, slot):
+        """The acceptance at the highest ballot, the last one where there are more."""
+        found = [it for it in self.records if it["what"] == "accepted" and it["slot"] == slot]
+        best = [it for it in found if it["ballot"] == max(other["ballot"] for other in found)]
+        return (best[-1]["ballot"], best[-1]["value"]) if best else None
+
+    def next_ballot(self):
+        seen = [ballot[0] for it in self.heard for ballot in ballots_in(it)]
+        begun = [it["ballot"][0] for it in self.records if it["what"] == "began"]
+        return max([0, *seen, *begun]) + 1, self.me
+
+    # What is due to each input: the record, the messages, and what the node has afterwards, by a function that makes it so.
+
+    def put(self, upload):
+        known = outcome(self.tables(), upload) != "unknown"
+        if known or upload.text in [it.text for it in self.waiting]:
+            return None, [], lambda: None
+        if len(prefix(learned(self.run.members, self.heard))) == self.run.slot_limit:
+            raise Refused("SlotsSpent")
+        return None, [], lambda: self.waiting.append(upload)
+
+    def tick(self, left):
+        if left > MOST_LEFT:
+            raise Refused("OutOfRange")
+        values = learned(self.run.members, self.heard)
+        first = len(prefix(values))
+        if not self.waiting and not any(it > first for it in values):
+            asks = [message(self.me, first, "Ask")] if first < self.run.slot_limit else []
+            return None, asks, lambda: None
+        slot, value = first, b""
+        if self.waiting:
+            slot = [it for it in range(first, first + len(values) + left + 1) if it not in values][left]
+            value = self.waiting[0].text
+        return self.begin(slot, value)
+
+    def begin(self, slot, value):
+        if slot >= self.run.slot_limit:
+            raise Refused("SlotsSpent")
+        ballot = self.next_ballot()
+        if ballot[0] > MAX_ROUND:
+            raise Refused("RoundsSpent")
+        began = {"what": "began", "ballot": ballot}
+        begun = {"slot": slot, "value": value, "ballot": ballot, "from": len(self.heard)}
+        return began, [message(self.me, slot, "Prepare", ballot)], lambda: self.begun.append(begun)
+
+    def attempt(self, heard):
+        """The last attempt, and the promises that answered it, unless a refusal ended it."""
+        if not self.begun:
+            return None, []
+        last = self.begun[-1]
+        since = [it for it in heard[last["from"]:] if (it["slot"], it["ballot"]) == (last["slot"], last["ballot"])]
+        if any(it["what"] == "Nack" for it in since):
+            return None, []
+        return last, [it for it in since if it["what"] == "Promise" and it["sender"] < self.run.members]
+
+    def deliver(self, said):
+        run = self.run
+        nodes = [said["sender"], *(it[1] for it in ballots_in(said))]
+        if any(it >= run.members for it in nodes) or said["slot"] >= run.slot_limit:
+            raise Refused("OutOfRange")
+        record, sends = self.reply(said)
+
+        def hear():
+            self.heard.append(said)
+            self.waiting = [it for it in self.waiting if outcome(self.tables(), it) == "unknown"]
+
+        return record, sends, hear
+
+    def reply(self, said):
+        slot, ballot, what = said["slot"], said["ballot"], said["what"]
+        if what == "Prepare":
+            if ballot <= self.promised(slot):
+                return None, [message(self.me, slot, "Nack", ballot, promised=self.promised(slot))]
+            reply = message(self.me, slot, "Promise", ballot, report=self.accepted(slot))
+            return {"what": "promised", "slot": slot, "ballot": ballot}, [reply]
+        if what == "Accept":
+            if ballot < self.promised(slot):
+                return None, [message(self.me, slot, "Nack", ballot, promised=self.promised(slot))]
+            record = {"what": "accepted", "slot": slot, "ballot": ballot, "value": said["value"]}
+            return record, [message(self.me, slot, "Accepted", ballot, said["value"])]
+        if what == "Promise":
+            return None, self.proposal(said)
+        if what == "Ask":
+            values = prefix(learned(self.run.members, self.heard))
+            return None, [message(self.me, it, "Decided", value=values[it]) for it in range(slot, len(values))][:MOST_ASKED]
+        return None, []
+
+    def proposal(self, said):
+        """The Accept of the open attempt, where this promise makes its majority."""
+        before, after = self.attempt(self.heard), self.attempt([*self.heard, said])
+        promisers = [{it["sender"] for it in promises} for _, promises in (before, after)]
+        if after[0] is None or is_majority(self.run.members, promisers[0]) or not is_majority(self.run.members, promisers[1]):
+            return []
+        counted = {}
+        for it in after[1]:
+            counted.setdefault(it["sender"], it)
+        reports = [it["report"] for it in counted.values() if it["report"]]
+        highest = max((it[0] for it in reports), default=None)
+        value = next((it[1] for it in reports if it[0] == highest), after[0]["value"])
+        return [message(self.me, after[0]["slot"], "Accept", after[0]["ballot"], value)]
+
+
+# ---- a run
+
+
+class Run:
+    """Nodes, all messages that were sent, and the steps so far: each an event, the line that it gave, and what it handed in or out."""
+
+    def __init__(self, schedule):
+        self.members, self.slot_limit = schedule["members"], schedule["slot_limit"]
+        self.uploads = [Upload(it["table"], it["id"], it.get("name", "a"), it["values"]) for it in schedule["uploads"]]
+        self.by_text = {it.text: it for it in self.uploads}
+        self.nodes = {it: Node(self, it, []) for it in range(self.members)}
+        self.kept = {it: [] for it in range(self.members)}
+        self.sent, self.steps = [], []
+
+    def uploads_of(self, values):
+        return [self.by_text[it] for it in values if it in self.by_text]
+
+    def play(self, event):
+        try:
+            gave = self.give(event)
+        except Refused as refusal:
+            gave = ["refused", str(refusal)]
+        self.steps.append((event, gave))
+        return " ".join(str(it) for it in gave)
+
+    def give(self, event):
+        what, member = event[0], event[1]
+        if member >= self.members:
+            raise Refused("OutOfRange")
+        if what == "restart":
+            self.nodes[member] = Node(self, member, list(self.kept[member]))
+            return ["done"]
+        node = self.nodes[member]
+        if node is None:
+            raise Refused("Down")
+        if what in ("deliver", "delivercut") and event[2] >= len(self.sent):
+            raise Refused("NotSent")
+        if what in ("tickcut", "delivercut"):
+            return self.cut(node, event)
+        if what in ("put", "tick", "deliver"):
+            return self.step(node, event)
+        return self.told(node, event)
+
+    def due(self, node, event):
+        if event[0] == "put":
+            return node.put(self.uploads[event[2]])
+        if event[0] in ("tick", "tickcut"):
+            return node.tick(event[2])
+        return node.deliver(self.sent[event[2]])
+
+    def step(self, node, event):
+        record, sends, commit = self.due(node, event)
+        if record:
+            self.kept[node.me].append(record)
+            node.records.append(record)
+        commit()
+        numbers = range(len(self.sent), len(self.sent) + len(sends))
+        self.sent += sends
+        return ["done"] if event[0] == "put" else ["sent", ",".join(str(it) for it in numbers) or "-"]
+
+    def cut(self, node, event):
+        try:
+            record = self.due(node, event)[0]
+        except Refused:
+            record = None
+        if record:
+            self.kept[node.me].append(record)
+        self.nodes[node.me] = None
+        return ["cut"]
+
+    def told(self, node, event):
+        tables = node.tables()
+        if event[0] == "outcome":
+            return [outcome(tables, self.uploads[event[2]])]
+        uploads = effective(tables, event[2])
+        if event[0] == "info":
+            return ["info", len(uploads)] if uploads else ["notable"]
+        return ["answer", answer(uploads[: event[3]]).hex()] if event[3] <= len(uploads) else ["unavailable"]
+
+
+def lines_of(schedule):
+    run = Run(schedule)
+    return run, [f"{place} {run.play(event)}" for place, event in enumerate(schedule["events"])]
+
+
+# ---- what is promised of a run, by its steps and its messages alone
+
+
+def is_lawful(run):
+    """Each message may follow those of its slot before it."""
+    for slot in {it["slot"] for it in run.sent}:
+        told = [it for it in run.sent if it["slot"] == slot and it["what"] not in ("Nack", "Ask", "Prepare")]
+        if not all(may_follow(run.members, told[:place], it) for place, it in enumerate(told)):
+            return False
+    return True
+
+
+def tables_shown(run, member, place):
+    """The uploads of the member's prefix, by the messages that were delivered to it since its last start; none where it is down."""
+    is_up, heard = True, []
+    for event, gave in run.steps[:place]:
+        if event[1] != member:
+            continue
+        if event[0] == "restart":
+            is_up, heard = gave == ["done"], []
+        elif gave == ["cut"]:
+            is_up = False
+        elif event[0] == "deliver" and gave[0] == "sent":
+            heard.append(run.sent[event[2]])
+    return run.uploads_of(prefix(learned(run.members, heard))) if is_up else None
+
+
+def is_safe(run):
+    answers = [(place, event, gave[1]) for place, (event, gave) in enumerate(run.steps) if gave[0] == "answer"]
+    for place, (event, gave) in enumerate(run.steps):
+        if event[1] < run.members and event[0] in ("get", "info", "outcome"):
+            tables = tables_shown(run, event[1], place)
+            if (gave == ["refused", "Down"]) != (tables is None):
+                return False
+            if tables is not None and gave != run.told(Tables(tables), event):
+                return False
+    for place, event, text in answers:
+        if any(other[2:] == event[2:] and told != text for _, other, told in answers):
+            return False
+        shown = effective(tables_shown(run, event[1], place), event[2])[: event[3]]
+        put = [run.uploads[it[2]].text for it, gave in run.steps[:place] if it[0] == "put" and gave == ["done"]]
+        if any(it.text not in put for it in shown):
+            return False
+        for asked, gave in run.steps:
+            if asked[0] == "outcome" and gave[0].startswith("applied"):
+                upload, number = run.uploads[asked[2]], int(gave[0].split()[1])
+                if upload.table == event[2] and number <= event[3]:
+                    if len(shown) != event[3] or len({it.id for it in shown}) != len(shown):
+                        return False
+                    if shown[number - 1].text != upload.text:
+                        return False
+    return True
+
+
+class Tables:
+    """What answers questions and has these uploads."""
+
+    def __init__(self, uploads):
+        self.uploads = uploads
+
+    def tables(self):
+        return self.uploads
+
+
+# ---- drawn schedules
+
+
+def drawn(seed):
+    """A run of some uploads, of which two have one name, one is to another table and one has another shape. Its events are drawn as it
+    goes on: most are deliveries of messages that the node has not had, some of others, and few are ticks."""
+    draw = random.Random(seed)
+    members = draw.choice((1, 2, 3, 3, 3, 3, 4, 5))
+    ids = [f"{it:032x}" for it in (1, 2, 3, 1, 4, 5)]
+    uploads = [{"table": "u" if it == 4 else "t", "id": id, "values": [[it]], "name": "ab"[it == 5]} for it, id in enumerate(ids)]
+    run = Run({"members": members, "slot_limit": draw.choice((2, 4, 8)), "uploads": uploads})
+    new, count = set(), 0
+    for _ in range(draw.choice((60, 120, 240))):
+        new |= {(node, number) for node in range(members) for number in range(count, len(run.sent))}
+        count = len(run.sent)
+        event = drawn_event(draw, run, sorted(new))
+        new.discard(tuple(event[1:]) if event[0] == "deliver" else None)
+        run.play(event)
+    return run
+
+
+def drawn_event(draw, run, new):
+    member, upload = draw.randrange(run.members + (draw.random() < 0.02)), draw.randrange(len(run.uploads))
+    down = [it for it, node in run.nodes.items() if node is None]
+    number = draw.randrange(len(run.sent) + 1)
+    if new and draw.random() < 0.75:
+        return ["deliver", *draw.choice(new[-6:] if draw.random() < 0.8 else new)]
+    if down and draw.random() < 0.3:
+        return ["restart", draw.choice(down)]
+    kind = draw.choices(("put", "tick", "deliver", "cut", "restart", "ask"), (7, 9, 4, 1, 1, 6))[0]
+    events = {"put": [["put", member, upload]], "tick": [["tick", member, draw.choice((0, 0, 0, 0, 1, 8))]]}
+    events |= {"deliver": [["deliver", member, number]], "restart": [["restart", member]]}
+    events["cut"] = [["tickcut", member, 0], ["delivercut", member, number]]
+    events["ask"] = [["get", member, draw.choice("ttu"), draw.choice((1, 1, 2, 3))], ["info", member, "t"], ["outcome", member, upload]]
+    return draw.choice(events[kind])
+
+
+def check_drawn(count):
+    """How many of so many drawn runs are not lawful or not safe."""
+    faults = 0
+    for seed in range(count):
+        run = drawn(seed)
+        if not is_lawful(run) or not is_safe(run):
+            print(f"runs_model: the run drawn from {seed} breaks what is promised")
+            faults += 1
+    return faults
+
+
+def schedules():
+    for file in sorted(EXAMPLES.glob("*.json")):
+        schedule = json.loads(file.read_text(encoding="utf-8"))
+        if "events" in schedule:
+            yield file, schedule
+
+
+def main():
+    word = sys.argv[1] if len(sys.argv) == 2 else ""
+    if word not in ("--check", "--write"):
+        print("\n".join(lines_of(json.loads(Path(word).read_text(encoding="utf-8")))[1]))
+        return 0
+    status = 0
+    for file, schedule in schedules():
+        run, lines = lines_of(schedule)
+        text, beside = "\n".join(lines) + "\n", file.with_suffix(".lines")
+        if not is_lawful(run) or not is_safe(run):
+            print(f"runs_model: {file.name} breaks what is promised")
+            status = 1
+        if word == "--write":
+            beside.write_text(text, encoding="utf-8")
+        elif not beside.exists() or beside.read_text(encoding="utf-8") != text:
+            print(f"runs_model: {beside.name} is not what {file.name} gives")
+            status = 1
+    return 1 if check_drawn(DRAWN) else status
+
+
+if __name__ == "__main__":
+    sys.exit(main())
