@@ -1,0 +1,84 @@
+-- What a node tells as decided is what the rules ask: what it learned was chosen, since all that it was told was sent.
+use Rattle.std.proofs.Common.{◌≡◌, ℕ, ◌+◌, ◌<◌, ◌≤◌, ◌⊎◌, inl, inr, List, length, slice_get, Some, refl, sym, ap, subst, ◌∙◌, arith}
+use Rattle.std.specs.List.{Contains}
+use Rattle.std.proofs.lemmas.Option.{get_or_from_slice_get}
+use Rattle.ballots.specs.Ballot.{Ballot}
+use Rattle.ballots.specs.declared.value.Value.{Value}
+use Rattle.ballots.specs.declared.message.Message.{Message}
+use Rattle.decided_log.specs.Asked.{decided_message, asked_of}
+use Rattle.learner.specs.Calls.{Call as Told, IsLearned}
+use Rattle.learner.specs.Calls as told
+use Rattle.learner.specs.Votes.{IsDecidedOrChosen, IsChosen}
+use Rattle.schedule_runner.specs.Majorities.{MajorityOf}
+use Rattle.schedule_runner.specs.Messages.{accept, accepted, decided}
+use Rattle.histories.specs.Views.{HasPrefix}
+use Rattle.lawful_histories.proofs.Rules.{AllowsDecided}
+use Rattle.lawful_histories.proofs.Knowing.{WasTold}
+
+-- ---- the laws that are used here
+
+-- what is learned was told as decided, or accepted by a majority
+abbrev pub LearnerLaw : Type 0
+LearnerLaw = (members : ℕ) (calls : List Told) (slot : ℕ) (v : Value) → IsLearned members calls slot v → IsDecidedOrChosen members calls slot v
+
+-- each message of an answer has the prefix's value of its slot
+abbrev pub AskedLaw : Type 0
+AskedLaw = (node from k : ℕ) (prefix : List Value) → k < length (asked_of node prefix from)
+    → (value : Value) × (slice_get prefix (from + k) ≡ Some value) × (slice_get (asked_of node prefix from) k ≡ Some (decided_message node (from + k) value))
+
+-- ---- what is learned
+
+module _ (learns : LearnerLaw) (members : ℕ) (Was : Message → Type 0)
+    (proposed : (a s : ℕ) (b : Ballot) (v : Value) → Was (accepted a s b v) → (p : ℕ) × Was (accept p s b v))
+    (one_value : (p q s : ℕ) (b : Ballot) (v w : Value) → Was (accept p s b v) → Was (accept q s b w) → v ≡ w)
+    (chosen : (p s : ℕ) (v : Value) → Was (decided p s v) → AllowsDecided members Was s v)
+    (heard : List Told) (told_of : (call : Told) → Contains heard call → WasTold Was call) where
+  module _ (slot : ℕ) (v : Value) where
+    accepted_alike : (a c : ℕ) (b : Ballot) (w : Value) → Was (accepted a slot b w) → Was (accepted c slot b v) → Was (accepted a slot b v)
+    accepted_alike a c b w one other =
+        let first = proposed a slot b w one in
+        let second = proposed c slot b v other in
+        subst (λ (x : Value). Was (accepted a slot b x)) (one_value first.0 second.0 slot b w v first.1 second.1) one
+
+    majority_chose : IsChosen members heard slot v → AllowsDecided members Was slot v
+    majority_chose it = (it.ballot, record {
+      is_in = it.accepted.is_voter;
+      majority = it.accepted.majority;
+      each = λ a lt in'.
+          let vote = it.accepted.each a lt in' in
+          accepted_alike a it.member it.ballot vote.0 (told_of (told.Accepted a slot it.ballot vote.0) vote.1)
+          (told_of (told.Accepted it.member slot it.ballot v) it.proposed);
+    })
+
+    pub learned_was_chosen : IsLearned members heard slot v → AllowsDecided members Was slot v
+    learned_was_chosen learned = elim (learns members heard slot v learned) as (λ _. AllowsDecided members Was slot v) [
+      | inl decision ↦ let it = told_of (told.Decided slot v) decision in chosen it.0 slot v it.1
+      | inr majority ↦ majority_chose majority
+    ]
+
+  -- ---- what is answered to one who asks
+
+  -- a message of the node that a value was decided which was chosen
+  pub record TellsChosen (me : ℕ) (m : Message) : Type 0 where
+    pub slot : ℕ
+    pub value : Value
+    pub is : m ≡ decided me slot value
+    pub chosen_is : AllowsDecided members Was slot value
+
+  pub asked_is_chosen : AskedLaw → (me from : ℕ) (values : List Value) → HasPrefix members heard values → (m : Message) → Contains (asked_of me values from) m → TellsChosen me m
+  asked_is_chosen asked me from values prefix m (k, within, at) =
+      let it = asked me from k values within in
+      record {
+        slot = from + k;
+        value = it.0;
+        is = sym at ∙ get_or_from_slice_get (asked_of me values from) k (decided_message me (from + k) it.0) m it.2;
+        chosen_is = learned_was_chosen (from + k) it.0 (prefix.learned (from + k) it.0 it.1);
+      }
+
+-- more messages change nothing of it
+pub chosen_still : (members : ℕ) (Was Now : Message → Type 0) (s : ℕ) (v : Value) → ((m : Message) → Was m → Now m) → AllowsDecided members Was s v → AllowsDecided members Now s v
+chosen_still members Was Now s v kept it = (it.0, record {
+  is_in = it.1.is_in;
+  majority = it.1.majority;
+  each = λ a lt in'. kept (accepted a s it.0 v) (it.1.each a lt in');
+})
