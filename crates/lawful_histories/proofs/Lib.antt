@@ -5,3 +5,5 @@ pub mod Acceptors
 pub mod Proposers
 pub mod Learners
 pub mod Dues
+pub mod Sending
+pub mod Steps

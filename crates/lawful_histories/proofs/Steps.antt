@@ -1,0 +1,334 @@
+-- One step of a history after the other: what was sent so far is allowed, and each node knows of it what it has to.
+use Rattle.std.proofs.Common.{◌≡◌, ◌≢◌, ℕ, ◌+◌, ◌<◌, ◌≤◌, ◌⊎◌, inl, inr, Bool, true, false, List, [], ◌∷◌, ◌++◌, length, get_or, take, drop, slice_get, Option, Some, None, refl, sym, ap, subst, ◌∙◌, arith}
+use Rattle.std.specs.List.{Contains}
+use Rattle.std.proofs.lemmas.Bool.{cases_lt, cases_eq}
+use Rattle.std.proofs.lemmas.Option.{slice_get_within, get_or_from_slice_get}
+use Rattle.ballots.specs.declared.value.Value.{Value}
+use Rattle.ballots.specs.declared.record.Record.{Record}
+use Rattle.ballots.specs.declared.message.Message.{Message}
+use Rattle.proposer.specs.Call.{Begun, Call as Asked, Begins}
+use Rattle.table_types.specs.Uploads.{Upload}
+use Rattle.schedule_runner.specs.Lawful.{IsLawful}
+use Rattle.schedule_runner.specs.HistoryLaws.{LawfulByMessages}
+use Rattle.schedule_runner.specs.Messages.{accept, Sent, SentBefore}
+use Rattle.histories.specs.Views.{Config, Views, started_with}
+use Rattle.histories.specs.Due.{Input, Plan, Due, Refuses, Plans, IsDue}
+use Rattle.histories.specs.Due as input
+use Rattle.histories.specs.Event.{Event, node_of}
+use Rattle.histories.specs.Event as event
+use Rattle.histories.specs.Gave.{Gave, count_of}
+use Rattle.histories.specs.Gave as gave
+use Rattle.histories.specs.History.{Step, History}
+use Rattle.histories.specs.Following.{Seat, IsUp, IsDown, with_due, found_in, down, reason_of, WantsMemory, PutGives, StepGives, record_due, InputGives, CutGives, Delivers, GetGives, InfoGives, OutcomeGives, QuestionGives, StartGives, UpGives, RefusesAsDown, DownGives, SeatGives, StepFollows, StepsFollow, at_first, Follows}
+use Rattle.lawful_histories.proofs.Lists.{nothing_in}
+use Rattle.lawful_histories.proofs.Rules.{Allows, rules_are_kept}
+use Rattle.lawful_histories.proofs.Knowing.{IsOwn, Covers, MayBeDue, KnowsRecords, KnowsCalls, KnowsViews, KnowsIfUp, KnowsSeat, one_record_more, knows_with_due}
+use Rattle.lawful_histories.proofs.Dues.{Laws, kept_with, MayBeSent, Keeps, KeepsIfPlanned, of_message, of_tick, of_put}
+use Rattle.lawful_histories.proofs.Sending.{kept, came, each_allowed, Apart, ApartIfUp, seat_later, other_later}
+
+-- ---- a node that starts
+
+nothing_open : (b : Begun) (before since : List Asked) → [] ≡ before ++ Begins b ∷ since → ⊥
+nothing_open b [] since e = cc
+nothing_open b (call ∷ before) since e = cc
+
+pub knows_at_start : (members : ℕ) (Was : Message → Type 0) (me : ℕ) (records : List Record) → KnowsRecords Was me records → KnowsSeat members Was me (IsUp (started_with records))
+knows_at_start members Was me records knows = record {
+  records = λ found. knows;
+  up = record {
+    promises = λ p has. absurd (nothing_in _ has);
+    begun = λ b has. absurd (nothing_in _ has);
+    complete = λ b since is_open p s v was. absurd (nothing_open b is_open.before since is_open.split);
+    told_of = λ call has. absurd (nothing_in call has);
+  };
+}
+
+-- ---- what one node's step leaves
+
+module _ (config : Config) (sent : List Message) (next me : ℕ) where
+  abbrev Was : Message → Type 0
+  Was m = SentBefore sent next m
+
+  -- the messages that go out, all its own and allowed, and what the node knows then
+  pub record Moves (given : Gave) (new : Seat) : Type 0 where
+    pub ms : List Message
+    pub count : count_of given ≡ length ms
+    pub placed : take (length ms) (drop next sent) ≡ ms
+    pub own : (m : Message) → Contains ms m → IsOwn me m
+    pub allowed : MayBeSent config.members sent next ms
+    pub after : KnowsSeat config.members (λ m. SentBefore sent (next + length ms) m) me new
+
+  -- nothing goes out
+  apart_of_none : (seat : Seat) → ApartIfUp config.members [] seat
+  apart_of_none (IsUp views) = λ b since is_open p s v has. absurd (nothing_in (accept p s b.ballot v) has)
+  apart_of_none (IsDown records due) = tt
+
+  rests : (given : Gave) (new : Seat) → count_of given ≡ 0 → KnowsSeat config.members Was me new → Moves given new
+  rests given new none knows = record {
+    ms = [];
+    count = none;
+    placed = refl;
+    own = λ m has. absurd (nothing_in m has);
+    allowed = inr (λ m has k le. absurd (nothing_in m has));
+    after = seat_later config.members Was (λ m. SentBefore sent (next + length {A = Message} []) m) [] (kept sent next [] refl) (came sent next [] refl) me new knows
+        (λ found m has. absurd (nothing_in m has)) (apart_of_none new);
+  }
+
+  given_rests : (given other : Gave) (new seat : Seat) → given ≡ other → count_of other ≡ 0 → new ≡ seat → KnowsSeat config.members Was me seat → Moves given new
+  given_rests given other new seat is none same knows =
+      rests given new (ap count_of is ∙ none) (subst (λ (s : Seat). KnowsSeat config.members Was me s) (sym same) knows)
+
+  -- ---- a node that is up
+
+  module _ (laws : Laws) (lawful : (k : ℕ) (m : Message) → k < next → Sent sent k m → Allows config.members (SentBefore sent k) m)
+      (views : Views) (knows : KnowsSeat config.members Was me (IsUp views)) where
+    abbrev of_records : KnowsRecords Was me views.records
+    of_records = knows.records true
+
+    abbrev KeepsDue : Due → Type 0
+    KeepsDue due = KeepsIfPlanned config.members sent next me views.records due
+
+    stays : (given other : Gave) (new : Seat) → given ≡ other → count_of other ≡ 0 → new ≡ IsUp views → Moves given new
+    stays given other new is none same = given_rests given other new (IsUp views) is none same knows
+
+    -- what is due leaves the node, before the messages go out
+    records_after : (due : Option Record) → MayBeDue Was due → KnowsRecords Was me (kept_with views.records due)
+    records_after None may = of_records
+    records_after (Some r) may = one_record_more Was me views.records r of_records may
+
+    planned_seat : (plan : Plan) → Keeps config.members sent next me views.records plan → KnowsSeat config.members Was me (IsUp plan.after)
+    planned_seat plan keeps = record {
+      records = λ found. subst (λ (l : List Record). KnowsRecords Was me l) (sym keeps.records_are) (records_after plan.kept keeps.due);
+      up = keeps.calls;
+    }
+
+    -- and then
+    goes_out : (plan : Plan) (given : Gave) (new : Seat) → Keeps config.members sent next me views.records plan → given ≡ gave.Sent next (length plan.sends)
+        → take (length plan.sends) (drop next sent) ≡ plan.sends → new ≡ IsUp plan.after → Moves given new
+    goes_out plan given new keeps is placed same = record {
+      ms = plan.sends;
+      count = ap count_of is;
+      placed = placed;
+      own = keeps.own;
+      allowed = keeps.allowed;
+      after = subst (λ (s : Seat). KnowsSeat config.members (λ m. SentBefore sent (next + length plan.sends) m) me s) (sym same)
+          (seat_later config.members Was (λ m. SentBefore sent (next + length plan.sends) m) plan.sends (kept sent next plan.sends placed) (came sent next plan.sends placed) me (IsUp plan.after)
+          (planned_seat plan keeps) (λ found m has. keeps.covered m has) keeps.apart);
+    }
+
+    no_count : (refusal : input.Refusal) → count_of (gave.Refused (reason_of refusal)) ≡ 0
+    no_count refusal = refl
+
+    of_step : (due : Due) (given : Gave) (new : Seat) → KeepsDue due → StepGives sent next views due given new → Moves given new
+    of_step (Refuses refusal) given new keeps (is, same) = stays given (gave.Refused (reason_of refusal)) new is (no_count refusal) same
+    of_step (Plans plan) given new keeps (is, placed, same) = goes_out plan given new keeps is placed same
+
+    of_taking : (due : Due) (given : Gave) (new : Seat) → KeepsDue due → PutGives views due given new → Moves given new
+    of_taking (Refuses refusal) given new keeps (is, same) = stays given (gave.Refused (reason_of refusal)) new is (no_count refusal) same
+    of_taking (Plans plan) given new keeps (is, same) = given_rests given gave.Done new (IsUp plan.after) is refl same (planned_seat plan keeps)
+
+    wants : (given : Gave) (new : Seat) → WantsMemory views given new → Moves given new
+    wants given new (is, same) = stays given (gave.Refused gave.OutOfMemory) new is refl same
+
+    -- a cut: the record that is due is kept, or it is not
+    record_may : (due : Due) → KeepsDue due → MayBeDue Was (record_due due)
+    record_may (Refuses refusal) keeps = tt
+    record_may (Plans plan) keeps = keeps.due
+
+    down_with : (due : Option Record) → MayBeDue Was due → KnowsSeat config.members Was me (IsDown views.records due)
+    down_with due may = record { records = λ found. knows_with_due Was me found views.records due of_records may; up = tt }
+
+    of_cut : (asked : Input) (given : Gave) (new : Seat) → ((due : Due) → IsDue config me views asked due → KeepsDue due) → CutGives config me views asked given new → Moves given new
+    of_cut asked given new keeps (is, inl (due, is_due, same)) =
+        given_rests given gave.Done new (IsDown views.records (record_due due)) is refl same (down_with (record_due due) (record_may due (keeps due is_due)))
+    of_cut asked given new keeps (is, inr same) = given_rests given gave.Done new (IsDown views.records None) is refl same (down_with None tt)
+
+    -- what is due to an input
+    of_due_step : (asked : Input) (given : Gave) (new : Seat) → ((due : Due) → IsDue config me views asked due → KeepsDue due)
+        → InputGives config me views asked (StepGives sent next views) given new → Moves given new
+    of_due_step asked given new keeps (inl (due, is_due, gives)) = of_step due given new (keeps due is_due) gives
+    of_due_step asked given new keeps (inr out) = wants given new out
+
+    of_due_put : (asked : Input) (given : Gave) (new : Seat) → ((due : Due) → IsDue config me views asked due → KeepsDue due)
+        → InputGives config me views asked (PutGives views) given new → Moves given new
+    of_due_put asked given new keeps (inl (due, is_due, gives)) = of_taking due given new (keeps due is_due) gives
+    of_due_put asked given new keeps (inr out) = wants given new out
+
+    -- a message that is delivered was sent
+    delivered : (number : ℕ) (m : Message) → number < next → slice_get sent number ≡ Some m → SentBefore sent next m
+    delivered number m lt is = (number, lt, (slice_get_within sent number m is, get_or_from_slice_get sent number m m is))
+
+    due_of_message : (number : ℕ) (m : Message) → number < next → slice_get sent number ≡ Some m → (due : Due) → IsDue config me views (input.Deliver m) due → KeepsDue due
+    due_of_message number m lt is due is_due = of_message laws config sent next me lawful views of_records knows.up m due (delivered number m lt is) is_due
+
+    due_of_tick : (left : ℕ) (due : Due) → IsDue config me views (input.Tick left) due → KeepsDue due
+    due_of_tick left due is_due = of_tick laws config sent next me lawful views of_records knows.up left due is_due
+
+    due_of_put : (text : List ℕ) (due : Due) → IsDue config me views (input.Put text) due → KeepsDue due
+    due_of_put text due is_due = of_put laws config sent next me lawful views of_records knows.up text due is_due
+
+    of_delivery : (number : ℕ) (given : Gave) (new : Seat)
+        → Delivers sent next number (λ m. InputGives config me views (input.Deliver m) (StepGives sent next views)) views given new → Moves given new
+    of_delivery number given new (inl (m, lt, is, gives)) = of_due_step (input.Deliver m) given new (due_of_message number m lt is) gives
+    of_delivery number given new (inr (late, is, same)) = stays given (gave.Refused gave.NotSent) new is refl same
+
+    of_delivery_cut : (number : ℕ) (given : Gave) (new : Seat)
+        → Delivers sent next number (λ m. CutGives config me views (input.Deliver m)) views given new → Moves given new
+    of_delivery_cut number given new (inl (m, lt, is, gives)) = of_cut (input.Deliver m) given new (due_of_message number m lt is) gives
+    of_delivery_cut number given new (inr (late, is, same)) = stays given (gave.Refused gave.NotSent) new is refl same
+
+    -- a question
+    get_counts : (uploads : List Upload) (table : List ℕ) (version : ℕ) (given : Gave) → GetGives uploads table version given → count_of given ≡ 0
+    get_counts uploads table version given (inl (found, is, e)) = ap count_of e
+    get_counts uploads table version given (inr (none, e)) = ap count_of e
+
+    info_counts : (uploads : List Upload) (table : List ℕ) (given : Gave) → InfoGives uploads table given → count_of given ≡ 0
+    info_counts uploads table given (inl (some, e)) = ap count_of e
+    info_counts uploads table given (inr (none, e)) = ap count_of e
+
+    outcome_counts : (uploads : List Upload) (text : List ℕ) (given : Gave) → OutcomeGives uploads text given → count_of given ≡ 0
+    outcome_counts uploads text given (upload, is_text, e) = ap count_of e
+
+    of_question : (Gives : List Upload → Gave → Type 0) (given : Gave) (new : Seat) → ((uploads : List Upload) → Gives uploads given → count_of given ≡ 0)
+        → QuestionGives config views Gives given new → Moves given new
+    of_question Gives given new counts (uploads, has, gives, same) =
+        rests given new (counts uploads gives) (subst (λ (s : Seat). KnowsSeat config.members Was me s) (sym same) knows)
+
+  -- ---- a start
+
+  down_knows : (old : Seat) → KnowsSeat config.members Was me old → KnowsSeat config.members Was me (down old)
+  down_knows (IsUp views) knows = record { records = λ found. knows.records true; up = tt }
+  down_knows (IsDown records due) knows = knows
+
+  of_start : (found : Bool) (old : Seat) (given : Gave) (new : Seat) → KnowsSeat config.members Was me old → StartGives found old given new → Moves given new
+  of_start found old given new knows (inl (is, same)) =
+      given_rests given gave.Done new (IsUp (started_with (found_in found old))) is refl same (knows_at_start config.members Was me (found_in found old) (knows.records found))
+  of_start found old given new knows (inr (is, same)) = given_rests given (gave.Refused gave.OutOfMemory) new (down old) is refl same (down_knows old knows)
+
+  -- ---- a node that is down
+
+  refuses : (old : Seat) (given : Gave) (new : Seat) → KnowsSeat config.members Was me old → RefusesAsDown old given new → Moves given new
+  refuses old given new knows (is, same) = given_rests given (gave.Refused gave.Down) new old is refl same knows
+
+  of_down : (found : Bool) (old : Seat) (e : Event) (given : Gave) (new : Seat) → KnowsSeat config.members Was me old → DownGives found old e given new → Moves given new
+  of_down found old (event.Put node text) given new knows gives = refuses old given new knows gives
+  of_down found old (event.Tick node left) given new knows gives = refuses old given new knows gives
+  of_down found old (event.Deliver node number) given new knows gives = refuses old given new knows gives
+  of_down found old (event.TickCut node left) given new knows gives = refuses old given new knows gives
+  of_down found old (event.DeliverCut node number) given new knows gives = refuses old given new knows gives
+  of_down found old (event.Restart node) given new knows gives = of_start found old given new knows gives
+  of_down found old (event.Get node table version) given new knows gives = refuses old given new knows gives
+  of_down found old (event.Info node table) given new knows gives = refuses old given new knows gives
+  of_down found old (event.Outcome node text) given new knows gives = refuses old given new knows gives
+
+-- ---- any event of a node
+
+module _ (laws : Laws) (config : Config) (sent : List Message) (next : ℕ) (lawful : (k : ℕ) (m : Message) → k < next → Sent sent k m → Allows config.members (SentBefore sent k) m) where
+  abbrev KnowsNow : ℕ → Seat → Type 0
+  KnowsNow me seat = KnowsSeat config.members (λ m. SentBefore sent next m) me seat
+
+  of_up : (found : Bool) (views : Views) (e : Event) (given : Gave) (new : Seat) → KnowsNow (node_of e) (IsUp views)
+      → UpGives config sent next found views e given new → Moves config sent next (node_of e) given new
+  of_up found views (event.Put node text) given new knows gives =
+      of_due_put config sent next node laws lawful views knows (input.Put text) given new (due_of_put config sent next node laws lawful views knows text) gives
+  of_up found views (event.Tick node left) given new knows gives =
+      of_due_step config sent next node laws lawful views knows (input.Tick left) given new (due_of_tick config sent next node laws lawful views knows left) gives
+  of_up found views (event.Deliver node number) given new knows gives = of_delivery config sent next node laws lawful views knows number given new gives
+  of_up found views (event.TickCut node left) given new knows gives =
+      of_cut config sent next node laws lawful views knows (input.Tick left) given new (due_of_tick config sent next node laws lawful views knows left) gives
+  of_up found views (event.DeliverCut node number) given new knows gives = of_delivery_cut config sent next node laws lawful views knows number given new gives
+  of_up found views (event.Restart node) given new knows gives = of_start config sent next node found (IsUp views) given new knows gives
+  of_up found views (event.Get node table version) given new knows (inl gives) =
+      of_question config sent next node laws lawful views knows (λ uploads. GetGives uploads table version) given new
+      (λ uploads g. get_counts config sent next node laws lawful views knows uploads table version given g) gives
+  of_up found views (event.Get node table version) given new knows (inr out) = wants config sent next node laws lawful views knows given new out
+  of_up found views (event.Info node table) given new knows (inl gives) =
+      of_question config sent next node laws lawful views knows (λ uploads. InfoGives uploads table) given new
+      (λ uploads g. info_counts config sent next node laws lawful views knows uploads table given g) gives
+  of_up found views (event.Info node table) given new knows (inr out) = wants config sent next node laws lawful views knows given new out
+  of_up found views (event.Outcome node text) given new knows gives =
+      of_question config sent next node laws lawful views knows (λ uploads. OutcomeGives uploads text) given new
+      (λ uploads g. outcome_counts config sent next node laws lawful views knows uploads text given g) gives
+
+  pub of_event : (found : Bool) (old : Seat) (e : Event) (given : Gave) (new : Seat) → KnowsNow (node_of e) old → SeatGives config sent next found old e given new
+      → Moves config sent next (node_of e) given new
+  of_event found (IsUp views) e given new knows gives = of_up found views e given new knows gives
+  of_event found (IsDown records due) e given new knows gives = of_down config sent next (node_of e) found (IsDown records due) e given new knows gives
+
+-- ---- all nodes
+
+-- what was sent before this place is allowed, and every node knows what it has to
+pub record Holds (config : Config) (sent : List Message) (next : ℕ) (seats : ℕ → Seat) : Type 0 where
+  pub lawful : (k : ℕ) (m : Message) → k < next → Sent sent k m → Allows config.members (SentBefore sent k) m
+  pub each_knows : (a : ℕ) → KnowsSeat config.members (λ m. SentBefore sent next m) a (seats a)
+
+module _ (laws : Laws) (config : Config) (sent : List Message) where
+  module _ (next : ℕ) (old new : ℕ → Seat) (holds : Holds config sent next old) (me : ℕ) (given : Gave) (moves : Moves config sent next me given (new me))
+      (others : (other : ℕ) → other ≢ me → new other ≡ old other) where
+    abbrev End : ℕ
+    End = next + length moves.ms
+
+    lawful_then : (k : ℕ) (m : Message) → k < End → Sent sent k m → Allows config.members (SentBefore sent k) m
+    lawful_then k m lt h = elim (cases_lt k next) as (λ _. Allows config.members (SentBefore sent k) m) [
+      | inl before ↦ holds.lawful k m before h
+      | inr ge ↦ each_allowed sent next moves.ms moves.placed config.members moves.allowed k m ge lt h
+    ]
+
+    abbrev KnowsThen : ℕ → Seat → Type 0
+    KnowsThen a seat = KnowsSeat config.members (λ m. SentBefore sent End m) a seat
+
+    knows_then : (a : ℕ) → KnowsThen a (new a)
+    knows_then a = elim (cases_eq a me) as (λ _. KnowsThen a (new a)) [
+      | inl own ↦ subst (λ (x : ℕ). KnowsThen x (new x)) (sym own) moves.after
+      | inr other ↦
+          subst (λ (s : Seat). KnowsThen a s) (sym (others a other))
+          (other_later config.members (λ m. SentBefore sent next m) (λ m. SentBefore sent End m) moves.ms (kept sent next moves.ms moves.placed) (came sent next moves.ms moves.placed)
+          a me other moves.own (old a) (holds.each_knows a))
+    ]
+
+    holds_then : Holds config sent (next + count_of given) new
+    holds_then =
+        subst (λ (n : ℕ). Holds config sent (next + n) new) (sym moves.count) (let it : Holds config sent End new = record { lawful = lawful_then; each_knows = knows_then } in it)
+
+  outside : (next : ℕ) (old new : ℕ → Seat) (given : Gave) → Holds config sent next old → given ≡ gave.Refused gave.OutOfRange → ((other : ℕ) → new other ≡ old other)
+      → Holds config sent (next + count_of given) new
+  outside next old new given holds is same =
+      let end : next + count_of given ≡ next = omega (arith, ap count_of is) in
+      subst (λ (n : ℕ). Holds config sent n new) (sym end) (record {
+        lawful = holds.lawful;
+        each_knows = λ a. subst (λ (s : Seat). KnowsSeat config.members (λ m. SentBefore sent next m) a s) (sym (same a)) (holds.each_knows a);
+      })
+
+  one_step : (next : ℕ) (old : ℕ → Seat) (step : Step) (found : Bool) (new : ℕ → Seat) → Holds config sent next old → StepFollows config sent next old step found new
+      → Holds config sent (next + count_of step.gave) new
+  one_step next old step found new holds (inl (member, gives, others)) =
+      holds_then next old new holds (node_of step.event) step.gave
+      (of_event laws config sent next holds.lawful found (old (node_of step.event)) step.event step.gave (new (node_of step.event)) (holds.each_knows (node_of step.event)) gives) others
+  one_step next old step found new holds (inr (no_member, is, same)) = outside next old new step.gave holds is same
+
+  all_steps : (steps : List Step) (found : List Bool) (next : ℕ) (seats : ℕ → Seat) → Holds config sent next seats → StepsFollow config sent seats next steps found
+      → (k : ℕ) (m : Message) → k < length sent → Sent sent k m → Allows config.members (SentBefore sent k) m
+  all_steps [] found next seats holds (none, end) k m lt h = holds.lawful k m (omega (arith, lt, end)) h
+  all_steps (step ∷ steps) [] next seats holds follows k m lt h = absurd follows
+  all_steps (step ∷ steps) (f ∷ found) next seats holds (after, follows, rest) k m lt h =
+      all_steps steps found (next + count_of step.gave) after (one_step next seats step f after holds follows) rest k m lt h
+
+  nothing_sent : (m : Message) → SentBefore sent 0 m → ⊥
+  nothing_sent m h = absurd (omega (arith, h.1))
+
+  holds_at_first : Holds config sent 0 at_first
+  holds_at_first = record {
+    lawful = λ k m lt h. absurd (omega (arith, lt));
+    each_knows = λ a. knows_at_start config.members (λ m. SentBefore sent 0 m) a [] (record {
+      covers = λ m was. absurd (nothing_sent m was);
+      proposed = λ slot x has. absurd (nothing_in _ has);
+    });
+  }
+
+-- ---- the law
+
+pub follows_is_lawful : Laws → LawfulByMessages → (history : History) → Follows history → IsLawful history.config.members history.sent
+follows_is_lawful laws by_messages history follows =
+    (by_messages history.config.members history.sent).1
+    (rules_are_kept history.config.members history.sent
+    (all_steps laws history.config history.sent history.steps follows.found 0 at_first (holds_at_first laws history.config history.sent) follows.steps))
