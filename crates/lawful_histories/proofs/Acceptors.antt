@@ -1,5 +1,5 @@
 -- What an acceptor answers by its records is what the rules ask: it has a record of all that it promised and accepted.
-use Rattle.std.proofs.Common.{◌≡◌, ℕ, ◌⊎◌, inl, inr, Bool, true, false, cond, nat_eq, if◌then◌else◌, List, [], ◌∷◌, ◌++◌, filter_map, Option, Some, None, refl, sym, ap, subst, ◌∙◌, eq-eqb, arith}
+use Rattle.std.proofs.Common.{◌≡◌, ℕ, inl, inr, Bool, true, false, cond, nat_eq, if◌then◌else◌, List, ◌∷◌, ◌++◌, filter_map, Option, Some, None, refl, sym, ap, subst, eq-eqb}
 use Rattle.std.specs.List.{Contains}
 use Rattle.std.proofs.lemmas.Bool.{eqb-true}
 use Rattle.std.proofs.lemmas.List.Elements.{Contains-append_cases}
@@ -14,7 +14,7 @@ use Rattle.ballots.proofs.CallerLemmas.{not_below_itself, below_carried, below_a
 use Rattle.acceptor.specs.Standing.{Standing}
 use Rattle.acceptor.specs.Restored.{promise_in, acceptance_in, IsHighest, IsLastHighest, IsRestored}
 use Rattle.schedule_runner.specs.Messages.{promise, accepted}
-use Rattle.lawful_histories.proofs.Lists.{nothing_in, first_or_rest, in_middle, into_map, Comes, out_of_map}
+use Rattle.lawful_histories.proofs.Lists.{nothing_in, first_or_rest, in_middle, into_map, out_of_map}
 use Rattle.lawful_histories.proofs.Rules.{AllowsReport, AllowsPromise, AllowsAccepted}
 use Rattle.lawful_histories.proofs.Knowing.{WasProposed, KnowsRecords}
 
@@ -95,11 +95,12 @@ module _ (Was : Message → Type 0) (me : ℕ) (records : List Record) (old : St
       λ c v was. absurd (nothing_in (acceptance c v) (subst (λ (l : List Acceptance). Contains l (acceptance c v)) is (among slot c v was)))
   report_is_allowed slot ballot (Some x) above (before, after, is, not_above, below) =
       let has : Contains records (HasAccepted slot x) =
-      in_records slot x (subst (λ (l : List Acceptance). Contains l x) (sym is) (in_middle before after x)) in
-      (above_held slot ballot x.ballot above (acceptance_held slot x has),
-      knows.proposed slot x has,
-      λ d w was over. not_above_last before after x (acceptance d w) not_above below
-      (subst (λ (l : List Acceptance). Contains l (acceptance d w)) is (among slot d w was)) over)
+      in_records slot x (subst (λ (l : List Acceptance). Contains l x) (sym is) (in_middle before after x)) in (
+        above_held slot ballot x.ballot above (acceptance_held slot x has),
+        knows.proposed slot x has,
+        λ d w was over. not_above_last before after x (acceptance d w) not_above below
+            (subst (λ (l : List Acceptance). Contains l (acceptance d w)) is (among slot d w was)) over,
+      )
 
   pub promise_is_allowed : (slot : ℕ) (ballot : Ballot) → IsAbove ballot (old.promised slot) → AllowsPromise Was me slot ballot (old.accepted slot)
   promise_is_allowed slot ballot above = record {

@@ -1,6 +1,6 @@
 -- What is due of a node leaves it with what it has to know: of each message that it sends it has a record, and the rules allow
 -- the message.
-use Rattle.std.proofs.Common.{◌≡◌, ℕ, suc, max, ◌+◌, ◌<◌, ◌≤◌, ◌⊎◌, inl, inr, List, [], ◌∷◌, ◌++◌, length, slice_get, Option, Some, None, refl, sym, ap, subst, ◌∙◌, arith, filter_map}
+use Rattle.std.proofs.Common.{◌≡◌, ℕ, suc, max, ◌<◌, ◌≤◌, ◌⊎◌, inl, inr, List, [], ◌∷◌, ◌++◌, Option, Some, None, refl, sym, subst, ◌∙◌, arith}
 use Rattle.std.specs.List.{Contains}
 use Rattle.ballots.specs.Ballot.{Ballot}
 use Rattle.ballots.specs.declared.value.Value.{Value}
@@ -17,17 +17,17 @@ use Rattle.acceptor.specs.declared.answer.Answer.{Answer}
 use Rattle.acceptor.specs.declared.answer.Answer.TheVariants as answer
 use Rattle.acceptor.specs.Answering.{Prepares, Accepts}
 use Rattle.acceptor.specs.Restored.{IsRestored, IsHighestRound, round_in}
-use Rattle.proposer.specs.Call.{Begun, Promise, Call as Asked, Begins, Promises, Nacks}
+use Rattle.proposer.specs.Call.{Begun, Promise, Call as Asked, Promises, Nacks}
 use Rattle.proposer.specs.Choosing.{HasMajority}
-use Rattle.proposer.specs.Attempting.{next_ballot, IsOpen, answering, Answers, Accepts as Answered}
+use Rattle.proposer.specs.Attempting.{next_ballot, IsOpen, answering, Answers}
 use Rattle.learner.specs.Calls.{Call as Told}
 use Rattle.learner.specs.Calls as told
 use Rattle.decided_log.specs.Asked.{asked_of}
-use Rattle.schedule_runner.specs.Messages.{promise, accept, accepted, decided, Sent, SentBefore}
+use Rattle.schedule_runner.specs.Messages.{promise, accept, decided, Sent, SentBefore}
 use Rattle.histories.specs.Views.{Config, Views, HasPrefix}
-use Rattle.histories.specs.Due.{Plan, Due, Refuses, Plans, Refusal, Aim, Attempts, AsksFrom, quietly, begins, answers_with, sends_alone, asked_too, has_seen, accept_of, LearnsOf, ReplyToPrepare, ReplyToAccept, BodyIsDue, AimIsDue, AsksAt, TickIsDue, PutIsDue, waits_too, MessageIsDue, OutOfRange, SlotsSpent, RoundsSpent, OutOfMemory}
-use Rattle.lawful_histories.proofs.Lists.{nothing_in, only_one, last_in, last_or_before, before_last, into_map}
-use Rattle.lawful_histories.proofs.Rules.{Allows, AllowsDecided, one_value_before, accepted_was_proposed, decided_was_chosen}
+use Rattle.histories.specs.Due.{Plan, Due, Refuses, Plans, Aim, Attempts, AsksFrom, quietly, begins, answers_with, sends_alone, asked_too, has_seen, accept_of, LearnsOf, ReplyToPrepare, ReplyToAccept, BodyIsDue, AimIsDue, TickIsDue, PutIsDue, waits_too, MessageIsDue}
+use Rattle.lawful_histories.proofs.Lists.{nothing_in, only_one, last_in, last_or_before, into_map}
+use Rattle.lawful_histories.proofs.Rules.{Allows, one_value_before, accepted_was_proposed, decided_was_chosen}
 use Rattle.lawful_histories.proofs.Knowing.{IsOwn, Covers, MayBeKept, MayBeDue, WasTold, KnowsRecords, KnowsCalls, KnowsViews}
 use Rattle.lawful_histories.proofs.Acceptors.{promise_is_allowed, accepted_is_allowed}
 use Rattle.lawful_histories.proofs.Proposers.{ProposerLaws, promised_too, nacked_too, begun_too, calls_with_record, accept_is_allowed, accept_is_own, complete_now}

@@ -1,7 +1,6 @@
 -- What a node's records and what came to it tell of the messages that were sent, where `Was` tells which were.
-use Rattle.std.proofs.Common.{◌≡◌, ℕ, ◌⊎◌, inl, inr, Bool, true, false, List, [], ◌∷◌, ◌++◌, Option, Some, None, refl, sym, ap, subst, ◌∙◌}
+use Rattle.std.proofs.Common.{◌≡◌, ℕ, ◌⊎◌, inl, inr, Bool, true, false, List, [], ◌∷◌, ◌++◌, Option, Some, None, sym, subst}
 use Rattle.std.specs.List.{Contains}
-use Rattle.ballots.specs.Ballot.{Ballot}
 use Rattle.ballots.specs.declared.value.Value.{Value}
 use Rattle.ballots.specs.declared.acceptance.Acceptance.{Acceptance}
 use Rattle.ballots.specs.declared.record.Record.{Record}
@@ -9,8 +8,7 @@ use Rattle.ballots.specs.declared.record.Record.TheVariants.{Began, Promised, Ac
 use Rattle.ballots.specs.declared.message.Message.{Message}
 use Rattle.ballots.specs.declared.message.Body.{Body}
 use Rattle.ballots.specs.declared.message.Body.TheVariants as body
-use Rattle.ballots.specs.Message.{message}
-use Rattle.proposer.specs.Call.{Begun, Promise, Call as Asked, Begins, Promises, Nacks}
+use Rattle.proposer.specs.Call.{Begun, Promise, Call as Asked, Begins, Promises}
 use Rattle.proposer.specs.Choosing.{HasMajority}
 use Rattle.proposer.specs.Attempting.{IsOpen, answering}
 use Rattle.learner.specs.Calls.{Call as Told}

@@ -1,5 +1,5 @@
 -- What a node tells as decided is what the rules ask: what it learned was chosen, since all that it was told was sent.
-use Rattle.std.proofs.Common.{◌≡◌, ℕ, ◌+◌, ◌<◌, ◌≤◌, ◌⊎◌, inl, inr, List, length, slice_get, Some, refl, sym, ap, subst, ◌∙◌, arith}
+use Rattle.std.proofs.Common.{◌≡◌, ℕ, ◌+◌, ◌<◌, inl, inr, List, length, slice_get, Some, sym, subst, ◌∙◌}
 use Rattle.std.specs.List.{Contains}
 use Rattle.std.proofs.lemmas.Option.{get_or_from_slice_get}
 use Rattle.ballots.specs.Ballot.{Ballot}
@@ -9,7 +9,6 @@ use Rattle.decided_log.specs.Asked.{decided_message, asked_of}
 use Rattle.learner.specs.Calls.{Call as Told, IsLearned}
 use Rattle.learner.specs.Calls as told
 use Rattle.learner.specs.Votes.{IsDecidedOrChosen, IsChosen}
-use Rattle.schedule_runner.specs.Majorities.{MajorityOf}
 use Rattle.schedule_runner.specs.Messages.{accept, accepted, decided}
 use Rattle.histories.specs.Views.{HasPrefix}
 use Rattle.lawful_histories.proofs.Rules.{AllowsDecided}
@@ -41,14 +40,17 @@ module _ (learns : LearnerLaw) (members : ℕ) (Was : Message → Type 0)
         subst (λ (x : Value). Was (accepted a slot b x)) (one_value first.0 second.0 slot b w v first.1 second.1) one
 
     majority_chose : IsChosen members heard slot v → AllowsDecided members Was slot v
-    majority_chose it = (it.ballot, record {
-      is_in = it.accepted.is_voter;
-      majority = it.accepted.majority;
-      each = λ a lt in'.
-          let vote = it.accepted.each a lt in' in
-          accepted_alike a it.member it.ballot vote.0 (told_of (told.Accepted a slot it.ballot vote.0) vote.1)
-          (told_of (told.Accepted it.member slot it.ballot v) it.proposed);
-    })
+    majority_chose it = (
+      it.ballot,
+      record {
+        is_in = it.accepted.is_voter;
+        majority = it.accepted.majority;
+        each = λ a lt in'.
+            let vote = it.accepted.each a lt in' in
+            accepted_alike a it.member it.ballot vote.0 (told_of (told.Accepted a slot it.ballot vote.0) vote.1)
+            (told_of (told.Accepted it.member slot it.ballot v) it.proposed);
+      },
+    )
 
     pub learned_was_chosen : IsLearned members heard slot v → AllowsDecided members Was slot v
     learned_was_chosen learned = elim (learns members heard slot v learned) as (λ _. AllowsDecided members Was slot v) [
@@ -77,8 +79,11 @@ module _ (learns : LearnerLaw) (members : ℕ) (Was : Message → Type 0)
 
 -- more messages change nothing of it
 pub chosen_still : (members : ℕ) (Was Now : Message → Type 0) (s : ℕ) (v : Value) → ((m : Message) → Was m → Now m) → AllowsDecided members Was s v → AllowsDecided members Now s v
-chosen_still members Was Now s v kept it = (it.0, record {
-  is_in = it.1.is_in;
-  majority = it.1.majority;
-  each = λ a lt in'. kept (accepted a s it.0 v) (it.1.each a lt in');
-})
+chosen_still members Was Now s v kept it = (
+  it.0,
+  record {
+    is_in = it.1.is_in;
+    majority = it.1.majority;
+    each = λ a lt in'. kept (accepted a s it.0 v) (it.1.each a lt in');
+  },
+)

@@ -1,14 +1,11 @@
 -- What a proposer answers to the promises that came to it is what the rules ask.
-use Rattle.std.proofs.Common.{◌≡◌, ◌≢◌, ℕ, ◌<◌, ◌==◌, ◌||◌, ◌⊎◌, ◌↔◌, inl, inr, Bool, true, false, not, cond, IsTrue, List, [], ◌∷◌, ◌++◌, filter, filter_map, Option, Some, None, refl, sym, ap, subst, ◌∙◌, eq-eqb, ne_eqb, arith}
-use Rattle.std.specs.List.{Contains, AllByRecursion, list_any}
+use Rattle.std.proofs.Common.{◌≡◌, ℕ, ◌==◌, ◌||◌, ◌⊎◌, ◌↔◌, inl, inr, Bool, true, false, not, List, [], ◌∷◌, ◌++◌, filter, filter_map, Some, None, refl, sym, ap, subst, ◌∙◌, eq-eqb, ne_eqb}
+use Rattle.std.specs.List.{Contains, AllByRecursion}
 use Rattle.std.proofs.lemmas.Bool.{cases_eq}
-use Rattle.std.proofs.lemmas.List.{append_assoc}
 use Rattle.std.proofs.lemmas.List.Folds.{list_any-append}
 use Rattle.std.proofs.lemmas.List.Elements.{filter-append, filter_map-append, Contains-append_right}
 use Rattle.ballots.specs.Ballot.{Ballot, IsBelow}
-use Rattle.ballots.specs.Majority.{tally, IsMajority}
 use Rattle.ballots.specs.declared.value.Value.{Value}
-use Rattle.ballots.specs.declared.acceptance.Acceptance.{Acceptance}
 use Rattle.ballots.specs.declared.record.Record.{Record}
 use Rattle.ballots.specs.declared.record.Record.TheVariants.{Began}
 use Rattle.ballots.specs.declared.message.Message.{Message}
@@ -16,7 +13,7 @@ use Rattle.ballots.specs.Acceptance.{acceptance}
 use Rattle.ballots.proofs.CallerLemmas.{majority_stays}
 use Rattle.proposer.specs.Call.{Begun, Promise, Call, Begins, Promises, Nacks}
 use Rattle.proposer.specs.Choosing.{Report as Reported, is_from, is_sender, HasMajority, first_of_each, reports_of, Chooses}
-use Rattle.proposer.specs.Attempting.{IsOpen, ends, is_for, promise_in, answering, counted, Accepts}
+use Rattle.proposer.specs.Attempting.{IsOpen, ends, is_for, promise_in, answering, Accepts}
 use Rattle.proposer.specs.Promised.{IsAnswerTo}
 use Rattle.learner.specs.Calls.{Call as Told}
 use Rattle.schedule_runner.specs.Saying.{Report, IsUpTo}
@@ -257,10 +254,11 @@ module _ (laws : ProposerLaws) (members : ℕ) (Was : Message → Type 0) (me : 
         is_in = is_sender Answering;
         majority = accepts.completes.now;
         each = λ a lt in'.
-            let p = first_from a Answering in' in
-            (p.0.report,
-            subst (λ (x : ℕ). Was (promise x accepts.begun.slot accepts.begun.ballot p.0.report)) p.2 (was_promised p.0 p.1),
-            up_to p.0 p.1 p.0.report refl);
+            let p = first_from a Answering in' in (
+              p.0.report,
+              subst (λ (x : ℕ). Was (promise x accepts.begun.slot accepts.begun.ballot p.0.report)) p.2 (was_promised p.0 p.1),
+              up_to p.0 p.1 p.0.report refl,
+            );
       };
       reporter = it.0.sender;
       is_member = (answered it.0 it.1).1.member;

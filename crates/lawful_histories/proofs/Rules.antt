@@ -1,6 +1,6 @@
 -- What the rules of Paxos ask of one message, by the messages before it; and that messages of each of which it is so keep the
 -- rules.
-use Rattle.std.proofs.Common.{◌≡◌, ℕ, ◌<◌, ◌≤◌, ◌⊎◌, inl, inr, IsTrue, List, length, get_or, Some, None, refl, sym, ap, subst, ◌∙◌, arith}
+use Rattle.std.proofs.Common.{◌≡◌, ℕ, ◌<◌, ◌⊎◌, inl, inr, IsTrue, List, length, Some, None, sym, ap, subst, ◌∙◌, arith}
 use Rattle.std.proofs.lemmas.Bool.{cases_lt}
 use Rattle.std.proofs.lemmas.List.{get_or_default}
 use Rattle.ballots.specs.Ballot.{Ballot, IsBelow}
@@ -109,12 +109,14 @@ module _ (n : ℕ) (sent : List Message) (next : ℕ) (allowed : (k : ℕ) (m : 
 
   pub decided_was_chosen : (p s : ℕ) (v : Value) → SentBefore sent next (decided p s v) → AllowsDecided n (SentBefore sent next) s v
   decided_was_chosen p s v h =
-      let it : AllowsDecided n (SentBefore sent h.0) s v = allowed h.0 (decided p s v) h.1 h.2 in
-      (it.0, record {
-        is_in = it.1.is_in;
-        majority = it.1.majority;
-        each = λ a lt in'. before_later h.0 (accepted a s it.0 v) h.1 (it.1.each a lt in');
-      })
+      let it : AllowsDecided n (SentBefore sent h.0) s v = allowed h.0 (decided p s v) h.1 h.2 in (
+        it.0,
+        record {
+          is_in = it.1.is_in;
+          majority = it.1.majority;
+          each = λ a lt in'. before_later h.0 (accepted a s it.0 v) h.1 (it.1.each a lt in');
+        },
+      )
 
 module _ (n : ℕ) (sent : List Message) (allowed : (k : ℕ) (m : Message) → k < length sent → Sent sent k m → Allows n (SentBefore sent k) m) where
   report_of : (k a s : ℕ) (b : Ballot) (r : Report) → Sent sent k (promise a s b r) → AllowsReport (SentBefore sent k) a s b r

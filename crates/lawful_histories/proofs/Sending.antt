@@ -1,5 +1,5 @@
 -- Messages that go out, in their places; and what nodes know when they have gone out.
-use Rattle.std.proofs.Common.{◌≡◌, ℕ, zero, suc, ◌+◌, ◌-◌, ◌<◌, ◌≤◌, ◌⊎◌, inl, inr, Bool, List, [], ◌∷◌, ◌++◌, length, get_or, take, drop, refl, sym, ap, subst, ◌∙◌, arith, length-drop, length-take, get_or-drop, get_or-take}
+use Rattle.std.proofs.Common.{◌≡◌, ℕ, ◌+◌, ◌-◌, ◌<◌, ◌≤◌, ◌⊎◌, inl, inr, Bool, List, [], ◌∷◌, length, get_or, take, drop, sym, ap, subst, ◌∙◌, arith, length-drop, length-take, get_or-drop, get_or-take}
 use Rattle.std.specs.List.{Contains}
 use Rattle.std.proofs.lemmas.Bool.{cases_lt}
 use Rattle.ballots.specs.declared.value.Value.{Value}
@@ -15,7 +15,7 @@ use Rattle.histories.specs.Views.{Views}
 use Rattle.histories.specs.Following.{Seat, IsUp, IsDown, found_in}
 use Rattle.lawful_histories.proofs.Lists.{only_one, in_middle}
 use Rattle.lawful_histories.proofs.Rules.{Allows}
-use Rattle.lawful_histories.proofs.Knowing.{IsOwn, IsOwnBody, Covers, CoversBody, KnowsRecords, KnowsCalls, KnowsSeat, KnowsIfUp, records_later, calls_later}
+use Rattle.lawful_histories.proofs.Knowing.{IsOwn, IsOwnBody, Covers, CoversBody, KnowsSeat, KnowsIfUp, records_later, calls_later}
 use Rattle.lawful_histories.proofs.Dues.{MayBeSent}
 
 -- ---- places

@@ -1,9 +1,8 @@
 -- One step of a history after the other: what was sent so far is allowed, and each node knows of it what it has to.
-use Rattle.std.proofs.Common.{◌≡◌, ◌≢◌, ℕ, ◌+◌, ◌<◌, ◌≤◌, ◌⊎◌, inl, inr, Bool, true, false, List, [], ◌∷◌, ◌++◌, length, get_or, take, drop, slice_get, Option, Some, None, refl, sym, ap, subst, ◌∙◌, arith}
+use Rattle.std.proofs.Common.{◌≡◌, ◌≢◌, ℕ, ◌+◌, ◌<◌, inl, inr, Bool, true, List, [], ◌∷◌, ◌++◌, length, take, drop, slice_get, Option, Some, None, refl, sym, ap, subst, ◌∙◌, arith}
 use Rattle.std.specs.List.{Contains}
 use Rattle.std.proofs.lemmas.Bool.{cases_lt, cases_eq}
 use Rattle.std.proofs.lemmas.Option.{slice_get_within, get_or_from_slice_get}
-use Rattle.ballots.specs.declared.value.Value.{Value}
 use Rattle.ballots.specs.declared.record.Record.{Record}
 use Rattle.ballots.specs.declared.message.Message.{Message}
 use Rattle.proposer.specs.Call.{Begun, Call as Asked, Begins}
@@ -19,12 +18,12 @@ use Rattle.histories.specs.Event as event
 use Rattle.histories.specs.Gave.{Gave, count_of}
 use Rattle.histories.specs.Gave as gave
 use Rattle.histories.specs.History.{Step, History}
-use Rattle.histories.specs.Following.{Seat, IsUp, IsDown, with_due, found_in, down, reason_of, WantsMemory, PutGives, StepGives, record_due, InputGives, CutGives, Delivers, GetGives, InfoGives, OutcomeGives, QuestionGives, StartGives, UpGives, RefusesAsDown, DownGives, SeatGives, StepFollows, StepsFollow, at_first, Follows}
+use Rattle.histories.specs.Following.{Seat, IsUp, IsDown, found_in, down, reason_of, WantsMemory, PutGives, StepGives, record_due, InputGives, CutGives, Delivers, GetGives, InfoGives, OutcomeGives, QuestionGives, StartGives, UpGives, RefusesAsDown, DownGives, SeatGives, StepFollows, StepsFollow, at_first, Follows}
 use Rattle.lawful_histories.proofs.Lists.{nothing_in}
 use Rattle.lawful_histories.proofs.Rules.{Allows, rules_are_kept}
-use Rattle.lawful_histories.proofs.Knowing.{IsOwn, Covers, MayBeDue, KnowsRecords, KnowsCalls, KnowsViews, KnowsIfUp, KnowsSeat, one_record_more, knows_with_due}
+use Rattle.lawful_histories.proofs.Knowing.{IsOwn, MayBeDue, KnowsRecords, KnowsSeat, one_record_more, knows_with_due}
 use Rattle.lawful_histories.proofs.Dues.{Laws, kept_with, MayBeSent, Keeps, KeepsIfPlanned, of_message, of_tick, of_put}
-use Rattle.lawful_histories.proofs.Sending.{kept, came, each_allowed, Apart, ApartIfUp, seat_later, other_later}
+use Rattle.lawful_histories.proofs.Sending.{kept, came, each_allowed, ApartIfUp, seat_later, other_later}
 
 -- ---- a node that starts
 

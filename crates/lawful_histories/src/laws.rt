@@ -6,7 +6,9 @@ ghost use Rattle.histories.specs.Following.{Follows};
 
 use decided_log::laws::asked_is_a_run_of_the_prefix;
 use learner::laws::learned_is_decided_or_chosen;
-use proposer::laws::{answers_are_one, attempts_open_and_end, choices_are_one, majorities_are_of_members};
+use proposer::laws::{
+    answers_are_one, attempts_open_and_end, choices_are_one, majorities_are_of_members,
+};
 use schedule_runner::laws::lawful_by_messages;
 
 /// Whatever happens, nodes that follow their rules send what Paxos allows: whichever messages are lost, repeated or
