@@ -19,11 +19,11 @@ use Rattle.histories.specs.Gave.{Gave, count_of}
 use Rattle.histories.specs.Gave as gave
 use Rattle.histories.specs.History.{Step, History}
 use Rattle.histories.specs.Following.{Seat, IsUp, IsDown, found_in, down, reason_of, WantsMemory, PutGives, StepGives, record_due, InputGives, CutGives, Delivers, GetGives, InfoGives, OutcomeGives, QuestionGives, StartGives, UpGives, RefusesAsDown, DownGives, SeatGives, StepFollows, StepsFollow, at_first, Follows}
-use Rattle.lawful_histories.proofs.Lists.{nothing_in}
-use Rattle.lawful_histories.proofs.Rules.{Allows, rules_are_kept}
-use Rattle.lawful_histories.proofs.Knowing.{IsOwn, MayBeDue, KnowsRecords, KnowsSeat, one_record_more, knows_with_due}
-use Rattle.lawful_histories.proofs.Dues.{Laws, kept_with, MayBeSent, Keeps, KeepsIfPlanned, of_message, of_tick, of_put}
-use Rattle.lawful_histories.proofs.Sending.{kept, came, each_allowed, ApartIfUp, seat_later, other_later}
+use Rattle.histories.proofs.Lists.{nothing_in}
+use Rattle.histories.proofs.Rules.{Allows, rules_are_kept}
+use Rattle.histories.proofs.Knowing.{IsOwn, MayBeDue, KnowsRecords, KnowsSeat, one_record_more, knows_with_due}
+use Rattle.histories.proofs.Dues.{Laws, kept_with, MayBeSent, Keeps, KeepsIfPlanned, of_message, of_tick, of_put}
+use Rattle.histories.proofs.Sending.{kept, came, each_allowed, ApartIfUp, seat_later, other_later}
 
 -- ---- a node that starts
 

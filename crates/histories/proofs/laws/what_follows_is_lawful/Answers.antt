@@ -1,7 +1,7 @@
-use Rattle.lawful_histories.proofs.Proposers.{ProposerLaws}
-use Rattle.lawful_histories.proofs.Dues.{Laws}
-use Rattle.lawful_histories.proofs.Steps.{follows_is_lawful}
-use Rattle.lawful_histories.proofs.laws.what_follows_is_lawful.Goals as goal
+use Rattle.histories.proofs.Proposers.{ProposerLaws}
+use Rattle.histories.proofs.Dues.{Laws}
+use Rattle.histories.proofs.Steps.{follows_is_lawful}
+use Rattle.histories.proofs.laws.what_follows_is_lawful.Goals as goal
 
 pub returns : goal.returns
 returns c =

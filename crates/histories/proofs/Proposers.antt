@@ -19,9 +19,9 @@ use Rattle.learner.specs.Calls.{Call as Told}
 use Rattle.schedule_runner.specs.Saying.{Report, IsUpTo}
 use Rattle.schedule_runner.specs.Majorities.{MajorityOf}
 use Rattle.schedule_runner.specs.Messages.{promise, accept}
-use Rattle.lawful_histories.proofs.Lists.{nothing_in, in_front, behind_front, in_middle, first_or_rest, last_or_before, before_last, last_in, into_filter, out_of_filter, SplitsMore, at_last, earlier, splits_more, all_front, all_last}
-use Rattle.lawful_histories.proofs.Rules.{AllowsAccept, HasHighest}
-use Rattle.lawful_histories.proofs.Knowing.{KnowsCalls}
+use Rattle.histories.proofs.Lists.{nothing_in, in_front, behind_front, in_middle, first_or_rest, last_or_before, before_last, last_in, into_filter, out_of_filter, SplitsMore, at_last, earlier, splits_more, all_front, all_last}
+use Rattle.histories.proofs.Rules.{AllowsAccept, HasHighest}
+use Rattle.histories.proofs.Knowing.{KnowsCalls}
 
 -- ---- the laws of a proposer that are used here
 

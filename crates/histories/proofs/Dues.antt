@@ -26,12 +26,12 @@ use Rattle.decided_log.specs.Asked.{asked_of}
 use Rattle.schedule_runner.specs.Messages.{promise, accept, decided, Sent, SentBefore}
 use Rattle.histories.specs.Views.{Config, Views, HasPrefix}
 use Rattle.histories.specs.Due.{Plan, Due, Refuses, Plans, Aim, Attempts, AsksFrom, quietly, begins, answers_with, sends_alone, asked_too, has_seen, accept_of, LearnsOf, ReplyToPrepare, ReplyToAccept, BodyIsDue, AimIsDue, TickIsDue, PutIsDue, waits_too, MessageIsDue}
-use Rattle.lawful_histories.proofs.Lists.{nothing_in, only_one, last_in, last_or_before, into_map}
-use Rattle.lawful_histories.proofs.Rules.{Allows, one_value_before, accepted_was_proposed, decided_was_chosen}
-use Rattle.lawful_histories.proofs.Knowing.{IsOwn, Covers, MayBeKept, MayBeDue, WasTold, KnowsRecords, KnowsCalls, KnowsViews}
-use Rattle.lawful_histories.proofs.Acceptors.{promise_is_allowed, accepted_is_allowed}
-use Rattle.lawful_histories.proofs.Proposers.{ProposerLaws, promised_too, nacked_too, begun_too, calls_with_record, accept_is_allowed, accept_is_own, complete_now}
-use Rattle.lawful_histories.proofs.Learners.{LearnerLaw, AskedLaw, TellsChosen, asked_is_chosen, chosen_still}
+use Rattle.histories.proofs.Lists.{nothing_in, only_one, last_in, last_or_before, into_map}
+use Rattle.histories.proofs.Rules.{Allows, one_value_before, accepted_was_proposed, decided_was_chosen}
+use Rattle.histories.proofs.Knowing.{IsOwn, Covers, MayBeKept, MayBeDue, WasTold, KnowsRecords, KnowsCalls, KnowsViews}
+use Rattle.histories.proofs.Acceptors.{promise_is_allowed, accepted_is_allowed}
+use Rattle.histories.proofs.Proposers.{ProposerLaws, promised_too, nacked_too, begun_too, calls_with_record, accept_is_allowed, accept_is_own, complete_now}
+use Rattle.histories.proofs.Learners.{LearnerLaw, AskedLaw, TellsChosen, asked_is_chosen, chosen_still}
 
 -- the laws of lower crates that are used
 pub record Laws : Type 0 where

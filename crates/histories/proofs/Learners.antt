@@ -11,8 +11,8 @@ use Rattle.learner.specs.Calls as told
 use Rattle.learner.specs.Votes.{IsDecidedOrChosen, IsChosen}
 use Rattle.schedule_runner.specs.Messages.{accept, accepted, decided}
 use Rattle.histories.specs.Views.{HasPrefix}
-use Rattle.lawful_histories.proofs.Rules.{AllowsDecided}
-use Rattle.lawful_histories.proofs.Knowing.{WasTold}
+use Rattle.histories.proofs.Rules.{AllowsDecided}
+use Rattle.histories.proofs.Knowing.{WasTold}
 
 -- ---- the laws that are used here
 

@@ -16,7 +16,7 @@ use Rattle.learner.specs.Calls as told
 use Rattle.schedule_runner.specs.Messages.{promise, accept, accepted, decided}
 use Rattle.histories.specs.Views.{Views}
 use Rattle.histories.specs.Following.{Seat, IsUp, IsDown, with_due, found_in}
-use Rattle.lawful_histories.proofs.Lists.{last_or_before, before_last}
+use Rattle.histories.proofs.Lists.{last_or_before, before_last}
 
 -- ---- who sends it
 

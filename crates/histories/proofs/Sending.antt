@@ -13,10 +13,10 @@ use Rattle.proposer.specs.Attempting.{IsOpen, answering}
 use Rattle.schedule_runner.specs.Messages.{accept, Sent, SentBefore}
 use Rattle.histories.specs.Views.{Views}
 use Rattle.histories.specs.Following.{Seat, IsUp, IsDown, found_in}
-use Rattle.lawful_histories.proofs.Lists.{only_one, in_middle}
-use Rattle.lawful_histories.proofs.Rules.{Allows}
-use Rattle.lawful_histories.proofs.Knowing.{IsOwn, IsOwnBody, Covers, CoversBody, KnowsSeat, KnowsIfUp, records_later, calls_later}
-use Rattle.lawful_histories.proofs.Dues.{MayBeSent}
+use Rattle.histories.proofs.Lists.{only_one, in_middle}
+use Rattle.histories.proofs.Rules.{Allows}
+use Rattle.histories.proofs.Knowing.{IsOwn, IsOwnBody, Covers, CoversBody, KnowsSeat, KnowsIfUp, records_later, calls_later}
+use Rattle.histories.proofs.Dues.{MayBeSent}
 
 -- ---- places
 
