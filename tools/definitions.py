@@ -11,6 +11,23 @@ HEAD = """# Definitions
 
 The index of all `specs/`, made by `tools/definitions.py` from the comments there. Contracts cite these names; nothing in them is
 taken from the code's loops. What tests alone tie to a public standard is in [TESTS.md](TESTS.md).
+
+## The promise, phrase by phrase
+
+> For every list of deliveries, losses, repeats, reorderings and restarts, any two nodes that serve one ticket hand out equal schemas and equal batches in equal order, and an upload acknowledged for a version stands exactly once, as it was sent, in every version numbered from it, at whichever node serves that version, provided a restarted node has back every promise, acceptance and begun ballot that it answered for.
+
+| Phrase | What says it |
+|---|---|
+| For every list of deliveries, losses, repeats, reorderings and restarts | `Follows` (`histories`) is of any list of events. A message is lost where no `Deliver` names it or its delivery is refused, repeated and overtaken where deliveries name numbers as they like; a node goes down by a `TickCut` or a `DeliverCut`, and starts again by a `Restart`, whenever the list says so |
+| any two nodes that serve one ticket | two steps `Get` of one table and version that gave `Answer`, at whatever nodes and times |
+| hand out equal schemas and equal batches in equal order | `SameTicketSameBytes`: their bytes are equal, and so is all that can be read from them |
+| an upload acknowledged for a version | a step `Outcome` of the upload that gave `applied` with the version's number |
+| stands exactly once, as it was sent, | `AcknowledgedStandsOnce`: at that place among the uploads of the answer, which have different names; it is the upload of the bytes that were handed in, cell for cell (`IsTextOf`, law `uploads_have_one_encoding`). Metadata of its schema aside: a table shows that of its first upload |
+| in every version numbered from it, at whichever node serves that version | so it is in every answer to a ticket of its table for that version or a later one, earlier or later in the history, at any node |
+| provided a restarted node has back every promise, acceptance and begun ballot that it answered for | a node starts with the records of all steps that it took, and of the one in the midst of which it went down with the record that was due or without it (`found_in`) |
+
+That every history of nodes that follow their rules is so is the law `what_follows_is_safe`. The nodes' rules stand as definitions (`IsDue`);
+no code of a node is proved against them yet.
 """
 DEFINED = re.compile(r"^\s*(?:(?:abbrev|unfoldable)\s+)?pub (?:record |data )?([^\s:(]+)")
 OWN_LINE = re.compile(r"^(?:(?:abbrev|unfoldable) )?pub |^(?:abbrev )?mutual$")
