@@ -1,0 +1,136 @@
+-- Versions of tables: what stands in one, and where.
+use Rattle.std.proofs.Common.{◌≡◌, ◌≢◌, ℕ, zero, suc, ◌+◌, ◌-◌, ◌<◌, ◌≤◌, ◌⊎◌, inl, inr, Bool, true, false, cond, if◌then◌else◌, List, [], ◌∷◌, ◌++◌, length, take, get_or, Option, Some, None, slice_get, refl, sym, ap, subst, ◌∙◌, arith}
+use Rattle.std.specs.Prelude.{nat_le}
+use Rattle.std.specs.List.{filter, list_any}
+use Rattle.std.specs.Str.{bytes_eq}
+use Rattle.std.proofs.lemmas.Bool.{leb-true}
+use Rattle.std.proofs.lemmas.List.{length-take-le}
+use Rattle.std.proofs.lemmas.Option.{slice_get_within, slice_get-get_or, get_or_from_slice_get}
+use Rattle.std.proofs.lemmas.Slice.Eq.{bytes_eq-Decides}
+use Rattle.table_types.specs.Uploads.{Upload, upload_text}
+use Rattle.table_types.specs.Valid.{IsUpload}
+use Rattle.table_types.specs.Tables.{has_id, is_to, shape_text, has_shape, is_same, firsts, like_the_first, effective}
+use Rattle.table_types.specs.Tables.{Version, first_of_all, version_of, Outcome, applied, unknown, outcome_of}
+use Rattle.table_types.specs.Answers.{answer_of}
+use Rattle.histories.specs.Safe.{StandsIn}
+use Rattle.safe_histories.proofs.Lists.{In, Begins, some_same, none_is_some, in_cases, in_filter, in_take, in_from_at, at_from_in, at_taken, taken_at}
+use Rattle.safe_histories.proofs.Texts.{OneEncoding}
+
+-- ---- uploads that count are uploads of the list
+
+first_in : (x : Upload) (rest : List Upload) (upload : Upload) (b : Bool) → In (if b then [] else x ∷ []) upload → In (x ∷ rest) upload
+first_in x rest upload true there = absurd there
+first_in x rest upload false (inl same) = inl same
+first_in x rest upload false (inr none) = absurd none
+
+in_firsts : (before xs : List Upload) (upload : Upload) → In (firsts before xs) upload → In xs upload
+in_firsts before [] upload there = there
+in_firsts before (x ∷ rest) upload there =
+    let new = list_any (has_id x.id) before in
+    by_cases x rest upload new (firsts (before ++ x ∷ []) rest) (in_firsts (before ++ x ∷ []) rest upload)
+    (in_cases (if new then [] else x ∷ []) (firsts (before ++ x ∷ []) rest) upload there)
+  where
+    by_cases : (x : Upload) (rest : List Upload) (upload : Upload) (b : Bool) (later : List Upload) → (In later upload → In rest upload)
+        → In (if b then [] else x ∷ []) upload ⊎ In later upload → In (x ∷ rest) upload
+    by_cases x rest upload b later more (inl here) = first_in x rest upload b here
+    by_cases x rest upload b later more (inr there) = inr (more there)
+
+in_like : (xs : List Upload) (upload : Upload) → In (like_the_first xs) upload → In xs upload
+in_like [] upload there = there
+in_like (x ∷ rest) upload (inl same) = inl same
+in_like (x ∷ rest) upload (inr later) = inr (in_filter (has_shape (shape_text x)) rest upload later)
+
+pub in_effective : (table : List ℕ) (uploads : List Upload) (upload : Upload) → In (effective table uploads) upload → In uploads upload
+in_effective table uploads upload there =
+    in_firsts [] uploads upload (in_filter (is_to table) (firsts [] uploads) upload (in_like (filter (is_to table) (firsts [] uploads)) upload there))
+
+-- ---- a version is the first so many of them
+
+pub record IsFirstOf (number : ℕ) (counted : List Upload) (found : Version) : Type 0 where
+  pub are : found.uploads ≡ take number counted
+  pub enough : number ≤ length counted
+
+first_of : (number : ℕ) (x : Upload) (rest : List Upload) (found : Version) (b : Bool) → nat_le number (length (x ∷ rest)) ≡ b
+    → (if b then Some (record { schema = x.schema; uploads = take number (x ∷ rest) }) else None) ≡ Some found → IsFirstOf number (x ∷ rest) found
+first_of number x rest found true is same =
+    let version : Version = record { schema = x.schema; uploads = take number (x ∷ rest) } in
+    record {
+      are = sym (ap (λ (v : Version). v.uploads) (some_same version found same));
+      enough = leb-true number (length (x ∷ rest)) is;
+    }
+first_of number x rest found false is same = absurd (none_is_some found same)
+
+first_of_these : (number : ℕ) (counted : List Upload) (found : Version) → first_of_all number counted ≡ Some found → IsFirstOf number counted found
+first_of_these number [] found is = absurd (none_is_some found is)
+first_of_these number (x ∷ rest) found is = first_of number x rest found (nat_le number (length (x ∷ rest))) refl is
+
+pub version_is : (table : List ℕ) (number : ℕ) (uploads : List Upload) (found : Version) → version_of table number uploads ≡ Some found
+    → IsFirstOf number (effective table uploads) found
+version_is table number uploads found is = first_of_these number (effective table uploads) found is
+
+-- what stands in a version is an upload of the list
+pub in_version : (table : List ℕ) (number : ℕ) (uploads : List Upload) (found : Version) (upload : Upload) → version_of table number uploads ≡ Some found
+    → In found.uploads upload → In uploads upload
+in_version table number uploads found upload is there =
+    in_effective table uploads upload
+    (in_take number (effective table uploads) upload (subst (λ l. In l upload) (version_is table number uploads found is).are there))
+
+-- ---- an upload that was applied stands at its place
+
+abbrev pub Apart : Type 0
+Apart = (table : List ℕ) (uploads : List Upload) (i j : ℕ) (none : Upload) → i < j → j < length (effective table uploads)
+    → (get_or (effective table uploads) i none).id ≢ (get_or (effective table uploads) j none).id
+
+abbrev pub Placed : Type 0
+Placed = (uploads : List Upload) (upload none : Upload) (number : ℕ) → outcome_of uploads upload ≡ applied number
+    → (number ≤ length (effective upload.table uploads)) × (1 ≤ number)
+    × (is_same (get_or (effective upload.table uploads) (number - 1) none) upload ≡ true)
+
+-- the upload at a place of a version stands there among those that count
+pub at_version : (number : ℕ) (counted : List Upload) (found : Version) (i : ℕ) (one : Upload) → IsFirstOf number counted found
+    → slice_get found.uploads i ≡ Some one → slice_get counted i ≡ Some one
+at_version number counted found i one is at = at_taken number i counted one (ap (λ l. slice_get l i) (sym is.are) ∙ at)
+
+module _ (apart : Apart) where
+  pub stand_apart : (table : List ℕ) (number : ℕ) (uploads : List Upload) (found : Version) → version_of table number uploads ≡ Some found
+      → (i j : ℕ) (one other : Upload) → i < j → slice_get found.uploads i ≡ Some one → slice_get found.uploads j ≡ Some other → one.id ≢ other.id
+  stand_apart table number uploads found is i j one other lt at there =
+      let counted = effective table uploads in
+      let first = version_is table number uploads found is in
+      let here = at_version number counted found i one first at in
+      let later = at_version number counted found j other first there in
+      subst (λ (u : Upload). u.id ≢ other.id) (get_or_from_slice_get counted i one one here)
+      (subst (λ (u : Upload). (get_or counted i one).id ≢ u.id) (get_or_from_slice_get counted j other one later)
+      (apart table uploads i j one lt (slice_get_within counted j other later)))
+
+  module _ (placed : Placed) (same : OneEncoding) where
+    stands_there : (uploads : List Upload) (upload : Upload) (number : ℕ) → ((other : Upload) → In uploads other → IsUpload other) → IsUpload upload
+        → outcome_of uploads upload ≡ applied number → (1 ≤ number) × (number ≤ length (effective upload.table uploads))
+        × (slice_get (effective upload.table uploads) (number - 1) ≡ Some upload)
+    stands_there uploads upload number all is told =
+        let counted = effective upload.table uploads in
+        let place = placed uploads upload upload number told in
+        let within : number - 1 < length counted = omega (arith, place.0, place.1) in
+        let there = get_or counted (number - 1) upload in
+        let at : slice_get counted (number - 1) ≡ Some there = slice_get-get_or counted (number - 1) upload within in
+        let texts : upload_text there ≡ upload_text upload = (bytes_eq-Decides (upload_text there) (upload_text upload)).0 place.2 in
+        (place.1, place.0, at ∙ ap Some (same there upload (all there (in_effective upload.table uploads there (in_from_at counted (number - 1) there at))) is texts))
+
+    -- in every version that has so many uploads
+    pub stands_in : (uploads : List Upload) (upload : Upload) (number version : ℕ) (found : Version) (bytes : List ℕ)
+        → ((other : Upload) → In uploads other → IsUpload other) → IsUpload upload → outcome_of uploads upload ≡ applied number → number ≤ version
+        → version_of upload.table version uploads ≡ Some found → bytes ≡ answer_of found → (1 ≤ number) × StandsIn bytes version number upload
+    stands_in uploads upload number version found bytes all is told le found_is bytes_are =
+        let counted = effective upload.table uploads in
+        let first = version_is upload.table version uploads found found_is in
+        let there = stands_there uploads upload number all is told in
+        (
+          there.0,
+          record {
+            version = found;
+            bytes_are = bytes_are;
+            whole = ap length first.are ∙ length-take-le version counted first.enough;
+            apart = stand_apart upload.table version uploads found found_is;
+            placed = ap (λ l. slice_get l (number - 1)) first.are ∙ taken_at version (number - 1) counted upload (omega (arith, there.0, le)) there.2;
+          },
+        )
