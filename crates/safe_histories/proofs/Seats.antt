@@ -1,0 +1,149 @@
+-- Each event leaves a seat that is as the history shows with it.
+use Rattle.std.proofs.Common.{◌≡◌, ◌≢◌, ℕ, ◌+◌, ◌<◌, ◌≤◌, ◌⊎◌, inl, inr, ◌||◌, ◌&&◌, ◌==◌, not, Bool, true, false, cond, if◌then◌else◌, List, [], ◌∷◌, ◌++◌, length, Option, Some, None, slice_get, refl, sym, ap, ap₂, subst, ◌∙◌, eq-eqb, arith}
+use Rattle.std.specs.Option.{option_and_then}
+use Rattle.std.specs.List.{list_any}
+use Rattle.std.proofs.lemmas.Bool.{cases_eq}
+use Rattle.std.proofs.lemmas.List.{append-nil}
+use Rattle.ballots.specs.declared.message.Message.{Message}
+use Rattle.ballots.specs.declared.record.Record.{Record}
+use Rattle.table_types.specs.Uploads.{Upload}
+use Rattle.histories.specs.Event.{Event, node_of}
+use Rattle.histories.specs.Event as event
+use Rattle.histories.specs.Gave.{Gave, Reason}
+use Rattle.histories.specs.Gave as gave
+use Rattle.histories.specs.History.{Step}
+use Rattle.histories.specs.Views.{Config, Views, started_with, HasUploads}
+use Rattle.histories.specs.Due.{Input, Due, Plan, Refuses, Plans, IsDue}
+use Rattle.histories.specs.Due as input
+use Rattle.histories.specs.Following.{Seat, IsUp, IsDown, down, found_in, reason_of, PutGives, StepGives, InputGives, WantsMemory, CutGives, Delivers, QuestionGives, StartGives, UpGives, RefusesAsDown, DownGives, SeatGives, StepFollows, GetGives, InfoGives, OutcomeGives}
+use Rattle.histories.specs.Learning.{is_done, brings_up, brings_down, since_start, Runs, delivered_in, heard}
+use Rattle.safe_histories.proofs.Heard.{calls_of}
+use Rattle.safe_histories.proofs.Starts.{nothing_either_way, Elsewhere, step_of, elsewhere}
+use Rattle.safe_histories.proofs.Running.{put_tells, tick_tells, message_tells, Agrees, started, goes_on, goes_down, stays_down, others_agree}
+
+module _ (sent : List Message) (done : List Step) where
+  -- as the seat of the event's node is behind it
+  abbrev After : Event → Gave → Seat → Type 0
+  After e given seat = Agrees sent (done ++ step_of e given ∷ []) (node_of e) seat
+
+  with_it : (e : Event) (given was : Gave) (seat other : Seat) → given ≡ was → seat ≡ other → After e was other → After e given seat
+  with_it e given was seat other same also after = subst (λ (g : Gave). After e g seat) (sym same) (subst (After e was) (sym also) after)
+
+  -- nothing is delivered, and its learner is told nothing
+  quietly : (e : Event) (given : Gave) (views after : Views) → brings_up (node_of e) (step_of e given) ≡ false → brings_down (node_of e) (step_of e given) ≡ false
+      → delivered_in sent (node_of e) (step_of e given) ≡ None → after.told ≡ views.told → Agrees sent done (node_of e) (IsUp views) → After e given (IsUp after)
+  quietly e given views after no_up no_down nothing same agrees =
+      goes_on sent done (node_of e) (step_of e given) views after None no_up no_down nothing (same ∙ sym (append-nil views.told)) agrees
+
+  -- ---- refusals and cuts
+
+  abbrev refusal : Reason → Gave
+  refusal reason = gave.Refused reason
+
+  it_is : (node : ℕ) → (node == node) ≡ true
+  it_is node = eq-eqb node node refl
+
+  -- a refused event that is no start leaves the node as it was
+  pub refused : (e : Event) (reason : Reason) (views : Views) → brings_up (node_of e) (step_of e (refusal reason)) ≡ false
+      → brings_down (node_of e) (step_of e (refusal reason)) ≡ false → Agrees sent done (node_of e) (IsUp views) → After e (refusal reason) (IsUp views)
+  refused e reason views no_up no_down agrees = quietly e (refusal reason) views views no_up no_down refl refl agrees
+
+  cut_down : (node : ℕ) (e : Event) (records : List Record) (due : Option Record) → node_of e ≡ node → brings_up (node_of e) (step_of e gave.Done) ≡ false
+      → brings_down (node_of e) (step_of e gave.Done) ≡ true → After e gave.Done (IsDown records due)
+  cut_down node e records due is no_up is_down = goes_down sent done (node_of e) (step_of e gave.Done) records due no_up is_down
+
+  -- ---- a node that is up
+
+  module _ (config : Config) (next : ℕ) (found : Bool) (views : Views) where
+    put_agrees : (node : ℕ) (text : List ℕ) (given : Gave) (seat : Seat) → Agrees sent done node (IsUp views)
+        → InputGives config node views (input.Put text) (PutGives views) given seat → After (event.Put node text) given seat
+    put_agrees node text given seat agrees (inl (Refuses refusal, is, (gives, stays))) =
+        with_it (event.Put node text) given (gave.Refused (reason_of refusal)) seat (IsUp views) gives stays
+        (refused (event.Put node text) (reason_of refusal) views refl refl agrees)
+    put_agrees node text given seat agrees (inl (Plans plan, is, (gives, stays))) =
+        with_it (event.Put node text) given gave.Done seat (IsUp plan.after) gives stays
+        (quietly (event.Put node text) gave.Done views plan.after refl refl refl (put_tells config views text plan is) agrees)
+    put_agrees node text given seat agrees (inr (gives, stays)) =
+        with_it (event.Put node text) given (gave.Refused gave.OutOfMemory) seat (IsUp views) gives stays
+        (refused (event.Put node text) gave.OutOfMemory views refl refl agrees)
+
+    tick_agrees : (node left : ℕ) (given : Gave) (seat : Seat) → Agrees sent done node (IsUp views)
+        → InputGives config node views (input.Tick left) (StepGives sent next views) given seat → After (event.Tick node left) given seat
+    tick_agrees node left given seat agrees (inl (Refuses refusal, is, (gives, stays))) =
+        with_it (event.Tick node left) given (gave.Refused (reason_of refusal)) seat (IsUp views) gives stays
+        (refused (event.Tick node left) (reason_of refusal) views refl refl agrees)
+    tick_agrees node left given seat agrees (inl (Plans plan, is, (gives, goes, stays))) =
+        let out = gave.Sent next (length plan.sends) in
+        with_it (event.Tick node left) given out seat (IsUp plan.after) gives stays
+        (quietly (event.Tick node left) out views plan.after refl refl refl (tick_tells config node views left plan is) agrees)
+    tick_agrees node left given seat agrees (inr (gives, stays)) =
+        with_it (event.Tick node left) given (gave.Refused gave.OutOfMemory) seat (IsUp views) gives stays
+        (refused (event.Tick node left) gave.OutOfMemory views refl refl agrees)
+
+    handed_here : (node number first count : ℕ) (m : Message) → slice_get sent number ≡ Some m
+        → delivered_in sent node (step_of (event.Deliver node number) (gave.Sent first count)) ≡ Some m
+    handed_here node number first count m is =
+        ap (λ b. option_and_then (λ n. slice_get sent n) (if b then Some number else None)) (it_is node) ∙ is
+
+    delivery_agrees : (node number : ℕ) (m : Message) (given : Gave) (seat : Seat) → slice_get sent number ≡ Some m → Agrees sent done node (IsUp views)
+        → InputGives config node views (input.Deliver m) (StepGives sent next views) given seat → After (event.Deliver node number) given seat
+    delivery_agrees node number m given seat there agrees (inl (Refuses refusal, is, (gives, stays))) =
+        with_it (event.Deliver node number) given (gave.Refused (reason_of refusal)) seat (IsUp views) gives stays
+        (refused (event.Deliver node number) (reason_of refusal) views refl refl agrees)
+    delivery_agrees node number m given seat there agrees (inl (Plans plan, is, (gives, goes, stays))) =
+        let out = gave.Sent next (length plan.sends) in
+        with_it (event.Deliver node number) given out seat (IsUp plan.after) gives stays
+        (goes_on sent done node (step_of (event.Deliver node number) out) views plan.after (Some m) refl refl
+        (handed_here node number next (length plan.sends) m there) (message_tells config node views m plan is) agrees)
+    delivery_agrees node number m given seat there agrees (inr (gives, stays)) =
+        with_it (event.Deliver node number) given (gave.Refused gave.OutOfMemory) seat (IsUp views) gives stays
+        (refused (event.Deliver node number) gave.OutOfMemory views refl refl agrees)
+
+    deliver_agrees : (node number : ℕ) (given : Gave) (seat : Seat) → Agrees sent done node (IsUp views)
+        → Delivers sent next number (λ m. InputGives config node views (input.Deliver m) (StepGives sent next views)) views given seat
+        → After (event.Deliver node number) given seat
+    deliver_agrees node number given seat agrees (inl (m, before, there, gives)) = delivery_agrees node number m given seat there agrees gives
+    deliver_agrees node number given seat agrees (inr (past, gives, stays)) =
+        with_it (event.Deliver node number) given (gave.Refused gave.NotSent) seat (IsUp views) gives stays
+        (refused (event.Deliver node number) gave.NotSent views refl refl agrees)
+
+    cut_is : (node : ℕ) → ((node == node) && true || false && false) ≡ true
+    cut_is node = ap (λ b. b && true || false && false) (it_is node)
+
+    no_cut_is : (b : Bool) → (b && false || false && true) ≡ false
+    no_cut_is true = refl
+    no_cut_is false = refl
+
+    seat_of_cut : (node : ℕ) (i : Input) (given : Gave) (seat : Seat) → CutGives config node views i given seat
+        → (given ≡ gave.Done) × ((due : Option Record) × (seat ≡ IsDown views.records due))
+    seat_of_cut node i given seat (gives, inl (due, is, stays)) = (gives, (_, stays))
+    seat_of_cut node i given seat (gives, inr stays) = (gives, (None, stays))
+
+    tick_cut_agrees : (node left : ℕ) (given : Gave) (seat : Seat) → CutGives config node views (input.Tick left) given seat → After (event.TickCut node left) given seat
+    tick_cut_agrees node left given seat cut =
+        let is = seat_of_cut node (input.Tick left) given seat cut in
+        with_it (event.TickCut node left) given gave.Done seat (IsDown views.records is.1.0) is.0 is.1.1
+        (cut_down node (event.TickCut node left) views.records is.1.0 refl refl (cut_is node))
+
+    delivery_cut_agrees : (node number : ℕ) (m : Message) (given : Gave) (seat : Seat) → CutGives config node views (input.Deliver m) given seat
+        → After (event.DeliverCut node number) given seat
+    delivery_cut_agrees node number m given seat cut =
+        let is = seat_of_cut node (input.Deliver m) given seat cut in
+        with_it (event.DeliverCut node number) given gave.Done seat (IsDown views.records is.1.0) is.0 is.1.1
+        (cut_down node (event.DeliverCut node number) views.records is.1.0 refl refl (cut_is node))
+
+    deliver_cut_agrees : (node number : ℕ) (given : Gave) (seat : Seat) → Agrees sent done node (IsUp views)
+        → Delivers sent next number (λ m. CutGives config node views (input.Deliver m)) views given seat → After (event.DeliverCut node number) given seat
+    deliver_cut_agrees node number given seat agrees (inl (m, before, there, cut)) = delivery_cut_agrees node number m given seat cut
+    deliver_cut_agrees node number given seat agrees (inr (past, gives, stays)) =
+        with_it (event.DeliverCut node number) given (gave.Refused gave.NotSent) seat (IsUp views) gives stays
+        (refused (event.DeliverCut node number) gave.NotSent views refl (no_cut_is (node == node)) agrees)
+
+    -- a question changes nothing
+    asked_agrees : (e : Event) (given : Gave) (seat : Seat) (Gives : List Upload → Gave → Type 0) → brings_up (node_of e) (step_of e given) ≡ false
+        → brings_down (node_of e) (step_of e given) ≡ false → delivered_in sent (node_of e) (step_of e given) ≡ None → Agrees sent done (node_of e) (IsUp views)
+        → QuestionGives config views Gives given seat ⊎ WantsMemory views given seat → After e given seat
+    asked_agrees e given seat Gives no_up no_down nothing agrees (inl (uploads, has, gives, stays)) =
+        subst (After e given) (sym stays) (quietly e given views views no_up no_down nothing refl agrees)
+    asked_agrees e given seat Gives no_up no_down nothing agrees (inr (gives, stays)) =
+        subst (After e given) (sym stays) (quietly e given views views no_up no_down nothing refl agrees)
