@@ -5,3 +5,4 @@ pub mod Heard
 pub mod Starts
 pub mod Running
 pub mod Seats
+pub mod Steps

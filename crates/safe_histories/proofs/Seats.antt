@@ -15,8 +15,8 @@ use Rattle.histories.specs.History.{Step}
 use Rattle.histories.specs.Views.{Config, Views, started_with, HasUploads}
 use Rattle.histories.specs.Due.{Input, Due, Plan, Refuses, Plans, IsDue}
 use Rattle.histories.specs.Due as input
-use Rattle.histories.specs.Following.{Seat, IsUp, IsDown, down, found_in, reason_of, PutGives, StepGives, InputGives, WantsMemory, CutGives, Delivers, QuestionGives, StartGives, UpGives, RefusesAsDown, DownGives, SeatGives, StepFollows, GetGives, InfoGives, OutcomeGives}
-use Rattle.histories.specs.Learning.{is_done, brings_up, brings_down, since_start, Runs, delivered_in, heard}
+use Rattle.histories.specs.Following.{Seat, IsUp, IsDown, down, found_in, reason_of, PutGives, StepGives, InputGives, WantsMemory, CutGives, Delivers, QuestionGives, StartGives, UpGives, RefusesAsDown, DownGives, SeatGives, StepFollows, at_first, GetGives, InfoGives, OutcomeGives}
+use Rattle.histories.specs.Learning.{is_done, is_taken, brings_up, brings_down, since_start, Runs, delivered_in, heard}
 use Rattle.safe_histories.proofs.Heard.{calls_of}
 use Rattle.safe_histories.proofs.Starts.{nothing_either_way, Elsewhere, step_of, elsewhere}
 use Rattle.safe_histories.proofs.Running.{put_tells, tick_tells, message_tells, Agrees, started, goes_on, goes_down, stays_down, others_agree}
@@ -147,3 +147,95 @@ module _ (sent : List Message) (done : List Step) where
         subst (After e given) (sym stays) (quietly e given views views no_up no_down nothing refl agrees)
     asked_agrees e given seat Gives no_up no_down nothing agrees (inr (gives, stays)) =
         subst (After e given) (sym stays) (quietly e given views views no_up no_down nothing refl agrees)
+
+  -- ---- starts
+
+  up_is : (node : ℕ) → ((node == node) && true) ≡ true
+  up_is node = ap (λ b. b && true) (it_is node)
+
+  no_up_is : (b : Bool) → (b && false) ≡ false
+  no_up_is true = refl
+  no_up_is false = refl
+
+  failed_is : (node : ℕ) → (false && false || (node == node) && true) ≡ true
+  failed_is node = ap (λ b. false && false || b && true) (it_is node)
+
+  down_of : (old seat : Seat) → seat ≡ down old → (records : List Record) × (due : Option Record) × (seat ≡ IsDown records due)
+  down_of (IsUp views) seat is = (views.records, None, is)
+  down_of (IsDown records due) seat is = (records, due, is)
+
+  pub start_agrees : (found : Bool) (node : ℕ) (old : Seat) (given : Gave) (seat : Seat) → StartGives found old given seat → After (event.Restart node) given seat
+  start_agrees found node old given seat (inl (gives, stays)) =
+      with_it (event.Restart node) given gave.Done seat (IsUp (started_with (found_in found old))) gives stays
+      (started sent done node (step_of (event.Restart node) gave.Done) (found_in found old) (up_is node))
+  start_agrees found node old given seat (inr (gives, stays)) =
+      let is = down_of old seat stays in
+      let out = gave.Refused gave.OutOfMemory in
+      with_it (event.Restart node) given out seat (IsDown is.0 is.1) gives is.2
+      (goes_down sent done node (step_of (event.Restart node) out) is.0 is.1 (no_up_is (node == node)) (failed_is node))
+
+  -- ---- all events
+
+  up_agrees : (config : Config) (next : ℕ) (found : Bool) (views : Views) (e : Event) (given : Gave) (seat : Seat) → Agrees sent done (node_of e) (IsUp views)
+      → UpGives config sent next found views e given seat → After e given seat
+  up_agrees config next found views (event.Put node text) given seat agrees gives = put_agrees config next found views node text given seat agrees gives
+  up_agrees config next found views (event.Tick node left) given seat agrees gives = tick_agrees config next found views node left given seat agrees gives
+  up_agrees config next found views (event.Deliver node number) given seat agrees gives = deliver_agrees config next found views node number given seat agrees gives
+  up_agrees config next found views (event.TickCut node left) given seat agrees gives = tick_cut_agrees config next found views node left given seat gives
+  up_agrees config next found views (event.DeliverCut node number) given seat agrees gives = deliver_cut_agrees config next found views node number given seat agrees gives
+  up_agrees config next found views (event.Restart node) given seat agrees gives = start_agrees found node (IsUp views) given seat gives
+  up_agrees config next found views (event.Get node table version) given seat agrees gives =
+      asked_agrees config next found views (event.Get node table version) given seat (λ uploads. GetGives uploads table version) refl refl
+      (nothing_either_way (is_taken given)) agrees gives
+  up_agrees config next found views (event.Info node table) given seat agrees gives =
+      asked_agrees config next found views (event.Info node table) given seat (λ uploads. InfoGives uploads table) refl refl
+      (nothing_either_way (is_taken given)) agrees gives
+  up_agrees config next found views (event.Outcome node text) given seat agrees gives =
+      asked_agrees config next found views (event.Outcome node text) given seat (λ uploads. OutcomeGives uploads text) refl refl
+      (nothing_either_way (is_taken given)) agrees (inl gives)
+
+  refused_down : (e : Event) (given : Gave) (seat : Seat) (records : List Record) (due : Option Record) → brings_up (node_of e) (step_of e given) ≡ false
+      → Agrees sent done (node_of e) (IsDown records due) → RefusesAsDown (IsDown records due) given seat → After e given seat
+  refused_down e given seat records due no_up agrees (gives, stays) =
+      subst (After e given) (sym stays) (stays_down sent done (node_of e) (step_of e given) records due no_up agrees)
+
+  down_agrees : (found : Bool) (records : List Record) (due : Option Record) (e : Event) (given : Gave) (seat : Seat) → Agrees sent done (node_of e) (IsDown records due)
+      → DownGives found (IsDown records due) e given seat → After e given seat
+  down_agrees found records due (event.Put node text) given seat agrees gives = refused_down (event.Put node text) given seat records due refl agrees gives
+  down_agrees found records due (event.Tick node left) given seat agrees gives = refused_down (event.Tick node left) given seat records due refl agrees gives
+  down_agrees found records due (event.Deliver node number) given seat agrees gives = refused_down (event.Deliver node number) given seat records due refl agrees gives
+  down_agrees found records due (event.TickCut node left) given seat agrees gives = refused_down (event.TickCut node left) given seat records due refl agrees gives
+  down_agrees found records due (event.DeliverCut node number) given seat agrees gives =
+      refused_down (event.DeliverCut node number) given seat records due refl agrees gives
+  down_agrees found records due (event.Restart node) given seat agrees gives = start_agrees found node (IsDown records due) given seat gives
+  down_agrees found records due (event.Get node table version) given seat agrees gives =
+      refused_down (event.Get node table version) given seat records due refl agrees gives
+  down_agrees found records due (event.Info node table) given seat agrees gives = refused_down (event.Info node table) given seat records due refl agrees gives
+  down_agrees found records due (event.Outcome node text) given seat agrees gives = refused_down (event.Outcome node text) given seat records due refl agrees gives
+
+  seat_agrees : (config : Config) (next : ℕ) (found : Bool) (old : Seat) (e : Event) (given : Gave) (seat : Seat) → Agrees sent done (node_of e) old
+      → SeatGives config sent next found old e given seat → After e given seat
+  seat_agrees config next found (IsUp views) e given seat agrees gives = up_agrees config next found views e given seat agrees gives
+  seat_agrees config next found (IsDown records due) e given seat agrees gives = down_agrees found records due e given seat agrees gives
+
+  -- ---- all nodes
+
+  abbrev pub AllAgree : ℕ → List Step → (ℕ → Seat) → Type 0
+  AllAgree members steps seats = (node : ℕ) → node < members → Agrees sent steps node (seats node)
+
+  pub step_agrees : (config : Config) (next : ℕ) (found : Bool) (old new : ℕ → Seat) (step : Step) → AllAgree config.members done old
+      → StepFollows config sent next old step found new → AllAgree config.members (done ++ step ∷ []) new
+  step_agrees config next found old new step all (inl (member, gives, others)) = λ node within.
+      elim (cases_eq node (node_of step.event)) as (λ _. Agrees sent (done ++ step ∷ []) node (new node)) [
+        | inl same ↦ subst (λ (n : ℕ). Agrees sent (done ++ step ∷ []) n (new n)) (sym same)
+        (seat_agrees config next found (old (node_of step.event)) step.event step.gave (new (node_of step.event)) (all (node_of step.event) member) gives)
+        | inr apart ↦ subst (Agrees sent (done ++ step ∷ []) node) (sym (others node apart))
+        (others_agree sent done node step (old node) (elsewhere sent node step.event step.gave apart) (all node within))
+      ]
+  step_agrees config next found old new step all (inr (past, gives, same)) = λ node within.
+      subst (Agrees sent (done ++ step ∷ []) node) (sym (same node))
+      (others_agree sent done node step (old node) (elsewhere sent node step.event step.gave (λ is. absurd (omega (arith, is, within, past)))) (all node within))
+
+-- at first every node runs, and has heard nothing
+pub agree_at_first : (sent : List Message) (members : ℕ) → AllAgree sent [] members [] at_first
+agree_at_first sent members node within = (refl, refl)
