@@ -6,3 +6,5 @@ pub mod Starts
 pub mod Running
 pub mod Seats
 pub mod Steps
+pub mod Prefixes
+pub mod Served
