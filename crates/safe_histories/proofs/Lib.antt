@@ -8,3 +8,5 @@ pub mod Seats
 pub mod Steps
 pub mod Prefixes
 pub mod Served
+pub mod Safety
+pub mod Putting
