@@ -10,3 +10,4 @@ pub mod Prefixes
 pub mod Served
 pub mod Safety
 pub mod Putting
+pub mod Planning

@@ -41,7 +41,7 @@ aim_tells : (config : Config) (me : ℕ) (views : Views) (aim : Aim) (plan : Pla
 aim_tells config me views (Attempts slot value) plan (highest, lt, is_highest, less, is) = ap (λ (p : Plan). p.after.told) is
 aim_tells config me views (AsksFrom slot) plan asks = asks_tells config me views slot plan asks
 
-refused_plan : (r : input.Refusal) (plan : Plan) → (let d : Due = Plans plan in d) ≡ Refuses r → ⊥
+pub refused_plan : (r : input.Refusal) (plan : Plan) → (let d : Due = Plans plan in d) ≡ Refuses r → ⊥
 refused_plan r plan same = cc
 
 pub tick_tells : (config : Config) (me : ℕ) (views : Views) (left : ℕ) (plan : Plan) → TickIsDue config me views left (Plans plan) → plan.after.told ≡ views.told

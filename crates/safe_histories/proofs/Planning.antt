@@ -1,0 +1,294 @@
+-- What is due keeps to texts: where all uploads that a node has, and those of its input, are of some texts, so are those that it plans.
+use Rattle.std.proofs.Common.{◌≡◌, ◌≢◌, ℕ, ◌+◌, ◌<◌, ◌≤◌, ◌⊎◌, ◌↔◌, inl, inr, Bool, true, false, if◌then◌else◌, nat_eq, List, [], ◌∷◌, ◌++◌, length, Option, Some, None, slice_get, refl, sym, ap, subst, ◌∙◌}
+use Rattle.std.specs.List.{Contains, filter_map}
+use Rattle.std.proofs.lemmas.Option.{slice_get_within}
+use Rattle.ballots.specs.Ballot.{Ballot, IsBelow}
+use Rattle.ballots.specs.declared.value.Value.{Value}
+use Rattle.ballots.specs.declared.value.Value.TheVariants.{Noop, Upload as UploadValue}
+use Rattle.ballots.specs.declared.acceptance.Acceptance.{Acceptance}
+use Rattle.ballots.specs.declared.record.Record.{Record}
+use Rattle.ballots.specs.declared.record.Record.TheVariants.{Began, Promised, Accepted as HasAccepted}
+use Rattle.ballots.specs.declared.message.Message.{Message}
+use Rattle.ballots.specs.declared.message.Body.{Body}
+use Rattle.ballots.specs.declared.message.Body.TheVariants.{Prepare, Promise, Nack, Accept, Accepted, Ask, Decided}
+use Rattle.ballots.specs.Message.{message}
+use Rattle.acceptor.specs.Standing.{Standing}
+use Rattle.acceptor.specs.Answering.{Prepares, Accepts}
+use Rattle.acceptor.specs.declared.answer.Answer.{Answer}
+use Rattle.acceptor.specs.declared.answer.Answer.TheVariants as answer
+use Rattle.acceptor.specs.Restored.{acceptance_in, IsLastHighest, IsRestored}
+use Rattle.proposer.specs.Call.{Begun, Promise as Promised_call, Call as Asked, Begins, Promises, Nacks}
+use Rattle.proposer.specs.Choosing.{Report, first_of_each, reports_of, Chooses}
+use Rattle.proposer.specs.Attempting.{Answers, answering, counted}
+use Rattle.proposer.specs.Attempting as attempting
+use Rattle.proposer.specs.Promised.{IsAnswerTo}
+use Rattle.learner.specs.Calls.{Call as Told, IsLearned}
+use Rattle.learner.specs.Calls as told
+use Rattle.learner.specs.Votes.{IsDecidedOrChosen}
+use Rattle.decided_log.specs.Asked.{asked_of, decided_message}
+use Rattle.table_types.specs.Uploads.{Upload}
+use Rattle.table_types.specs.Tables.{outcome_of, unknown}
+use Rattle.histories.specs.Texts.{IsTextOf}
+use Rattle.histories.specs.Views.{Config, Views, HasPrefix}
+use Rattle.histories.specs.Due.{Input, Due, Plan, Refuses, Plans, Aim, Attempts, AsksFrom, quietly, PutIsDue, waits_too, IsAim, begins, AsksAt, AimIsDue, TickIsDue, has_seen, answers_with, sends_alone, ReplyToPrepare, ReplyToAccept, asked_too, accept_of, AreStillWaiting, LearnsOf, BodyIsDue, MessageIsDue, IsDue}
+use Rattle.histories.specs.Due as input
+use Rattle.safe_histories.proofs.Lists.{In, some_same, none_is_some, in_from_contains, contains_from_in, in_right, in_cases, in_filter_map, at_from_in}
+use Rattle.safe_histories.proofs.Heard.{LearnerLaws}
+use Rattle.safe_histories.proofs.Running.{refused_plan}
+use Rattle.safe_histories.proofs.Putting.{Each, each_none, each_one, each_both, each_more, ValueFrom, ReportFrom, BodyFrom, MessageFrom, RecordFrom, AskedFrom, ToldFrom, DueFrom, ViewsFrom, PlanFrom}
+
+-- laws of a proposer
+pub record ProposerLaws : Type 0 where
+  pub highest : (candidate : Value) (reports : List Report) (v : Value) → Chooses candidate reports v
+      → ((reports ≡ []) × (v ≡ candidate)) ⊎ ((ballot : Ballot) × Contains reports (record { ballot = ballot; value = v })
+      × ((other : Report) → Contains reports other → IsBelow ballot other.ballot → ⊥))
+  pub reports : (promises : List Promised_call) (report : Report) → Contains (reports_of promises) report
+      ↔ ((promise : Promised_call) × Contains promises promise × (promise.report ≡ Some report))
+  pub first : (promises : List Promised_call) (promise : Promised_call) → Contains (first_of_each promises) promise
+      ↔ ((before : List Promised_call) × (after : List Promised_call) × (promises ≡ before ++ promise ∷ after)
+      × ((other : Promised_call) → Contains before other → other.sender ≢ promise.sender))
+  pub answering : (members : ℕ) (begun : Begun) (since : List Asked) (promise : Promised_call)
+      → Contains (answering members begun since) promise ↔ (Contains since (Promises promise) × IsAnswerTo members begun promise)
+
+-- what is answered to one who asks
+abbrev pub EachAsked : Type 0
+EachAsked = (node from k : ℕ) (prefix : List Value) → k < length (asked_of node prefix from)
+    → (value : Value) × (slice_get prefix (from + k) ≡ Some value) × (slice_get (asked_of node prefix from) k ≡ Some (decided_message node (from + k) value))
+
+module _ (T : List ℕ → Type 0) where
+  -- ---- acceptors
+
+  accepted_in : (a accepted : Acceptance) (b : Bool) → ValueFrom T accepted.value → (if b then Some accepted else None) ≡ Some a → ValueFrom T a.value
+  accepted_in a accepted true from is = subst (λ (x : Acceptance). ValueFrom T x.value) (some_same accepted a is) from
+  accepted_in a accepted false from is = absurd (none_is_some a is)
+
+  acceptance_from : (slot : ℕ) (r : Record) (a : Acceptance) → RecordFrom T r → acceptance_in slot r ≡ Some a → ValueFrom T a.value
+  acceptance_from slot (Began ballot) a from is = absurd (none_is_some a is)
+  acceptance_from slot (Promised of ballot) a from is = absurd (none_is_some a is)
+  acceptance_from slot (HasAccepted of accepted) a from is = accepted_in a accepted (nat_eq slot of) from is
+
+  highest_from : (slot : ℕ) (records : List Record) (o : Option Acceptance) → Each (RecordFrom T) records → IsLastHighest (filter_map (acceptance_in slot) records) o
+      → ReportFrom T o
+  highest_from slot records None from is = tt
+  highest_from slot records (Some highest) from (before, after, parts, above, below) =
+      let by = in_filter_map (acceptance_in slot) records highest (subst (λ l. In l highest) (sym parts) (in_right before (highest ∷ after) highest (inl refl))) in
+      acceptance_from slot by.0 highest (from by.0 by.1) by.2
+
+  report_from : (records : List Record) (old new : Standing) (slot : ℕ) (ballot : Ballot) (report : Option Acceptance) → Each (RecordFrom T) records
+      → IsRestored records old → Prepares old new slot ballot (answer.Promise report) → ReportFrom T report
+  report_from records old new slot ballot report from restored (above, is, sets) =
+      subst (ReportFrom T) (sym is) (highest_from slot records (old.accepted slot) from (restored.acceptances slot))
+
+  -- ---- proposers
+
+  module _ (proposer : ProposerLaws) where
+    reported_from : (members : ℕ) (begun : Begun) (calls : List Asked) (report : Report) → Each (AskedFrom T) calls
+        → Contains (reports_of (counted members begun calls)) report → ValueFrom T report.value
+    reported_from members begun calls report from there =
+        let by = (proposer.reports (counted members begun calls) report).0 there in
+        let first = (proposer.first (answering members begun calls) by.0).0 by.1 in
+        let promised = by.0 in
+        let came : Contains (answering members begun calls) promised =
+        contains_from_in (answering members begun calls) promised
+        (subst (λ l. In l promised) (sym first.2) (in_right first.0 (promised ∷ first.1) promised (inl refl))) in
+        let call = (proposer.answering members begun calls promised).0 came in
+        subst (ReportFrom T) by.2 (from (Promises promised) (in_from_contains calls (Promises promised) call.0))
+
+    chosen_from : (members : ℕ) (calls : List Asked) (promise : Promised_call) (accept : ℕ × Ballot × Value) → Each (AskedFrom T) calls → ReportFrom T promise.report
+        → attempting.Accepts members calls promise accept → ValueFrom T accept.2
+    chosen_from members calls promise accept from report accepts =
+        let all : Each (AskedFrom T) (accepts.open_is.before ++ Begins accepts.begun ∷ accepts.since) = subst (Each (AskedFrom T)) accepts.open_is.split from in
+        let begun : ValueFrom T accepts.begun.candidate =
+        all (Begins accepts.begun) (in_right accepts.open_is.before (Begins accepts.begun ∷ accepts.since) (Begins accepts.begun) (inl refl)) in
+        let since : Each (AskedFrom T) (accepts.since ++ Promises promise ∷ []) =
+        each_more (AskedFrom T) accepts.since (Promises promise)
+        (λ call there. all call (in_right accepts.open_is.before (Begins accepts.begun ∷ accepts.since) call (inr there))) report in
+        let reports = reports_of (counted members accepts.begun (accepts.since ++ Promises promise ∷ [])) in
+        elim (proposer.highest accepts.begun.candidate reports accept.2 accepts.value_is) as (λ _. ValueFrom T accept.2) [
+          | inl own ↦ subst (ValueFrom T) (sym own.1) begun
+          | inr reported ↦ reported_from members accepts.begun (accepts.since ++ Promises promise ∷ []) (record { ballot = reported.0; value = accept.2 }) since reported.1
+        ]
+
+    accept_from : (me members : ℕ) (calls : List Asked) (promise : Promised_call) (accept : Option (ℕ × Ballot × Value)) → Each (AskedFrom T) calls
+        → ReportFrom T promise.report → Answers members calls promise accept → Each (MessageFrom T) (accept_of me accept)
+    accept_from me members calls promise None from report answers = each_none (MessageFrom T)
+    accept_from me members calls promise (Some accept) from report accepts =
+        each_one (MessageFrom T) (message me accept.0 (Accept (record { ballot = accept.1; value = accept.2 })))
+        (chosen_from members calls promise accept from report accepts)
+
+  -- ---- learners
+
+  module _ (learner : LearnerLaws) where
+    learned_from : (members : ℕ) (calls : List Told) (slot : ℕ) (value : Value) → Each (ToldFrom T) calls → IsLearned members calls slot value → ValueFrom T value
+    learned_from members calls slot value from is = by_cases (learner.only members calls slot value is)
+      where
+        by_cases : IsDecidedOrChosen members calls slot value → ValueFrom T value
+        by_cases (inl decided) = from (told.Decided slot value) (in_from_contains calls (told.Decided slot value) decided)
+        by_cases (inr chosen) =
+            from (told.Accepted chosen.member slot chosen.ballot value)
+            (in_from_contains calls (told.Accepted chosen.member slot chosen.ballot value) chosen.proposed)
+
+    pub prefix_from : (members : ℕ) (calls : List Told) (values : List Value) (slot : ℕ) (value : Value) → Each (ToldFrom T) calls → HasPrefix members calls values
+        → slice_get values slot ≡ Some value → ValueFrom T value
+    prefix_from members calls values slot value from prefix at = learned_from members calls slot value from (prefix.learned slot value at)
+
+    asked_from : EachAsked → (members me from : ℕ) (calls : List Told) (values : List Value) → Each (ToldFrom T) calls → HasPrefix members calls values
+        → Each (MessageFrom T) (asked_of me values from)
+    asked_from each members me from calls values are prefix = λ m there.
+        let at = at_from_in (asked_of me values from) m there in
+        let one = each me from at.0 values (slice_get_within (asked_of me values from) at.0 m at.1) in
+        let same : decided_message me (from + at.0) one.0 ≡ m = some_same (decided_message me (from + at.0) one.0) m (sym one.2 ∙ at.1) in
+        subst (MessageFrom T) same (prefix_from members calls values (from + at.0) one.0 are prefix one.1)
+
+  -- ---- uploads that wait
+
+  kept_waiting : (uploads : List Upload) (waiting left : List (List ℕ)) → AreStillWaiting uploads waiting left → (text : List ℕ) → In left text → In waiting text
+  kept_waiting uploads [] left is text there = rw is at there
+  kept_waiting uploads (first ∷ texts) left (inl (upload, rest, is, nothing, parts, more)) text there =
+      stays first texts rest text (kept_waiting uploads texts rest more text) (rw parts at there)
+    where
+      stays : (first : List ℕ) (texts rest : List (List ℕ)) (text : List ℕ) → (In rest text → In texts text) → (first ≡ text) ⊎ In rest text → In (first ∷ texts) text
+      stays first texts rest text more (inl same) = inl same
+      stays first texts rest text more (inr later) = inr (more later)
+  kept_waiting uploads (first ∷ texts) left (inr (upload, is, known, more)) text there = inr (kept_waiting uploads texts left more text there)
+
+  -- ---- plans
+
+  planned : (plan same : Plan) → plan ≡ same → PlanFrom T same → PlanFrom T plan
+  planned plan same is from = subst (PlanFrom T) (sym is) from
+
+  quiet_from : (after : Views) → ViewsFrom T after → PlanFrom T (quietly after)
+  quiet_from after from = record { kept = tt; sends = each_none (MessageFrom T); after = from }
+
+  alone_from : (after : Views) (messages : List Message) → ViewsFrom T after → Each (MessageFrom T) messages → PlanFrom T (sends_alone after messages)
+  alone_from after messages from are = record { kept = tt; sends = are; after = from }
+
+  answer_from : (views : Views) (kept : Record) (reply : Message) → ViewsFrom T views → RecordFrom T kept → MessageFrom T reply
+      → PlanFrom T (answers_with views kept reply)
+  answer_from views kept reply from is sent = record {
+    kept = is;
+    sends = each_one (MessageFrom T) reply sent;
+    after = record {
+      records = each_more (RecordFrom T) views.records kept from.records is;
+      waiting = from.waiting;
+      asked = from.asked;
+      told = from.told;
+    };
+  }
+
+  put_from : (config : Config) (views : Views) (text : List ℕ) (plan : Plan) → ViewsFrom T views → T text → PutIsDue config views text (Plans plan) → PlanFrom T plan
+  put_from config views text plan from is (inl (known, same)) = planned plan (quietly views) same (quiet_from views from)
+  put_from config views text plan from is (inr (new, nothing, left, same)) = planned plan (quietly (waits_too views text)) same (quiet_from (waits_too views text) (record {
+    records = from.records;
+    waiting = each_more T views.waiting text from.waiting is;
+    asked = from.asked;
+    told = from.told;
+  }))
+
+  aimed_from : (config : Config) (views : Views) (left slot : ℕ) (value : Value) → ViewsFrom T views → IsAim config views left (Attempts slot value) → ValueFrom T value
+  aimed_from config views left slot value from (inl (text, others, waits, is, free)) =
+      subst (ValueFrom T) (sym is) (from.waiting text (subst (λ l. In l text) (sym waits) (inl refl)))
+  aimed_from config views left slot value from (inr (values, waits, is, prefix, at, gap)) = subst (ValueFrom T) (sym is) tt
+
+  begun_from : (me slot : ℕ) (views : Views) (value : Value) (ballot : Ballot) → ViewsFrom T views → ValueFrom T value → PlanFrom T (begins me views slot value ballot)
+  begun_from me slot views value ballot from is = record {
+    kept = tt;
+    sends = each_one (MessageFrom T) (message me slot (Prepare ballot)) tt;
+    after = record {
+      records = each_more (RecordFrom T) views.records (Began ballot) from.records tt;
+      waiting = from.waiting;
+      asked = each_more (AskedFrom T) views.asked
+      (Begins (record { slot = slot; seen_round = views.seen_round; candidate = value; ballot = ballot })) from.asked is;
+      told = from.told;
+    };
+  }
+
+  asks_from : (config : Config) (me : ℕ) (views : Views) (slot : ℕ) (plan : Plan) → ViewsFrom T views → AsksAt config me views slot plan → PlanFrom T plan
+  asks_from config me views slot plan from (inl (lt, same)) =
+      planned plan (sends_alone views (message me slot Ask ∷ [])) same
+      (alone_from views (message me slot Ask ∷ []) from (each_one (MessageFrom T) (message me slot Ask) tt))
+  asks_from config me views slot plan from (inr (last, same)) = planned plan (quietly views) same (quiet_from views from)
+
+  aim_from : (config : Config) (me left : ℕ) (views : Views) (aim : Aim) (plan : Plan) → ViewsFrom T views → IsAim config views left aim
+      → AimIsDue config me views aim (Plans plan) → PlanFrom T plan
+  aim_from config me left views (Attempts slot value) plan from is (highest, lt, is_highest, less, same) =
+      planned plan _ same (begun_from me slot views value _ from (aimed_from config views left slot value from is))
+  aim_from config me left views (AsksFrom slot) plan from is asks = asks_from config me views slot plan from asks
+
+  tick_from : (config : Config) (me : ℕ) (views : Views) (left : ℕ) (plan : Plan) → ViewsFrom T views → TickIsDue config me views left (Plans plan) → PlanFrom T plan
+  tick_from config me views left plan from (inl (more, is)) = absurd (refused_plan input.OutOfRange plan is)
+  tick_from config me views left plan from (inr (aim, le, is_aim, is)) = aim_from config me left views aim plan from is_aim is
+
+  prepare_from : (me : ℕ) (views : Views) (old new : Standing) (slot : ℕ) (ballot : Ballot) (reply : Answer) (plan : Plan) → ViewsFrom T views
+      → IsRestored views.records old → Prepares old new slot ballot reply → ReplyToPrepare me views slot ballot reply plan → PlanFrom T plan
+  prepare_from me views old new slot ballot (answer.Promise report) plan from restored prepares is =
+      planned plan (answers_with views (Promised slot ballot) (message me slot (Promise ballot report))) is
+      (answer_from views (Promised slot ballot) (message me slot (Promise ballot report)) from tt
+      (report_from views.records old new slot ballot report from.records restored prepares))
+  prepare_from me views old new slot ballot (answer.Nack promised) plan from restored prepares is =
+      planned plan (sends_alone views (message me slot (Nack ballot promised) ∷ [])) is
+      (alone_from views (message me slot (Nack ballot promised) ∷ []) from (each_one (MessageFrom T) (message me slot (Nack ballot promised)) tt))
+  prepare_from me views old new slot ballot answer.Granted plan from restored prepares never = absurd never
+
+  accepted_from : (me : ℕ) (views : Views) (slot : ℕ) (proposal : Acceptance) (reply : Answer) (plan : Plan) → ViewsFrom T views → ValueFrom T proposal.value
+      → ReplyToAccept me views slot proposal reply plan → PlanFrom T plan
+  accepted_from me views slot proposal answer.Granted plan from value is =
+      planned plan (answers_with views (HasAccepted slot proposal) (message me slot (Accepted proposal))) is
+      (answer_from views (HasAccepted slot proposal) (message me slot (Accepted proposal)) from value value)
+  accepted_from me views slot proposal (answer.Nack promised) plan from value is =
+      planned plan (sends_alone views (message me slot (Nack proposal.ballot promised) ∷ [])) is
+      (alone_from views (message me slot (Nack proposal.ballot promised) ∷ []) from (each_one (MessageFrom T) (message me slot (Nack proposal.ballot promised)) tt))
+  accepted_from me views slot proposal (answer.Promise report) plan from value never = absurd never
+
+  too_from : (views : Views) (call : Asked) → ViewsFrom T views → AskedFrom T call → ViewsFrom T (asked_too views call)
+  too_from views call from is = record {
+    records = from.records;
+    waiting = from.waiting;
+    asked = each_more (AskedFrom T) views.asked call from.asked is;
+    told = from.told;
+  }
+
+  learns_from : (config : Config) (views : Views) (call : Told) (plan : Plan) → ViewsFrom T views → ToldFrom T call → LearnsOf config views call plan → PlanFrom T plan
+  learns_from config views call plan from is (uploads, left, has, waits, same) = planned plan _ same (quiet_from _ (record {
+    records = from.records;
+    waiting = λ text there. from.waiting text (kept_waiting uploads views.waiting left waits text there);
+    asked = from.asked;
+    told = each_more (ToldFrom T) views.told call from.told is;
+  }))
+
+  module _ (proposer : ProposerLaws) (learner : LearnerLaws) (each : EachAsked) where
+    body_from : (config : Config) (me : ℕ) (views : Views) (sender slot : ℕ) (b : Body) (plan : Plan) → ViewsFrom T views → BodyFrom T b
+        → BodyIsDue config me views sender slot b plan → PlanFrom T plan
+    body_from config me views sender slot (Prepare ballot) plan from is (old, new, reply, restored, prepares, replies) =
+        prepare_from me views old new slot ballot reply plan from restored prepares replies
+    body_from config me views sender slot (Promise ballot report) plan from is (accept, answers, same) =
+        let promise : Promised_call = record { sender = sender; slot = slot; ballot = ballot; report = report } in
+        planned plan (sends_alone (asked_too views (Promises promise)) (accept_of me accept)) same
+        (alone_from (asked_too views (Promises promise)) (accept_of me accept) (too_from views (Promises promise) from is)
+        (accept_from proposer me config.members views.asked promise accept from.asked is answers))
+    body_from config me views sender slot (Nack ballot promised) plan from is same =
+        planned plan (quietly (asked_too views (Nacks slot ballot))) same (quiet_from (asked_too views (Nacks slot ballot)) (too_from views (Nacks slot ballot) from tt))
+    body_from config me views sender slot (Accept proposal) plan from is (old, new, reply, restored, accepts, replies) =
+        accepted_from me views slot proposal reply plan from is replies
+    body_from config me views sender slot (Accepted acceptance) plan from is learns =
+        learns_from config views (told.Accepted sender slot acceptance.ballot acceptance.value) plan from is learns
+    body_from config me views sender slot Ask plan from is (values, prefix, same) =
+        planned plan (sends_alone views (asked_of me values slot)) same
+        (alone_from views (asked_of me values slot) from (asked_from learner each config.members me slot views.told values from.told prefix))
+    body_from config me views sender slot (Decided value) plan from is learns = learns_from config views (told.Decided slot value) plan from is learns
+
+    seen_from : (views : Views) (m : Message) → ViewsFrom T views → ViewsFrom T (has_seen views m)
+    seen_from views m from = record { records = from.records; waiting = from.waiting; asked = from.asked; told = from.told }
+
+    -- the uploads that come with an input
+    abbrev pub InputFrom : Input → Type 0
+    InputFrom (input.Put text) = T text
+    InputFrom (input.Tick left) = Unit {0}
+    InputFrom (input.Deliver m) = MessageFrom T m
+
+    pub due_from : (config : Config) (me : ℕ) (views : Views) (i : Input) (plan : Plan) → ViewsFrom T views → InputFrom i → IsDue config me views i (Plans plan)
+        → PlanFrom T plan
+    due_from config me views (input.Put text) plan from is due = put_from config views text plan from is due
+    due_from config me views (input.Tick left) plan from is due = tick_from config me views left plan from due
+    due_from config me views (input.Deliver m) plan from is (is_of, due) =
+        body_from config me (has_seen views m) m.sender m.slot m.body plan (seen_from views m from) is due
