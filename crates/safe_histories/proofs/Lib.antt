@@ -11,3 +11,4 @@ pub mod Served
 pub mod Safety
 pub mod Putting
 pub mod Planning
+pub mod Handing
