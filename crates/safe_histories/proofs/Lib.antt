@@ -12,3 +12,4 @@ pub mod Safety
 pub mod Putting
 pub mod Planning
 pub mod Handing
+pub mod Put
