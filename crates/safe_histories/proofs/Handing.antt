@@ -1,5 +1,5 @@
 -- Whatever a node has, and whatever was sent, is of uploads that were put before.
-use Rattle.std.proofs.Common.{◌≡◌, ◌≢◌, ℕ, zero, ◌+◌, ◌-◌, ◌<◌, ◌≤◌, ◌⊎◌, inl, inr, Bool, true, false, List, [], ◌∷◌, ◌++◌, length, take, drop, Option, Some, None, slice_get, refl, sym, ap, ap₂, subst, ◌∙◌, arith}
+use Rattle.std.proofs.Common.{◌≡◌, ℕ, ◌+◌, ◌-◌, ◌<◌, ◌≤◌, ◌⊎◌, inl, inr, Bool, true, false, List, [], ◌∷◌, ◌++◌, length, take, drop, Option, Some, None, slice_get, refl, sym, ap, ap₂, subst, ◌∙◌, arith}
 use Rattle.std.proofs.lemmas.Bool.{cases_lt, cases_eq}
 use Rattle.ballots.specs.declared.message.Message.{Message}
 use Rattle.ballots.specs.declared.record.Record.{Record}
@@ -14,7 +14,7 @@ use Rattle.histories.specs.Due.{Input, Due, Plan, Refuses, Plans}
 use Rattle.histories.specs.Due as input
 use Rattle.histories.specs.Following.{Seat, IsUp, IsDown, with_due, found_in, down, reason_of, WantsMemory, PutGives, StepGives, InputGives, CutGives, Delivers, GetGives, InfoGives, OutcomeGives, QuestionGives, StartGives, UpGives, RefusesAsDown, DownGives, SeatGives, StepFollows, at_first}
 use Rattle.histories.specs.Safe.{IsStep}
-use Rattle.safe_histories.proofs.Lists.{In, in_from_at, dropped_at, taken_at, at_front, at_end}
+use Rattle.safe_histories.proofs.Lists.{in_from_at, dropped_at, taken_at, at_front, at_end}
 use Rattle.safe_histories.proofs.Heard.{LearnerLaws}
 use Rattle.safe_histories.proofs.Starts.{step_of}
 use Rattle.safe_histories.proofs.Putting.{Each, each_none, each_more, MessageFrom, RecordFrom, DueFrom, ViewsFrom, SeatFrom, PlanFrom, started_from, message_more, seat_more}
@@ -168,8 +168,7 @@ module _ (U : List ℕ → Type 0) (proposer : ProposerLaws) (learner : LearnerL
       → ((node : ℕ) → SeatFrom U (new node)) × ((i : ℕ) (m : Message) → i < next + count_of step.gave → slice_get sent i ≡ Some m → MessageFrom U m)
   all_leave found old new step from put (inl (member, gives, others)) =
       let here = node_of step.event in
-      let leaves = seat_leaves found (old here) step.event step.gave (new here) (from here) put gives in
-      (
+      let leaves = seat_leaves found (old here) step.event step.gave (new here) (from here) put gives in (
         λ node. elim (cases_eq node here) as (λ _. SeatFrom U (new node)) [
           | inl same ↦ subst (λ (n : ℕ). SeatFrom U (new n)) (sym same) leaves.0
           | inr apart ↦ subst (SeatFrom U) (sym (others node apart)) (from node)
@@ -180,8 +179,7 @@ module _ (U : List ℕ → Type 0) (proposer : ProposerLaws) (learner : LearnerL
         ],
       )
   all_leave found old new step from put (inr (past, gives, same)) =
-      let none : count_of step.gave ≡ 0 = ap count_of gives in
-      (
+      let none : count_of step.gave ≡ 0 = ap count_of gives in (
         λ node. subst (SeatFrom U) (sym (same node)) (from node),
         λ i m lt at. were_sent i m (omega (arith, lt, none)) at,
       )

@@ -1,26 +1,24 @@
 -- What a node heard, as its learner is told of it: in a lawful history both say the same.
-use Rattle.std.proofs.Common.{◌≡◌, ℕ, zero, suc, ◌+◌, ◌<◌, ◌≤◌, ◌⊎◌, inl, inr, Bool, true, false, cond, if◌then◌else◌, List, [], ◌∷◌, ◌++◌, length, get_or, Option, Some, None, slice_get, refl, sym, ap, subst, ◌∙◌, eq-eqb, arith}
+use Rattle.std.proofs.Common.{◌≡◌, ℕ, suc, ◌<◌, ◌⊎◌, inl, inr, Bool, true, false, cond, if◌then◌else◌, List, [], ◌∷◌, length, Option, Some, None, slice_get, refl, ap, subst, eq-eqb, arith}
 use Rattle.std.specs.Option.{option_and_then}
 use Rattle.std.specs.List.{Contains, filter_map}
 use Rattle.ballots.specs.Ballot.{Ballot}
-use Rattle.ballots.specs.Majority.{tally, IsMajority}
 use Rattle.ballots.specs.declared.value.Value.{Value}
 use Rattle.ballots.specs.declared.message.Message.{Message}
 use Rattle.ballots.specs.declared.message.Body.{Body}
 use Rattle.ballots.specs.declared.message.Body.TheVariants as body
 use Rattle.ballots.specs.Message.{message}
 use Rattle.schedule_runner.specs.Majorities.{MajorityOf}
-use Rattle.schedule_runner.specs.Saying.{Saying, Silent, Accept, Accepted, of_one, says, told}
+use Rattle.schedule_runner.specs.Saying.{Saying, Silent, Accepted, of_one, says, told}
 use Rattle.schedule_runner.specs.Lawful.{Said, SaidBefore, IsLawful, IsChosen, OneValue}
 use Rattle.schedule_runner.specs.HistoryLaws.{DecidedIsChosen}
-use Rattle.schedule_runner.specs.Messages.{accepted, decided, Sent}
+use Rattle.schedule_runner.specs.Messages.{accepted, decided}
 use Rattle.learner.specs.Calls.{Call, IsLearned}
 use Rattle.learner.specs.Calls as call
-use Rattle.learner.specs.Votes.{HasAccepted, MajorityAccepted, IsDecidedOrChosen}
-use Rattle.learner.specs.Votes as votes
+use Rattle.learner.specs.Votes.{MajorityAccepted, IsDecidedOrChosen}
 use Rattle.histories.specs.Views.{HasPrefix}
 use Rattle.histories.specs.History.{Step}
-use Rattle.histories.specs.Learning.{since_start, is_taken, handed_to, delivered_in, heard, HasLearned, HasLearnedPrefix}
+use Rattle.histories.specs.Learning.{since_start, is_taken, handed_to, delivered_in, heard, HasLearnedPrefix}
 use Rattle.safe_histories.proofs.Lists.{In, some_same, none_is_some, in_from_contains, contains_from_in, in_from_at, in_filter_map, filter_map_in}
 
 -- ---- the calls of messages
@@ -153,16 +151,15 @@ module _ (members : ℕ) (sent : List Message) (lawful : IsLawful members sent) 
         let m = decided sender slot value in
         let at = contains_from_in sent m (were_sent m (in_from_contains messages m there)) in
         laws.decided members sent at.0 sender slot value lawful (at.1, at.2)
-    learned_is_chosen slot value (inr (ballot, most)) =
-        (
-          ballot,
-          record {
-            is_in = most.is_in;
-            majority = most.majority;
-            each = λ a lt is. accepted_there a slot ballot value
+    learned_is_chosen slot value (inr (ballot, most)) = (
+      ballot,
+      record {
+        is_in = most.is_in;
+        majority = most.majority;
+        each = λ a lt is. accepted_there a slot ballot value
             (were_sent (accepted a slot ballot value) (in_from_contains messages (accepted a slot ballot value) (most.each a lt is)));
-          },
-        )
+      },
+    )
 
     module _ (learner : LearnerLaws) where
       pub learned_of_calls : (slot : ℕ) (value : Value) → IsLearned members (calls_of messages) slot value → Learned members messages slot value
@@ -216,7 +213,7 @@ module _ (members : ℕ) (sent : List Message) (lawful : IsLawful members sent) 
     learned = λ slot value at.
         learned_of_calls members sent lawful laws (heard sent steps node) (heard_was_sent sent steps node) learner slot value (prefix.learned slot value at);
     gap = λ value is. prefix.gap value
-    (calls_of_learned members sent lawful laws (heard sent steps node) (heard_was_sent sent steps node) learner (length values) value is);
+        (calls_of_learned members sent lawful laws (heard sent steps node) (heard_was_sent sent steps node) learner (length values) value is);
   }
 
   pub learned_is_prefix : HasLearnedPrefix members sent steps node values → HasPrefix members (calls_of (heard sent steps node)) values
@@ -224,5 +221,5 @@ module _ (members : ℕ) (sent : List Message) (lawful : IsLawful members sent) 
     learned = λ slot value at.
         calls_of_learned members sent lawful laws (heard sent steps node) (heard_was_sent sent steps node) learner slot value (prefix.learned slot value at);
     gap = λ value is. prefix.gap value
-    (learned_of_calls members sent lawful laws (heard sent steps node) (heard_was_sent sent steps node) learner (length values) value is);
+        (learned_of_calls members sent lawful laws (heard sent steps node) (heard_was_sent sent steps node) learner (length values) value is);
   }

@@ -1,10 +1,9 @@
 -- What is due keeps to texts: where all uploads that a node has, and those of its input, are of some texts, so are those that it plans.
-use Rattle.std.proofs.Common.{◌≡◌, ◌≢◌, ℕ, ◌+◌, ◌<◌, ◌≤◌, ◌⊎◌, ◌↔◌, inl, inr, Bool, true, false, if◌then◌else◌, nat_eq, List, [], ◌∷◌, ◌++◌, length, Option, Some, None, slice_get, refl, sym, ap, subst, ◌∙◌}
+use Rattle.std.proofs.Common.{◌≡◌, ◌≢◌, ℕ, ◌+◌, ◌<◌, ◌⊎◌, ◌↔◌, inl, inr, Bool, true, false, if◌then◌else◌, nat_eq, List, [], ◌∷◌, ◌++◌, length, Option, Some, None, slice_get, refl, sym, subst, ◌∙◌}
 use Rattle.std.specs.List.{Contains, filter_map}
 use Rattle.std.proofs.lemmas.Option.{slice_get_within}
 use Rattle.ballots.specs.Ballot.{Ballot, IsBelow}
 use Rattle.ballots.specs.declared.value.Value.{Value}
-use Rattle.ballots.specs.declared.value.Value.TheVariants.{Noop, Upload as UploadValue}
 use Rattle.ballots.specs.declared.acceptance.Acceptance.{Acceptance}
 use Rattle.ballots.specs.declared.record.Record.{Record}
 use Rattle.ballots.specs.declared.record.Record.TheVariants.{Began, Promised, Accepted as HasAccepted}
@@ -13,7 +12,7 @@ use Rattle.ballots.specs.declared.message.Body.{Body}
 use Rattle.ballots.specs.declared.message.Body.TheVariants.{Prepare, Promise, Nack, Accept, Accepted, Ask, Decided}
 use Rattle.ballots.specs.Message.{message}
 use Rattle.acceptor.specs.Standing.{Standing}
-use Rattle.acceptor.specs.Answering.{Prepares, Accepts}
+use Rattle.acceptor.specs.Answering.{Prepares}
 use Rattle.acceptor.specs.declared.answer.Answer.{Answer}
 use Rattle.acceptor.specs.declared.answer.Answer.TheVariants as answer
 use Rattle.acceptor.specs.Restored.{acceptance_in, IsLastHighest, IsRestored}
@@ -27,15 +26,13 @@ use Rattle.learner.specs.Calls as told
 use Rattle.learner.specs.Votes.{IsDecidedOrChosen}
 use Rattle.decided_log.specs.Asked.{asked_of, decided_message}
 use Rattle.table_types.specs.Uploads.{Upload}
-use Rattle.table_types.specs.Tables.{outcome_of, unknown}
-use Rattle.histories.specs.Texts.{IsTextOf}
 use Rattle.histories.specs.Views.{Config, Views, HasPrefix}
 use Rattle.histories.specs.Due.{Input, Due, Plan, Refuses, Plans, Aim, Attempts, AsksFrom, quietly, PutIsDue, waits_too, IsAim, begins, AsksAt, AimIsDue, TickIsDue, has_seen, answers_with, sends_alone, ReplyToPrepare, ReplyToAccept, asked_too, accept_of, AreStillWaiting, LearnsOf, BodyIsDue, MessageIsDue, IsDue}
 use Rattle.histories.specs.Due as input
-use Rattle.safe_histories.proofs.Lists.{In, some_same, none_is_some, in_from_contains, contains_from_in, in_right, in_cases, in_filter_map, at_from_in}
+use Rattle.safe_histories.proofs.Lists.{In, some_same, none_is_some, in_from_contains, contains_from_in, in_right, in_filter_map, at_from_in}
 use Rattle.safe_histories.proofs.Heard.{LearnerLaws}
 use Rattle.safe_histories.proofs.Running.{refused_plan}
-use Rattle.safe_histories.proofs.Putting.{Each, each_none, each_one, each_both, each_more, ValueFrom, ReportFrom, BodyFrom, MessageFrom, RecordFrom, AskedFrom, ToldFrom, DueFrom, ViewsFrom, PlanFrom}
+use Rattle.safe_histories.proofs.Putting.{Each, each_none, each_one, each_more, ValueFrom, ReportFrom, BodyFrom, MessageFrom, RecordFrom, AskedFrom, ToldFrom, ViewsFrom, PlanFrom}
 
 -- laws of a proposer
 pub record ProposerLaws : Type 0 where
@@ -198,7 +195,7 @@ module _ (T : List ℕ → Type 0) where
       records = each_more (RecordFrom T) views.records (Began ballot) from.records tt;
       waiting = from.waiting;
       asked = each_more (AskedFrom T) views.asked
-      (Begins (record { slot = slot; seen_round = views.seen_round; candidate = value; ballot = ballot })) from.asked is;
+          (Begins (record { slot = slot; seen_round = views.seen_round; candidate = value; ballot = ballot })) from.asked is;
       told = from.told;
     };
   }

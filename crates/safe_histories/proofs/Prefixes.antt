@@ -1,5 +1,5 @@
 -- Prefixes and tables of any two nodes, at any two times: one begins the other.
-use Rattle.std.proofs.Common.{◌≡◌, ◌≢◌, ℕ, ◌-◌, ◌<◌, ◌≤◌, ◌⊎◌, inl, inr, List, [], ◌∷◌, ◌++◌, map, Option, Some, None, slice_get, refl, sym, ap, subst, ◌∙◌}
+use Rattle.std.proofs.Common.{◌≡◌, ◌≢◌, ℕ, ◌⊎◌, inl, inr, List, [], ◌++◌, map, Some, slice_get, sym, ap, subst, ◌∙◌}
 use Rattle.std.proofs.lemmas.List.{append-nil, map-append}
 use Rattle.ballots.specs.declared.value.Value.{Value}
 use Rattle.ballots.specs.declared.message.Message.{Message}
@@ -11,7 +11,7 @@ use Rattle.table_types.specs.Tables.{Version, version_of, Outcome, applied, unkn
 use Rattle.histories.specs.Texts.{AreUploadsOf}
 use Rattle.histories.specs.History.{Step}
 use Rattle.histories.specs.Learning.{heard, HasLearnedPrefix, HasTables}
-use Rattle.safe_histories.proofs.Lists.{In, Begins, one_begins, some_same}
+use Rattle.safe_histories.proofs.Lists.{In, Begins, one_begins}
 use Rattle.safe_histories.proofs.Texts.{OneEncoding, are_of_texts, uploads_begin}
 use Rattle.safe_histories.proofs.Heard.{ChoiceLaws, heard_was_sent, learned_is_chosen}
 

@@ -1,11 +1,10 @@
 -- What is served was put: each upload of a version is that of a value which its node was told, and all that was put before.
-use Rattle.std.proofs.Common.{◌≡◌, ◌≢◌, ℕ, zero, suc, ◌+◌, ◌-◌, ◌*◌, ◌<◌, ◌≤◌, ◌==◌, not, Bool, true, false, true≢false, cond, eqb, ne_eqb, List, [], ◌∷◌, ◌++◌, length, take, map, min, Option, Some, None, slice_get, refl, sym, ap, subst, ◌∙◌, arith, length-append, length-take}
-use Rattle.std.specs.List.{Contains, flat_map}
+use Rattle.std.proofs.Common.{◌≡◌, ℕ, ◌+◌, ◌*◌, ◌≤◌, not, Bool, false, true≢false, cond, ne_eqb, List, [], ◌∷◌, ◌++◌, length, take, map, Some, slice_get, sym, ap, subst, ◌∙◌, arith, length-append, length-take}
 use Rattle.std.proofs.lemmas.Option.{slice_get_within}
 use Rattle.ballots.specs.declared.value.Value.{Value}
 use Rattle.ballots.specs.declared.value.Value.TheVariants.{Noop, Upload as UploadValue}
 use Rattle.ballots.specs.Message.{value_bytes}
-use Rattle.proto_fields.specs.Field.{Field, Bytes, Held, is_default, field_text, fields_text, present, held_text}
+use Rattle.proto_fields.specs.Field.{Field, Bytes, is_default, field_text, fields_text, present}
 use Rattle.proto_fields.specs.Varint.{varint_text}
 use Rattle.proto_fields.specs.Scalar.{TypeBytes}
 use Rattle.proto_messages.specs.Descriptor.{One, Messages, NoMore}
@@ -13,8 +12,6 @@ use Rattle.proto_messages.specs.Canonical.{canonical_fields}
 use Rattle.schedule_runner.specs.Lawful.{IsLawful}
 use Rattle.table_types.specs.Uploads.{Upload, upload_text, batch_descriptor, schema_text, batch_values}
 use Rattle.table_types.specs.Valid.{IsUpload}
-use Rattle.table_types.specs.Tables.{Version, version_of}
-use Rattle.histories.specs.Views.{Views, HasPrefix}
 use Rattle.histories.specs.Event as event
 use Rattle.histories.specs.Gave as gave
 use Rattle.histories.specs.Gave.{count_of}

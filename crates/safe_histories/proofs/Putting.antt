@@ -1,5 +1,5 @@
 -- Values whose uploads are of some texts: in messages, in records, and in what a node has.
-use Rattle.std.proofs.Common.{◌≡◌, ℕ, ◌⊎◌, inl, inr, List, [], ◌∷◌, ◌++◌, Option, Some, None, refl, sym, ap, subst, ◌∙◌}
+use Rattle.std.proofs.Common.{ℕ, inl, inr, List, [], ◌∷◌, ◌++◌, Option, Some, None, subst}
 use Rattle.ballots.specs.declared.value.Value.{Value}
 use Rattle.ballots.specs.declared.value.Value.TheVariants.{Noop, Upload as UploadValue}
 use Rattle.ballots.specs.declared.acceptance.Acceptance.{Acceptance}

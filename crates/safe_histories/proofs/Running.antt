@@ -1,8 +1,6 @@
 -- A node is up exactly where a history shows that it runs, and its learner was told what the history shows that it heard.
-use Rattle.std.proofs.Common.{◌≡◌, ◌≢◌, ℕ, ◌+◌, ◌<◌, ◌≤◌, ◌⊎◌, inl, inr, ◌||◌, ◌&&◌, ◌==◌, not, Bool, true, false, cond, if◌then◌else◌, List, [], ◌∷◌, ◌++◌, length, Option, Some, None, slice_get, refl, sym, ap, ap₂, subst, ◌∙◌, eq-eqb, arith}
-use Rattle.std.specs.Option.{option_and_then}
+use Rattle.std.proofs.Common.{◌≡◌, ℕ, inl, inr, ◌||◌, Bool, true, false, List, [], ◌∷◌, ◌++◌, Option, None, refl, sym, ap, ap₂, ◌∙◌}
 use Rattle.std.specs.List.{filter_map, cons_option, list_any}
-use Rattle.std.proofs.lemmas.Bool.{cases_eq}
 use Rattle.std.proofs.lemmas.List.{append-nil}
 use Rattle.std.proofs.lemmas.List.Elements.{filter_map-append}
 use Rattle.ballots.specs.declared.message.Message.{Message}
@@ -13,19 +11,14 @@ use Rattle.acceptor.specs.declared.answer.Answer.{Answer}
 use Rattle.acceptor.specs.declared.answer.Answer.TheVariants as answer
 use Rattle.ballots.specs.Ballot.{Ballot}
 use Rattle.ballots.specs.declared.acceptance.Acceptance.{Acceptance}
-use Rattle.histories.specs.Event.{Event, node_of}
-use Rattle.histories.specs.Event as event
-use Rattle.histories.specs.Gave.{Gave}
-use Rattle.histories.specs.Gave as gave
 use Rattle.histories.specs.History.{Step}
 use Rattle.histories.specs.Views.{Config, Views, started_with}
 use Rattle.histories.specs.Due.{Input, Due, Plan, Refuses, Plans, Aim, Attempts, AsksFrom, PutIsDue, AsksAt, AimIsDue, TickIsDue, BodyIsDue, MessageIsDue, ReplyToPrepare, ReplyToAccept, has_seen}
 use Rattle.histories.specs.Due as input
-use Rattle.histories.specs.Following.{Seat, IsUp, IsDown, down, found_in, PutGives, StepGives, InputGives, CutGives, Delivers, StartGives, UpGives, DownGives, SeatGives, StepFollows}
-use Rattle.histories.specs.Learning.{is_done, brings_up, brings_down, since_start, Runs, handed_to, is_taken, delivered_in, heard}
-use Rattle.safe_histories.proofs.Lists.{In}
+use Rattle.histories.specs.Following.{Seat, IsUp, IsDown}
+use Rattle.histories.specs.Learning.{brings_up, brings_down, since_start, Runs, delivered_in, heard}
 use Rattle.safe_histories.proofs.Heard.{call_of, call_in, calls_of}
-use Rattle.safe_histories.proofs.Starts.{start_here, no_start, heard_more, downs_more, nothing_either_way, Elsewhere, step_of, elsewhere}
+use Rattle.safe_histories.proofs.Starts.{start_here, heard_more, downs_more, Elsewhere}
 
 -- ---- what a plan tells the learner
 
@@ -92,12 +85,11 @@ module _ (sent : List Message) where
   pub goes_on : (done : List Step) (node : ℕ) (step : Step) (views after : Views) (o : Option Message) → brings_up node step ≡ false → brings_down node step ≡ false
       → delivered_in sent node step ≡ o → after.told ≡ views.told ++ calls_of (cons_option o []) → Agrees done node (IsUp views)
       → Agrees (done ++ step ∷ []) node (IsUp after)
-  goes_on done node step views after o no_up no_down delivered told (runs, are) =
-      (
-        downs_more node done step no_up ∙ ap₂ (λ a b. a || b) runs no_down,
-        told ∙ ap₂ (λ l p. l ++ calls_of (cons_option p [])) are (sym delivered)
+  goes_on done node step views after o no_up no_down delivered told (runs, are) = (
+    downs_more node done step no_up ∙ ap₂ (λ a b. a || b) runs no_down,
+    told ∙ ap₂ (λ l p. l ++ calls_of (cons_option p [])) are (sym delivered)
         ∙ sym (ap calls_of (heard_more sent node done step no_up) ∙ filter_map-append call_in (heard sent done node) (cons_option (delivered_in sent node step) [])),
-      )
+  )
 
   pub goes_down : (done : List Step) (node : ℕ) (step : Step) (records : List Record) (due : Option Record) → brings_up node step ≡ false
       → brings_down node step ≡ true → Agrees (done ++ step ∷ []) node (IsDown records due)

@@ -1,16 +1,14 @@
 -- What is promised to clients of a history that follows, but for what was put: see `Putting`.
-use Rattle.std.proofs.Common.{◌≡◌, ℕ, ◌+◌, ◌<◌, ◌≤◌, List, [], ◌∷◌, ◌++◌, take, Option, Some, slice_get, refl, sym, ap, subst, ◌∙◌}
+use Rattle.std.proofs.Common.{◌≡◌, ℕ, List, [], take, Some, slice_get, sym, ap, ◌∙◌}
 use Rattle.schedule_runner.specs.Lawful.{IsLawful}
-use Rattle.table_types.specs.Uploads.{Upload}
-use Rattle.table_types.specs.Tables.{Version, applied, outcome_of}
+use Rattle.table_types.specs.Tables.{applied, outcome_of}
 use Rattle.table_types.specs.Answers.{answer_of}
-use Rattle.histories.specs.Texts.{IsTextOf}
 use Rattle.histories.specs.Event as event
 use Rattle.histories.specs.Gave as gave
 use Rattle.histories.specs.Gave.{count_of}
 use Rattle.histories.specs.History.{Step, History}
 use Rattle.histories.specs.Following.{Seat, at_first, Follows}
-use Rattle.histories.specs.Safe.{IsStep, SameTicketSameBytes, AcknowledgedStandsOnce, ServesItsPrefix, StandsIn}
+use Rattle.histories.specs.Safe.{IsStep, SameTicketSameBytes, AcknowledgedStandsOnce, ServesItsPrefix}
 use Rattle.safe_histories.proofs.Lists.{some_same}
 use Rattle.safe_histories.proofs.Texts.{OneEncoding, one_text}
 use Rattle.safe_histories.proofs.Versions.{Apart, Placed, stands_in}

@@ -1,7 +1,6 @@
 -- Each event leaves a seat that is as the history shows with it.
-use Rattle.std.proofs.Common.{◌≡◌, ◌≢◌, ℕ, ◌+◌, ◌<◌, ◌≤◌, ◌⊎◌, inl, inr, ◌||◌, ◌&&◌, ◌==◌, not, Bool, true, false, cond, if◌then◌else◌, List, [], ◌∷◌, ◌++◌, length, Option, Some, None, slice_get, refl, sym, ap, ap₂, subst, ◌∙◌, eq-eqb, arith}
+use Rattle.std.proofs.Common.{◌≡◌, ℕ, ◌<◌, ◌⊎◌, inl, inr, ◌||◌, ◌&&◌, ◌==◌, Bool, true, false, if◌then◌else◌, List, [], ◌∷◌, ◌++◌, length, Option, Some, None, slice_get, refl, sym, ap, subst, ◌∙◌, eq-eqb, arith}
 use Rattle.std.specs.Option.{option_and_then}
-use Rattle.std.specs.List.{list_any}
 use Rattle.std.proofs.lemmas.Bool.{cases_eq}
 use Rattle.std.proofs.lemmas.List.{append-nil}
 use Rattle.ballots.specs.declared.message.Message.{Message}
@@ -12,13 +11,12 @@ use Rattle.histories.specs.Event as event
 use Rattle.histories.specs.Gave.{Gave, Reason}
 use Rattle.histories.specs.Gave as gave
 use Rattle.histories.specs.History.{Step}
-use Rattle.histories.specs.Views.{Config, Views, started_with, HasUploads}
+use Rattle.histories.specs.Views.{Config, Views, started_with}
 use Rattle.histories.specs.Due.{Input, Due, Plan, Refuses, Plans, IsDue}
 use Rattle.histories.specs.Due as input
 use Rattle.histories.specs.Following.{Seat, IsUp, IsDown, down, found_in, reason_of, PutGives, StepGives, InputGives, WantsMemory, CutGives, Delivers, QuestionGives, StartGives, UpGives, RefusesAsDown, DownGives, SeatGives, StepFollows, at_first, GetGives, InfoGives, OutcomeGives}
-use Rattle.histories.specs.Learning.{is_done, is_taken, brings_up, brings_down, since_start, Runs, delivered_in, heard}
-use Rattle.safe_histories.proofs.Heard.{calls_of}
-use Rattle.safe_histories.proofs.Starts.{nothing_either_way, Elsewhere, step_of, elsewhere}
+use Rattle.histories.specs.Learning.{is_taken, brings_up, brings_down, delivered_in}
+use Rattle.safe_histories.proofs.Starts.{nothing_either_way, step_of, elsewhere}
 use Rattle.safe_histories.proofs.Running.{put_tells, tick_tells, message_tells, Agrees, started, goes_on, goes_down, stays_down, others_agree}
 
 module _ (sent : List Message) (done : List Step) where
@@ -228,9 +226,9 @@ module _ (sent : List Message) (done : List Step) where
   step_agrees config next found old new step all (inl (member, gives, others)) = λ node within.
       elim (cases_eq node (node_of step.event)) as (λ _. Agrees sent (done ++ step ∷ []) node (new node)) [
         | inl same ↦ subst (λ (n : ℕ). Agrees sent (done ++ step ∷ []) n (new n)) (sym same)
-        (seat_agrees config next found (old (node_of step.event)) step.event step.gave (new (node_of step.event)) (all (node_of step.event) member) gives)
+            (seat_agrees config next found (old (node_of step.event)) step.event step.gave (new (node_of step.event)) (all (node_of step.event) member) gives)
         | inr apart ↦ subst (Agrees sent (done ++ step ∷ []) node) (sym (others node apart))
-        (others_agree sent done node step (old node) (elsewhere sent node step.event step.gave apart) (all node within))
+            (others_agree sent done node step (old node) (elsewhere sent node step.event step.gave apart) (all node within))
       ]
   step_agrees config next found old new step all (inr (past, gives, same)) = λ node within.
       subst (Agrees sent (done ++ step ∷ []) node) (sym (same node))

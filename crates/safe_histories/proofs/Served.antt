@@ -1,10 +1,7 @@
 -- What is answered to questions comes from the tables of the asked node's prefix.
-use Rattle.std.proofs.Common.{◌≡◌, ℕ, ◌<◌, ◌≤◌, ◌⊎◌, inl, inr, Bool, true, false, true≢false, List, Option, Some, None, refl, sym, ap, subst, ◌∙◌, arith}
+use Rattle.std.proofs.Common.{◌≡◌, ℕ, ◌<◌, ◌⊎◌, inl, inr, Bool, true≢false, List, Some, sym, subst, ◌∙◌, arith}
 use Rattle.ballots.specs.declared.message.Message.{Message}
-use Rattle.ballots.specs.declared.value.Value.{Value}
-use Rattle.ballots.specs.declared.record.Record.{Record}
 use Rattle.schedule_runner.specs.Lawful.{IsLawful}
-use Rattle.learner.specs.Calls.{Call}
 use Rattle.table_types.specs.Uploads.{Upload}
 use Rattle.table_types.specs.Tables.{Version, version_of, Outcome, outcome_of}
 use Rattle.table_types.specs.Answers.{answer_of}
@@ -32,7 +29,7 @@ module _ (config : Config) (sent : List Message) (lawful : IsLawful config.membe
   tables_shown node views uploads told has = record {
     values = has.values;
     prefix = prefix_is_learned config.members sent lawful laws learner done node has.values
-    (subst (λ calls. HasPrefix config.members calls has.values) told has.prefix);
+        (subst (λ calls. HasPrefix config.members calls has.values) told has.prefix);
     are = has.are;
   }
 

@@ -1,17 +1,15 @@
 -- Starts and cuts, with one step more.
-use Rattle.std.proofs.Common.{◌≡◌, ◌≢◌, ℕ, ◌||◌, ◌&&◌, ◌==◌, not, Bool, true, false, cond, if◌then◌else◌, List, [], ◌∷◌, ◌++◌, Option, Some, None, slice_get, refl, sym, ap, ap₂, subst, ◌∙◌, eq-eqb, ne_eqb}
+use Rattle.std.proofs.Common.{◌≡◌, ◌≢◌, ℕ, ◌||◌, ◌&&◌, ◌==◌, not, Bool, true, false, if◌then◌else◌, List, [], ◌∷◌, ◌++◌, Option, Some, None, slice_get, refl, sym, ap, ◌∙◌, ne_eqb}
 use Rattle.std.specs.Option.{option_and_then}
 use Rattle.std.specs.List.{filter_map, cons_option, list_any}
-use Rattle.std.proofs.lemmas.List.{append-nil}
 use Rattle.std.proofs.lemmas.List.Elements.{filter_map-append}
 use Rattle.std.proofs.lemmas.List.Folds.{list_any-append}
 use Rattle.ballots.specs.declared.message.Message.{Message}
 use Rattle.histories.specs.Event.{Event, node_of}
 use Rattle.histories.specs.Event as event
 use Rattle.histories.specs.Gave.{Gave}
-use Rattle.histories.specs.Gave as gave
 use Rattle.histories.specs.History.{Step}
-use Rattle.histories.specs.Learning.{is_done, is_start_of, is_cut_of, brings_up, brings_down, since_start, handed_to, is_taken, delivered_in, heard}
+use Rattle.histories.specs.Learning.{is_done, brings_up, brings_down, since_start, is_taken, delivered_in, heard}
 
 -- ---- one step more
 

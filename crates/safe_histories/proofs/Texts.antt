@@ -1,8 +1,8 @@
 -- Uploads by their encodings: a list of texts is that of one list of uploads.
-use Rattle.std.proofs.Common.{◌≡◌, ℕ, ◌⊎◌, inl, inr, List, [], ◌∷◌, ◌++◌, refl, sym, ap, ap₂, subst, ◌∙◌}
+use Rattle.std.proofs.Common.{◌≡◌, ℕ, ◌⊎◌, inl, inr, List, [], ◌∷◌, ◌++◌, sym, ap, ap₂, subst, ◌∙◌}
 use Rattle.table_types.specs.Uploads.{Upload, upload_text}
 use Rattle.table_types.specs.Valid.{IsUpload}
-use Rattle.histories.specs.Texts.{IsTextOf, IsUploadText, AreUploadsOf}
+use Rattle.histories.specs.Texts.{IsTextOf, AreUploadsOf}
 use Rattle.safe_histories.proofs.Lists.{In, Begins}
 
 abbrev pub OneEncoding : Type 0

@@ -1,8 +1,7 @@
 -- Versions of tables: what stands in one, and where.
-use Rattle.std.proofs.Common.{◌≡◌, ◌≢◌, ℕ, zero, suc, ◌+◌, ◌-◌, ◌<◌, ◌≤◌, ◌⊎◌, inl, inr, Bool, true, false, cond, if◌then◌else◌, List, [], ◌∷◌, ◌++◌, length, take, get_or, Option, Some, None, slice_get, refl, sym, ap, subst, ◌∙◌, arith}
+use Rattle.std.proofs.Common.{◌≡◌, ◌≢◌, ℕ, ◌-◌, ◌<◌, ◌≤◌, ◌⊎◌, inl, inr, Bool, true, false, if◌then◌else◌, List, [], ◌∷◌, ◌++◌, length, take, get_or, Some, None, slice_get, refl, sym, ap, subst, ◌∙◌, arith}
 use Rattle.std.specs.Prelude.{nat_le}
 use Rattle.std.specs.List.{filter, list_any}
-use Rattle.std.specs.Str.{bytes_eq}
 use Rattle.std.proofs.lemmas.Bool.{leb-true}
 use Rattle.std.proofs.lemmas.List.{length-take-le}
 use Rattle.std.proofs.lemmas.Option.{slice_get_within, slice_get-get_or, get_or_from_slice_get}
@@ -10,10 +9,10 @@ use Rattle.std.proofs.lemmas.Slice.Eq.{bytes_eq-Decides}
 use Rattle.table_types.specs.Uploads.{Upload, upload_text}
 use Rattle.table_types.specs.Valid.{IsUpload}
 use Rattle.table_types.specs.Tables.{has_id, is_to, shape_text, has_shape, is_same, firsts, like_the_first, effective}
-use Rattle.table_types.specs.Tables.{Version, first_of_all, version_of, Outcome, applied, unknown, outcome_of}
+use Rattle.table_types.specs.Tables.{Version, first_of_all, version_of, applied, outcome_of}
 use Rattle.table_types.specs.Answers.{answer_of}
 use Rattle.histories.specs.Safe.{StandsIn}
-use Rattle.safe_histories.proofs.Lists.{In, Begins, some_same, none_is_some, in_cases, in_filter, in_take, in_from_at, at_from_in, at_taken, taken_at}
+use Rattle.safe_histories.proofs.Lists.{In, some_same, none_is_some, in_cases, in_filter, in_take, in_from_at, at_taken, taken_at}
 use Rattle.safe_histories.proofs.Texts.{OneEncoding}
 
 -- ---- uploads that count are uploads of the list
@@ -123,8 +122,7 @@ module _ (apart : Apart) where
     stands_in uploads upload number version found bytes all is told le found_is bytes_are =
         let counted = effective upload.table uploads in
         let first = version_is upload.table version uploads found found_is in
-        let there = stands_there uploads upload number all is told in
-        (
+        let there = stands_there uploads upload number all is told in (
           there.0,
           record {
             version = found;
