@@ -13,3 +13,4 @@ pub mod Putting
 pub mod Planning
 pub mod Handing
 pub mod Put
+pub mod Answered

@@ -1,14 +1,15 @@
 //! Laws of histories that follow the rules of the nodes.
 
-ghost use Rattle.std.specs.Prelude.{◌≡◌, ◌⊎◌, ℕ, List, ◌++◌};
+ghost use Rattle.std.specs.Prelude.{◌≡◌, ◌⊎◌, ℕ, ◌<◌, List, ◌++◌};
 ghost use Rattle.ballots.specs.declared.value.Value.{Value};
 ghost use Rattle.ballots.specs.declared.message.Message.{Message};
 ghost use Rattle.schedule_runner.specs.Lawful.{IsLawful};
 ghost use Rattle.table_types.specs.Uploads.{Upload};
 ghost use Rattle.histories.specs.Texts.{AreUploadsOf};
 ghost use Rattle.histories.specs.History.{Step, History};
-ghost use Rattle.histories.specs.Following.{Follows};
-ghost use Rattle.histories.specs.Learning.{HasLearnedPrefix};
+ghost use Rattle.histories.specs.Gave.{Gave, Answer, Unavailable, Info, NoTable};
+ghost use Rattle.histories.specs.Following.{GetGives, InfoGives, OutcomeGives, Follows};
+ghost use Rattle.histories.specs.Learning.{HasLearnedPrefix, HasTables};
 ghost use Rattle.histories.specs.Safe.{IsSafe};
 
 use decided_log::laws::asked_is_a_run_of_the_prefix;
@@ -37,6 +38,43 @@ pub fn prefixes_begin_one_another()
     one_value();
     decided_is_one();
 }
+
+/// What a lawful history shows of a node at one time is one prefix, and one list of uploads that its tables are made of.
+pub fn shown_tables_are_one()
+    ensures prefix { (members : ℕ) (sent : List Message) (steps : List Step) (node : ℕ) (xs ys : List Value)
+        → IsLawful members sent → HasLearnedPrefix members sent steps node xs
+        → HasLearnedPrefix members sent steps node ys → xs ≡ ys }
+    ensures tables { (members : ℕ) (sent : List Message) (steps : List Step) (node : ℕ) (x y : List Upload)
+        → IsLawful members sent → HasTables members sent steps node x → HasTables members sent steps node y → x ≡ y }
+{
+    uploads_have_one_encoding();
+    one_value();
+    decided_is_one();
+}
+
+/// Tables give one answer to each question.
+pub fn answers_are_one()
+    ensures get { (uploads : List Upload) (table : List ℕ) (version : ℕ) (a b : Gave)
+        → GetGives uploads table version a → GetGives uploads table version b → a ≡ b }
+    ensures info { (uploads : List Upload) (table : List ℕ) (a b : Gave)
+        → InfoGives uploads table a → InfoGives uploads table b → a ≡ b }
+    ensures outcome { (uploads : List Upload) (text : List ℕ) (a b : Gave)
+        → OutcomeGives uploads text a → OutcomeGives uploads text b → a ≡ b }
+{
+    uploads_have_one_encoding();
+}
+
+/// The version that is told to be the latest of a table is answered, and no later one is; and no version is answered
+/// of a table that is told to be none.
+pub fn info_tells_the_latest()
+    ensures latest { (uploads : List Upload) (table : List ℕ) (number : ℕ) → InfoGives uploads table (Info number)
+        → (bytes : List ℕ) × GetGives uploads table number (Answer bytes) }
+    ensures last { (uploads : List Upload) (table : List ℕ) (number version : ℕ) (given : Gave)
+        → InfoGives uploads table (Info number) → number < version → GetGives uploads table version given
+        → given ≡ Unavailable }
+    ensures none { (uploads : List Upload) (table : List ℕ) (version : ℕ) (given : Gave)
+        → InfoGives uploads table NoTable → GetGives uploads table version given → given ≡ Unavailable }
+{}
 
 /// What clients may rely on, at any nodes that follow the rules and at any times: answers to one ticket have the same
 /// bytes; an upload that was told to be applied stands once in each later version, at its place; a node that is up
