@@ -1,14 +1,13 @@
 -- Tables give one answer to each question, and a history shows one list of tables of a node at one time.
-use Rattle.std.proofs.Common.{◌≡◌, ℕ, zero, suc, ◌+◌, ◌<◌, ◌≤◌, ◌⊎◌, inl, inr, Bool, true, false, if◌then◌else◌, List, [], ◌∷◌, ◌++◌, length, map, take, Option, Some, None, slice_get, refl, sym, ap, ap₂, subst, ◌∙◌, arith}
-use Rattle.std.specs.Prelude.{nat_le}
-use Rattle.std.proofs.lemmas.Bool.{le-leb, leb-true}
+use Rattle.std.proofs.Common.{◌≡◌, ℕ, ◌<◌, ◌≤◌, inl, inr, Bool, if◌then◌else◌, List, [], ◌∷◌, ◌++◌, length, map, take, Some, None, slice_get, refl, sym, ap, subst, ◌∙◌, arith}
+use Rattle.std.proofs.lemmas.Bool.{le-leb}
 use Rattle.std.proofs.lemmas.List.{append-nil}
 use Rattle.ballots.specs.declared.value.Value.{Value}
 use Rattle.ballots.specs.declared.message.Message.{Message}
 use Rattle.ballots.specs.Message.{value_bytes}
 use Rattle.schedule_runner.specs.Lawful.{IsLawful}
 use Rattle.table_types.specs.Uploads.{Upload}
-use Rattle.table_types.specs.Tables.{Version, first_of_all, version_of, effective, Outcome, outcome_of}
+use Rattle.table_types.specs.Tables.{Version, first_of_all, effective, outcome_of}
 use Rattle.table_types.specs.Answers.{answer_of}
 use Rattle.histories.specs.Texts.{AreUploadsOf}
 use Rattle.histories.specs.History.{Step}
@@ -16,7 +15,7 @@ use Rattle.histories.specs.Gave.{Gave}
 use Rattle.histories.specs.Gave as gave
 use Rattle.histories.specs.Following.{GetGives, InfoGives, OutcomeGives}
 use Rattle.histories.specs.Learning.{HasLearnedPrefix, HasTables}
-use Rattle.safe_histories.proofs.Lists.{Begins, some_same, none_is_some, at_end}
+use Rattle.safe_histories.proofs.Lists.{some_same, none_is_some, at_end}
 use Rattle.safe_histories.proofs.Texts.{OneEncoding, one_text, one_list}
 use Rattle.safe_histories.proofs.Versions.{version_is}
 use Rattle.safe_histories.proofs.Heard.{ChoiceLaws}
