@@ -14,3 +14,4 @@ pub mod Planning
 pub mod Handing
 pub mod Put
 pub mod Answered
+pub mod Down

@@ -20,11 +20,11 @@ use Rattle.safe_histories.proofs.Prefixes.{TableLaws, within_one, version_later,
 use Rattle.safe_histories.proofs.Served.{step_answers, get_is_served, outcome_is_served, IsServed, get_served, IsTold, outcome_told}
 
 module _ (history : History) (follows : Follows history) where
-  abbrev Shown : List Step → (ℕ → Seat) → ℕ → Type 0
+  abbrev pub Shown : List Step → (ℕ → Seat) → ℕ → Type 0
   Shown done seats next = AllAgree history.sent done history.config.members done seats
 
   -- each step, with what was before it
-  at_place : (place : ℕ) (step : Step) → slice_get history.steps place ≡ Some step → Reached history.config history.sent Shown (take place history.steps) step
+  pub at_place : (place : ℕ) (step : Step) → slice_get history.steps place ≡ Some step → Reached history.config history.sent Shown (take place history.steps) step
   at_place place step is =
       reach history.config history.sent Shown
       (λ done seats after next x found holds one. step_agrees history.sent done history.config next found seats after x holds one)

@@ -1,15 +1,16 @@
 //! Laws of histories that follow the rules of the nodes.
 
-ghost use Rattle.std.specs.Prelude.{◌≡◌, ◌⊎◌, ℕ, ◌<◌, List, ◌++◌};
+ghost use Rattle.std.specs.Prelude.{◌≡◌, ◌⊎◌, ℕ, ◌<◌, ◌≤◌, List, ◌++◌, take, slice_get, Some, false};
 ghost use Rattle.ballots.specs.declared.value.Value.{Value};
 ghost use Rattle.ballots.specs.declared.message.Message.{Message};
 ghost use Rattle.schedule_runner.specs.Lawful.{IsLawful};
 ghost use Rattle.table_types.specs.Uploads.{Upload};
 ghost use Rattle.histories.specs.Texts.{AreUploadsOf};
 ghost use Rattle.histories.specs.History.{Step, History};
-ghost use Rattle.histories.specs.Gave.{Gave, Answer, Unavailable, Info, NoTable};
+ghost use Rattle.histories.specs.Event.{node_of};
+ghost use Rattle.histories.specs.Gave.{Gave, Answer, Unavailable, Info, NoTable, Refused, Down, OutOfRange};
 ghost use Rattle.histories.specs.Following.{GetGives, InfoGives, OutcomeGives, Follows};
-ghost use Rattle.histories.specs.Learning.{HasLearnedPrefix, HasTables};
+ghost use Rattle.histories.specs.Learning.{is_start_of, Runs, HasLearnedPrefix, HasTables};
 ghost use Rattle.histories.specs.Safe.{IsSafe};
 
 use decided_log::laws::asked_is_a_run_of_the_prefix;
@@ -38,6 +39,21 @@ pub fn prefixes_begin_one_another()
     one_value();
     decided_is_one();
 }
+
+/// A member refuses as one that is down exactly where the history shows that it does not run: then all but a start, and
+/// else nothing. Who is no member is refused everything.
+pub fn running_is_shown()
+    ensures down { (history : History) (place : ℕ) (step : Step) → Follows history
+        → slice_get history.steps place ≡ Some step → node_of step.event < history.config.members
+        → (Runs (node_of step.event) (take place history.steps) → ⊥)
+        → is_start_of (node_of step.event) step.event ≡ false → step.gave ≡ Refused Down }
+    ensures up { (history : History) (place : ℕ) (step : Step) → Follows history
+        → slice_get history.steps place ≡ Some step → node_of step.event < history.config.members
+        → Runs (node_of step.event) (take place history.steps) → step.gave ≡ Refused Down → ⊥ }
+    ensures strangers { (history : History) (place : ℕ) (step : Step) → Follows history
+        → slice_get history.steps place ≡ Some step → history.config.members ≤ node_of step.event
+        → step.gave ≡ Refused OutOfRange }
+{}
 
 /// What a lawful history shows of a node at one time is one prefix, and one list of uploads that its tables are made of.
 pub fn shown_tables_are_one()
