@@ -1,5 +1,5 @@
 -- A node refuses as one that is down exactly where the history shows that it does not run.
-use Rattle.std.proofs.Common.{◌≡◌, ℕ, ◌<◌, ◌≤◌, ◌⊎◌, inl, inr, ◌==◌, Bool, true, false, true≢false, List, [], length, take, Option, Some, None, slice_get, refl, sym, ap, subst, ◌∙◌, eq-eqb, arith}
+use Rattle.std.proofs.Common.{◌≡◌, ℕ, ◌<◌, ◌≤◌, inl, inr, Bool, false, true≢false, List, length, take, Option, Some, slice_get, refl, sym, ◌∙◌, eq-eqb, arith}
 use Rattle.ballots.specs.declared.message.Message.{Message}
 use Rattle.ballots.specs.declared.record.Record.{Record}
 use Rattle.table_types.specs.Uploads.{Upload}
