@@ -55,7 +55,7 @@ pub fn running_is_shown()
         → step.gave ≡ Refused OutOfRange }
 {}
 
-/// What a lawful history shows of a node at one time is one prefix, and one list of uploads that its tables are made of.
+/// What a lawful history shows of a node at one time is one prefix, and one list of uploads that its tables are of.
 pub fn shown_tables_are_one()
     ensures prefix { (members : ℕ) (sent : List Message) (steps : List Step) (node : ℕ) (xs ys : List Value)
         → IsLawful members sent → HasLearnedPrefix members sent steps node xs
