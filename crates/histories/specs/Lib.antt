@@ -5,5 +5,3 @@ pub mod Event
 pub mod Gave
 pub mod History
 pub mod Following
-pub mod Learning
-pub mod Safe

@@ -14,7 +14,7 @@ use Rattle.histories.specs.History.{Step}
 use Rattle.histories.specs.Gave.{Gave}
 use Rattle.histories.specs.Gave as gave
 use Rattle.histories.specs.Following.{GetGives, InfoGives, OutcomeGives}
-use Rattle.histories.specs.Learning.{HasLearnedPrefix, HasTables}
+use Rattle.safe_histories.specs.Learning.{HasLearnedPrefix, HasTables}
 use Rattle.safe_histories.proofs.Lists.{some_same, none_is_some, at_end}
 use Rattle.safe_histories.proofs.Texts.{OneEncoding, one_text, one_list}
 use Rattle.safe_histories.proofs.Versions.{version_is}

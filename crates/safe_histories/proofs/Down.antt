@@ -12,7 +12,7 @@ use Rattle.histories.specs.Gave.{Gave, Reason}
 use Rattle.histories.specs.Gave as gave
 use Rattle.histories.specs.History.{Step, History}
 use Rattle.histories.specs.Following.{Seat, IsUp, IsDown, reason_of, PutGives, StepGives, InputGives, CutGives, Delivers, GetGives, InfoGives, OutcomeGives, StartGives, UpGives, DownGives, SeatGives, StepFollows, Follows}
-use Rattle.histories.specs.Learning.{is_start_of, Runs}
+use Rattle.safe_histories.specs.Learning.{is_start_of, Runs}
 use Rattle.safe_histories.proofs.Running.{Agrees}
 use Rattle.safe_histories.proofs.Seats.{AllAgree}
 use Rattle.safe_histories.proofs.Safety.{at_place}

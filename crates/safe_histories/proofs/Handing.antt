@@ -13,7 +13,7 @@ use Rattle.histories.specs.Views.{Config, Views, started_with}
 use Rattle.histories.specs.Due.{Input, Due, Plan, Refuses, Plans}
 use Rattle.histories.specs.Due as input
 use Rattle.histories.specs.Following.{Seat, IsUp, IsDown, with_due, found_in, down, reason_of, WantsMemory, PutGives, StepGives, InputGives, CutGives, Delivers, GetGives, InfoGives, OutcomeGives, QuestionGives, StartGives, UpGives, RefusesAsDown, DownGives, SeatGives, StepFollows, at_first}
-use Rattle.histories.specs.Safe.{IsStep}
+use Rattle.safe_histories.specs.Safe.{IsStep}
 use Rattle.safe_histories.proofs.Lists.{in_from_at, dropped_at, taken_at, at_front, at_end}
 use Rattle.safe_histories.proofs.Heard.{LearnerLaws}
 use Rattle.safe_histories.proofs.Starts.{step_of}

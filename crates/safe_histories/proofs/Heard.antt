@@ -18,7 +18,7 @@ use Rattle.learner.specs.Calls as call
 use Rattle.learner.specs.Votes.{MajorityAccepted, IsDecidedOrChosen}
 use Rattle.histories.specs.Views.{HasPrefix}
 use Rattle.histories.specs.History.{Step}
-use Rattle.histories.specs.Learning.{since_start, is_taken, handed_to, delivered_in, heard, HasLearnedPrefix}
+use Rattle.safe_histories.specs.Learning.{since_start, is_taken, handed_to, delivered_in, heard, HasLearnedPrefix}
 use Rattle.safe_histories.proofs.Lists.{In, some_same, none_is_some, in_from_contains, contains_from_in, in_from_at, in_filter_map, filter_map_in}
 
 -- ---- the calls of messages

@@ -10,7 +10,7 @@ use Rattle.table_types.specs.Valid.{IsUpload}
 use Rattle.table_types.specs.Tables.{Version, version_of, Outcome, applied, unknown, outcome_of}
 use Rattle.histories.specs.Texts.{AreUploadsOf}
 use Rattle.histories.specs.History.{Step}
-use Rattle.histories.specs.Learning.{heard, HasLearnedPrefix, HasTables}
+use Rattle.safe_histories.specs.Learning.{heard, HasLearnedPrefix, HasTables}
 use Rattle.safe_histories.proofs.Lists.{In, Begins, one_begins}
 use Rattle.safe_histories.proofs.Texts.{OneEncoding, are_of_texts, uploads_begin}
 use Rattle.safe_histories.proofs.Heard.{ChoiceLaws, heard_was_sent, learned_is_chosen}

@@ -17,8 +17,8 @@ use Rattle.histories.specs.Gave as gave
 use Rattle.histories.specs.Gave.{count_of}
 use Rattle.histories.specs.History.{Step, History}
 use Rattle.histories.specs.Following.{Seat, IsUp, IsDown, at_first, Follows}
-use Rattle.histories.specs.Learning.{Runs, heard, HasTables}
-use Rattle.histories.specs.Safe.{IsStep, ServedWasPut}
+use Rattle.safe_histories.specs.Learning.{Runs, heard, HasTables}
+use Rattle.safe_histories.specs.Safe.{IsStep, ServedWasPut}
 use Rattle.safe_histories.proofs.Lists.{In, in_from_contains, at_from_in, in_map, at_taken}
 use Rattle.safe_histories.proofs.Texts.{are_of_texts}
 use Rattle.safe_histories.proofs.Versions.{in_version}

@@ -16,7 +16,7 @@ use Rattle.histories.specs.Views.{Config, Views, started_with}
 use Rattle.histories.specs.Due.{Input, Due, Plan, Refuses, Plans, Aim, Attempts, AsksFrom, PutIsDue, AsksAt, AimIsDue, TickIsDue, BodyIsDue, MessageIsDue, ReplyToPrepare, ReplyToAccept, has_seen}
 use Rattle.histories.specs.Due as input
 use Rattle.histories.specs.Following.{Seat, IsUp, IsDown}
-use Rattle.histories.specs.Learning.{brings_up, brings_down, since_start, Runs, delivered_in, heard}
+use Rattle.safe_histories.specs.Learning.{brings_up, brings_down, since_start, Runs, delivered_in, heard}
 use Rattle.safe_histories.proofs.Heard.{call_of, call_in, calls_of}
 use Rattle.safe_histories.proofs.Starts.{start_here, heard_more, downs_more, Elsewhere}
 

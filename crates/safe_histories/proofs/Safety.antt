@@ -8,7 +8,7 @@ use Rattle.histories.specs.Gave as gave
 use Rattle.histories.specs.Gave.{count_of}
 use Rattle.histories.specs.History.{Step, History}
 use Rattle.histories.specs.Following.{Seat, at_first, Follows}
-use Rattle.histories.specs.Safe.{IsStep, SameTicketSameBytes, AcknowledgedStandsOnce, ServesItsPrefix}
+use Rattle.safe_histories.specs.Safe.{IsStep, SameTicketSameBytes, AcknowledgedStandsOnce, ServesItsPrefix}
 use Rattle.safe_histories.proofs.Lists.{some_same}
 use Rattle.safe_histories.proofs.Texts.{OneEncoding, one_text}
 use Rattle.safe_histories.proofs.Versions.{Apart, Placed, stands_in}

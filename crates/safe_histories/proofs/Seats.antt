@@ -15,7 +15,7 @@ use Rattle.histories.specs.Views.{Config, Views, started_with}
 use Rattle.histories.specs.Due.{Input, Due, Plan, Refuses, Plans, IsDue}
 use Rattle.histories.specs.Due as input
 use Rattle.histories.specs.Following.{Seat, IsUp, IsDown, down, found_in, reason_of, PutGives, StepGives, InputGives, WantsMemory, CutGives, Delivers, QuestionGives, StartGives, UpGives, RefusesAsDown, DownGives, SeatGives, StepFollows, at_first, GetGives, InfoGives, OutcomeGives}
-use Rattle.histories.specs.Learning.{is_taken, brings_up, brings_down, delivered_in}
+use Rattle.safe_histories.specs.Learning.{is_taken, brings_up, brings_down, delivered_in}
 use Rattle.safe_histories.proofs.Starts.{nothing_either_way, step_of, elsewhere}
 use Rattle.safe_histories.proofs.Running.{put_tells, tick_tells, message_tells, Agrees, started, goes_on, goes_down, stays_down, others_agree}
 

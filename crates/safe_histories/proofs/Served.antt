@@ -13,8 +13,8 @@ use Rattle.histories.specs.Gave.{Gave, Reason}
 use Rattle.histories.specs.Gave as gave
 use Rattle.histories.specs.History.{Step}
 use Rattle.histories.specs.Following.{Seat, IsUp, IsDown, UpGives, SeatGives, StepFollows, QuestionGives, WantsMemory, GetGives, InfoGives, OutcomeGives}
-use Rattle.histories.specs.Learning.{heard, Runs, HasTables}
-use Rattle.histories.specs.Safe.{AnswersFrom}
+use Rattle.safe_histories.specs.Learning.{heard, Runs, HasTables}
+use Rattle.safe_histories.specs.Safe.{AnswersFrom}
 use Rattle.safe_histories.proofs.Heard.{calls_of, ChoiceLaws, LearnerLaws, prefix_is_learned}
 use Rattle.safe_histories.proofs.Starts.{step_of}
 use Rattle.safe_histories.proofs.Running.{Agrees}

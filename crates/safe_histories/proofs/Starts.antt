@@ -9,7 +9,7 @@ use Rattle.histories.specs.Event.{Event, node_of}
 use Rattle.histories.specs.Event as event
 use Rattle.histories.specs.Gave.{Gave}
 use Rattle.histories.specs.History.{Step}
-use Rattle.histories.specs.Learning.{is_done, brings_up, brings_down, since_start, is_taken, delivered_in, heard}
+use Rattle.safe_histories.specs.Learning.{is_done, brings_up, brings_down, since_start, is_taken, delivered_in, heard}
 
 -- ---- one step more
 

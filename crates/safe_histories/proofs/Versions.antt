@@ -11,7 +11,7 @@ use Rattle.table_types.specs.Valid.{IsUpload}
 use Rattle.table_types.specs.Tables.{has_id, is_to, shape_text, has_shape, is_same, firsts, like_the_first, effective}
 use Rattle.table_types.specs.Tables.{Version, first_of_all, version_of, applied, outcome_of}
 use Rattle.table_types.specs.Answers.{answer_of}
-use Rattle.histories.specs.Safe.{StandsIn}
+use Rattle.safe_histories.specs.Safe.{StandsIn}
 use Rattle.safe_histories.proofs.Lists.{In, some_same, none_is_some, in_cases, in_filter, in_take, in_from_at, at_taken, taken_at}
 use Rattle.safe_histories.proofs.Texts.{OneEncoding}
 

@@ -10,10 +10,11 @@ ghost use Rattle.histories.specs.History.{Step, History};
 ghost use Rattle.histories.specs.Event.{node_of};
 ghost use Rattle.histories.specs.Gave.{Gave, Answer, Unavailable, Info, NoTable, Refused, Down, OutOfRange};
 ghost use Rattle.histories.specs.Following.{GetGives, InfoGives, OutcomeGives, Follows};
-ghost use Rattle.histories.specs.Learning.{is_start_of, Runs, HasLearnedPrefix, HasTables};
-ghost use Rattle.histories.specs.Safe.{IsSafe};
+ghost use Rattle.safe_histories.specs.Learning.{is_start_of, Runs, HasLearnedPrefix, HasTables};
+ghost use Rattle.safe_histories.specs.Safe.{IsSafe};
 
 use decided_log::laws::asked_is_a_run_of_the_prefix;
+use histories::laws::what_follows_is_lawful;
 use learner::laws::learned_is_decided_or_chosen;
 use proposer::laws::{choices_are_one, majorities_are_of_members, senders_count_once};
 use schedule_runner::laws::{decided_is_one, one_value};
@@ -108,4 +109,17 @@ pub fn what_follows_is_safe()
     senders_count_once();
     majorities_are_of_members();
     asked_is_a_run_of_the_prefix();
+}
+
+/// Replicas agree: in every history of nodes that follow their rules, whatever its list of deliveries, losses, repeats,
+/// reorderings, cuts and restarts, messages are lawful, and any two answers to one ticket have equal bytes; an upload
+/// that was told to be applied as a version stands at that version's place, and nowhere else, in every answer to a
+/// ticket of its table for that version or a later one, at whatever node and time; a member that runs answers from the
+/// tables of its prefix; and what is served was put before.
+pub fn replicas_agree()
+    ensures lawful { (history : History) → Follows history → IsLawful history.config.members history.sent }
+    ensures safe { (history : History) → Follows history → IsSafe history }
+{
+    what_follows_is_lawful();
+    what_follows_is_safe();
 }

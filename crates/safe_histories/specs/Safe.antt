@@ -10,7 +10,7 @@ use Rattle.histories.specs.Gave.{Gave, Done, Answer, Refused, OutOfMemory}
 use Rattle.histories.specs.Gave as gave
 use Rattle.histories.specs.History.{Step, History}
 use Rattle.histories.specs.Following.{GetGives, InfoGives, OutcomeGives}
-use Rattle.histories.specs.Learning.{Runs, HasTables}
+use Rattle.safe_histories.specs.Learning.{Runs, HasTables}
 
 -- the step stands at this place
 abbrev pub IsStep : List Step → ℕ → Event → Gave → Type 0
