@@ -1,0 +1,2 @@
+mod TellingLemmas
+mod StandingLemmas

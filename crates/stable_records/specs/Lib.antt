@@ -1,0 +1,5 @@
+pub mod Found
+pub mod Calls
+pub mod Moments
+pub mod MemoryStable
+pub mod Telling

@@ -1,0 +1,56 @@
+//! Laws of the definitions that every store is proved against.
+
+ghost use Rattle.std.specs.Prelude.{◌≡◌, ◌⊎◌, ℕ, ◌≤◌, List, [], ◌∷◌, ◌++◌, map, Contains, Some, Ok, Result, Vec};
+ghost use Rattle.std.specs.declared.alloc.Global.{Global as Allocator};
+ghost use Rattle.ballots.specs.declared.record.Record.{Record};
+ghost use Rattle.stable_records.specs.declared.fault.StoreFault.{StoreFault};
+ghost use Rattle.stable_records.specs.Found.{Found, FindsOnly, AddsRecord};
+ghost use Rattle.stable_records.specs.Calls.{Keeps, Recalls, LeftInKeep};
+ghost use Rattle.stable_records.specs.Moments.{AnyCrashLeaves};
+ghost use Rattle.stable_records.specs.Telling.{Telling, kept, doubted, MayStand, with_keep, StandsAfter};
+
+use crate::stable::Stable;
+
+/// What was kept is never lost, whatever failed before or since: each record whose keep was `Ok` stands, in the order of
+/// the keeps, and nothing stands that no keep was told. Where none was broken off these records stand and no other;
+/// where the last one was, it stands behind them or does not.
+pub fn what_was_kept_stands()
+    ensures kept { (tellings : List Telling) (records : List Record) (told : Record) → MayStand tellings records
+        → Contains tellings (kept told) → Contains records told }
+    ensures told { (tellings : List Telling) (records : List Record) (told : Record) → MayStand tellings records
+        → Contains records told → Contains tellings (kept told) ⊎ Contains tellings (doubted told) }
+    ensures in_order { (first second : List Telling) (records : List Record) → MayStand (first ++ second) records
+        → (early late : List Record) × MayStand first early × MayStand second late × (records ≡ early ++ late) }
+    ensures together { (first second : List Telling) (early late : List Record) → MayStand first early
+        → MayStand second late → MayStand (first ++ second) (early ++ late) }
+    ensures all_kept { (told records : List Record) → MayStand (map kept told) records → records ≡ told }
+    ensures last_doubted { (told records : List Record) (last : Record)
+        → MayStand (map kept told ++ doubted last ∷ []) records → (records ≡ told) ⊎ (records ≡ told ++ last ∷ []) }
+{}
+
+/// What a store finds stands after the keeps that it was told, call by call: a keep counts as its answer says, a recall
+/// that is `Ok` gives what may stand, and a crash in the midst of a keep leaves it in doubt.
+pub fn answers_tell_what_stands<S: Stable>()
+    ensures keep { (old new : S) (tellings : List Telling) (last : Record) (answer : Result (Unit {0}) StoreFault)
+        → StandsAfter tellings (S.finds old) → Keeps last answer (S.finds old) (S.finds new)
+        → StandsAfter (with_keep tellings last answer) (S.finds new) }
+    ensures recall { (old new : S) (tellings : List Telling) (answer : Result (Vec Record Allocator) StoreFault)
+        → StandsAfter tellings (S.finds old) → Recalls answer (S.finds old) (S.finds new)
+        → StandsAfter tellings (S.finds new) }
+    ensures recalled { (old new : S) (tellings : List Telling) (records : Vec Record Allocator)
+        → StandsAfter tellings (S.finds old) → Recalls (Ok records) (S.finds old) (S.finds new)
+        → MayStand tellings records.items × StandsAfter (map kept records.items) (S.finds new) }
+    ensures crash { (old new : S) (tellings : List Telling) (last : Record) (answer : Result (Unit {0}) StoreFault)
+        (found : Found) → StandsAfter tellings (S.finds old)
+        → AnyCrashLeaves S.moment S.finds_since old new (LeftInKeep last answer (S.finds old))
+        → S.finds_since new (S.moment old) found
+        → (records : List Record) × MayStand (tellings ++ doubted last ∷ []) records × (found ≡ Some records) }
+{}
+
+/// Where one list of records is found, one is found after a keep that is `Ok`: that list, with the record behind it.
+pub fn one_list_stays_one<S: Stable>()
+    ensures one { (old new : S) (records : List Record) (last : Record) → FindsOnly (S.finds old) records
+        → AddsRecord last (S.finds old) (S.finds new) → FindsOnly (S.finds new) (records ++ last ∷ []) }
+    ensures stands { (store : S) (records : List Record) → FindsOnly (S.finds store) records
+        → StandsAfter (map kept records) (S.finds store) }
+{}
