@@ -1,2 +1,4 @@
 mod TellingLemmas
 mod StandingLemmas
+mod CutLemmas
+pub mod CallerLemmas

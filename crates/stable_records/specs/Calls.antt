@@ -5,7 +5,8 @@ use Rattle.std.specs.declared.alloc.Global.{Global}
 use Rattle.ballots.specs.declared.record.Record.{Record}
 use Rattle.stable_records.specs.declared.fault.StoreFault.{StoreFault}
 use Rattle.stable_records.specs.declared.fault.StoreFault.TheVariants.{Device, Damaged, Broken, OutOfMemory}
-use Rattle.stable_records.specs.Found.{Found, FindsOnly, IsWithOrWithout, AddsRecord, MayAddRecord, FindsNoMore, FindsSame}
+use Rattle.stable_records.specs.Found.{Found, FindsOnly, FindsNoMore, FindsSame}
+use Rattle.stable_records.specs.Found.{IsWithOrWithout, AddsRecord, MayAddRecord}
 
 -- ---- the count of faults
 
@@ -48,8 +49,8 @@ Keeps last (Err Damaged) old new = ⊥
 Keeps last (Err Broken) old new = FindsSame old new
 Keeps last (Err OutOfMemory) old new = FindsSame old new
 
--- A recall that is Ok gives records that could be found, and from then on these alone are. It is Damaged only where what
--- stands there may mean no records. A recall that fails leaves nothing to be found that was not found before.
+-- A recall that is Ok gives records that could be found, and from then on these alone are. It is Damaged only where
+-- what stands there may mean no records. A recall that fails leaves nothing to be found that was not found before.
 abbrev pub Recalls : Result (Vec Record Global) StoreFault → (Found → Type 0) → (Found → Type 0) → Type 0
 Recalls (Ok records) old new = old (Some records.items) × FindsOnly new records.items
 Recalls (Err Device) old new = FindsNoMore old new

@@ -2,7 +2,7 @@
 -- Simple", section 2.5: an acceptor records its response in stable storage before it sends it, and what stands there is
 -- kept through failures). That a keep which fails leaves the record kept or not, and what a crash may leave, is this
 -- service's own.
-use Rattle.std.specs.Prelude.{◌≡◌, ◌⊎◌, List, [], ◌∷◌, ◌++◌, Option, Some}
+use Rattle.std.specs.Prelude.{◌≡◌, ◌⊎◌, ℕ, ◌≤◌, List, [], ◌∷◌, ◌++◌, length, take, Option, Some}
 use Rattle.ballots.specs.declared.record.Record.{Record}
 
 -- What a recall finds: records, the first that was kept first, or None where what stands there means no records.
@@ -39,3 +39,7 @@ FindsNoMore old new = (found : Found) → new found → old found
 pub record FindsSame (old new : Found → Type 0) : Type 0 where
   pub no_more : FindsNoMore old new
   pub no_less : FindsNoMore new old
+
+-- Keeps cut short: the records from before them, and behind these the first of those that the keeps were told.
+abbrev pub IsCutShort : List Record → List Record → Found → Type 0
+IsCutShort records told found = (count : ℕ) × (count ≤ length told) × (found ≡ Some (records ++ take count told))

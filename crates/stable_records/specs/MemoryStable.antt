@@ -31,5 +31,6 @@ had_now records since found le here = record {
   had = here ∙ ap (λ rs. Some rs) (sym (take_all (length records) records (omega arith)));
 }
 
-pub only_had_now : (records : List Record) (found : Found) → HadRecords records (length records) found → HasRecords records found
+pub only_had_now : (records : List Record) (found : Found) → HadRecords records (length records) found
+    → HasRecords records found
 only_had_now records found had = had.had ∙ ap (λ rs. Some rs) (take_all had.count records had.from)

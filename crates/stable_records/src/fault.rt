@@ -6,7 +6,8 @@ use thiserror::Error;
 /// Why a call of a store failed. Each fault but [`StoreFault::OutOfMemory`] raises the store's count of faults.
 #[derive(Clone, Copy, Debug, PartialEq, Eq, Error)]
 pub enum StoreFault {
-    /// What the store stands on failed. The record of a keep may stand there, or not: the next recall that is `Ok` says.
+    /// What the store stands on failed. The record of a keep may stand there, or not: the next recall that is `Ok`
+    /// says.
     #[error("Device")]
     Device,
     /// What stands there means no records.

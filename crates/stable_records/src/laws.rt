@@ -4,15 +4,15 @@ ghost use Rattle.std.specs.Prelude.{◌≡◌, ◌⊎◌, ℕ, ◌≤◌, List, 
 ghost use Rattle.std.specs.declared.alloc.Global.{Global as Allocator};
 ghost use Rattle.ballots.specs.declared.record.Record.{Record};
 ghost use Rattle.stable_records.specs.declared.fault.StoreFault.{StoreFault};
-ghost use Rattle.stable_records.specs.Found.{Found, FindsOnly, AddsRecord};
+ghost use Rattle.stable_records.specs.Found.{Found, FindsOnly, AddsRecord, IsCutShort};
 ghost use Rattle.stable_records.specs.Calls.{Keeps, Recalls, LeftInKeep};
 ghost use Rattle.stable_records.specs.Moments.{AnyCrashLeaves};
 ghost use Rattle.stable_records.specs.Telling.{Telling, kept, doubted, MayStand, with_keep, StandsAfter};
 
 use crate::stable::Stable;
 
-/// What was kept is never lost, whatever failed before or since: each record whose keep was `Ok` stands, in the order of
-/// the keeps, and nothing stands that no keep was told. Where none was broken off these records stand and no other;
+/// What was kept is never lost, whatever failed before or since: each record whose keep was `Ok` stands, in the order
+/// of the keeps, and nothing stands that no keep was told. Where none was broken off these records stand and no other;
 /// where the last one was, it stands behind them or does not.
 pub fn what_was_kept_stands()
     ensures kept { (tellings : List Telling) (records : List Record) (told : Record) → MayStand tellings records
@@ -53,4 +53,16 @@ pub fn one_list_stays_one<S: Stable>()
         → AddsRecord last (S.finds old) (S.finds new) → FindsOnly (S.finds new) (records ++ last ∷ []) }
     ensures stands { (store : S) (records : List Record) → FindsOnly (S.finds store) records
         → StandsAfter (map kept records) (S.finds store) }
+{}
+
+/// A crash in the midst of keeps, one after another, cuts them short: the records from before them stand, and of those
+/// that were told the first ones, none skipped.
+pub fn crashes_cut_keeps_short<S: Stable>()
+    ensures begins { (store : S) (records : List Record) → FindsOnly (S.finds store) records
+        → AnyCrashLeaves S.moment S.finds_since store store (IsCutShort records []) }
+    ensures goes_on { (old mid new : S) (records told : List Record) (last : Record)
+        (answer : Result (Unit {0}) StoreFault) → FindsOnly (S.finds mid) (records ++ told)
+        → AnyCrashLeaves S.moment S.finds_since old mid (IsCutShort records told)
+        → AnyCrashLeaves S.moment S.finds_since mid new (LeftInKeep last answer (S.finds mid))
+        → AnyCrashLeaves S.moment S.finds_since old new (IsCutShort records (told ++ last ∷ [])) }
 {}

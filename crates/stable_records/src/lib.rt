@@ -12,9 +12,10 @@
 //! store.keep(&record)?;                // before the node's own state changes and its answer goes out
 //! ```
 //!
-//! After [`StoreFault::Device`] each keep is [`StoreFault::Broken`] until a recall is `Ok`. [`MemoryStable`] is the store
-//! in memory, whose only fault is [`StoreFault::OutOfMemory`]. [`FailingStable`] passes calls on to another store and
-//! fails once. Both meet the contract by proof, and [`laws`] says what follows from it over many calls.
+//! After [`StoreFault::Device`] each keep is [`StoreFault::Broken`] until a recall is `Ok`. [`MemoryStable`] is the
+//! store in memory, whose only fault is [`StoreFault::OutOfMemory`]. [`FailingStable`] passes calls on to another store
+//! and fails once. Both meet the contract by proof, and [`laws`] says what follows from it over many calls. A crate
+//! above cites `specs/`, the laws, and of `proofs/` the module `CallerLemmas` alone.
 #![tactic(auto)]
 
 mod failing;

@@ -36,8 +36,9 @@ pub trait Stable {
     /// Keeps a record behind those that it has. `Ok` is told only when the record stands for good.
     ///
     /// It is [`StoreFault::Broken`] exactly where the store is not ready, and then nothing changes, as with
-    /// [`StoreFault::OutOfMemory`]. After [`StoreFault::Device`] the record stands or not, and the store is not ready. It
-    /// is never [`StoreFault::Damaged`]. A crash at any moment of the call leaves the records with this one or without.
+    /// [`StoreFault::OutOfMemory`]. After [`StoreFault::Device`] the record stands or not, and the store is not
+    /// ready. It is never [`StoreFault::Damaged`]. A crash at any moment of the call leaves the records with this one
+    /// or without.
     fn keep(&mut self, told: &Record) -> Result<(), StoreFault>
         ensures counted { CountsFault result (faults self.old) (faults self.new) }
         ensures ready { ReadyAfterKeep result (is_ready self.old) (is_ready self.new) }
@@ -48,8 +49,8 @@ pub trait Stable {
     /// All records, the first that was kept first. From then on these alone are found, and the store is ready.
     ///
     /// It is [`StoreFault::Damaged`] only where what stands there may mean no records, and never
-    /// [`StoreFault::Broken`]. After [`StoreFault::Device`] the store is not ready; the other faults leave it as ready as
-    /// it was. A crash at any moment of the call leaves what could be found before it.
+    /// [`StoreFault::Broken`]. After [`StoreFault::Device`] the store is not ready; the other faults leave it as ready
+    /// as it was. A crash at any moment of the call leaves what could be found before it.
     fn recall(&mut self, alloc: Global) -> Result<Vec<Record>, StoreFault>
         ensures counted { CountsFault result (faults self.old) (faults self.new) }
         ensures ready { ReadyAfterRecall result (is_ready self.old) (is_ready self.new) }
