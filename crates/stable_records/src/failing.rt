@@ -1,6 +1,7 @@
 //! A store that fails once, where it is told to.
 
-ghost use Rattle.std.specs.Prelude.{◌≡◌, ◌+◌, true, IsTrue};
+ghost use Rattle.std.specs.Prelude.{◌≡◌, ◌↔◌, ◌+◌, true, false, IsTrue};
+ghost use Rattle.stable_records.specs.Found.{Found};
 
 use crate::fault::StoreFault;
 use crate::fault_count::FaultCount;
@@ -38,7 +39,11 @@ fn is_due(calls_left: &mut Option<u64>) -> bool {
 
 impl<S: Stable> FailingStable<S> {
     /// A store over this one, of which `calls` calls pass and the next one fails. It is ready once a recall was `Ok`.
-    pub fn new(store: S, calls: u64, keeps_last: bool) -> FailingStable<S> {
+    pub fn new(store: S, calls: u64, keeps_last: bool) -> FailingStable<S>
+        ensures ready { ⟦<FailingStable<S> as Stable>⟧.is_ready result ≡ false }
+        ensures faults { ⟦<FailingStable<S> as Stable>⟧.faults result ≡ S.faults store }
+        ensures finds { (found : Found) → ⟦<FailingStable<S> as Stable>⟧.finds result found ↔ S.finds store found }
+    {
         FailingStable {
             store,
             calls_left: Some(calls),

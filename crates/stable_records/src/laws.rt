@@ -1,10 +1,13 @@
 //! Laws of the definitions that every store is proved against.
 
-ghost use Rattle.std.specs.Prelude.{◌≡◌, ◌⊎◌, ℕ, ◌≤◌, List, [], ◌∷◌, ◌++◌, map, Contains, Some, Ok, Result, Vec};
+ghost use Rattle.std.specs.Prelude.{◌≡◌, ◌≢◌, ◌⊎◌, ◌↔◌, ℕ, ◌≤◌, Bool, false, IsTrue, List, [], ◌∷◌, ◌++◌, map};
+ghost use Rattle.std.specs.Prelude.{Contains, Some, Ok, Err, IsOk, Result, Vec};
 ghost use Rattle.std.specs.declared.alloc.Global.{Global as Allocator};
 ghost use Rattle.ballots.specs.declared.record.Record.{Record};
 ghost use Rattle.stable_records.specs.declared.fault.StoreFault.{StoreFault};
 ghost use Rattle.stable_records.specs.Found.{Found, FindsOnly, AddsRecord, IsCutShort};
+ghost use Rattle.stable_records.specs.declared.fault.StoreFault.TheVariants.{Device, Damaged, Broken, OutOfMemory};
+ghost use Rattle.stable_records.specs.Calls.{RaisesCount, ReadyAfterKeep, ReadyAfterRecall};
 ghost use Rattle.stable_records.specs.Calls.{Keeps, Recalls, LeftInKeep};
 ghost use Rattle.stable_records.specs.Moments.{AnyCrashLeaves};
 ghost use Rattle.stable_records.specs.Telling.{Telling, kept, doubted, MayStand, with_keep, StandsAfter};
@@ -40,6 +43,8 @@ pub fn answers_tell_what_stands<S: Stable>()
     ensures recalled { (old new : S) (tellings : List Telling) (records : Vec Record Allocator)
         → StandsAfter tellings (S.finds old) → Recalls (Ok records) (S.finds old) (S.finds new)
         → MayStand tellings records.items × StandsAfter (map kept records.items) (S.finds new) }
+    ensures undamaged { (old new : S) (tellings : List Telling) → StandsAfter tellings (S.finds old)
+        → Recalls (Err Damaged) (S.finds old) (S.finds new) → ⊥ }
     ensures crash { (old new : S) (tellings : List Telling) (last : Record) (answer : Result (Unit {0}) StoreFault)
         (found : Found) → StandsAfter tellings (S.finds old)
         → AnyCrashLeaves S.moment S.finds_since old new (LeftInKeep last answer (S.finds old))
@@ -65,4 +70,35 @@ pub fn crashes_cut_keeps_short<S: Stable>()
         → AnyCrashLeaves S.moment S.finds_since old mid (IsCutShort records told)
         → AnyCrashLeaves S.moment S.finds_since mid new (LeftInKeep last answer (S.finds mid))
         → AnyCrashLeaves S.moment S.finds_since old new (IsCutShort records (told ++ last ∷ [])) }
+{}
+
+/// Where the count of faults stays as it was, no fault was told but want of memory, which never raises it.
+pub fn faults_raise_the_count()
+    ensures cause { (fault : StoreFault) (count : ℕ) → RaisesCount fault count count → fault ≡ OutOfMemory }
+    ensures rises { (fault : StoreFault) (old new : ℕ) → RaisesCount fault old new → old ≤ new }
+    ensures memory { (old new : ℕ) → RaisesCount OutOfMemory old new → new ≡ old }
+{}
+
+/// A keep is Broken exactly where the store is not ready. It is ready from a recall that is `Ok` until a call is
+/// Device, and no other answer changes that. No keep is Damaged, and no recall is Broken.
+pub fn ready_from_a_recall_to_a_failure()
+    ensures broken { (old new : Bool) (answer : Result (Unit {0}) StoreFault) → ReadyAfterKeep answer old new
+        → (answer ≡ Err Broken) ↔ (old ≡ false) }
+    ensures keep { (old new : Bool) (answer : Result (Unit {0}) StoreFault) → ReadyAfterKeep answer old new
+        → IsTrue new ↔ (IsTrue old × (answer ≢ Err Device)) }
+    ensures recall { (old new : Bool) (answer : Result (Unit {0}) StoreFault) → ReadyAfterRecall answer old new
+        → IsTrue new ↔ (IsOk answer ⊎ (IsTrue old × (answer ≢ Err Device))) }
+    ensures never_damaged { (old new : Bool) (answer : Result (Unit {0}) StoreFault) → ReadyAfterKeep answer old new
+        → answer ≢ Err Damaged }
+    ensures never_broken { (old new : Bool) (answer : Result (Unit {0}) StoreFault) → ReadyAfterRecall answer old new
+        → answer ≢ Err Broken }
+{}
+
+/// A call takes time: a crash at its first moment leaves what was found before it, and one at its last moment what is
+/// found after it.
+pub fn calls_begin_and_end<S: Stable>()
+    ensures begins { (old new : S) (found : Found) → AnyCrashLeaves S.moment S.finds_since old new (S.finds old)
+        → S.finds old found → S.finds_since new (S.moment old) found }
+    ensures ends { (old new : S) (found : Found) → AnyCrashLeaves S.moment S.finds_since old new (S.finds old)
+        → S.finds new found → S.finds_since new (S.moment old) found }
 {}
