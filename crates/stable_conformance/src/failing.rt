@@ -46,6 +46,11 @@ fn fails_at_the_third<S: Stable>(store: &mut S) -> Result<bool, Fail> {
     Ok(were_kept && third == Err(StoreFault::Device) && were_refused)
 }
 
+/// A store as another thread would get it.
+fn handed_on<S: Stable + Send>(store: S) -> S {
+    store
+}
+
 /// The record of the keep that failed does not stand, and the next one is kept behind those that do.
 #[test]
 fn without_the_last(rt: HostRuntime) -> Result<(), Fail> {
@@ -61,7 +66,7 @@ fn without_the_last(rt: HostRuntime) -> Result<(), Fail> {
 /// The record of the keep that failed stands.
 #[test]
 fn with_the_last(rt: HostRuntime) -> Result<(), Fail> {
-    let mut store = failing(rt.alloc(), true)?;
+    let mut store = handed_on(failing(rt.alloc(), true)?);
     let has_failed = fails_at_the_third(&mut store)?;
     let has_three = has(rt.alloc(), &mut store, &[1, 2, 3])?;
     let after = keep(&mut store, 6)?;
@@ -73,7 +78,8 @@ fn with_the_last(rt: HostRuntime) -> Result<(), Fail> {
 /// A recall that fails leaves the store refusing keeps, as before any recall. The next one is `Ok`.
 #[test]
 fn a_recall_fails(rt: HostRuntime) -> Result<(), Fail> {
-    let mut store = FailingStable::new(MemoryStable::new(rt.alloc()), 0, false);
+    let memory = handed_on(MemoryStable::new(rt.alloc()));
+    let mut store = FailingStable::new(memory, 0, false);
     let before = keep(&mut store, 1)?;
     let failed = store.recall(rt.alloc());
     let between = keep(&mut store, 1)?;

@@ -16,6 +16,9 @@ impl Model for FaultCount {
     ghost also_owns = { λ _. ftrue };
 }
 
+// It owns nothing.
+unsafe impl Send for FaultCount {}
+
 impl FaultCount {
     /// No fault so far.
     pub fn new() -> FaultCount
