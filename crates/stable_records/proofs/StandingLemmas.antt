@@ -6,7 +6,7 @@ use Rattle.stable_records.specs.declared.fault.StoreFault.{StoreFault}
 use Rattle.stable_records.specs.declared.fault.StoreFault.TheVariants.{Device, Damaged, Broken, OutOfMemory}
 use Rattle.stable_records.specs.Found.{Found, FindsOnly, IsWith, IsWithOrWithout, FindsNoMore}
 use Rattle.stable_records.specs.Calls.{Keeps, Recalls, LeftInKeep}
-use Rattle.stable_records.specs.Telling.{Telling, kept, doubted, MayStand, with_keep, StandsAfter}
+use Rattle.stable_records.specs.Telling.{Telling, kept, doubted, MayStand, with_keep, with_crash, StandsAfter}
 use Rattle.stable_records.proofs.TellingLemmas.{stands_together, all_kept_stands}
 
 some_is : (a b : List Record) → Some a ≡ Some b → a ≡ b
@@ -77,9 +77,9 @@ recall_stands old new tellings (Err OutOfMemory) stands recalls = no_more_stands
 
 pub left_stands : (old : Found → Type 0) (tellings : List Telling) (last : Record) {T : Type 0} (answer : Result T StoreFault)
     (found : Found) → StandsAfter tellings old → LeftInKeep last answer old found
-    → Stands (tellings ++ doubted last ∷ []) found
+    → Stands (with_crash tellings last answer) found
 left_stands old tellings last (Ok _) found stands left = found_with_or_without old tellings last found stands left
 left_stands old tellings last (Err Device) found stands left = found_with_or_without old tellings last found stands left
 left_stands old tellings last (Err Damaged) found stands left = absurd left
-left_stands old tellings last (Err Broken) found stands left = found_without tellings last found (stands found left)
-left_stands old tellings last (Err OutOfMemory) found stands left = found_without tellings last found (stands found left)
+left_stands old tellings last (Err Broken) found stands left = stands found left
+left_stands old tellings last (Err OutOfMemory) found stands left = stands found left

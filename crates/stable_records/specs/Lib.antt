@@ -3,3 +3,4 @@ pub mod Calls
 pub mod Moments
 pub mod MemoryStable
 pub mod Telling
+pub mod FailingStable

@@ -1,7 +1,7 @@
 -- Crashes. A call takes some time, and the machine may fail at each moment of it: `moment` is a number of the store
--- that does not fall, and `finds_since store t found` says that a crash at some moment from t on might have left a store
--- of which this is found. Lamport, "Paxos Made Simple", section 2.5, has a record in stable storage before its answer
--- goes out; the moments are this service's own.
+-- that does not fall, and `finds_since store t found` says that a crash at some moment from t on might have left a
+-- store of which this is found. Lamport, "Paxos Made Simple", section 2.5, has a record in stable storage before its
+-- answer goes out; the moments are this service's own.
 use Rattle.std.specs.Prelude.{◌⊎◌, ℕ, ◌≤◌}
 use Rattle.stable_records.specs.Found.{Found}
 

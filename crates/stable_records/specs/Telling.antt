@@ -28,6 +28,14 @@ with_keep tellings last (Err Damaged) = tellings
 with_keep tellings last (Err Broken) = tellings
 with_keep tellings last (Err OutOfMemory) = tellings
 
+-- the keeps, with one more that a crash broke off where it would have been answered so
+abbrev pub with_crash : {T : Type 0} → List Telling → Record → Result T StoreFault → List Telling
+with_crash tellings last (Ok _) = tellings ++ doubted last ∷ []
+with_crash tellings last (Err Device) = tellings ++ doubted last ∷ []
+with_crash tellings last (Err Damaged) = tellings
+with_crash tellings last (Err Broken) = tellings
+with_crash tellings last (Err OutOfMemory) = tellings
+
 -- whatever is found are records that may stand after these keeps
 abbrev pub StandsAfter : List Telling → (Found → Type 0) → Type 0
 StandsAfter tellings finds =

@@ -1,7 +1,11 @@
 //! A store that fails once, where it is told to.
 
-ghost use Rattle.std.specs.Prelude.{◌≡◌, ◌↔◌, ◌+◌, true, false, IsTrue};
-ghost use Rattle.stable_records.specs.Found.{Found};
+ghost use Rattle.std.specs.Prelude.{◌≡◌, ◌↔◌, ◌+◌, Some, true, false, IsTrue, IsErrOf};
+ghost use Rattle.stable_records.specs.declared.fault.StoreFault.TheVariants.{Device};
+ghost use Rattle.stable_records.specs.Found.{Found, FindsSame};
+ghost use Rattle.stable_records.specs.Calls.{CountsFault, ReadyAfterKeep, ReadyAfterRecall, Keeps, Recalls, LeftInKeep};
+ghost use Rattle.stable_records.specs.Moments.{AnyCrashLeaves};
+ghost use Rattle.stable_records.specs.FailingStable.{calls_after};
 
 use crate::fault::StoreFault;
 use crate::fault_count::FaultCount;
@@ -15,15 +19,20 @@ use std::alloc::Global;
 #[derive(Drop)]
 pub struct FailingStable<S: Stable> {
     store: S,
-    calls_left: Option<u64>,
-    keeps_last: bool,
+    /// How many calls pass before the one that fails, `None` where none is to fail.
+    pub calls_left: Option<u64>,
+    /// Whether the record of a keep that fails stands afterwards.
+    pub keeps_last: bool,
     is_ready: bool,
     failures: FaultCount,
     ghost ready: { is_ready ≡ true → IsTrue (S.is_ready store) },
 }
 
 // Whether this is the call that fails. One call less is left before it.
-fn is_due(calls_left: &mut Option<u64>) -> bool {
+fn is_due(calls_left: &mut Option<u64>) -> bool
+    ensures due { IsTrue result ↔ (calls_left.old ≡ Some 0) }
+    ensures left { calls_left.new ≡ calls_after calls_left.old }
+{
     match *calls_left {
         None => false,
         Some(0) => {
@@ -43,6 +52,8 @@ impl<S: Stable> FailingStable<S> {
         ensures ready { ⟦<FailingStable<S> as Stable>⟧.is_ready result ≡ false }
         ensures faults { ⟦<FailingStable<S> as Stable>⟧.faults result ≡ S.faults store }
         ensures finds { (found : Found) → ⟦<FailingStable<S> as Stable>⟧.finds result found ↔ S.finds store found }
+        ensures calls { result.calls_left ≡ Some calls }
+        ensures keeps { result.keeps_last ≡ keeps_last }
     {
         FailingStable {
             store,
@@ -67,7 +78,26 @@ impl<S: Stable> Stable for FailingStable<S> {
 
     ghost finds_since = { λ f. S.finds_since f.store };
 
-    fn keep(&mut self, told: &Record) -> Result<(), StoreFault> {
+    /// Beside what every store promises: the call that is to fail does, and without its record where that is not to
+    /// stand.
+    fn keep(&mut self, told: &Record) -> Result<(), StoreFault>
+        ensures counted { CountsFault result
+            (⟦<FailingStable<S> as Stable>⟧.faults self.old) (⟦<FailingStable<S> as Stable>⟧.faults self.new) }
+        ensures ready { ReadyAfterKeep result
+            (⟦<FailingStable<S> as Stable>⟧.is_ready self.old) (⟦<FailingStable<S> as Stable>⟧.is_ready self.new) }
+        ensures kept { IsTrue S.tells → Keeps told.now result
+            (⟦<FailingStable<S> as Stable>⟧.finds self.old) (⟦<FailingStable<S> as Stable>⟧.finds self.new) }
+        ensures crash { IsTrue S.tells → AnyCrashLeaves ⟦<FailingStable<S> as Stable>⟧.moment
+            ⟦<FailingStable<S> as Stable>⟧.finds_since self.old self.new
+            (LeftInKeep told.now result (⟦<FailingStable<S> as Stable>⟧.finds self.old)) }
+        ensures fails { IsTrue (⟦<FailingStable<S> as Stable>⟧.is_ready self.old) → self.old.calls_left ≡ Some 0
+            → IsErrOf result Device }
+        ensures passes { IsTrue (⟦<FailingStable<S> as Stable>⟧.is_ready self.old)
+            → self.new.calls_left ≡ calls_after self.old.calls_left }
+        ensures lost { self.old.calls_left ≡ Some 0 → self.old.keeps_last ≡ false
+            → FindsSame (⟦<FailingStable<S> as Stable>⟧.finds self.old)
+            (⟦<FailingStable<S> as Stable>⟧.finds self.new) }
+    {
         if !self.is_ready {
             self.failures.rise();
             return Err(StoreFault::Broken);
@@ -87,7 +117,20 @@ impl<S: Stable> Stable for FailingStable<S> {
         answer
     }
 
-    fn recall(&mut self, alloc: Global) -> Result<Vec<Record>, StoreFault> {
+    /// Beside what every store promises: the call that is to fail does.
+    fn recall(&mut self, alloc: Global) -> Result<Vec<Record>, StoreFault>
+        ensures counted { CountsFault result
+            (⟦<FailingStable<S> as Stable>⟧.faults self.old) (⟦<FailingStable<S> as Stable>⟧.faults self.new) }
+        ensures ready { ReadyAfterRecall result
+            (⟦<FailingStable<S> as Stable>⟧.is_ready self.old) (⟦<FailingStable<S> as Stable>⟧.is_ready self.new) }
+        ensures recalled { IsTrue S.tells → Recalls result
+            (⟦<FailingStable<S> as Stable>⟧.finds self.old) (⟦<FailingStable<S> as Stable>⟧.finds self.new) }
+        ensures crash { IsTrue S.tells → AnyCrashLeaves ⟦<FailingStable<S> as Stable>⟧.moment
+            ⟦<FailingStable<S> as Stable>⟧.finds_since self.old self.new
+            (⟦<FailingStable<S> as Stable>⟧.finds self.old) }
+        ensures fails { self.old.calls_left ≡ Some 0 → IsErrOf result Device }
+        ensures passes { self.new.calls_left ≡ calls_after self.old.calls_left }
+    {
         if is_due(&mut self.calls_left) {
             self.is_ready = false;
             self.failures.rise();

@@ -1,16 +1,16 @@
 //! Laws of the definitions that every store is proved against.
 
 ghost use Rattle.std.specs.Prelude.{◌≡◌, ◌≢◌, ◌⊎◌, ◌↔◌, ℕ, ◌≤◌, Bool, false, IsTrue, List, [], ◌∷◌, ◌++◌, map};
-ghost use Rattle.std.specs.Prelude.{Contains, Some, Ok, Err, IsOk, Result, Vec};
+ghost use Rattle.std.specs.Prelude.{Contains, Some, Ok, Err, IsOk, IfErr, Result, Vec};
 ghost use Rattle.std.specs.declared.alloc.Global.{Global as Allocator};
 ghost use Rattle.ballots.specs.declared.record.Record.{Record};
 ghost use Rattle.stable_records.specs.declared.fault.StoreFault.{StoreFault};
-ghost use Rattle.stable_records.specs.Found.{Found, FindsOnly, AddsRecord, IsCutShort};
+ghost use Rattle.stable_records.specs.Found.{Found, FindsOnly, FindsSame, AddsRecord, IsCutShort};
 ghost use Rattle.stable_records.specs.declared.fault.StoreFault.TheVariants.{Device, Damaged, Broken, OutOfMemory};
-ghost use Rattle.stable_records.specs.Calls.{RaisesCount, ReadyAfterKeep, ReadyAfterRecall};
+ghost use Rattle.stable_records.specs.Calls.{CountsFault, ReadyAfterKeep, ReadyAfterRecall};
 ghost use Rattle.stable_records.specs.Calls.{Keeps, Recalls, LeftInKeep};
 ghost use Rattle.stable_records.specs.Moments.{AnyCrashLeaves};
-ghost use Rattle.stable_records.specs.Telling.{Telling, kept, doubted, MayStand, with_keep, StandsAfter};
+ghost use Rattle.stable_records.specs.Telling.{Telling, kept, doubted, MayStand, with_keep, with_crash, StandsAfter};
 
 use crate::stable::Stable;
 
@@ -49,13 +49,16 @@ pub fn answers_tell_what_stands<S: Stable>()
         (found : Found) → StandsAfter tellings (S.finds old)
         → AnyCrashLeaves S.moment S.finds_since old new (LeftInKeep last answer (S.finds old))
         → S.finds_since new (S.moment old) found
-        → (records : List Record) × MayStand (tellings ++ doubted last ∷ []) records × (found ≡ Some records) }
+        → (records : List Record) × MayStand (with_crash tellings last answer) records × (found ≡ Some records) }
 {}
 
 /// Where one list of records is found, one is found after a keep that is `Ok`: that list, with the record behind it.
+/// Where a keep changes nothing, it is that list.
 pub fn one_list_stays_one<S: Stable>()
     ensures one { (old new : S) (records : List Record) (last : Record) → FindsOnly (S.finds old) records
         → AddsRecord last (S.finds old) (S.finds new) → FindsOnly (S.finds new) (records ++ last ∷ []) }
+    ensures unchanged { (old new : S) (records : List Record) → FindsOnly (S.finds old) records
+        → FindsSame (S.finds old) (S.finds new) → FindsOnly (S.finds new) records }
     ensures stands { (store : S) (records : List Record) → FindsOnly (S.finds store) records
         → StandsAfter (map kept records) (S.finds store) }
 {}
@@ -72,11 +75,15 @@ pub fn crashes_cut_keeps_short<S: Stable>()
         → AnyCrashLeaves S.moment S.finds_since old new (IsCutShort records (told ++ last ∷ [])) }
 {}
 
-/// Where the count of faults stays as it was, no fault was told but want of memory, which never raises it.
+/// Where the count of faults stays as it was, no fault was told but want of memory. It never falls, and neither an `Ok`
+/// nor want of memory raises it.
 pub fn faults_raise_the_count()
-    ensures cause { (fault : StoreFault) (count : ℕ) → RaisesCount fault count count → fault ≡ OutOfMemory }
-    ensures rises { (fault : StoreFault) (old new : ℕ) → RaisesCount fault old new → old ≤ new }
-    ensures memory { (old new : ℕ) → RaisesCount OutOfMemory old new → new ≡ old }
+    ensures cause { (answer : Result (Unit {0}) StoreFault) (count : ℕ) → CountsFault answer count count
+        → IfErr answer (λ fault. fault ≡ OutOfMemory) }
+    ensures never_falls { (answer : Result (Unit {0}) StoreFault) (old new : ℕ) → CountsFault answer old new
+        → old ≤ new }
+    ensures nothing_else { (answer : Result (Unit {0}) StoreFault) (old new : ℕ) → CountsFault answer old new
+        → IsOk answer ⊎ (answer ≡ Err OutOfMemory) → new ≡ old }
 {}
 
 /// A keep is Broken exactly where the store is not ready. It is ready from a recall that is `Ok` until a call is
