@@ -4,7 +4,8 @@ use Rattle.ballots.specs.declared.record.Record.{Record}
 use Rattle.stable_records.specs.Found.{Found, FindsOnly, AddsRecord}
 use Rattle.stable_records.specs.Moments.{AnyCrashLeaves}
 
-some_is : (a b : List Record) → Some a ≡ Some b → a ≡ b
+-- a list that is found is one
+pub some_is : (a b : List Record) → Some a ≡ Some b → a ≡ b
 some_is a b same = cc
 
 -- where one list is found, one is found after a keep

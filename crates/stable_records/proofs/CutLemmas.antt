@@ -7,9 +7,7 @@ use Rattle.stable_records.specs.declared.fault.StoreFault.{StoreFault}
 use Rattle.stable_records.specs.declared.fault.StoreFault.TheVariants.{Device, Damaged, Broken, OutOfMemory}
 use Rattle.stable_records.specs.Found.{Found, FindsOnly, IsWithOrWithout, IsCutShort}
 use Rattle.stable_records.specs.Calls.{LeftInKeep}
-
-some_is : (a b : List Record) → Some a ≡ Some b → a ≡ b
-some_is a b same = cc
+use Rattle.stable_records.proofs.CallerLemmas.{some_is}
 
 pub cut_at_none : (records : List Record) (found : Found) → found ≡ Some records → IsCutShort records [] found
 cut_at_none records found is = (0, omega arith, is ∙ ap (λ l. Some l) (sym (append-nil records)))

@@ -8,9 +8,7 @@ use Rattle.stable_records.specs.Found.{Found, FindsOnly, IsWith, IsWithOrWithout
 use Rattle.stable_records.specs.Calls.{Keeps, Recalls, LeftInKeep}
 use Rattle.stable_records.specs.Telling.{Telling, kept, doubted, MayStand, with_keep, with_crash, StandsAfter}
 use Rattle.stable_records.proofs.TellingLemmas.{stands_together, all_kept_stands}
-
-some_is : (a b : List Record) → Some a ≡ Some b → a ≡ b
-some_is a b same = cc
+use Rattle.stable_records.proofs.CallerLemmas.{some_is}
 
 -- what stands after these keeps is this
 abbrev Stands : List Telling → Found → Type 0

@@ -17,13 +17,13 @@ RaisesCount Damaged old new = old < new
 RaisesCount Broken old new = old < new
 RaisesCount OutOfMemory old new = new ≡ old
 
--- nothing but a fault raises it
+-- by its answer, a call raises the count of faults or leaves it: nothing but a fault raises it
 abbrev pub CountsFault : {T : Type 0} → Result T StoreFault → ℕ → ℕ → Type 0
 CountsFault result old new = MatchResult result (λ _. new ≡ old) (λ fault. RaisesCount fault old new)
 
 -- ---- whether the store is ready: a recall was Ok, and no answer since then was Device
 
--- A keep is Broken exactly where the store isn't ready. After Device it isn't.
+-- whether a store is ready before and after a keep: it is Broken exactly where it isn't, and after Device it isn't
 abbrev pub ReadyAfterKeep : {T : Type 0} → Result T StoreFault → Bool → Bool → Type 0
 ReadyAfterKeep (Ok _) old new = IsTrue old × IsTrue new
 ReadyAfterKeep (Err Device) old new = IsTrue old × (new ≡ false)
@@ -31,7 +31,7 @@ ReadyAfterKeep (Err Damaged) old new = ⊥
 ReadyAfterKeep (Err Broken) old new = (old ≡ false) × (new ≡ false)
 ReadyAfterKeep (Err OutOfMemory) old new = IsTrue old × IsTrue new
 
--- After a recall that is Ok the store is ready. A recall is never Broken.
+-- whether a store is ready before and after a recall: it is after Ok, and after Device it isn't
 abbrev pub ReadyAfterRecall : {T : Type 0} → Result T StoreFault → Bool → Bool → Type 0
 ReadyAfterRecall (Ok _) old new = IsTrue new
 ReadyAfterRecall (Err Device) old new = new ≡ false

@@ -1,4 +1,4 @@
--- The calls of a store that fails once.
+-- The calls of a store that fails once: this service's own, so that whoever stands on a store can be tried with it.
 use Rattle.std.specs.Prelude.{ℕ, ◌-◌, ◌==◌, if◌then◌else◌, Option, Some, None}
 
 -- how many calls are left before the one that fails, after one call more: none is to fail after that one

@@ -1,11 +1,12 @@
--- A store in memory as the list of its records. Each keep is one step, so the moments are the numbers of records.
+-- A store in memory as the list of its records (Lamport, "Paxos Made Simple", section 2.5, where such records are
+-- kept). Each keep is one step, so the moments are the numbers of records.
 use Rattle.std.specs.Prelude.{◌≡◌, ℕ, ◌≤◌, List, length, take, Some}
 use Rattle.std.proofs.Common.{arith, ap, ◌∙◌, sym, refl}
 use Rattle.std.proofs.lemmas.List.{take_all}
 use Rattle.ballots.specs.declared.record.Record.{Record}
 use Rattle.stable_records.specs.Found.{Found, FindsOnly}
 
--- the records are found, and nothing else
+-- these records are found
 abbrev pub HasRecords : List Record → Found → Type 0
 HasRecords records found = found ≡ Some records
 
@@ -19,9 +20,11 @@ pub record HadRecords (records : List Record) (since : ℕ) (found : Found) : Ty
 
 -- ---- that these are as a store's have to be
 
+-- the records are found, and nothing else
 pub finds_records : (records : List Record) → FindsOnly (HasRecords records) records
 finds_records records = record { these = refl; nothing_else = λ found here. here }
 
+-- what is found now was had at a moment since any earlier one
 pub had_now : (records : List Record) (since : ℕ) (found : Found) → since ≤ length records → HasRecords records found
     → HadRecords records since found
 had_now records since found le here = record {
@@ -31,6 +34,7 @@ had_now records since found le here = record {
   had = here ∙ ap (λ rs. Some rs) (sym (take_all (length records) records (omega arith)));
 }
 
+-- and since this moment nothing else was
 pub only_had_now : (records : List Record) (found : Found) → HadRecords records (length records) found
     → HasRecords records found
 only_had_now records found had = had.had ∙ ap (λ rs. Some rs) (take_all had.count records had.from)
