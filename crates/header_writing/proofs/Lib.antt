@@ -8,3 +8,4 @@ pub mod TypesShown
 pub mod TreesShown
 pub mod BatchesShown
 pub mod WrittenSizes
+pub mod Lengths

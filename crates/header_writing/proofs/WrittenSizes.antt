@@ -15,6 +15,7 @@ use Rattle.header_writing.specs.Objects.{lead, laid, objects_text, unpadded, tex
 use Rattle.header_writing.specs.Canonical.{entry_cells, metadata_cell, type_object, field_object, field_cells}
 use Rattle.header_writing.specs.Canonical.{schema_object, int64_number, batch_object, message_object, header_text}
 use Rattle.header_writing.specs.Written.{FitsSchema, FitsHead}
+use Rattle.header_writing.specs.Weights.{weight, cells_weight}
 use Rattle.header_types.specs.Profile.{InProfile}
 use Rattle.header_writing.proofs.Filling.{length_zeros, length_little, length_shorts}
 use Rattle.header_writing.proofs.Lying.{cells_long}
@@ -22,19 +23,6 @@ use Rattle.header_writing.proofs.TreesShown.{schema_text_shown}
 use Rattle.header_writing.proofs.BatchesShown.{pairs_long, batch_text_shown}
 
 -- ---- objects
-
--- an object has no more bytes than this, wherever it is laid out
-abbrev mutual
-  pub weight : Object → ℕ
-  weight (string_object bytes) = 8 + length bytes
-  weight (structs_object count bytes) = 11 + length bytes
-  weight (references_object cells) = 7 + cells_weight cells
-  weight (table_object numbers cells) = 11 + 2 * length numbers + cells_weight cells
-
-  pub cells_weight : Cells → ℕ
-  cells_weight no_cells = 0
-  cells_weight (inline bytes rest) = length bytes + cells_weight rest
-  cells_weight (reference o rest) = 4 + weight o + cells_weight rest
 
 few_zeros : (place : ℕ) → length (zeros (padding 4 place)) ≤ 3
 few_zeros place = omega (arith, length_zeros (padding 4 place))
@@ -137,6 +125,17 @@ mutual
       (field_cells f) ≤ 110 * (forest_totals f).fields + 47 * (forest_totals f).entries + (forest_totals f).bytes
   forest_light no_more = omega arith
   forest_light (more t rest) = omega (arith, tree_light t, forest_light rest)
+
+pub schema_light : (schema : SchemaTree) → InProfile schema → weight (schema_object schema) < 2 ^ 30
+schema_light schema profile =
+    omega (
+      arith,
+      forest_light schema.fields,
+      metadata_light schema.metadata,
+      profile.within.fields_within,
+      profile.within.entries_within,
+      profile.within.bytes_within,
+    )
 
 pub schema_small : (schema : SchemaTree) → InProfile schema → length (header_text (schema_header schema)) < 2 ^ 31
 schema_small schema profile =

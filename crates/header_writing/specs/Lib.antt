@@ -3,3 +3,4 @@ pub mod Canonical
 pub mod Filling
 pub mod Written
 pub mod Writing
+pub mod Weights

@@ -221,6 +221,7 @@ pub fn write_schema(schema: &Schema, out: &mut Vec<u8>) -> Result<(), AllocError
     ensures shown { OnOk result (ShowsHeader (header_text (schema_header (schema_of schema.now)))
         (schema_header (schema_of schema.now))) }
     ensures small { OnOk result (length (header_text (schema_header (schema_of schema.now))) < 2 ^ 31) }
+    ensures fits { OnOk result (FitsSchema (schema_of schema.now)) }
     ensures refused { OnErr result (out.new.items ≡ out.old.items) }
 {
     let text = schema_text(*out.allocator(), schema)?;

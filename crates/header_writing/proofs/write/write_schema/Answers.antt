@@ -10,3 +10,6 @@ returns-clause-shown c = in_any_case c.extend_from_slice.result
 pub returns-clause-small : goal.returns-clause-small
 returns-clause-small c = in_any_case c.extend_from_slice.result
     (schema_small (schema_of c.args.schema.now) c.requires.profile)
+
+pub returns-clause-fits : goal.returns-clause-fits
+returns-clause-fits c = in_any_case c.extend_from_slice.result c.in_ok-text.ensures.fits
