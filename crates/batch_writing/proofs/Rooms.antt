@@ -94,7 +94,7 @@ module _ (law : IsLaidOut) (schema : SchemaTree) (batch : Batch) (columns : List
   held : AreSound batch.columns.items
   held = subst AreSound lent sound
 
-  written : CanBeWritten schema (rows_of batch)
+  pub written : CanBeWritten schema (rows_of batch)
   written = record {
     of_schema = subst (λ s. AreColumnsOfRows batch.rows s (columns_cells batch.columns.items)) of_schema.shapes (of_rows batch.rows batch.columns.items of_schema.counts held);
     few = of_schema.rows_few;

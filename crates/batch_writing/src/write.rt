@@ -1,11 +1,12 @@
 //! A batch written as a header and a body.
 
-ghost use Rattle.std.specs.Prelude.{◌≡◌, IfOk};
+ghost use Rattle.std.specs.Prelude.{◌≡◌, IfOk, OnOk};
 ghost use Rattle.header_types.specs.Views.{schema_of};
 ghost use Rattle.header_types.specs.HeaderViews.{head_of};
 ghost use Rattle.header_types.specs.Profile.{InProfile};
 ghost use Rattle.batch_types.specs.Canonical.{canonical_head, canonical_body};
 ghost use Rattle.batch_types.specs.LaysOut.{LaysOut};
+ghost use Rattle.batch_types.specs.Written.{CanBeWritten};
 ghost use Rattle.batch_columns.specs.Batches.{rows_of, IsBatchOf};
 
 use crate::length::columns_length;
@@ -37,6 +38,7 @@ pub fn write_body(
         (λ written. written.1.items ≡ canonical_body (schema_of schema.now) (rows_of batch.now)) }
     ensures laid { IfOk result (λ written. InProfile (schema_of schema.now)
         → LaysOut (schema_of schema.now) (head_of written.0) written.1.items (rows_of batch.now)) }
+    ensures room { OnOk result (CanBeWritten (schema_of schema.now) (rows_of batch.now)) }
 {
     written_rows_are_laid_out();
     let mut writer = Writer {

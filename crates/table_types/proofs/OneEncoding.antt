@@ -118,7 +118,7 @@ head_in head (batch_header h) = h
 
 module _ (laid : (schema : SchemaTree) (rows : Rows) → InProfile schema → CanBeWritten schema rows
     → LaysOut schema (canonical_head schema rows) (canonical_body schema rows) rows) where
-  batch_writable : (schema : SchemaTree) (rows : Rows) → InProfile schema → CanBeWritten schema rows → length (canonical_body schema rows) ≤ upload_limit
+  pub batch_writable : (schema : SchemaTree) (rows : Rows) → InProfile schema → CanBeWritten schema rows → length (canonical_body schema rows) ≤ upload_limit
       → IsWritable (batch_header (canonical_head schema rows))
   batch_writable schema rows profile can short =
       let out = laid schema rows profile can in

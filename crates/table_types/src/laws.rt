@@ -2,10 +2,15 @@
 
 ghost use Rattle.std.specs.Prelude.{◌≡◌, ◌≢◌, ℕ, ◌-◌, ◌<◌, ◌≤◌, List, ◌++◌, length, take, get_or, Some, true, false, ◌↔◌};
 ghost use Rattle.flatbuf_meta.specs.Writable.{IsWritable};
-ghost use Rattle.header_types.specs.Header.{schema_header};
+ghost use Rattle.header_types.specs.Fields.{SchemaTree};
+ghost use Rattle.header_types.specs.Header.{schema_header, batch_header};
+ghost use Rattle.header_types.specs.Profile.{InProfile};
 ghost use Rattle.header_types.specs.SameShape.{SameShape};
 ghost use Rattle.table_types.specs.Uploads.{Upload, upload_text};
-ghost use Rattle.table_types.specs.Valid.{IsUpload};
+ghost use Rattle.batch_types.specs.Cells.{Rows};
+ghost use Rattle.batch_types.specs.Canonical.{canonical_head, canonical_body};
+ghost use Rattle.batch_types.specs.Written.{CanBeWritten};
+ghost use Rattle.table_types.specs.Valid.{IsUpload, upload_limit};
 ghost use Rattle.table_types.specs.Tables.{bare_schema};
 ghost use Rattle.std.specs.List.{list_any};
 ghost use Rattle.table_types.specs.Tables.{has_id, shape_text, is_same, effective, Version, version_of, Outcome, applied};
@@ -23,6 +28,14 @@ pub fn uploads_have_one_encoding()
     written_rows_are_laid_out();
     written_headers_differ();
     canonical_messages_are_one();
+}
+
+/// A batch of an upload has a header that can be written, where its body is no longer than an upload may be.
+pub fn batches_have_headers()
+    ensures { (schema : SchemaTree) (rows : Rows) → InProfile schema → CanBeWritten schema rows
+        → length (canonical_body schema rows) ≤ upload_limit → IsWritable (batch_header (canonical_head schema rows)) }
+{
+    written_rows_are_laid_out();
 }
 
 /// Tables only grow: where one list of uploads begins another, each effective upload of the one is the other's too, at the

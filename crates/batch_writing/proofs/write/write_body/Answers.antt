@@ -1,7 +1,7 @@
 use Rattle.std.proofs.Common.{◌≡◌, pos, length, arith, rules, w64, to_z}
 use Rattle.std.proofs.lemmas.Int.{ints}
 use Rattle.header_types.specs.Views.{schema_of}
-use Rattle.batch_writing.proofs.Rooms.{laid_out}
+use Rattle.batch_writing.proofs.Rooms.{laid_out, written}
 use Rattle.batch_writing.proofs.Whole.{few_values, body_written, head_written}
 use Rattle.batch_writing.proofs.write.write_body.Goals as goal
 
@@ -29,3 +29,8 @@ pub returns-clause-laid : goal.returns-clause-laid
 returns-clause-laid c =
     laid_out c.written_rows_are_laid_out.ensures.laid (schema_of c.args.schema.now) c.args.batch.now c.deref-2.result.now c.requires.of_schema
     c.deref-2.ensures.value c.in_ok-put_columns.ensures.sound _ _ (returns-clause-head c) (returns-clause-body c)
+
+pub returns-clause-room : goal.returns-clause-room
+returns-clause-room c =
+    written c.written_rows_are_laid_out.ensures.laid (schema_of c.args.schema.now) c.args.batch.now c.deref-2.result.now c.requires.of_schema
+    c.deref-2.ensures.value c.in_ok-put_columns.ensures.sound
