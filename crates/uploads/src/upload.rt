@@ -1,0 +1,139 @@
+//! An upload.
+
+ghost use Rattle.std.specs.Prelude.{◌≡◌, ◌==◌, ℕ, List, length, IfOk};
+ghost use lib.Pointwise.{pointwise};
+ghost use Rattle.std.specs.Cmp.Rules.{comparing};
+ghost use Rattle.std.proofs.Common.{rules};
+ghost use Rattle.table_types.specs.Uploads.{Upload as Uploaded, upload_text, schema_text};
+ghost use Rattle.table_types.specs.Valid.{IsUpload};
+ghost use Rattle.uploads.specs.Texts.{IsUploadText};
+ghost use Rattle.uploads.specs.Parts.{HasLeft, batches_parts};
+
+use crate::encoded_batches::EncodedBatches;
+use crate::parts::parts_of;
+use bytes::Bytes;
+use std::alloc::AllocError;
+use std::marker::Model;
+use table_types::laws::uploads_have_one_encoding;
+
+/// What a client uploads: rows for a table, under a name of the client's own, in their one encoding. Contracts see the
+/// bytes of the encoding. A clone shares them: it copies no byte, and takes no memory but what a further owner of a
+/// [`Bytes`] may take.
+#[derive(Debug, Drop)]
+pub struct Upload {
+    text: Bytes,
+}
+
+impl Model for Upload {
+    ghost Value = { List ℕ };
+
+    ghost view = { λ u. u.text };
+
+    ghost invariant = { λ u. IsUploadText u.text };
+}
+
+impl Upload {
+    /// Its encoding, which shares these bytes: no byte is copied. [`AllocError`] says that a further owner was refused.
+    pub fn encode(&self) -> Result<Bytes, AllocError>
+        ensures value { IfOk result (λ text. text ≡ self.now) }
+        ensures upload { IsUploadText self.now }
+    {
+        self.text.clone()
+    }
+
+    /// The bytes of its encoding.
+    pub fn as_slice(&self) -> &[u8]
+        ensures value { result.now ≡ self.now }
+        ensures upload { IsUploadText self.now }
+    {
+        self.text.as_slice()
+    }
+
+    /// Its encoding, without a further owner.
+    pub fn into_bytes(self) -> Bytes
+        ensures value { result ≡ self }
+        ensures upload { IsUploadText self }
+    {
+        self.text
+    }
+
+    /// The name of the table that it is for: 1 to 64 digits, letters of ASCII, `_`, `.` or `-`.
+    pub fn table(&self) -> &str
+        ensures { (upload : Uploaded) → IsUpload upload → upload_text upload ≡ self.now → result.now ≡ upload.table }
+    {
+        let parts = parts_of(self.text.as_slice());
+        match std::str::from_utf8(parts.table) {
+            Ok(table) => table,
+            Err(_) => unreachable!(),
+        }
+    }
+
+    /// Its own name, which its client chose.
+    pub fn id(&self) -> [u8; 16]
+        ensures { (upload : Uploaded) → IsUpload upload → upload_text upload ≡ self.now → result ≡ upload.id }
+    {
+        let parts = parts_of(self.text.as_slice());
+        match parts.id.split_first_chunk::<16>() {
+            Some((id, _)) => *id,
+            None => unreachable!(),
+        }
+    }
+
+    /// The message with its schema, as it is encoded.
+    pub fn schema_bytes(&self) -> &[u8]
+        ensures { (upload : Uploaded) → IsUpload upload → upload_text upload ≡ self.now
+            → result.now ≡ schema_text upload.schema }
+    {
+        parts_of(self.text.as_slice()).schema
+    }
+
+    /// Its batches, each as its header and its body are encoded.
+    pub fn encoded_batches(&self) -> EncodedBatches<'_>
+        ensures upload { IsUploadText self.now }
+        ensures left { (upload : Uploaded) → IsUpload upload → upload_text upload ≡ self.now
+            → HasLeft result (batches_parts upload) }
+    {
+        EncodedBatches::new(parts_of(self.text.as_slice()).batches)
+    }
+
+    /// How many batches it has: at most 1,024.
+    pub fn batch_count(&self) -> usize
+        ensures { (upload : Uploaded) → IsUpload upload → upload_text upload ≡ self.now
+            → result ≡ length upload.batches }
+    {
+        uploads_have_one_encoding();
+        let mut batches = self.encoded_batches();
+        let mut count = 0;
+        while batches.next().is_some() {
+            count += 1;
+        }
+        count
+    }
+}
+
+impl Clone for Upload {
+    ghost is_clone = { λ old new. new ≡ old };
+
+    fn clone(&self) -> Result<Upload, AllocError>
+        ensures { IfOk result (λ new. new ≡ self.now) }
+    {
+        Ok(Upload {
+            text: self.text.clone()?,
+        })
+    }
+}
+
+impl PartialEq for Upload {
+    ghost eq = { pointwise ◌==◌ };
+
+    ghost laws = { Prim.search (comparing, rules) };
+
+    /// Whether the two have one encoding.
+    fn eq(&self, other: &Upload) -> bool {
+        self.text == other.text
+    }
+}
+
+impl Eq for Upload {
+    ghost laws = { Prim.search (comparing, rules) };
+}
