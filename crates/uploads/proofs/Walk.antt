@@ -136,7 +136,7 @@ whole u is =
 
 -- ---- how long they are
 
-more_long : (number : ℕ) (content rest : List ℕ) → length (part number content ++ rest) ≡ length (part number content) + length rest
+pub more_long : (number : ℕ) (content rest : List ℕ) → length (part number content ++ rest) ≡ length (part number content) + length rest
 more_long number content rest = length-append (part number content) rest
 
 pub each_encoded : (schema : SchemaTree) (batches : List Rows) → length (batches_text (map (batch_parts schema) batches)) < 2 ^ 64
@@ -223,7 +223,7 @@ there_body rest (header, b ∷ body) is same there = record {
 
 -- ---- batches one after the other
 
-empty_text : (text : List ℕ) → text ≡ [] → (length text == 0) ≡ false → ⊥
+pub empty_text : (text : List ℕ) → text ≡ [] → (length text == 0) ≡ false → ⊥
 empty_text [] e there = cc
 empty_text (x ∷ text) e there = cc
 

@@ -1,18 +1,22 @@
 //! An upload.
 
-ghost use Rattle.std.specs.Prelude.{◌≡◌, ◌==◌, ℕ, List, length, IfOk};
+ghost use Rattle.std.specs.Prelude.{◌≡◌, ◌==◌, ℕ, List, length, Err, IfOk, OnOk};
 ghost use lib.Pointwise.{pointwise};
 ghost use Rattle.std.specs.Cmp.Rules.{comparing};
 ghost use Rattle.std.proofs.Common.{rules};
 ghost use Rattle.table_types.specs.Uploads.{Upload as Uploaded, upload_text, schema_text};
 ghost use Rattle.table_types.specs.Valid.{IsUpload};
 ghost use Rattle.uploads.specs.Texts.{IsUploadText};
+ghost use Rattle.uploads.specs.Found.{HasUploadFields};
 ghost use Rattle.uploads.specs.Parts.{HasLeft, batches_parts};
+ghost use Rattle.uploads.specs.declared.fault.DecodeFault.TheVariants.{NotAnUpload, OutOfMemory};
 
+use crate::decoding::check_upload;
 use crate::encoded_batches::EncodedBatches;
+use crate::fault::DecodeFault;
 use crate::parts::parts_of;
 use bytes::Bytes;
-use std::alloc::AllocError;
+use std::alloc::{AllocError, Global};
 use std::marker::Model;
 use table_types::laws::uploads_have_one_encoding;
 
@@ -33,6 +37,23 @@ impl Model for Upload {
 }
 
 impl Upload {
+    /// The upload of which these bytes are the encoding. It holds them as they are: no byte is copied.
+    ///
+    /// [`DecodeFault::NotAnUpload`] says that they are that of none that is taken. [`DecodeFault::OutOfMemory`] says that
+    /// memory was refused, of bytes that have at least the fields of an upload, each in its one encoding (Protocol Buffers,
+    /// "Encoding"), with names as they are to be and within all limits; for these no memory is asked.
+    pub fn decode(alloc: Global, text: Bytes) -> Result<Upload, DecodeFault>
+        ensures value { IfOk result (λ upload. upload ≡ text) }
+        ensures upload { OnOk result (IsUploadText text) }
+        ensures fault { result ≡ Err NotAnUpload → ¬ IsUploadText text }
+        ensures memory { result ≡ Err OutOfMemory → HasUploadFields text }
+    {
+        match check_upload(alloc, text.as_slice()) {
+            Ok(()) => Ok(Upload { text }),
+            Err(fault) => Err(fault),
+        }
+    }
+
     /// Its encoding, which shares these bytes: no byte is copied. [`AllocError`] says that a further owner was refused.
     pub fn encode(&self) -> Result<Bytes, AllocError>
         ensures value { IfOk result (λ text. text ≡ self.now) }
