@@ -44,7 +44,7 @@ fn fault_of(fault: MetaFault) -> DecodeFault
 }
 
 /// The schema that a message shows.
-fn shown_schema(alloc: Global, bytes: &[u8]) -> Result<Schema, DecodeFault>
+pub(crate) fn shown_schema(alloc: Global, bytes: &[u8]) -> Result<Schema, DecodeFault>
     ensures shown { IfOk result (λ schema. ShowsHeader bytes.now (schema_header (schema_of schema))) }
     ensures fault { IfErr result (λ fault. fault ≡ NotAnUpload
         → (schema : SchemaTree) → ¬ ShowsHeader bytes.now (schema_header schema)) }

@@ -4,6 +4,7 @@ ghost use Rattle.std.specs.Prelude.{◌≡◌, ◌==◌, ℕ, List, length, Err,
 ghost use lib.Pointwise.{pointwise};
 ghost use Rattle.std.specs.Cmp.Rules.{comparing};
 ghost use Rattle.std.proofs.Common.{rules};
+ghost use Rattle.header_types.specs.Views.{schema_of};
 ghost use Rattle.table_types.specs.Uploads.{Upload as Uploaded, upload_text, schema_text};
 ghost use Rattle.table_types.specs.Valid.{IsUpload};
 ghost use Rattle.uploads.specs.Texts.{IsUploadText};
@@ -15,7 +16,10 @@ use crate::decoding::check_upload;
 use crate::encoded_batches::EncodedBatches;
 use crate::fault::DecodeFault;
 use crate::parts::parts_of;
+use crate::reading::shown_schema;
 use bytes::Bytes;
+use flatbuf_meta::laws::written_headers_are_shown;
+use header_types::Schema;
 use std::alloc::{AllocError, Global};
 use std::marker::Model;
 use table_types::laws::uploads_have_one_encoding;
@@ -106,6 +110,19 @@ impl Upload {
             → result.now ≡ schema_text upload.schema }
     {
         parts_of(self.text.as_slice()).schema
+    }
+
+    /// Its schema. [`AllocError`] says that memory was refused.
+    pub fn schema(&self, alloc: Global) -> Result<Schema, AllocError>
+        ensures { (upload : Uploaded) → IsUpload upload → upload_text upload ≡ self.now
+            → IfOk result (λ schema. schema_of schema ≡ upload.schema) }
+    {
+        written_headers_are_shown();
+        let parts = parts_of(self.text.as_slice());
+        match shown_schema(alloc, parts.schema) {
+            Ok(schema) => Ok(schema),
+            Err(_) => Err(AllocError),
+        }
     }
 
     /// Its batches, each as its header and its body are encoded.
