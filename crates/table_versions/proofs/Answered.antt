@@ -1,0 +1,146 @@
+-- What is told of uploads, and what answers tickets.
+use Rattle.std.proofs.Common.{◌≡◌, ◌≢◌, refl, sym, ap, ap₂, subst, ◌∙◌, ℕ, zero, suc, ◌+◌, ◌<◌, ◌≤◌, Bool, true, false, true≢false, cond, if◌then◌else◌, Option, Some, None, List, [], ◌∷◌, ◌++◌, length, take, append_assoc, IsSome, arith, rules}
+use Rattle.std.specs.List.{AllByRecursion, flat_map}
+use Rattle.std.specs.Option.{option_map}
+use Rattle.std.specs.Str.{bytes_eq}
+use Rattle.std.proofs.lemmas.List.{append-nil}
+use Rattle.table_types.specs.Uploads.{Upload, upload_text}
+use Rattle.table_types.specs.Valid.{IsUpload}
+use Rattle.std.specs.Prelude.{nat_le}
+use Rattle.std.proofs.lemmas.Bool.{le-leb, leb-true}
+use Rattle.std.proofs.lemmas.Grind.{flat_map-append}
+use Rattle.table_types.specs.Served.{in_frame, upload_messages}
+use Rattle.table_types.specs.Answers.{answer_of}
+use Rattle.table_versions.specs.declared.table.Table.{Table}
+use Rattle.table_types.specs.Tables.{Version, first_of_all, version_of, Outcome, conflicting, unknown, is_same, first_named, place_from, told_of, effective, outcome_of}
+use Rattle.table_versions.specs.declared.first.First.{First}
+use Rattle.table_versions.specs.Outcomes.{told}
+use Rattle.table_versions.specs.Ledger.{frames_of, seen_first, told_of_first, FirstEntries, TableEntries, FrameEntries, first_in, table_in, frames_in, HasFrames, IsTable, IsTableOf, IsLedger}
+use Rattle.table_versions.proofs.Growing.{same_bytes, bytes_same, named_all}
+use Rattle.table_versions.proofs.Values.{OneEncoding}
+
+none_is_some : {X : Type 0} (x : X) → None ≡ Some x → ⊥
+none_is_some x same = cc
+
+some_is : {X : Type 0} (x y : X) → Some x ≡ Some y → x ≡ y
+some_is x y same = cc
+
+-- ---- what is told of an upload
+
+module _ (one : OneEncoding) (firsts : FirstEntries) (tables : TableEntries) (frames : FrameEntries) (uploads : List Upload) (ledger : IsLedger firsts tables frames uploads)
+    (u : Upload) (valid : IsUpload u) where
+  -- the first of its name in the list, where one is kept
+  first_there : (first : First) (named : Option Upload) → first_in firsts u.id ≡ Some first → first_named u.id uploads ≡ named
+      → (head : Upload) × (first_named u.id uploads ≡ Some head) × (first.text ≡ upload_text head) × (told first.outcome ≡ outcome_of uploads head)
+  first_there first None here is =
+      absurd (none_is_some (seen_first first) (sym (ap (option_map seen_first) (sym here) ∙ ledger.firsts_are u.id ∙ ap (option_map (told_of_first uploads)) is)))
+  first_there first (Some head) here is =
+      let seen : seen_first first ≡ told_of_first uploads head =
+      some_is (seen_first first) (told_of_first uploads head)
+      (ap (option_map seen_first) (sym here) ∙ ledger.firsts_are u.id ∙ ap (option_map (told_of_first uploads)) is)
+      in
+      (head, is, ap (λ p. p.0) seen, ap (λ p. p.1) seen)
+
+  pub told_none : first_in firsts u.id ≡ None → unknown ≡ outcome_of uploads u
+  told_none here = none (first_named u.id uploads) refl (sym (ap (option_map seen_first) (sym here) ∙ ledger.firsts_are u.id))
+    where
+      none : (named : Option Upload) → first_named u.id uploads ≡ named → option_map (told_of_first uploads) (first_named u.id uploads) ≡ None → unknown ≡ outcome_of uploads u
+      none None is same = sym (ap (λ o. told_of o u (effective u.table uploads)) is)
+      none (Some head) is same =
+          absurd (none_is_some (told_of_first uploads head) (sym same ∙ ap (option_map (told_of_first uploads)) is))
+
+  pub told_same : (first : First) → first_in firsts u.id ≡ Some first → first.text ≡ upload_text u → told first.outcome ≡ outcome_of uploads u
+  told_same first here same =
+      let f = first_there first (first_named u.id uploads) here refl in
+      let is : f.0 ≡ u = one f.0 u (named_all IsUpload u.id uploads f.0 ledger.valid f.1) valid (sym f.2 ∙ same) in
+      f.3 ∙ ap (outcome_of uploads) is
+
+  not_same : (head : Upload) (b : Bool) → is_same head u ≡ b → upload_text head ≢ upload_text u → b ≡ false
+  not_same head true is differ = absurd (differ (bytes_same (upload_text head) (upload_text u) is))
+  not_same head false is differ = refl
+
+  pub told_other : (first : First) → first_in firsts u.id ≡ Some first → first.text ≢ upload_text u → conflicting ≡ outcome_of uploads u
+  told_other first here differ =
+      let f = first_there first (first_named u.id uploads) here refl in
+      let other : is_same f.0 u ≡ false = not_same f.0 (is_same f.0 u) refl (λ same. differ (f.2 ∙ same)) in
+      sym (ap (λ o. told_of o u (effective u.table uploads)) f.1 ∙ ap (λ b. if b then place_from 1 u.id (effective u.table uploads) else conflicting) other)
+
+-- ---- the frames of a version
+
+pub frames_there : (frames : FrameEntries) (number version : ℕ) (xs : List Upload) (k : ℕ) → HasFrames frames number version xs → k < length xs
+    → (u : Upload) × (frames_in frames number (version + k) ≡ Some (frames_of u)) × (take (suc k) xs ≡ take k xs ++ u ∷ [])
+frames_there frames number version [] k has within = absurd (omega (arith, within))
+frames_there frames number version (x ∷ xs) zero has within =
+    let here : version ≡ version + 0 = omega arith in
+    (x, subst (λ v. frames_in frames number v ≡ Some (frames_of x)) here has.0, refl)
+frames_there frames number version (x ∷ xs) (suc k) has within =
+    let rest = frames_there frames number (suc version) xs k has.1 (omega (arith, within)) in
+    let here : suc version + k ≡ version + suc k = omega arith in
+    (rest.0, subst (λ v. frames_in frames number v ≡ Some (frames_of rest.0)) here rest.1, ap (λ l. x ∷ l) rest.2)
+
+pub frames_more : (first old new bytes : List ℕ) (xs : List Upload) (k : ℕ) (u : Upload) → new ≡ old ++ bytes → old ≡ first ++ flat_map frames_of (take k xs)
+    → bytes ≡ frames_of u → take (suc k) xs ≡ take k xs ++ u ∷ [] → new ≡ first ++ flat_map frames_of (take (k + 1) xs)
+frames_more first old new bytes xs k u grown before is taken =
+    let more : k + 1 ≡ suc k = omega arith in
+    grown
+    ∙ ap₂ (λ a b. a ++ b) before is
+    ∙ append_assoc first (flat_map frames_of (take k xs)) (frames_of u)
+    ∙ ap (λ l. first ++ (flat_map frames_of (take k xs) ++ l)) (sym (append-nil (frames_of u)))
+    ∙ ap (λ l. first ++ l) (sym (flat_map-append frames_of (take k xs) (u ∷ [])))
+    ∙ ap (λ l. first ++ flat_map frames_of l) (sym taken)
+    ∙ ap (λ n. first ++ flat_map frames_of (take n xs)) (sym more)
+
+-- ---- what answers a ticket
+
+served_is : (xs : List Upload) → flat_map frames_of xs ≡ flat_map in_frame (flat_map upload_messages xs)
+served_is [] = refl
+served_is (x ∷ xs) =
+    ap (λ l. frames_of x ++ l) (served_is xs) ∙ sym (flat_map-append in_frame (upload_messages x) (flat_map upload_messages xs))
+
+over_one : (number : ℕ) (xs : List Upload) (b : Bool) → nat_le number (length xs) ≡ b → length xs < number → b ≡ false
+over_one number xs true is over = absurd (omega (arith, leb-true number (length xs) is, over))
+over_one number xs false is over = refl
+
+abbrev version_with : Bool → Upload → ℕ → List Upload → Option Version
+version_with b first number counted = if b then Some (record { schema = first.schema; uploads = take number counted }) else None
+
+module _ (firsts : FirstEntries) (tables : TableEntries) (frames : FrameEntries) (uploads : List Upload) (ledger : IsLedger firsts tables frames uploads)
+    (name : List ℕ) (number : ℕ) where
+  counted_of : (found : Option Table) → table_in tables name ≡ found → IsTable found (effective name uploads)
+  counted_of found is = subst (λ o. IsTable o (effective name uploads)) is (ledger.tables_are name)
+
+  none_of : (counted : List Upload) → IsTable None counted → first_of_all number counted ≡ None
+  none_of [] is = refl
+  none_of (first ∷ rest) is = absurd is
+
+  pub version_none : table_in tables name ≡ None → version_of name number uploads ≡ None
+  version_none none = none_of (effective name uploads) (counted_of None none)
+
+  over_of : (table : Table) (counted : List Upload) → IsTable (Some table) counted → table.version < number → first_of_all number counted ≡ None
+  over_of table [] is over = absurd is
+  over_of table (first ∷ rest) is over =
+      ap (λ b. version_with b first number (first ∷ rest))
+      (over_one number (first ∷ rest) (nat_le number (length (first ∷ rest))) refl (omega (arith, is.version, over)))
+
+  pub version_over : (table : Table) → table_in tables name ≡ Some table → table.version < number → version_of name number uploads ≡ None
+  version_over table some over = over_of table (effective name uploads) (counted_of (Some table) some) over
+
+  there_of : (table : Table) (counted : List Upload) (bytes : List ℕ) → IsTable (Some table) counted → number ≤ table.version
+      → bytes ≡ table.schema_frame ++ flat_map frames_of (take number counted) → option_map answer_of (first_of_all number counted) ≡ Some bytes
+  there_of table [] bytes is within joined = absurd is
+  there_of table (first ∷ rest) bytes is within joined =
+      ap (λ b. option_map answer_of (version_with b first number (first ∷ rest))) (le-leb number (length (first ∷ rest)) (omega (arith, is.version, within)))
+      ∙ ap Some (sym (joined ∙ ap₂ (λ a b. a ++ b) is.schema_frame (served_is (take number (first ∷ rest)))))
+
+  pub version_there : (table : Table) (bytes : List ℕ) → table_in tables name ≡ Some table → number ≤ table.version
+      → bytes ≡ table.schema_frame ++ flat_map frames_of (take number (effective name uploads))
+      → option_map answer_of (version_of name number uploads) ≡ Some bytes
+  version_there table bytes some within joined =
+      there_of table (effective name uploads) bytes (counted_of (Some table) some) within joined
+
+  long_of : (table : Table) (counted : List Upload) → IsTable (Some table) counted → table.version ≡ length counted
+  long_of table [] is = absurd is
+  long_of table (first ∷ rest) is = is.version
+
+  pub version_long : (table : Table) → table_in tables name ≡ Some table → table.version ≡ length (effective name uploads)
+  version_long table some = long_of table (effective name uploads) (counted_of (Some table) some)

@@ -1,0 +1,14 @@
+pub mod Growing
+pub mod Values
+pub mod Taking
+pub mod Adding
+pub mod Ledgers
+pub mod BareSchemas
+pub mod Sizes
+pub mod Taken
+pub mod Placed
+pub mod Answered
+pub mod Queue
+pub mod States
+pub mod Listed
+pub mod Naming

@@ -1,0 +1,19 @@
+use Rattle.std.proofs.Common.{sym, subst}
+use Rattle.table_versions.specs.State.{HasTaken}
+use Rattle.table_versions.proofs.States.{ledger_of, on_err}
+use Rattle.table_versions.proofs.tables.Tables.answer.Goals as goal
+
+pub returns-clause-answer : goal.returns-clause-answer
+returns-clause-answer c = λ values uploads taken are.
+    rw (← c.table.ensures.value, ← c.version.ensures.value)
+    (c.answer_by.ensures.answer c.self.inside.firsts.entries uploads
+    (ledger_of c.uploads_have_one_encoding.ensures _ values uploads (subst (λ s. HasTaken s values) (sym c.self.view_is) taken) are))
+
+pub returns-clause-memory : goal.returns-clause-memory
+returns-clause-memory c =
+    on_err c.answer_by.result
+    (λ there. λ values uploads taken are.
+    rw (← c.table.ensures.value, ← c.version.ensures.value)
+    (there c.self.inside.firsts.entries uploads
+    (ledger_of c.uploads_have_one_encoding.ensures _ values uploads (subst (λ s. HasTaken s values) (sym c.self.view_is) taken) are)))
+    c.answer_by.ensures.memory

@@ -1,0 +1,5 @@
+pub mod Values
+pub mod Outcomes
+pub mod Ledger
+pub mod State
+pub mod Info

@@ -1,0 +1,13 @@
+//! The first upload of a name.
+
+use crate::outcome::Outcome;
+use bytes::Bytes;
+
+/// The upload that came first under its name.
+#[derive(Debug, Drop)]
+pub(crate) struct First {
+    /// Its encoding.
+    pub(crate) text: Bytes,
+    /// What is told of it.
+    pub(crate) outcome: Outcome,
+}

@@ -1,0 +1,30 @@
+//! An upload, ready to be taken without memory.
+
+use bytes::Bytes;
+use header_types::Schema;
+
+/// What an upload adds to its table.
+#[derive(Debug, Drop)]
+pub(crate) struct Part {
+    /// Its schema.
+    pub(crate) schema: Schema,
+    /// The frame with its schema.
+    pub(crate) schema_frame: Bytes,
+    /// The frames that are served of it.
+    pub(crate) frames: Bytes,
+    /// How many rows it has.
+    pub(crate) records: u64,
+}
+
+/// An upload with all that taking it needs.
+#[derive(Debug, Drop)]
+pub(crate) struct Prepared {
+    /// Its own name.
+    pub(crate) id: [u8; 16],
+    /// Its encoding.
+    pub(crate) text: Bytes,
+    /// Its table's name.
+    pub(crate) table: String,
+    /// What it adds to this table.
+    pub(crate) part: Part,
+}

@@ -1,0 +1,102 @@
+//! The maps of the tables, and the steps by which they take an upload. No step takes memory.
+
+ghost use Rattle.std.specs.Prelude.{◌≡◌, ◌+◌, ◌<◌, ◌≤◌, ◌^◌, ◌∷◌, ◌++◌, [], None, Some, IsSome, IsTrue, ◌↔◌, is_some, length, string_bytes};
+ghost use Rattle.std.specs.Option.{option_map};
+ghost use Rattle.indexmap.specs.IndexMap.{spare};
+ghost use Rattle.table_versions.specs.Ledger.{first_in, table_in, names_in, frames_in};
+ghost use Rattle.table_versions.specs.Ledger.{PutsFirst, PutsTable, PutsFrames, IsOpened, IsGrown};
+
+use crate::first::First;
+use crate::place::Place;
+use crate::prepared::Part;
+use crate::table::Table;
+use bytes::Bytes;
+use indexmap::IndexMap;
+use std::hash::RandomState;
+
+/// The first upload of each name.
+pub(crate) type Firsts = IndexMap<[u8; 16], First, RandomState>;
+
+/// The tables by name, in the order of their first effective uploads.
+pub(crate) type NamedTables = IndexMap<String, Table, RandomState>;
+
+/// The frames of each effective upload.
+pub(crate) type Frames = IndexMap<Place, Bytes, RandomState>;
+
+/// Whether an upload of the name has come.
+pub(crate) fn has_come(firsts: &Firsts, id: [u8; 16]) -> bool
+    ensures { result ≡ is_some (first_in firsts.now.entries id) }
+{
+    firsts.contains_key(&id)
+}
+
+/// Puts the first upload of a name.
+pub(crate) fn put_first(firsts: &mut Firsts, id: [u8; 16], first: First)
+    requires { 0 < spare firsts.old }
+    ensures puts { PutsFirst firsts.old.entries firsts.new.entries id first }
+    ensures room { spare firsts.old ≤ spare firsts.new + 1 }
+{
+    let Ok(_) = firsts.insert(id, first) else {
+        unreachable!()
+    };
+}
+
+/// Puts the frames of a version.
+pub(crate) fn put_frames(frames: &mut Frames, place: Place, bytes: Bytes)
+    requires { 0 < spare frames.old }
+    ensures puts { PutsFrames frames.old.entries frames.new.entries place bytes }
+    ensures room { spare frames.old ≤ spare frames.new + 1 }
+{
+    let Ok(_) = frames.insert(place, bytes) else {
+        unreachable!()
+    };
+}
+
+/// Puts a new table behind the others.
+pub(crate) fn put_table(tables: &mut NamedTables, name: String, table: Table)
+    requires room { 0 < spare tables.old }
+    requires none { table_in tables.old.entries (string_bytes name) ≡ None }
+    ensures puts { PutsTable tables.old.entries tables.new.entries (string_bytes name) table }
+    ensures names { names_in tables.new.entries ≡ names_in tables.old.entries ++ string_bytes name ∷ [] }
+    ensures room { spare tables.old ≤ spare tables.new + 1 }
+{
+    let Ok(_) = tables.insert(name, table) else {
+        unreachable!()
+    };
+}
+
+/// A table of this number with its first upload.
+pub(crate) fn opened(number: usize, part: Part) -> (Table, Bytes)
+    requires { length part.schema_frame + length part.frames < 2 ^ 64 }
+    ensures table { IsOpened result.0 number part }
+    ensures frames { result.1 ≡ part.frames }
+{
+    let total_bytes = part.schema_frame.len() as u64 + part.frames.len() as u64;
+    let table = Table {
+        number,
+        schema: part.schema,
+        schema_frame: part.schema_frame,
+        version: 1,
+        records: part.records,
+        total_bytes,
+    };
+    (table, part.frames)
+}
+
+/// One upload more, with so many rows and bytes.
+pub(crate) fn grow(table: &mut Table, records: u64, bytes: u64) -> Place
+    requires version { table.old.version + 1 < 2 ^ 64 }
+    requires records { table.old.records + records < 2 ^ 64 }
+    requires bytes { table.old.total_bytes + bytes < 2 ^ 64 }
+    ensures grown { IsGrown table.old table.new records bytes }
+    ensures table { result.table ≡ table.old.number }
+    ensures version { result.version ≡ table.new.version }
+{
+    table.version += 1;
+    table.records += records;
+    table.total_bytes += bytes;
+    Place {
+        table: table.number,
+        version: table.version,
+    }
+}

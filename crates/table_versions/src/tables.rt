@@ -1,0 +1,160 @@
+//! The tables of a node.
+
+ghost use Rattle.std.specs.Prelude.{◌≡◌, ◌≢◌, ◌≤◌, ◌+◌, ◌++◌, [], ℕ, List, length, map, string_bytes, IfOk, OnOk, OnErr, IsSome};
+ghost use Rattle.std.specs.Option.{option_map};
+ghost use Rattle.table_types.specs.Uploads.{Upload};
+ghost use Rattle.table_types.specs.Answers.{answer_of};
+ghost use Rattle.table_types.specs.Tables.{effective, version_of};
+ghost use Rattle.table_versions.specs.Values.{AreUploadsOf};
+ghost use Rattle.ballots.specs.declared.value.Value.{Value as Agreed};
+ghost use Rattle.table_versions.specs.State.{HasTaken, IsReadyFor, CanTake, IsSame};
+ghost use Rattle.table_versions.specs.Info.{IsLatest};
+ghost use Rattle.table_versions.specs.Ledger.{table_names};
+
+use crate::answering::answer_by;
+use crate::info::TableInfo;
+use crate::ledger::take_all;
+use crate::listing::{latest_by, names_by};
+use crate::ready::Ready;
+use crate::steps::{Firsts, Frames, NamedTables};
+use ballots::OutOfMemory;
+use indexmap::IndexMap;
+use std::alloc::Global;
+use std::hash::RandomState;
+use std::marker::Model;
+use table_types::laws::uploads_have_one_encoding;
+use tickets::Ticket;
+
+/// The tables that the agreed values make, the first so many of them.
+#[derive(Debug, Drop)]
+pub struct Tables {
+    firsts: Firsts,
+    tables: NamedTables,
+    frames: Frames,
+    taken: u64,
+}
+
+impl Model for Tables {
+    ghost use Rattle.table_versions.specs.State.{TablesState};
+
+    ghost Value = { TablesState };
+
+    ghost use Rattle.header_types.specs.contracts.schema.Field as field;
+    ghost use Rattle.std.specs.Coded.{codes};
+
+    ghost coded = { Prim.hlevel (codes, field.the_row.coded) };
+
+    ghost use Rattle.std.specs.Prelude.{List, min};
+    ghost use Rattle.ballots.specs.declared.value.Value.{Value as Agreed};
+    ghost use Rattle.indexmap.specs.IndexMap.{spare};
+    ghost use Rattle.table_versions.specs.State.{HasTaken};
+
+    ghost view = { λ t. record {
+      firsts = t.firsts.entries;
+      tables = t.tables.entries;
+      frames = t.frames.entries;
+      taken = t.taken;
+      room = min (spare t.firsts) (min (spare t.tables) (spare t.frames));
+    } };
+
+    ghost invariant = { λ t. (values : List Agreed) × HasTaken (record {
+      firsts = t.firsts.entries;
+      tables = t.tables.entries;
+      frames = t.frames.entries;
+      taken = t.taken;
+      room = min (spare t.firsts) (min (spare t.tables) (spare t.frames));
+    }) values };
+}
+
+impl Tables {
+    /// The tables of no values. Names of tables and of uploads are chosen by clients: `hashing` has the random keys that
+    /// keep look-ups fast whatever they choose. It takes memory from this allocator as it grows.
+    pub fn new(alloc: Global, hashing: RandomState) -> Tables
+        ensures { HasTaken result [] }
+    {
+        Tables {
+            firsts: IndexMap::with_hasher(alloc, hashing),
+            tables: IndexMap::with_hasher(alloc, hashing),
+            frames: IndexMap::with_hasher(alloc, hashing),
+            taken: 0,
+        }
+    }
+
+    /// How many values were taken.
+    pub fn taken(&self) -> u64
+        ensures { result ≡ self.now.taken }
+    {
+        self.taken
+    }
+
+    /// The bytes that answer a ticket: the frame with the schema of the table's first upload, and then those of each of
+    /// its first uploads, so many as the version says. `None` exactly where the table has no such version; and memory
+    /// can be refused only where it has.
+    pub fn answer(&self, ticket: &Ticket) -> Result<Option<Vec<u8>>, OutOfMemory>
+        ensures answer { (values : List Agreed) (uploads : List Upload) → HasTaken self.now values
+            → AreUploadsOf values uploads → IfOk result (λ answer. option_map (λ bytes. bytes.items) answer
+            ≡ option_map answer_of (version_of ticket.now.table ticket.now.version uploads)) }
+        ensures memory { OnErr result ((values : List Agreed) (uploads : List Upload) → HasTaken self.now values
+            → AreUploadsOf values uploads → IsSome (version_of ticket.now.table ticket.now.version uploads)) }
+    {
+        uploads_have_one_encoding();
+        let alloc = *self.firsts.allocator();
+        answer_by(
+            alloc,
+            &self.tables,
+            &self.frames,
+            ticket.table(),
+            ticket.version(),
+        )
+    }
+
+    /// The latest version of a table, `None` exactly where no upload to it counts. Memory can be refused only where one
+    /// does.
+    pub fn latest(&self, table: &str) -> Result<Option<TableInfo>, OutOfMemory>
+        ensures latest { (values : List Agreed) (uploads : List Upload) → HasTaken self.now values
+            → AreUploadsOf values uploads
+            → IfOk result (λ info. IsLatest info table.now (effective table.now uploads)) }
+        ensures memory { OnErr result ((values : List Agreed) (uploads : List Upload) → HasTaken self.now values
+            → AreUploadsOf values uploads → effective table.now uploads ≢ []) }
+    {
+        uploads_have_one_encoding();
+        latest_by(*self.firsts.allocator(), &self.tables, table)
+    }
+
+    /// The names of the tables, in the order of their first effective uploads.
+    pub fn tables(&self) -> Result<Vec<String>, OutOfMemory>
+        ensures { (values : List Agreed) (uploads : List Upload) → HasTaken self.now values
+            → AreUploadsOf values uploads → IfOk result (λ names. map string_bytes names.items ≡ table_names uploads) }
+    {
+        uploads_have_one_encoding();
+        names_by(*self.firsts.allocator(), &self.tables)
+    }
+
+    /// Takes what is ready behind the values that were taken, and no memory. [`Tables::ready`] made the room: the tables
+    /// are still able to take it where they hold what they held then.
+    pub fn apply(&mut self, ready: Ready)
+        requires { CanTake self.old ready }
+        ensures takes { (taken values : List Agreed) → HasTaken self.old taken → IsReadyFor ready values
+            → HasTaken self.new (taken ++ values) }
+        ensures room { self.old.room ≤ self.new.room + length ready.uploads }
+    {
+        take_all(
+            &mut self.firsts,
+            &mut self.tables,
+            &mut self.frames,
+            ready.uploads,
+        );
+        self.taken += ready.count;
+    }
+
+    // Makes room for so many uploads.
+    fn reserve(&mut self, uploads: usize) -> Result<(), OutOfMemory>
+        ensures ready { OnOk result (uploads ≤ self.new.room) }
+        ensures same { IsSame self.old self.new }
+        ensures room { self.old.room ≤ self.new.room }
+    {
+        self.firsts.reserve(uploads)?;
+        self.tables.reserve(uploads)?;
+        self.frames.reserve(uploads)
+    }
+}
