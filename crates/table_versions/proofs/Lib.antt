@@ -12,3 +12,4 @@ pub mod Queue
 pub mod States
 pub mod Listed
 pub mod Naming
+pub mod Serving

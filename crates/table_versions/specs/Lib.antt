@@ -3,3 +3,4 @@ pub mod Outcomes
 pub mod Ledger
 pub mod State
 pub mod Info
+pub mod Serving

@@ -2,19 +2,22 @@
 
 ghost use Rattle.std.specs.Prelude.{◌≡◌, ◌≢◌, ◌≤◌, ◌+◌, ◌++◌, [], ℕ, List, length, map, string_bytes, IfOk, OnOk, OnErr, IsSome};
 ghost use Rattle.std.specs.Option.{option_map};
-ghost use Rattle.table_types.specs.Uploads.{Upload};
+ghost use Rattle.table_types.specs.Uploads.{Upload as Uploaded, upload_text};
+ghost use Rattle.table_types.specs.Valid.{IsUpload};
 ghost use Rattle.table_types.specs.Answers.{answer_of};
-ghost use Rattle.table_types.specs.Tables.{effective, version_of};
+ghost use Rattle.table_types.specs.Tables.{effective, version_of, outcome_of};
+ghost use Rattle.table_versions.specs.Outcomes.{told};
 ghost use Rattle.table_versions.specs.Values.{AreUploadsOf};
 ghost use Rattle.ballots.specs.declared.value.Value.{Value as Agreed};
 ghost use Rattle.table_versions.specs.State.{HasTaken, IsReadyFor, CanTake, IsSame};
 ghost use Rattle.table_versions.specs.Info.{IsLatest};
 ghost use Rattle.table_versions.specs.Ledger.{table_names};
 
-use crate::answering::answer_by;
+use crate::answering::{answer_by, told_of};
 use crate::info::TableInfo;
 use crate::ledger::take_all;
 use crate::listing::{latest_by, names_by};
+use crate::outcome::Outcome;
 use crate::ready::Ready;
 use crate::steps::{Firsts, Frames, NamedTables};
 use ballots::OutOfMemory;
@@ -24,6 +27,7 @@ use std::hash::RandomState;
 use std::marker::Model;
 use table_types::laws::uploads_have_one_encoding;
 use tickets::Ticket;
+use uploads::Upload;
 
 /// The tables that the agreed values make, the first so many of them.
 #[derive(Debug, Drop)]
@@ -87,14 +91,25 @@ impl Tables {
         self.taken
     }
 
+    /// What is told of an upload, by all values that were taken. It takes no memory, and its time does not grow with what
+    /// was taken.
+    pub fn outcome(&self, upload: &Upload) -> Outcome
+        ensures { (values : List Agreed) (uploads : List Uploaded) (uploaded : Uploaded) → HasTaken self.now values
+            → AreUploadsOf values uploads → IsUpload uploaded → upload_text uploaded ≡ upload.now
+            → told result ≡ outcome_of uploads uploaded }
+    {
+        uploads_have_one_encoding();
+        told_of(&self.firsts, upload.id(), upload.as_slice())
+    }
+
     /// The bytes that answer a ticket: the frame with the schema of the table's first upload, and then those of each of
     /// its first uploads, so many as the version says. `None` exactly where the table has no such version; and memory
     /// can be refused only where it has.
     pub fn answer(&self, ticket: &Ticket) -> Result<Option<Vec<u8>>, OutOfMemory>
-        ensures answer { (values : List Agreed) (uploads : List Upload) → HasTaken self.now values
+        ensures answer { (values : List Agreed) (uploads : List Uploaded) → HasTaken self.now values
             → AreUploadsOf values uploads → IfOk result (λ answer. option_map (λ bytes. bytes.items) answer
             ≡ option_map answer_of (version_of ticket.now.table ticket.now.version uploads)) }
-        ensures memory { OnErr result ((values : List Agreed) (uploads : List Upload) → HasTaken self.now values
+        ensures memory { OnErr result ((values : List Agreed) (uploads : List Uploaded) → HasTaken self.now values
             → AreUploadsOf values uploads → IsSome (version_of ticket.now.table ticket.now.version uploads)) }
     {
         uploads_have_one_encoding();
@@ -111,10 +126,10 @@ impl Tables {
     /// The latest version of a table, `None` exactly where no upload to it counts. Memory can be refused only where one
     /// does.
     pub fn latest(&self, table: &str) -> Result<Option<TableInfo>, OutOfMemory>
-        ensures latest { (values : List Agreed) (uploads : List Upload) → HasTaken self.now values
+        ensures latest { (values : List Agreed) (uploads : List Uploaded) → HasTaken self.now values
             → AreUploadsOf values uploads
             → IfOk result (λ info. IsLatest info table.now (effective table.now uploads)) }
-        ensures memory { OnErr result ((values : List Agreed) (uploads : List Upload) → HasTaken self.now values
+        ensures memory { OnErr result ((values : List Agreed) (uploads : List Uploaded) → HasTaken self.now values
             → AreUploadsOf values uploads → effective table.now uploads ≢ []) }
     {
         uploads_have_one_encoding();
@@ -123,7 +138,7 @@ impl Tables {
 
     /// The names of the tables, in the order of their first effective uploads.
     pub fn tables(&self) -> Result<Vec<String>, OutOfMemory>
-        ensures { (values : List Agreed) (uploads : List Upload) → HasTaken self.now values
+        ensures { (values : List Agreed) (uploads : List Uploaded) → HasTaken self.now values
             → AreUploadsOf values uploads → IfOk result (λ names. map string_bytes names.items ≡ table_names uploads) }
     {
         uploads_have_one_encoding();
