@@ -1,7 +1,7 @@
 -- TableEntries and their frames, with one upload more.
-use Rattle.std.proofs.Common.{◌≡◌, ◌≢◌, refl, sym, ap, ap₂, subst, ◌∙◌, ℕ, zero, suc, ◌+◌, ◌-◌, ◌<◌, ◌≤◌, ◌==◌, ◌||◌, ◌&&◌, Bool, true, false, true≢false, cond, if◌then◌else◌, Option, Some, None, List, [], ◌∷◌, ◌++◌, length, map, slice_get, length-append, append_assoc, String, string_bytes, arith}
+use Rattle.std.proofs.Common.{◌≡◌, ◌≢◌, refl, sym, ap, subst, ◌∙◌, ℕ, zero, suc, ◌+◌, ◌<◌, Bool, true, false, true≢false, cond, Option, Some, List, [], ◌∷◌, ◌++◌, length, slice_get, length-append, append_assoc, String, string_bytes, arith}
 use Rattle.std.specs.declared.alloc.Global.{Global}
-use Rattle.std.specs.List.{AllByRecursion, flat_map, sum_by, list_any}
+use Rattle.std.specs.List.{flat_map}
 use Rattle.std.specs.Str.{bytes_eq}
 use Rattle.std.proofs.lemmas.Bool.Decides.{nat_tests}
 use Rattle.std.proofs.lemmas.Grind.{flat_map-append}
@@ -9,16 +9,16 @@ use Rattle.std.proofs.lemmas.List.{append-nil}
 use Rattle.std.proofs.lemmas.List.Sums.{sum_by-append}
 use Rattle.header_types.specs.Fields.{SchemaTree}
 use Rattle.header_types.specs.Views.{schema_of}
-use Rattle.table_types.specs.Uploads.{Upload, upload_text}
+use Rattle.table_types.specs.Uploads.{Upload}
 use Rattle.table_types.specs.Served.{in_frame, upload_messages, schema_message}
 use Rattle.table_types.specs.Answers.{answer_of}
-use Rattle.table_types.specs.Tables.{has_id, is_to, shape_text, has_shape, firsts, effective}
+use Rattle.table_types.specs.Tables.{is_to, effective}
 use Rattle.table_versions.specs.declared.place.Place.{Place}
 use Rattle.table_versions.specs.declared.table.Table.{Table}
 use Rattle.table_versions.specs.declared.prepared.Part.{Part}
-use Rattle.table_versions.specs.Ledger.{frames_of, rows_of_upload, records_of, TableEntries, FrameEntries, table_in, is_place, frames_in, names_in}
+use Rattle.table_versions.specs.Ledger.{frames_of, rows_of_upload, TableEntries, FrameEntries, table_in, is_place, frames_in, names_in}
 use Rattle.table_versions.specs.Ledger.{IsTableOf, IsTable, HasFrames, PutsTable, PutsFrames, IsPartOf, IsOpened, IsGrown}
-use Rattle.table_versions.proofs.Growing.{same_bytes, bytes_same, none_is_some, like_more, one_if, effective_other, effective_new}
+use Rattle.table_versions.proofs.Growing.{bytes_same, effective_other}
 
 -- ---- answers
 

@@ -1,8 +1,7 @@
 -- What is told of uploads, and what answers tickets.
-use Rattle.std.proofs.Common.{◌≡◌, ◌≢◌, refl, sym, ap, ap₂, subst, ◌∙◌, ℕ, zero, suc, ◌+◌, ◌<◌, ◌≤◌, Bool, true, false, true≢false, cond, if◌then◌else◌, Option, Some, None, List, [], ◌∷◌, ◌++◌, length, take, append_assoc, IsSome, arith, rules}
-use Rattle.std.specs.List.{AllByRecursion, flat_map}
+use Rattle.std.proofs.Common.{◌≡◌, ◌≢◌, refl, sym, ap, ap₂, subst, ◌∙◌, ℕ, zero, suc, ◌+◌, ◌<◌, ◌≤◌, Bool, true, false, if◌then◌else◌, Option, Some, None, List, [], ◌∷◌, ◌++◌, length, take, append_assoc, arith}
+use Rattle.std.specs.List.{flat_map}
 use Rattle.std.specs.Option.{option_map}
-use Rattle.std.specs.Str.{bytes_eq}
 use Rattle.std.proofs.lemmas.List.{append-nil}
 use Rattle.table_types.specs.Uploads.{Upload, upload_text}
 use Rattle.table_types.specs.Valid.{IsUpload}
@@ -12,11 +11,11 @@ use Rattle.std.proofs.lemmas.Grind.{flat_map-append}
 use Rattle.table_types.specs.Served.{in_frame, upload_messages}
 use Rattle.table_types.specs.Answers.{answer_of}
 use Rattle.table_versions.specs.declared.table.Table.{Table}
-use Rattle.table_types.specs.Tables.{Version, first_of_all, version_of, Outcome, conflicting, unknown, is_same, first_named, place_from, told_of, effective, outcome_of}
+use Rattle.table_types.specs.Tables.{Version, first_of_all, version_of, conflicting, unknown, is_same, first_named, place_from, told_of, effective, outcome_of}
 use Rattle.table_versions.specs.declared.first.First.{First}
 use Rattle.table_versions.specs.Outcomes.{told}
-use Rattle.table_versions.specs.Ledger.{frames_of, seen_first, told_of_first, FirstEntries, TableEntries, FrameEntries, first_in, table_in, frames_in, HasFrames, IsTable, IsTableOf, IsLedger}
-use Rattle.table_versions.proofs.Growing.{same_bytes, bytes_same, named_all}
+use Rattle.table_versions.specs.Ledger.{frames_of, seen_first, told_of_first, FirstEntries, TableEntries, FrameEntries, first_in, table_in, frames_in, HasFrames, IsTable, IsLedger}
+use Rattle.table_versions.proofs.Growing.{bytes_same, named_all}
 use Rattle.table_versions.proofs.Values.{OneEncoding}
 
 none_is_some : {X : Type 0} (x : X) → None ≡ Some x → ⊥

@@ -1,5 +1,5 @@
 -- A schema that can be written can be written without its metadata.
-use Rattle.std.proofs.Common.{◌≡◌, refl, sym, ap, ap₂, subst, ◌∙◌, ℕ, suc, ◌+◌, ◌<◌, ◌≤◌, max, Bool, true, false, true≢false, IsTrue, List, [], ◌∷◌, length, arith}
+use Rattle.std.proofs.Common.{◌≡◌, refl, sym, ap, ap₂, subst, ◌∙◌, ℕ, suc, ◌+◌, ◌≤◌, max, true, List, [], length, arith}
 use Rattle.std.specs.Str.{bytes_eq}
 use Rattle.header_types.specs.Fields.{Entry, FieldHead, Tree, tree, Forest, no_more, more, width, SchemaTree}
 use Rattle.header_types.specs.Header.{schema_header}

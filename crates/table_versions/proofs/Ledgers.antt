@@ -1,18 +1,18 @@
 -- What is kept of uploads is, after each step, what is kept of these and one upload more.
-use Rattle.std.proofs.Common.{◌≡◌, ◌≢◌, refl, sym, ap, ap₂, subst, ◌∙◌, ℕ, zero, suc, ◌+◌, ◌<◌, ◌≤◌, Bool, true, false, true≢false, Option, Some, None, List, [], ◌∷◌, ◌++◌, length, slice_get, length-append, arith}
-use Rattle.std.specs.List.{AllByRecursion, list_any}
+use Rattle.std.proofs.Common.{◌≡◌, ◌≢◌, refl, sym, ap, ap₂, subst, ◌∙◌, ℕ, ◌+◌, ◌<◌, Bool, true, false, true≢false, Some, None, List, [], ◌∷◌, ◌++◌, length, slice_get, arith}
+use Rattle.std.specs.List.{list_any}
 use Rattle.std.specs.Option.{option_map}
 use Rattle.std.specs.Str.{bytes_eq}
 use Rattle.std.proofs.lemmas.List.{append-nil}
 use Rattle.table_types.specs.Uploads.{Upload, upload_text}
 use Rattle.table_types.specs.Valid.{IsUpload}
-use Rattle.table_types.specs.Tables.{has_id, is_to, shape_text, has_shape, firsts, effective}
+use Rattle.table_types.specs.Tables.{has_id, is_to, shape_text, has_shape, effective}
 use Rattle.table_types.specs.Tables.{Outcome, applied, mismatched, first_named, place_from, outcome_of}
 use Rattle.table_versions.specs.declared.first.First.{First}
 use Rattle.table_versions.specs.declared.place.Place.{Place}
 use Rattle.table_versions.specs.declared.table.Table.{Table}
 use Rattle.table_versions.specs.declared.prepared.Part.{Part}
-use Rattle.table_versions.specs.Ledger.{frames_of, FirstEntries, TableEntries, FrameEntries, first_in, told_of_first, table_in, is_place, frames_in, names_in}
+use Rattle.table_versions.specs.Ledger.{frames_of, FirstEntries, TableEntries, FrameEntries, first_in, told_of_first, table_in, frames_in, names_in}
 use Rattle.table_versions.specs.Ledger.{seen_first, IsTableOf, IsTable, HasFrames, IsLedger, PutsFirst, PutsTable, PutsFrames, IsPartOf, IsOpened, IsGrown}
 use Rattle.table_versions.proofs.Growing.{same_bytes, bytes_same, none_any, some_any, like_more, one_if, effective_named, effective_other, effective_new, effective_none, place_none, place_last, told_first, new_is_first}
 use Rattle.table_versions.proofs.Values.{all_push}

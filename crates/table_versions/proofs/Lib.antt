@@ -13,3 +13,4 @@ pub mod States
 pub mod Listed
 pub mod Naming
 pub mod Serving
+pub mod Readying

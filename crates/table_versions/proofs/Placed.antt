@@ -1,6 +1,5 @@
 -- What the look-ups of a step tell.
-use Rattle.std.proofs.Common.{◌≡◌, refl, sym, ap, subst, ◌∙◌, ◌↔◌, ℕ, suc, Bool, true, false, IsTrue, Option, Some, None, List, [], ◌∷◌, length, String}
-use Rattle.std.specs.declared.alloc.Global.{Global}
+use Rattle.std.proofs.Common.{◌≡◌, refl, sym, ap, subst, ◌↔◌, suc, Bool, IsTrue, Option, Some, None, [], ◌∷◌, length}
 use Rattle.header_types.specs.declared.schema.Schema.{Schema}
 use Rattle.header_types.specs.SameShape.{SameShape}
 use Rattle.header_types.specs.Views.{schema_of}

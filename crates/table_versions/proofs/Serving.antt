@@ -1,5 +1,5 @@
 -- An upload is served batch by batch.
-use Rattle.std.proofs.Common.{◌≡◌, ◌≢◌, refl, sym, ap, ap₂, subst, ◌∙◌, ℕ, zero, suc, ◌+◌, ◌*◌, ◌<◌, ◌≤◌, ◌^◌, ◌==◌, ℤ, pos, Fits, w64, Bool, true, false, true≢false, not, cond, Option, Some, None, List, [], ◌∷◌, ◌++◌, map, length, length-append, append_assoc, arith}
+use Rattle.std.proofs.Common.{◌≡◌, ◌≢◌, refl, sym, ap, ap₂, subst, ◌∙◌, ℕ, ◌+◌, ◌*◌, ◌<◌, ◌≤◌, ◌==◌, ℤ, pos, Fits, w64, Bool, true, false, true≢false, not, cond, Some, None, List, [], ◌∷◌, ◌++◌, map, length, length-append, append_assoc, arith}
 use Rattle.std.specs.Borrow.{Bor}
 use Rattle.std.specs.List.{AllByRecursion, flat_map, sum_by}
 use Rattle.std.proofs.lemmas.Bool.{eqb-true}
@@ -17,9 +17,9 @@ use Rattle.flatbuf_meta.specs.Writable.{IsWritable}
 use Rattle.batch_types.specs.Cells.{Rows}
 use Rattle.batch_types.specs.Canonical.{canonical_head, canonical_body}
 use Rattle.batch_types.specs.Written.{CanBeWritten}
-use Rattle.table_types.specs.Uploads.{Upload, upload_text, head_text}
+use Rattle.table_types.specs.Uploads.{Upload, head_text}
 use Rattle.table_types.specs.Valid.{IsUpload, FitsFrame, upload_limit}
-use Rattle.table_types.specs.Served.{data_text, in_frame, batch_message, messages_of, upload_messages}
+use Rattle.table_types.specs.Served.{data_text, in_frame, batch_message, messages_of}
 use Rattle.uploads.specs.Parts.{batch_parts, batch_text, HasLeft, Gives}
 use Rattle.table_versions.specs.Ledger.{frames_of, rows_of_upload}
 use Rattle.table_versions.specs.Serving.{IsWrittenHead, IsWrittenSchema}

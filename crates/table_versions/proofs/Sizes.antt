@@ -1,24 +1,19 @@
 -- How large the numbers of a table can be.
-use Rattle.std.proofs.Common.{◌≡◌, refl, sym, ap, ap₂, subst, ◌∙◌, ℕ, zero, suc, ◌+◌, ◌*◌, ◌<◌, ◌≤◌, ◌^◌, Bool, true, false, cond, if◌then◌else◌, Option, Some, None, List, [], ◌∷◌, ◌++◌, map, length, length-append, arith}
+use Rattle.std.proofs.Common.{◌≡◌, refl, ap, ℕ, suc, ◌+◌, ◌*◌, ◌≤◌, Bool, true, false, cond, List, [], ◌∷◌, ◌++◌, map, length, length-append, arith}
 use Rattle.std.specs.List.{AllByRecursion, filter, flat_map, sum_by, list_any}
 use Rattle.std.proofs.lemmas.Grind.{flat_map-append}
 use Rattle.std.proofs.lemmas.List.Sums.{sum_by-cons}
 use Rattle.byteorder.specs.Endian.{big_bytes}
-use Rattle.grpc_frames.specs.Frame.{payload_limit}
 use Rattle.batch_types.specs.Cells.{Rows}
-use Rattle.batch_types.specs.LaysOut.{rows_limit}
 use Rattle.batch_types.specs.Written.{CanBeWritten}
 use Rattle.header_types.specs.Fields.{SchemaTree}
 use Rattle.table_types.specs.Uploads.{Upload}
 use Rattle.table_types.specs.Valid.{IsUpload, FitsFrame, batches_limit}
-use Rattle.table_types.specs.Served.{in_frame, data_text, batch_message, messages_of, upload_messages, schema_message}
+use Rattle.table_types.specs.Served.{in_frame, batch_message, messages_of, upload_messages, schema_message}
 use Rattle.table_types.specs.Answers.{answer_of}
 use Rattle.table_types.specs.Tables.{has_id, is_to, shape_text, has_shape, firsts, like_the_first, effective}
-use Rattle.table_versions.specs.declared.table.Table.{Table}
-use Rattle.table_versions.specs.declared.prepared.Part.{Part}
-use Rattle.table_versions.specs.Ledger.{frames_of, schema_frame_of, rows_of_upload, records_of, FirstEntries, TableEntries, FrameEntries, table_in, IsTableOf, IsTable, IsLedger, IsPartOf, HasRoomToGrow}
+use Rattle.table_versions.specs.Ledger.{frames_of, rows_of_upload, records_of}
 use Rattle.table_versions.proofs.Growing.{unless}
-use Rattle.table_versions.proofs.Adding.{answer_push}
 
 -- ---- frames
 

@@ -1,12 +1,11 @@
 -- What tables hold of values: of none, of more of them, and as look-ups need it.
-use Rattle.std.proofs.Common.{◌≡◌, refl, sym, ap, ap₂, subst, ◌∙◌, ℕ, ◌+◌, ◌≤◌, Some, None, Result, Ok, Err, OnErr, IfOk, List, [], ◌∷◌, ◌++◌, length, length-append, arith}
+use Rattle.std.proofs.Common.{◌≡◌, refl, sym, subst, ◌∙◌, ◌+◌, ◌≤◌, Some, None, Result, Ok, Err, OnErr, IfOk, List, [], ◌++◌, length, length-append, arith}
 use Rattle.std.specs.List.{AllZip}
 use Rattle.ballots.specs.declared.value.Value.{Value}
 use Rattle.table_types.specs.Uploads.{Upload}
-use Rattle.table_versions.specs.declared.table.Table.{Table}
 use Rattle.table_versions.specs.Values.{AreUploadsOf}
-use Rattle.table_versions.specs.Ledger.{FirstEntries, TableEntries, FrameEntries, IsLedger, IsPrepared}
-use Rattle.table_versions.specs.State.{TablesState, HasTaken, ReadyState, IsReadyFor, CanTake, IsSame}
+use Rattle.table_versions.specs.Ledger.{IsLedger, IsPrepared}
+use Rattle.table_versions.specs.State.{TablesState, HasTaken, ReadyState, IsReadyFor, IsSame}
 use Rattle.table_versions.proofs.Values.{OneEncoding, uploads_both, are_few, are_one}
 
 none_is_some : {X : Type 0} (x : X) → None ≡ Some x → ⊥

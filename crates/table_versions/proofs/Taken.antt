@@ -1,14 +1,12 @@
 -- An upload that is ready is taken as the definitions say.
-use Rattle.std.proofs.Common.{◌≡◌, ◌≢◌, refl, sym, ap, ap₂, subst, ◌∙◌, ℕ, suc, ◌+◌, ◌*◌, ◌<◌, ◌≤◌, ◌^◌, Bool, true, false, true≢false, Option, Some, None, is_some, List, [], ◌∷◌, ◌++◌, length, length-append, string_bytes, arith}
-use Rattle.std.specs.List.{AllByRecursion, list_any}
+use Rattle.std.proofs.Common.{◌≡◌, refl, sym, ap, ap₂, subst, ◌∙◌, ◌<◌, ◌≤◌, Bool, true, false, true≢false, Option, Some, None, is_some, List, [], ◌∷◌, ◌++◌, length, string_bytes, arith}
+use Rattle.std.specs.List.{AllByRecursion}
 use Rattle.std.specs.Option.{option_map}
-use Rattle.std.specs.Str.{bytes_eq}
 use Rattle.header_types.specs.SameShape.{SameShape}
 use Rattle.header_types.specs.Views.{schema_of}
 use Rattle.table_types.specs.Uploads.{Upload, upload_text}
 use Rattle.table_types.specs.Valid.{IsUpload}
 use Rattle.table_types.specs.Served.{schema_message}
-use Rattle.table_types.specs.Answers.{answer_of}
 use Rattle.table_types.specs.Tables.{Outcome, applied, mismatched, first_named, has_shape, shape_text, effective}
 use Rattle.table_versions.specs.declared.first.First.{First}
 use Rattle.table_versions.specs.declared.table.Table.{Table}
@@ -16,8 +14,7 @@ use Rattle.table_versions.specs.declared.prepared.Part.{Part}
 use Rattle.table_versions.specs.declared.prepared.Prepared.{Prepared}
 use Rattle.table_versions.specs.Outcomes.{told}
 use Rattle.table_versions.specs.Ledger.{seen_first, told_of_first, FirstEntries, TableEntries, FrameEntries, first_in, table_in, IsTableOf, IsTable, IsLedger, IsPartOf, IsPrepared, PutsFirst}
-use Rattle.table_versions.specs.Ledger.{HasRoomToGrow, Grows, OpensTable, AddsVersion, ChangesNothing, Places, schema_frame_of, frames_of, records_of}
-use Rattle.table_versions.proofs.Growing.{named_all}
+use Rattle.table_versions.specs.Ledger.{HasRoomToGrow, Places}
 use Rattle.table_versions.proofs.Taking.{OutcomesStay}
 use Rattle.table_versions.proofs.BareSchemas.{ShapesApart, ShapesSame, like_it, is_like}
 use Rattle.table_versions.proofs.Sizes.{framed, frames_long, rows_few, records_few, answer_few, all_effective, few_effective}

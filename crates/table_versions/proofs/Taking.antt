@@ -1,28 +1,15 @@
 -- What is kept of uploads, with one upload more.
-use Rattle.std.proofs.Common.{◌≡◌, ◌≢◌, refl, sym, ap, ap₂, subst, ◌∙◌, ℕ, zero, suc, ◌+◌, ◌-◌, ◌<◌, ◌≤◌, ◌||◌, ◌&&◌, Bool, true, false, true≢false, cond, if◌then◌else◌, Option, Some, None, List, [], ◌∷◌, ◌++◌, length, map, slice_get, get_or, length-append, append_assoc, arith}
-use Rattle.std.specs.List.{AllByRecursion, filter, list_any, flat_map, sum_by}
+use Rattle.std.proofs.Common.{◌≡◌, ◌≢◌, refl, sym, ap, ap₂, subst, ◌∙◌, ℕ, suc, ◌||◌, Bool, true, false, true≢false, cond, if◌then◌else◌, Option, Some, None, List, [], ◌∷◌, ◌++◌, append_assoc}
+use Rattle.std.specs.List.{filter, list_any}
 use Rattle.std.specs.Option.{option_map}
-use Rattle.std.specs.Str.{bytes_eq}
-use Rattle.std.proofs.lemmas.Grind.{flat_map-append}
 use Rattle.std.proofs.lemmas.List.{append-nil}
-use Rattle.std.proofs.lemmas.List.Folds.{list_any-append}
-use Rattle.std.proofs.lemmas.List.Sums.{sum_by-append}
-use Rattle.header_types.specs.Views.{schema_of}
 use Rattle.table_types.specs.Uploads.{Upload, upload_text}
-use Rattle.table_types.specs.Valid.{IsUpload}
-use Rattle.table_types.specs.Served.{in_frame, upload_messages, schema_message}
-use Rattle.table_types.specs.Answers.{answer_of}
-use Rattle.table_types.specs.Tables.{has_id, is_to, shape_text, has_shape, is_same, firsts, like_the_first, effective}
-use Rattle.table_types.specs.Tables.{Outcome, applied, mismatched, conflicting, unknown, first_named, place_from, told_of, outcome_of}
+use Rattle.table_types.specs.Tables.{has_id, is_to, firsts, like_the_first, effective}
+use Rattle.table_types.specs.Tables.{Outcome, applied, mismatched, conflicting, unknown, first_named, place_from, outcome_of}
 use Rattle.table_versions.specs.declared.first.First.{First}
-use Rattle.table_versions.specs.declared.place.Place.{Place}
-use Rattle.table_versions.specs.declared.table.Table.{Table}
-use Rattle.table_versions.specs.declared.prepared.Part.{Part}
-use Rattle.table_versions.specs.Outcomes.{told}
-use Rattle.table_versions.specs.Ledger.{frames_of, schema_frame_of, rows_of_upload, records_of, names_after, table_names, FirstEntries, TableEntries, FrameEntries, first_in, table_in, is_place, frames_in, names_in}
-use Rattle.table_versions.specs.Ledger.{seen_first, told_of_first, IsTableOf, IsTable, HasFrames, IsLedger, PutsFirst, PutsTable, PutsFrames, IsPartOf, IsOpened, IsGrown}
-use Rattle.table_versions.proofs.Growing.{same_bytes, bytes_same, none_is_some, none_any, some_any, named_has, named_all, unless, firsts_push, effective_named, effective_other, effective_new, effective_none, place_none, place_last, told_first, new_is_first, still_first, other_first}
-use Rattle.table_versions.proofs.Values.{all_push}
+use Rattle.table_versions.specs.Ledger.{names_after, table_names, FirstEntries, first_in}
+use Rattle.table_versions.specs.Ledger.{seen_first, told_of_first, PutsFirst}
+use Rattle.table_versions.proofs.Growing.{bytes_same, named_has, unless, firsts_push, told_first, new_is_first, still_first, other_first}
 
 -- what is told of an upload whose name has come stays
 abbrev pub OutcomesStay : Type 0

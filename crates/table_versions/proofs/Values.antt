@@ -1,5 +1,5 @@
 -- The uploads of values: of lists end to end, one list, and all of them valid.
-use Rattle.std.proofs.Common.{◌≡◌, ◌≢◌, refl, sym, ap, ap₂, subst, ◌∙◌, ℕ, ◌+◌, ◌≤◌, List, [], ◌∷◌, ◌++◌, length, length-append, append_assoc, arith}
+use Rattle.std.proofs.Common.{◌≡◌, refl, sym, ap, ap₂, subst, ◌∙◌, ◌≤◌, List, [], ◌∷◌, ◌++◌, length, length-append, append_assoc, arith}
 use Rattle.std.specs.List.{AllByRecursion}
 use Rattle.ballots.specs.declared.value.Value.{Value}
 use Rattle.ballots.specs.declared.value.Value.TheVariants as values

@@ -4,3 +4,4 @@ pub mod Ledger
 pub mod State
 pub mod Info
 pub mod Serving
+pub mod Preparing

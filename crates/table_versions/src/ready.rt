@@ -1,8 +1,16 @@
 //! Values whose uploads are ready to be taken without memory.
 
+ghost use Rattle.std.specs.Prelude.{◌≡◌, length, IfOk, OnOk};
+ghost use Rattle.table_versions.specs.Preparing.{PreparesBytes, PushesBytes, PushesValue};
+
 use crate::prepared::Prepared;
+use crate::preparing::prepare;
+use ballots::{OutOfMemory, Value};
+use bytes::Bytes;
+use std::alloc::{AllocError, Global};
 use std::collections::VecDeque;
 use std::marker::Model;
+use uploads::{DecodeFault, Upload};
 
 /// The next values of the list, with all that [`crate::Tables::apply`] needs of them.
 #[derive(Debug, Drop)]
@@ -29,4 +37,74 @@ impl Model for Ready {
 
     ghost invariant = { λ r. (values : List Agreed)
         × IsReadyFor (record { uploads = r.uploads.items; count = r.count }) values };
+}
+
+impl Ready {
+    ghost use Rattle.table_versions.specs.State.{IsReadyFor};
+
+    /// These values, made ready.
+    pub(crate) fn of(alloc: Global, values: &[Value]) -> Result<Ready, OutOfMemory>
+        ensures { IfOk result (λ ready. IsReadyFor ready values.now) }
+    {
+        let mut uploads = VecDeque::new(alloc);
+        for value in values {
+            push_value(alloc, &mut uploads, value)?;
+        }
+        Ok(Ready {
+            uploads,
+            count: values.len() as u64,
+        })
+    }
+
+    /// How many uploads there are.
+    pub(crate) fn len(&self) -> usize
+        ensures { result ≡ length self.now.uploads }
+    {
+        self.uploads.len()
+    }
+}
+
+/// The upload that these bytes are, made ready, or `None` where they are none.
+fn prepared_of(alloc: Global, bytes: &Bytes) -> Result<Option<Prepared>, OutOfMemory>
+    ensures { IfOk result (PreparesBytes bytes.now) }
+{
+    match Upload::decode(alloc, bytes.clone()?) {
+        Ok(upload) => match prepare(alloc, upload) {
+            Ok(prepared) => Ok(Some(prepared)),
+            Err(refused) => Err(refused),
+        },
+        Err(DecodeFault::NotAnUpload) => Ok(None),
+        Err(DecodeFault::OutOfMemory) => Err(AllocError),
+    }
+}
+
+/// Puts the upload that these bytes are behind the others, and nothing where they are none.
+fn push_bytes(
+    alloc: Global,
+    uploads: &mut VecDeque<Prepared>,
+    bytes: &Bytes,
+) -> Result<(), OutOfMemory>
+    ensures { OnOk result (PushesBytes uploads.old.items uploads.new.items bytes.now) }
+{
+    match prepared_of(alloc, bytes)? {
+        Some(prepared) => {
+            uploads.push_back(prepared)?;
+            Ok(())
+        }
+        None => Ok(()),
+    }
+}
+
+/// Puts what a value adds behind the others.
+fn push_value(
+    alloc: Global,
+    uploads: &mut VecDeque<Prepared>,
+    value: &Value,
+) -> Result<(), OutOfMemory>
+    ensures { OnOk result (PushesValue uploads.old.items uploads.new.items value.now) }
+{
+    match value {
+        Value::Noop => Ok(()),
+        Value::Upload(bytes) => push_bytes(alloc, uploads, bytes.as_bytes()),
+    }
 }

@@ -9,7 +9,7 @@ ghost use Rattle.table_types.specs.Tables.{effective, version_of, outcome_of};
 ghost use Rattle.table_versions.specs.Outcomes.{told};
 ghost use Rattle.table_versions.specs.Values.{AreUploadsOf};
 ghost use Rattle.ballots.specs.declared.value.Value.{Value as Agreed};
-ghost use Rattle.table_versions.specs.State.{HasTaken, IsReadyFor, CanTake, IsSame};
+ghost use Rattle.table_versions.specs.State.{values_limit, HasTaken, IsReadyFor, CanTake, IsSame};
 ghost use Rattle.table_versions.specs.Info.{IsLatest};
 ghost use Rattle.table_versions.specs.Ledger.{table_names};
 
@@ -20,7 +20,7 @@ use crate::listing::{latest_by, names_by};
 use crate::outcome::Outcome;
 use crate::ready::Ready;
 use crate::steps::{Firsts, Frames, NamedTables};
-use ballots::OutOfMemory;
+use ballots::{OutOfMemory, Value};
 use indexmap::IndexMap;
 use std::alloc::Global;
 use std::hash::RandomState;
@@ -143,6 +143,21 @@ impl Tables {
     {
         uploads_have_one_encoding();
         names_by(*self.firsts.allocator(), &self.tables)
+    }
+
+    /// Makes these values, the next of the list, ready to be taken: all memory that [`Tables::apply`] needs. What the
+    /// tables hold stays, whatever the answer, and no room is lost. With these values the tables have taken at most
+    /// 1,000,000.
+    pub fn ready(&mut self, values: &[Value]) -> Result<Ready, OutOfMemory>
+        requires { self.old.taken + length values.now ≤ values_limit }
+        ensures ready { IfOk result (λ ready. IsReadyFor ready values.now) }
+        ensures can { IfOk result (CanTake self.new) }
+        ensures same { IsSame self.old self.new }
+        ensures room { self.old.room ≤ self.new.room }
+    {
+        let ready = Ready::of(*self.firsts.allocator(), values)?;
+        self.reserve(ready.len())?;
+        Ok(ready)
     }
 
     /// Takes what is ready behind the values that were taken, and no memory. [`Tables::ready`] made the room: the tables

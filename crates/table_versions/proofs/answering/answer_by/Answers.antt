@@ -1,4 +1,4 @@
-use Rattle.std.proofs.Common.{sym, ap, ◌∙◌, ◌++◌, List, length, take, arith}
+use Rattle.std.proofs.Common.{sym, ap, ◌∙◌, ◌++◌, take, arith}
 use Rattle.std.specs.List.{flat_map}
 use Rattle.table_types.specs.Tables.{effective}
 use Rattle.table_versions.specs.Ledger.{frames_of}

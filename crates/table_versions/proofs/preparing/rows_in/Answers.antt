@@ -3,7 +3,7 @@ use Rattle.std.proofs.lemmas.Int.{to_z-of_z}
 use lib.Dec.{T}
 use lib.Signed.{non_neg}
 use lib.IntN.{nat_abs}
-use mir.Val.{SFits, of_z, to_z}
+use mir.Val.{SFits}
 use Rattle.batch_types.specs.Canonical.{canonical_head}
 use Rattle.header_types.specs.Header.{batch_header}
 use Rattle.header_types.specs.HeaderViews.{header_of, head_of}

@@ -1,4 +1,4 @@
-use Rattle.std.proofs.Common.{◌≡◌, ◌≢◌, ◌+◌, ◌++◌, [], Some, sym, ap, subst, ◌∙◌, Fits, w64, map, length, arith}
+use Rattle.std.proofs.Common.{◌≡◌, ◌+◌, ◌++◌, [], sym, subst, ◌∙◌, map, arith}
 use Rattle.table_types.specs.Served.{in_frame, data_text}
 use Rattle.table_types.specs.Valid.{FitsFrame}
 use Rattle.uploads.specs.Parts.{batch_parts}

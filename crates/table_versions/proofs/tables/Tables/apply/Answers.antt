@@ -1,4 +1,4 @@
-use Rattle.std.proofs.Common.{◌≡◌, ◌+◌, ◌≤◌, ◌++◌, refl, sym, ap, subst, arith}
+use Rattle.std.proofs.Common.{◌++◌, refl, sym, ap, subst, arith}
 use Rattle.table_versions.specs.State.{HasTaken, IsReadyFor}
 use Rattle.table_versions.proofs.States.{can_take, taken_both}
 use Rattle.table_versions.proofs.tables.Tables.apply.Goals as goal

@@ -1,0 +1,8 @@
+use Rattle.std.proofs.Common.{sym, subst}
+use Rattle.table_versions.specs.Preparing.{PushesValue}
+use Rattle.table_versions.proofs.Readying.{pushes_noop}
+use Rattle.table_versions.proofs.ready.push_value.Goals as goal
+
+pub returns-in-Noop : goal.returns-in-Noop
+returns-in-Noop c =
+    subst (PushesValue c.args.uploads.now.items c.args.uploads.now.items) (sym c.in-Noop.is) (pushes_noop c.args.uploads.now.items)
