@@ -1,0 +1,5 @@
+pub mod Shaped
+pub mod Telling
+pub mod Blank
+pub mod Gathered
+pub mod Holding

@@ -1,0 +1,5 @@
+pub mod Slots
+pub mod Whole
+pub mod Built
+pub mod Faults
+pub mod Kinds
