@@ -3,3 +3,4 @@ pub mod Telling
 pub mod Blank
 pub mod Gathered
 pub mod Holding
+pub mod Making

@@ -3,3 +3,4 @@ pub mod Whole
 pub mod Built
 pub mod Faults
 pub mod Kinds
+pub mod Rows

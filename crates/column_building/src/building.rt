@@ -29,7 +29,7 @@ use header_types::Field;
 use std::alloc::{AllocError, Global};
 
 /// Appends a column.
-fn put_column(columns: &mut Vec<Column>, column: Column) -> Result<(), AllocError>
+pub(crate) fn put_column(columns: &mut Vec<Column>, column: Column) -> Result<(), AllocError>
     ensures { OnOk result (columns.new.items ≡ columns.old.items ++ column ∷ []) }
 {
     columns.push(column)?;

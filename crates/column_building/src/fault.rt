@@ -25,6 +25,23 @@ pub enum CellsFault {
     OutOfMemory,
 }
 
+/// Why some cells make no batch of a schema.
+#[derive(Clone, Copy, Debug, PartialEq, Eq, Error)]
+pub enum RowsFault {
+    /// There is not one column of cells for each field.
+    #[error("WrongColumns")]
+    WrongColumns,
+    /// A column has another number of cells than there are rows.
+    #[error("WrongLength")]
+    WrongLength,
+    /// There are more than 1,048,576 rows.
+    #[error("TooManyRows")]
+    TooManyRows,
+    /// The cells of a column make none of its field.
+    #[error("{0}")]
+    Cells(CellsFault),
+}
+
 impl From<AllocError> for CellsFault {
     ghost use Rattle.std.specs.Prelude.{◌≡◌};
     ghost use Rattle.column_building.specs.declared.fault.CellsFault.TheVariants.{OutOfMemory};

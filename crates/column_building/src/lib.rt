@@ -2,6 +2,7 @@
 //! one inside the other (Apache Arrow, "Arrow Columnar Format", "Physical memory layout").
 #![tactic(auto)]
 
+mod batch;
 mod building;
 mod fault;
 mod fields;
@@ -10,5 +11,6 @@ mod flat;
 mod nested;
 mod slots;
 
+pub use batch::batch_of;
 pub use building::column_of;
-pub use fault::CellsFault;
+pub use fault::{CellsFault, RowsFault};
