@@ -1,7 +1,7 @@
 -- The slots of the columns inside, one slot of the column at a time.
 use Rattle.std.proofs.Common.{◌≡◌, ℕ, zero, suc, ◌+◌, ◌<◌, ◌≤◌, true, Some, None, List, [], ◌∷◌, ◌++◌, map, length, take, get_or, replicate, refl, sym, ap, ap₂, ◌∙◌, subst, arith, length-append, append_assoc}
 use Rattle.std.proofs.lemmas.List.{map_more, map_push, append-nil, length-map, length-replicate, length_push, take_all}
-use Rattle.std.proofs.lemmas.List.Sums.{sum_by-cons, sum_by_more, sum_by_more_le}
+use Rattle.std.proofs.lemmas.List.Sums.{sum_by-cons}
 use Rattle.std.proofs.lemmas.Grind.{flat_map-append}
 use Rattle.std.proofs.lemmas.Bool.{false≢true}
 use Rattle.std.specs.Option.{is_some}
@@ -53,10 +53,6 @@ slots_pushed blank slots slot = map_push (slot_cell blank) slots slot
 pub slots_long : (blank : Cell) (slots : List Slot) → length (slot_cells blank slots) ≡ length slots
 slots_long blank slots = length-map slots (slot_cell blank)
 
--- cells behind cells
-pub behind_pushed : (xs ys before after : List Cell) (x : Cell) → xs ≡ before ++ after → ys ≡ xs ++ x ∷ [] → ys ≡ before ++ (after ++ x ∷ [])
-behind_pushed xs ys before after x is more = more ∙ ap (λ l. l ++ x ∷ []) is ∙ append_assoc before after (x ∷ [])
-
 -- ---- elements, where so many blank ones stand under a null
 
 listed_back : (cells : List Cell) → cells_in (cells_of cells) ≡ cells
@@ -105,14 +101,6 @@ elements_more size blank slots k x within at made more is last =
     ∙ ap (flat_map f) (sym (slots_more (blank_list size blank) slots k x within at))
 
 -- ---- too many elements
-
-pub counted_more : (size : ℕ) (slots : List Slot) (k : ℕ) → k < length slots
-    → elements_counted size (take (k + 1) slots) ≡ elements_counted size (take k slots) + elements_count size (get_or slots k None)
-counted_more size slots k within = sum_by_more (elements_count size) slots k None within
-
-pub counted_within : (size : ℕ) (slots : List Slot) (k : ℕ) → k < length slots
-    → elements_counted size (take k slots) + elements_count size (get_or slots k None) ≤ elements_counted size slots
-counted_within size slots k within = sum_by_more_le (elements_count size) slots k None within
 
 -- ---- offsets
 

@@ -25,8 +25,6 @@ use Rattle.batch_columns.specs.FieldShapes.{field_shapes}
 use Rattle.batch_columns.specs.Held.{shapes_held}
 use Rattle.batch_columns.specs.Kept.{HasElements, HaveFields, IsKept}
 use Rattle.batch_columns.specs.Made.{validity_bytes, bytes_or_null, has_size}
-use Rattle.batch_columns.specs.declared.fault.ColumnFault.{ColumnFault}
-use Rattle.batch_columns.specs.declared.fault.ColumnFault.TheVariants as column
 use Rattle.batch_cells.specs.CellViews.{cell_of}
 use Rattle.column_building.specs.declared.fault.CellsFault.{CellsFault}
 use Rattle.column_building.specs.declared.fault.CellsFault.TheVariants.{WrongChildren, NotOfField, TooMany, TooLong, OutOfMemory}
@@ -34,7 +32,6 @@ use Rattle.column_building.specs.Slots.{Slot, slot_cell, slot_cells, slot_there,
 use Rattle.column_building.specs.Whole.{field_shape, count_shapes, allows, is_whole, are_whole}
 use Rattle.column_building.specs.Built.{AreFewNodes, AreFewValues, IsBuilt, IsBuiltFirst, AreBuiltFields, DoFieldsFit, CanSurround}
 use Rattle.column_building.specs.Built.{IsCauseOf, IsCause, IsCauseFirst}
-use Rattle.column_building.specs.Faults.{IsFaultOf}
 use Rattle.column_building.proofs.Shaped.{fields_next}
 use Rattle.column_building.proofs.Gathered.{blank_list, slots_long, elements_long, lists_sum}
 
@@ -294,12 +291,6 @@ module _ (inside : Shapes) (slots : List Slot) where
         room = (tt, inner.1);
       }
 
-  pub struct_cause : (fault : CellsFault) → IsCauseOf (fields_parts inside 0 structs).nodes (AreFieldRooms inside 0 structs) fault
-      → IsCause (shape struct_layout inside) structs fault
-  struct_cause fault cause =
-      cause_up (parts_of (shape struct_layout inside) structs).nodes (fields_parts inside 0 structs).nodes
-      (AreRooms (shape struct_layout inside) structs) (AreFieldRooms inside 0 structs) fault (λ all. all.1) (λ all. all.1) cause
-
 -- ---- one field after the other
 
 module _ (fields : List Field) (i : ℕ) (x : Field) (there : i < length fields) (is : x ≡ slice_index_or fields i x) (cells : List Cell) where
@@ -371,12 +362,6 @@ pub plain_few : (blank : Cell) (slots : List Slot) → length slots ≤ values_l
     → (pos (length (slot_cells blank slots)) ≤ℤ pos values_limit) × Unit {0}
 plain_few blank slots few = (few_slots blank slots few, tt)
 
-pub long_cause : (nodes : List Node) (Room : Type 0) (told : ColumnFault) (fault : CellsFault) → IsFaultOf told fault
-    → (told ≡ column.TooLong → Room → ⊥) → (told ≡ column.WrongSize → ⊥) → IsCauseOf nodes Room fault
-long_cause nodes Room column.TooLong fault is long sizes = subst (IsCauseOf nodes Room) (sym is) (long refl)
-long_cause nodes Room column.WrongSize fault is long sizes = absurd (sizes refl)
-long_cause nodes Room column.OutOfMemory fault is long sizes = memory_cause nodes Room fault is
-
 -- so many bytes in each
 pub sizes_fit : (size : ℕ) (cells : List (Option (Bor (List ℕ)))) → AllByRecursion (AreBytes (λ bytes. length bytes ≡ size)) (map bytes_or_null cells)
     → list_all (has_size size) cells ≡ true
@@ -436,16 +421,6 @@ first_built inside s rest slots column columns is one built only =
     subst (λ l. IsBuiltFirst inside (slot_cells (first_blank inside) slots) l) (sym only)
     (subst (λ x. IsBuiltFirst x (slot_cells (first_blank x) slots) (column ∷ [])) (sym is)
     (built, no_rest s rest (ap count_shapes (sym is) ∙ one), refl))
-
-pub first_caused : (inside : Shapes) (s : Shape) (rest : Shapes) (slots : List Slot) (fault : CellsFault) → inside ≡ shape_then s rest
-    → IsCause s (slot_cells (blank_of s) slots) fault → IsCauseFirst inside (slot_cells (first_blank inside) slots) fault
-first_caused inside s rest slots fault is cause =
-    subst (λ x. IsCauseFirst x (slot_cells (first_blank x) slots) fault) (sym is) cause
-
--- memory may be refused wherever there is a first field
-pub first_memory : (inside : Shapes) (cells : List Cell) (fault : CellsFault) → count_shapes inside ≡ 1 → fault ≡ OutOfMemory → IsCauseFirst inside cells fault
-first_memory no_shape cells fault one is = absurd (omega arith)
-first_memory (shape_then s rest) cells fault one is = memory_cause (parts_of s cells).nodes (AreRooms s cells) fault is
 
 -- ---- tests
 

@@ -1,5 +1,5 @@
 -- Columns that are made one after the other are those of a batch.
-use Rattle.std.proofs.Common.{◌≡◌, ◌⊎◌, inl, inr, ℕ, ◌+◌, ◌<◌, ◌≤◌, false, List, [], ◌∷◌, ◌++◌, map, length, drop, slice_index_or, refl, sym, ap, ap₂, ◌∙◌, subst, append_assoc, arith}
+use Rattle.std.proofs.Common.{◌≡◌, ◌⊎◌, inl, ℕ, ◌+◌, ◌<◌, ◌≤◌, false, List, [], ◌∷◌, ◌++◌, map, length, drop, slice_index_or, refl, sym, ap, ap₂, ◌∙◌, subst, arith}
 use Rattle.std.proofs.lemmas.List.{append-nil, drop_all, length-map}
 use Rattle.std.specs.List.{AllByRecursion}
 use Rattle.header_types.specs.declared.schema.Field.{Field}
@@ -18,7 +18,7 @@ use Rattle.batch_cells.specs.CellViews.{cell_of}
 use Rattle.column_building.specs.declared.fault.CellsFault.{CellsFault}
 use Rattle.column_building.specs.declared.fault.CellsFault.TheVariants.{WrongChildren, NotOfField, TooMany, TooLong, OutOfMemory}
 use Rattle.column_building.specs.Whole.{field_shape, is_whole}
-use Rattle.column_building.specs.Built.{AreFewNodes, AreFewValues, IsBuilt}
+use Rattle.column_building.specs.Built.{AreFewNodes, AreFewValues}
 use Rattle.column_building.specs.Rows.{AreMade, IsTold, IsToldOfOne}
 use Rattle.column_building.proofs.Shaped.{dropped, fields_next}
 
@@ -29,16 +29,6 @@ module _ {X : Type 0} (f : X → List Cell) (fields : List Field) (columns : Lis
   columns_next : map f (drop i columns) ≡ f y ∷ map f (drop (i + 1) columns)
   columns_next = ap (map f) (dropped columns i y there column)
 
-  pub made_next : (inside : Shapes) (whole : List (List Cell)) (made more : List Contents) (one : Contents)
-      → ((rest : List Contents) → AreMade (field_shapes (drop i fields)) (map f (drop i columns)) rest → AreMade inside whole (made ++ rest))
-      → IsBuilt (field_shape x) (f y) one → more ≡ made ++ one ∷ []
-      → (rest : List Contents) → AreMade (field_shapes (drop (i + 1) fields)) (map f (drop (i + 1) columns)) rest → AreMade inside whole (more ++ rest)
-  made_next inside whole made more one done built is_more rest behind =
-      subst (AreMade inside whole) (sym (append_assoc made (one ∷ []) rest) ∙ ap (λ l. l ++ rest) (sym is_more))
-      (done (one ∷ rest)
-      (subst (λ s. AreMade s (map f (drop i columns)) (one ∷ rest)) (sym (fields_next fields i x met field))
-      (subst (λ l. AreMade (shape_then (field_shape x) (field_shapes (drop (i + 1) fields))) l (one ∷ rest)) (sym columns_next) (built, behind))))
-
   told_close : (fault : CellsFault) → IsTold (field_shape x) (f y) fault ⊎ IsToldOfOne (field_shapes (drop (i + 1) fields)) (map f (drop (i + 1) columns)) fault
       → IsToldOfOne (field_shapes (drop i fields)) (map f (drop i columns)) fault
   told_close fault either =
@@ -47,10 +37,6 @@ module _ {X : Type 0} (f : X → List Cell) (fields : List Field) (columns : Lis
 
   pub told_here : (fault : CellsFault) → IsTold (field_shape x) (f y) fault → IsToldOfOne (field_shapes (drop i fields)) (map f (drop i columns)) fault
   told_here fault told = told_close fault (inl told)
-
-  pub told_behind : (fault : CellsFault) → IsToldOfOne (field_shapes (drop (i + 1) fields)) (map f (drop (i + 1) columns)) fault
-      → IsToldOfOne (field_shapes (drop i fields)) (map f (drop i columns)) fault
-  told_behind fault told = told_close fault (inr told)
 
 -- behind the last field all are made
 pub made_done : {X : Type 0} (f : X → List Cell) (fields : List Field) (columns : List X) (i : ℕ) (inside : Shapes) (whole : List (List Cell)) (made : List Contents)
@@ -71,9 +57,6 @@ told_of s held NotOfField children kinds many long = kinds refl
 told_of s held TooMany children kinds many long = many refl
 told_of s held TooLong children kinds many long = long refl
 told_of s held OutOfMemory children kinds many long = tt
-
-pub told_memory : (s : Shape) (held : List Cell) (fault : CellsFault) → fault ≡ OutOfMemory → IsTold s held fault
-told_memory s held fault is = subst (IsTold s held) (sym is) tt
 
 -- ---- all columns
 

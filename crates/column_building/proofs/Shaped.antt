@@ -35,9 +35,6 @@ count_fields (field ∷ fields) = ap suc (count_fields fields)
 height_whole : (s : Shape) → height s ≡ suc (heights (shapes_of_shape s))
 height_whole (shape layout inside) = refl
 
-pub falls : (s : Shape) (inside : Shapes) → inside ≡ shapes_of_shape s → heights inside < height s
-falls s inside same = omega (arith, height_whole s, ap heights same)
-
 pub height_there : (fields : List Field) (i : ℕ) (x : Field) → i < length fields → x ≡ slice_index_or fields i x
     → height (field_shape x) ≤ heights (field_shapes fields)
 height_there [] i x there is = absurd (omega arith)

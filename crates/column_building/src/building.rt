@@ -1,12 +1,12 @@
 //! The column of some cells, with those inside it.
 
-ghost use Rattle.std.specs.Prelude.{◌≡◌, ◌↔◌, ◌≤◌, ◌++◌, ◌∷◌, ℕ, Bool, true, false, map, length, [], replicate, IfOk, IfErr, OnOk, IsErrOf};
-ghost use Rattle.std.specs.List.{AllByRecursion, flat_map};
-ghost use Rattle.batch_types.specs.Cells.{Cell as Seen, list_cell, tuple_cell, no_cell, cells_of};
+ghost use Rattle.std.specs.Prelude.{◌≡◌, ◌↔◌, ◌≤◌, ◌++◌, ◌∷◌, true, false, map, length, [], IfOk, IfErr, OnOk, IsErrOf};
+ghost use Rattle.std.specs.List.{AllByRecursion};
+ghost use Rattle.batch_types.specs.Cells.{list_cell, tuple_cell, no_cell};
 ghost use Rattle.batch_types.specs.Canonical.{blank_of, first_blank, blanks_of, fields_parts};
 ghost use Rattle.batch_types.specs.LaysOut.{values_limit};
 ghost use Rattle.batch_types.specs.Layouts.{list_layout, fixed_size_list_layout, struct_layout};
-ghost use Rattle.batch_types.specs.Shapes.{shape, no_shape};
+ghost use Rattle.batch_types.specs.Shapes.{shape};
 ghost use Rattle.batch_types.specs.Typed.{IsCellOf, IsElementOf};
 ghost use Rattle.batch_types.specs.Written.{AreRooms, AreFieldRooms};
 ghost use Rattle.batch_columns.specs.FieldShapes.{field_shapes};

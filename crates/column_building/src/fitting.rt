@@ -1,6 +1,6 @@
 //! Which cells are of which fields.
 
-ghost use Rattle.std.specs.Prelude.{◌≡◌, ◌↔◌, Bool, IsTrue, map};
+ghost use Rattle.std.specs.Prelude.{◌↔◌, Bool, IsTrue, map};
 ghost use Rattle.std.specs.List.{AllByRecursion};
 ghost use Rattle.batch_types.specs.Cells.{bit_cell, bytes_cell, cells_of};
 ghost use Rattle.batch_types.specs.Shapes.{shape, no_shape};

@@ -1,6 +1,6 @@
 //! Columns without columns inside them.
 
-ghost use Rattle.std.specs.Prelude.{◌≡◌, ◌≤◌, ℕ, Bool, [], map, length, replicate, true, false, IfOk, IfErr, IsUtf8};
+ghost use Rattle.std.specs.Prelude.{◌≡◌, ◌≤◌, [], map, length, replicate, true, false, IfOk, IfErr, IsUtf8};
 ghost use Rattle.std.specs.List.{AllByRecursion, list_all};
 ghost use Rattle.batch_types.specs.Cells.{bit_cell, bytes_cell};
 ghost use Rattle.batch_types.specs.LaysOut.{values_limit};

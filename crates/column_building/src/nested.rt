@@ -1,7 +1,6 @@
 //! Columns around the columns inside them.
 
-ghost use Rattle.std.specs.Prelude.{◌≡◌, ℕ, false, not, map, length, IfOk};
-ghost use Rattle.std.specs.List.{flat_map};
+ghost use Rattle.std.specs.Prelude.{◌≡◌, false, not, map, IfOk};
 ghost use Rattle.bitmaps.specs.Bits.{zeros};
 ghost use Rattle.batch_types.specs.Cells.{Cell as Seen};
 ghost use Rattle.batch_types.specs.Canonical.{is_null as is_null_cell};

@@ -1,6 +1,7 @@
 //! The cells that a column is built of, which are lent, and those that the columns inside it are built of.
 
-ghost use Rattle.std.specs.Prelude.{◌≡◌, ◌↔◌, ◌<◌, ◌++◌, ℕ, Bool, [], map, length, replicate, None, IfOk, IfSome, IfNone, OnOk, IsTrue};
+ghost use Rattle.std.specs.Prelude.{◌≡◌, ◌↔◌, ◌<◌, ◌++◌, ℕ, [], map, length, replicate, None, IfOk, IfSome, IfNone};
+ghost use Rattle.std.specs.Prelude.{OnOk, IsTrue};
 ghost use Rattle.std.specs.List.{flat_map};
 ghost use Rattle.byteorder.specs.Endian.{little_bytes};
 ghost use Rattle.batch_types.specs.Cells.{Cell as Seen, null_cell, list_cell, tuple_cell, no_cell, cells_of};
