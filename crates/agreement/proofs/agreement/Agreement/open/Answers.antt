@@ -1,0 +1,21 @@
+use Rattle.std.proofs.Common.{◌≡◌, ℕ, None, refl, sym, subst, ◌∙◌}
+use Rattle.acceptor.specs.Restored.{IsHighestRound}
+use Rattle.learner.specs.State.{decided_at as learned_at}
+use Rattle.agreement.proofs.Parts as parts
+use Rattle.agreement.proofs.agreement.Agreement.open.Goals as goal
+
+pub returns-clause-stands : goal.returns-clause-stands
+returns-clause-stands c =
+    let none : (slot : ℕ) → learned_at c.new-2.result slot ≡ None =
+    λ slot. parts.nothing_learned c.args.members slot (learned_at c.new-2.result slot) (c.new-2.ensures.learned slot) in
+    record {
+      restored = c.in_ok-acceptor.ensures;
+      begun = subst (λ (r : ℕ). IsHighestRound c.args.records.now r) (sym c.new.ensures.highest_round) c.highest_begun_round.ensures;
+      first_round = c.highest_begun_round.result;
+      asked = c.new.ensures;
+      told = c.new-2.ensures;
+      logged = λ slot. c.new-3.ensures.empty slot ∙ sym (none slot);
+      log_is = c.new-3.ensures.node;
+      beyond = λ slot le. none slot;
+      seen = refl;
+    }

@@ -1,0 +1,207 @@
+-- What a step of a node's part in agreement keeps, sends and changes.
+use Rattle.std.specs.Prelude.{◌≡◌, ℕ, ◌<◌, max, Option, None, Some, List, [], ◌∷◌, ◌++◌}
+use Rattle.ballots.specs.Limits.{max_round}
+use Rattle.ballots.specs.declared.value.Value.{Value}
+use Rattle.ballots.specs.Ballot.{Ballot}
+use Rattle.ballots.specs.declared.acceptance.Acceptance.{Acceptance}
+use Rattle.ballots.specs.declared.record.Record.{Record}
+use Rattle.ballots.specs.declared.record.Record.TheVariants as kept_as
+use Rattle.ballots.specs.declared.message.Message.{Message}
+use Rattle.ballots.specs.declared.message.Body.{Body}
+use Rattle.ballots.specs.declared.message.Body.TheVariants as body
+use Rattle.acceptor.specs.AcceptorState.{HasRoomFor}
+use Rattle.proposer.specs.Call.{Call as Asked, Begins, Promises, Nacks}
+use Rattle.proposer.specs.Attempting.{next_ballot}
+use Rattle.learner.specs.Calls.{Call as Told}
+use Rattle.learner.specs.Calls as told
+use Rattle.learner.specs.State.{HasRoomToLearn, HasRoomForVote, decided_at}
+use Rattle.learner.specs.Changes.{LearnsNow}
+use Rattle.decided_log.specs.LogState.{LogState}
+use Rattle.histories.specs.Views.{Config, Views, HasPrefix}
+use Rattle.histories.specs.Due.{Plan, BodyIsDue}
+use Rattle.agreement.specs.declared.step.Step.{Step}
+use Rattle.agreement.specs.declared.step.Change.{Change}
+use Rattle.agreement.specs.declared.step.Change.TheVariants.{Nothing, Answered, Began, Promised, Refused, Accepted, Decided}
+use Rattle.agreement.specs.State.{AgreementState, Has}
+
+-- ---- where a change leaves a node
+
+-- the record that is kept of it
+abbrev pub kept_of : Change → Option Record
+kept_of Nothing = None
+kept_of (Answered kept) = Some kept
+kept_of (Began slot candidate ballot began) = Some began
+kept_of (Promised sender slot ballot report) = None
+kept_of (Refused slot ballot) = None
+kept_of (Accepted sender slot acceptance learned) = None
+kept_of (Decided slot value learned) = None
+
+abbrev pub records_with : Views → Change → List Record
+records_with views Nothing = views.records
+records_with views (Answered kept) = views.records ++ kept ∷ []
+records_with views (Began slot candidate ballot began) = views.records ++ began ∷ []
+records_with views (Promised sender slot ballot report) = views.records
+records_with views (Refused slot ballot) = views.records
+records_with views (Accepted sender slot acceptance learned) = views.records
+records_with views (Decided slot value learned) = views.records
+
+abbrev pub asked_with : Views → Change → List Asked
+asked_with views Nothing = views.asked
+asked_with views (Answered kept) = views.asked
+asked_with views (Began slot candidate ballot began) = views.asked ++ Begins (record {
+  slot = slot;
+  seen_round = views.seen_round;
+  candidate = candidate;
+  ballot = ballot;
+}) ∷ []
+asked_with views (Promised sender slot ballot report) =
+    views.asked ++ Promises (record { sender = sender; slot = slot; ballot = ballot; report = report }) ∷ []
+asked_with views (Refused slot ballot) = views.asked ++ Nacks slot ballot ∷ []
+asked_with views (Accepted sender slot acceptance learned) = views.asked
+asked_with views (Decided slot value learned) = views.asked
+
+abbrev pub told_with : Views → Change → List Told
+told_with views Nothing = views.told
+told_with views (Answered kept) = views.told
+told_with views (Began slot candidate ballot began) = views.told
+told_with views (Promised sender slot ballot report) = views.told
+told_with views (Refused slot ballot) = views.told
+told_with views (Accepted sender slot acceptance learned) =
+    views.told ++ told.Accepted sender slot acceptance.ballot acceptance.value ∷ []
+told_with views (Decided slot value learned) = views.told ++ told.Decided slot value ∷ []
+
+abbrev pub left_by : Views → ℕ → Change → Views
+left_by views seen change = record {
+  records = records_with views change;
+  seen_round = seen;
+  waiting = views.waiting;
+  asked = asked_with views change;
+  told = told_with views change;
+}
+
+-- ---- what is due
+
+-- the prefix grows by these values when its learner is told this
+abbrev pub Grows : ℕ → List Told → List Told → List Value → Type 0
+Grows members before after grown =
+    (values : List Value) → HasPrefix members before values → HasPrefix members after (values ++ grown)
+
+-- nothing is kept or sent, and the learner is told this
+pub record IsTold (config : Config) (views : Views) (call : Told) (plan : Plan) (grown : List Value) : Type 0 where
+  pub kept : plan.kept ≡ None
+  pub sends : plan.sends ≡ []
+  pub after : plan.after ≡ record {
+    records = views.records;
+    seen_round = views.seen_round;
+    waiting = views.waiting;
+    asked = views.asked;
+    told = views.told ++ call ∷ [];
+  }
+  pub grows : Grows config.members views.told (views.told ++ call ∷ []) grown
+
+-- What a body makes a node do that has seen its round: what is due; what is told to its learner may grow the prefix, which is
+-- all that matters to those who wait.
+abbrev pub BodyGives : Config → ℕ → Views → (sender slot : ℕ) → Body → Plan → List Value → Type 0
+BodyGives config me views sender slot (body.Accepted acceptance) plan grown =
+    IsTold config views (told.Accepted sender slot acceptance.ballot acceptance.value) plan grown
+BodyGives config me views sender slot (body.Decided value) plan grown =
+    IsTold config views (told.Decided slot value) plan grown
+BodyGives config me views sender slot (body.Prepare ballot) plan grown =
+    BodyIsDue config me views sender slot (body.Prepare ballot) plan × (grown ≡ [])
+BodyGives config me views sender slot (body.Accept proposal) plan grown =
+    BodyIsDue config me views sender slot (body.Accept proposal) plan × (grown ≡ [])
+BodyGives config me views sender slot (body.Promise ballot report) plan grown =
+    BodyIsDue config me views sender slot (body.Promise ballot report) plan × (grown ≡ [])
+BodyGives config me views sender slot (body.Nack ballot promised) plan grown =
+    BodyIsDue config me views sender slot (body.Nack ballot promised) plan × (grown ≡ [])
+BodyGives config me views sender slot body.Ask plan grown =
+    BodyIsDue config me views sender slot body.Ask plan × (grown ≡ [])
+
+-- ---- what can be taken without memory
+
+-- it is no begin of an attempt
+abbrev pub IsAnswer : Record → Type 0
+IsAnswer (kept_as.Began ballot) = ⊥
+IsAnswer (kept_as.Promised slot ballot) = Unit {0}
+IsAnswer (kept_as.Accepted slot acceptance) = Unit {0}
+
+-- the log has room for what is learned
+abbrev pub HasRoomForLearned : LogState → Option Value → Type 0
+HasRoomForLearned log None = Unit {0}
+HasRoomForLearned log (Some value) = 0 < log.room
+
+-- a decided value is learned where the slot has none
+abbrev pub DecidedNow : Option Value → Value → Option Value → Type 0
+DecidedNow None value learned = learned ≡ Some value
+DecidedNow (Some held) value learned = learned ≡ None
+
+-- the attempt begins at the node's next ballot
+pub record CanBegin (state : AgreementState) (ballot : Ballot) (began : Record) : Type 0 where
+  pub kept : began ≡ kept_as.Began ballot
+  pub rounds_left : max state.seen_round state.proposer.highest_round < max_round
+  pub next : ballot ≡ next_ballot state.me state.proposer.highest_round state.seen_round
+
+pub record CanHear (state : AgreementState) (sender slot : ℕ) (acceptance : Acceptance) (learned : Option Value) : Type 0 where
+  pub vote : HasRoomForVote state.learner sender slot acceptance.ballot
+  pub now : LearnsNow state.learner sender slot acceptance.ballot acceptance.value learned
+  pub room : HasRoomForLearned state.log learned
+  pub within : slot < state.config.slot_limit
+
+pub record CanLearn (state : AgreementState) (slot : ℕ) (value : Value) (learned : Option Value) : Type 0 where
+  pub place : HasRoomToLearn state.learner slot
+  pub now : DecidedNow (decided_at state.learner slot) value learned
+  pub room : HasRoomForLearned state.log learned
+  pub within : slot < state.config.slot_limit
+
+-- the change can be made
+abbrev pub CanTake : AgreementState → Change → Type 0
+CanTake state Nothing = Unit {0}
+CanTake state (Answered kept) = IsAnswer kept × HasRoomFor state.acceptor kept
+CanTake state (Began slot candidate ballot began) = CanBegin state ballot began
+CanTake state (Promised sender slot ballot report) = Unit {0}
+CanTake state (Refused slot ballot) = Unit {0}
+CanTake state (Accepted sender slot acceptance learned) = CanHear state sender slot acceptance learned
+CanTake state (Decided slot value learned) = CanLearn state slot value learned
+
+-- ---- what a step is
+
+-- what the node has with this round as the greatest that it has seen
+abbrev pub sees : Views → ℕ → Views
+sees views seen = record {
+  records = views.records;
+  seen_round = seen;
+  waiting = views.waiting;
+  asked = views.asked;
+  told = views.told;
+}
+
+-- the step as a plan
+abbrev pub plan_of : Views → Step → Plan
+plan_of views step = record {
+  kept = kept_of step.change;
+  sends = step.sends.items;
+  after = left_by views step.seen_round step.change;
+}
+
+-- the step sends these messages, makes this change, and nothing else
+pub record Sends (step : Step) (sends : List Message) (seen : ℕ) (change : Change) : Type 0 where
+  pub sends_are : step.sends.items ≡ sends
+  pub grown_is : step.grown.items ≡ []
+  pub seen_is : step.seen_round ≡ seen
+  pub change_is : step.change ≡ change
+
+-- the step is what this body of this sender and slot gives, whatever records and calls the node stands by
+abbrev pub StepGives : AgreementState → ℕ → (sender slot : ℕ) → Body → Step → Type 0
+StepGives state seen sender slot b step =
+    (step.seen_round ≡ seen)
+    × ((views : Views) → Has state views
+    → BodyGives state.config state.me (sees views seen) sender slot b (plan_of views step) step.grown.items)
+
+-- the node stands by the same records and calls
+abbrev pub StaysAsItWas : AgreementState → AgreementState → Type 0
+StaysAsItWas old new = (views : Views) → Has old views → Has new views
+
+-- so it does, and can take the step
+pub record IsReady (old new : AgreementState) (step : Step) : Type 0 where
+  pub same : StaysAsItWas old new
+  pub can : CanTake new step.change
