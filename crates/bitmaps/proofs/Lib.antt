@@ -6,3 +6,5 @@ pub mod Running
 pub mod PackedForms
 pub mod Equality
 pub mod Packing
+pub mod Wholes
+pub mod Joining

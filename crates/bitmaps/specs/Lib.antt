@@ -1,3 +1,4 @@
 pub mod Bits
 pub mod Packed
 pub mod Packing
+pub mod Joined

@@ -4,6 +4,7 @@ ghost use Rattle.std.specs.Prelude.{◌≡◌, ℕ, ◌+◌, ◌*◌, ◌/◌, �
 ghost use Rattle.std.specs.Prelude.{Bool, true, false, List, [], ◌∷◌, ◌++◌, length, get_or, replicate};
 ghost use Rattle.std.specs.Prelude.{vec_capacity, OnOk, OnErr, IfOk, IsTrue, slice_get, ◌↔◌};
 ghost use Rattle.std.specs.Int.{bit_at};
+ghost use Rattle.std.proofs.Common.{bit_and, bit_xor};
 ghost use lib.Pointwise.{pointwise};
 ghost use Rattle.std.specs.Cmp.Rules.{comparing};
 ghost use Rattle.std.specs.Bool.{beq};
@@ -11,8 +12,9 @@ ghost use Rattle.std.proofs.Common.{rules};
 ghost use Rattle.bitmaps.specs.Bits.{bit_of, bits_of, zeros};
 ghost use Rattle.bitmaps.specs.Packed.{IsPacked, IsKept};
 ghost use Rattle.bitmaps.specs.Packing.{packed_bytes};
+ghost use Rattle.bitmaps.specs.Joined.{set_in_both, set_in_one};
 
-use crate::bits::{bit, count_zeros, eight_bits, eight_equal, low_bits};
+use crate::bits::{bit, count_zeros, eight_bits, eight_equal, low_bits, whole_bytes};
 use std::alloc::{AllocError, Global};
 use std::marker::Model;
 
@@ -56,6 +58,45 @@ fn put_run(bytes: &mut Vec<u8>, from: usize, source: &[u8], start: usize, count:
     }
 }
 
+/// The bytes of these bits that fill whole bytes, where they begin at one, as do those behind the first `from` bits; else
+/// none.
+fn whole_behind(from: usize, source: &[u8], start: usize, count: usize) -> &[u8]
+    requires { start + count < 2 ^ 64 }
+    ensures few { 8 * length result.now ≤ count }
+    ensures aligned { 0 < length result.now → (from % 8 ≡ 0) × (start % 8 ≡ 0) }
+    ensures bytes { (i : ℕ) → i < length result.now
+        → get_or result.now i 0 ≡ get_or source.now (start / 8 + i) 0 }
+{
+    if from % 8 == 0 {
+        whole_bytes(source, start, count)
+    } else {
+        &[]
+    }
+}
+
+/// Puts these bits behind the first `from` bits, as [`put_run`] does, whole bytes at once where they begin at one.
+fn put_many(
+    bytes: &mut Vec<u8>,
+    from: usize,
+    source: &[u8],
+    start: usize,
+    count: usize,
+) -> Result<(), AllocError>
+    requires kept { IsKept bytes.old.items from }
+    requires room { length bytes.old.items + (count + 7) / 8 ≤ vec_capacity bytes.old }
+    requires within { (start + count < 2 ^ 64) × (from + count < 2 ^ 64) }
+    ensures put { OnOk result (bits_of bytes.new.items 0 (from + count)
+        ≡ bits_of bytes.old.items 0 from ++ bits_of source.now start count) }
+    ensures kept { OnOk result (IsKept bytes.new.items (from + count)) }
+    ensures same { OnErr result (bytes.new.items ≡ bytes.old.items) }
+{
+    let whole = whole_behind(from, source, start, count);
+    let done = 8 * whole.len();
+    bytes.extend_from_slice(whole)?;
+    put_run(bytes, from + done, source, start + done, count - done);
+    Ok(())
+}
+
 /// Puts equal bits behind the first `from` bits, `count` of them. There is room for them.
 fn put_equal(bytes: &mut Vec<u8>, from: usize, bit: bool, count: usize)
     requires kept { IsKept bytes.old.items from }
@@ -71,6 +112,28 @@ fn put_equal(bytes: &mut Vec<u8>, from: usize, bit: bool, count: usize)
         let byte = low_bits(eight, run);
         put_bits(bytes, from + done, byte, run);
         done += run;
+    }
+}
+
+/// Leaves in some bytes the bits that are set in the others too, as many bytes.
+fn and_bytes(bytes: &mut Vec<u8>, other: &[u8])
+    requires { length bytes.old.items ≡ length other.now }
+    ensures length { length bytes.new.items ≡ length bytes.old.items }
+    ensures each { (k : ℕ) → get_or bytes.new.items k 0 ≡ bit_and (get_or bytes.old.items k 0) (get_or other.now k 0) }
+{
+    for place in 0..other.len() {
+        bytes[place] &= other[place];
+    }
+}
+
+/// Turns in some bytes the bits that are set in the others, as many bytes.
+fn xor_bytes(bytes: &mut Vec<u8>, other: &[u8])
+    requires { length bytes.old.items ≡ length other.now }
+    ensures length { length bytes.new.items ≡ length bytes.old.items }
+    ensures each { (k : ℕ) → get_or bytes.new.items k 0 ≡ bit_xor (get_or bytes.old.items k 0) (get_or other.now k 0) }
+{
+    for place in 0..other.len() {
+        bytes[place] ^= other[place];
     }
 }
 
@@ -196,7 +259,7 @@ impl Bitmap {
             return Err(AllocError);
         };
         self.bytes.reserve(count / 8 + 1)?;
-        put_run(&mut self.bytes, self.length, bytes, start, count);
+        put_many(&mut self.bytes, self.length, bytes, start, count)?;
         self.length = length;
         Ok(())
     }
@@ -216,6 +279,24 @@ impl Bitmap {
         put_equal(&mut self.bytes, self.length, bit, count);
         self.length = length;
         Ok(())
+    }
+
+    /// Leaves set the bits that are set in the other list too, which is as long. It takes no memory.
+    pub fn and_with(&mut self, other: &Bitmap)
+        requires { length self.old ≡ length other.now }
+        ensures both { self.new ≡ set_in_both self.old other.now }
+        ensures long { length self.new ≡ length self.old }
+    {
+        and_bytes(&mut self.bytes, other.bytes.as_slice());
+    }
+
+    /// Turns the bits that are set in the other list, which is as long. It takes no memory.
+    pub fn xor_with(&mut self, other: &Bitmap)
+        requires { length self.old ≡ length other.now }
+        ensures one { self.new ≡ set_in_one self.old other.now }
+        ensures long { length self.new ≡ length self.old }
+    {
+        xor_bytes(&mut self.bytes, other.bytes.as_slice());
     }
 
     /// How many bits are not set: of a validity bitmap, how many values are null.

@@ -1,6 +1,6 @@
 //! Bits in bytes.
 
-ghost use Rattle.std.specs.Prelude.{◌≡◌, ◌==◌, ◌^◌, if◌then◌else◌, ℕ, ◌+◌, ◌-◌, ◌*◌, ◌<◌, ◌≤◌, ◌/◌, ◌&&◌};
+ghost use Rattle.std.specs.Prelude.{◌≡◌, ◌==◌, ◌^◌, if◌then◌else◌, ℕ, ◌+◌, ◌-◌, ◌*◌, ◌<◌, ◌≤◌, ◌/◌, ◌%◌, ◌&&◌};
 ghost use Rattle.std.specs.Prelude.{length, get_or, nat_lt, false};
 ghost use Rattle.std.specs.Int.{bit_at};
 ghost use Rattle.bitmaps.specs.Bits.{bit_of, bits_of, zeros};
@@ -55,9 +55,34 @@ pub(crate) fn eight_equal(bit: bool) -> u8
     if bit { 0xff } else { 0 }
 }
 
-/// How many of these bits are not set: `count` of them, from bit `start` on. Bits behind the last byte are not set. The
-/// run ends below bit 2^64.
-pub fn count_zeros(bytes: &[u8], start: usize, count: usize) -> usize
+/// How many bits of these bytes are not set.
+fn zeros_in(bytes: &[u8]) -> usize
+    requires { 8 * length bytes.now < 2 ^ 64 }
+    ensures { result ≡ zeros (bits_of bytes.now 0 (8 * length bytes.now)) }
+{
+    let mut zeros = 0;
+    for byte in bytes {
+        zeros += 8 - byte.count_ones() as usize;
+    }
+    zeros
+}
+
+/// The bytes of these bits that fill whole bytes, where they begin at one; else none.
+pub(crate) fn whole_bytes(bytes: &[u8], start: usize, count: usize) -> &[u8]
+    requires { start + count < 2 ^ 64 }
+    ensures few { 8 * length result.now ≤ count }
+    ensures aligned { 0 < length result.now → start % 8 ≡ 0 }
+    ensures bytes { (i : ℕ) → i < length result.now → get_or result.now i 0 ≡ get_or bytes.now (start / 8 + i) 0 }
+{
+    let (first, whole) = (start / 8, count / 8);
+    if start % 8 != 0 || bytes.len() < first + whole {
+        return &[];
+    }
+    &bytes[first..first + whole]
+}
+
+/// How many of these bits are not set, eight at a time.
+fn zeros_from(bytes: &[u8], start: usize, count: usize) -> usize
     requires { start + count < 2 ^ 64 }
     ensures { result ≡ zeros (bits_of bytes.now start count) }
 {
@@ -70,4 +95,15 @@ pub fn count_zeros(bytes: &[u8], start: usize, count: usize) -> usize
         done += run;
     }
     zeros
+}
+
+/// How many of these bits are not set: `count` of them, from bit `start` on. Bits behind the last byte are not set. The
+/// run ends below bit 2^64.
+pub fn count_zeros(bytes: &[u8], start: usize, count: usize) -> usize
+    requires { start + count < 2 ^ 64 }
+    ensures { result ≡ zeros (bits_of bytes.now start count) }
+{
+    let whole = whole_bytes(bytes, start, count);
+    let done = 8 * whole.len();
+    zeros_in(whole) + zeros_from(bytes, start + done, count - done)
 }

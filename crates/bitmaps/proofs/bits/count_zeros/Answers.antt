@@ -1,22 +1,20 @@
-use Rattle.std.proofs.Common.{◌+◌, arith}
-use Rattle.bitmaps.proofs.Counting.{run_bits, counted, zeros_runs, zeros_few}
+use Rattle.std.proofs.Common.{◌≡◌, ap, ◌+◌, ◌-◌, ◌*◌, arith, length}
+use Rattle.bitmaps.specs.Bits.{bits_of, zeros}
+use Rattle.bitmaps.proofs.Counting.{zeros_runs, zeros_few}
+use Rattle.bitmaps.proofs.Wholes.{whole_bits}
 use Rattle.bitmaps.proofs.bits.count_zeros.Goals as goal
 
-pub overflow_sub-zeros : goal.overflow_sub-zeros
-overflow_sub-zeros c =
-    (counted c.args.bytes.now (c.args.start + c.loop-done.done) c.min-run.result c.low_bits-set.result c.low_bits-set.ensures.small
-    (run_bits c.args.bytes.now (c.args.start + c.loop-done.done) c.min-run.result c.eight_bits.result c.low_bits-set.result
-    (omega (arith, c.min-run.ensures)) c.eight_bits.ensures c.low_bits-set.ensures.bits)).1
+pub overflow_add-result : goal.overflow_add-result
+overflow_add-result c =
+    let whole = c.whole_bytes-whole.result.now in
+    let done = 8 * length whole in
+    omega (arith, c.requires, c.whole_bytes-whole.ensures.few, c.zeros_in.ensures, c.zeros_from.ensures, zeros_few whole 0 done, zeros_few c.args.bytes.now (c.args.start + done) (c.args.count - done))
 
-pub overflow_add-zeros : goal.overflow_add-zeros
-overflow_add-zeros c =
-    omega (arith, c.loop-done.invariant.1, zeros_few c.args.bytes.now c.args.start c.loop-done.done, c.min-run.ensures, c.ranges.count.fits, c.loop-done-test.true)
-
-pub loop-done-preserved : goal.loop-done-preserved
-loop-done-preserved c =
-    let one = counted c.args.bytes.now (c.args.start + c.loop-done.done) c.min-run.result c.low_bits-set.result c.low_bits-set.ensures.small
-    (run_bits c.args.bytes.now (c.args.start + c.loop-done.done) c.min-run.result c.eight_bits.result c.low_bits-set.result
-    (omega (arith, c.min-run.ensures)) c.eight_bits.ensures c.low_bits-set.ensures.bits) in (
-      omega (arith, c.min-run.ensures),
-      omega (arith, one.0, c.loop-done.invariant.1, zeros_runs c.args.bytes.now c.args.start c.loop-done.done c.min-run.result),
-    )
+pub returns : goal.returns
+returns c =
+    let whole = c.whole_bytes-whole.result.now in
+    let done = 8 * length whole in
+    let same = whole_bits c.args.bytes.now whole c.args.start (length whole) c.whole_bytes-whole.ensures.aligned c.whole_bytes-whole.ensures.bytes in
+    let sum : done + (c.args.count - done) ≡ c.args.count = omega (arith, c.whole_bytes-whole.ensures.few) in
+    let all = zeros_runs c.args.bytes.now c.args.start done (c.args.count - done) in
+    omega (arith, c.zeros_in.ensures, c.zeros_from.ensures, ap zeros same, all, ap (λ k. zeros (bits_of c.args.bytes.now c.args.start k)) sum)
