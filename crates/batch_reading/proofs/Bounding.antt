@@ -1,11 +1,11 @@
 -- What is wanted inside a column lies within the columns inside.
-use Rattle.std.proofs.Common.{◌≡◌, inl, inr, refl, sym, ap, subst, ◌∙◌, ℕ, zero, suc, ◌+◌, ◌-◌, ◌*◌, ◌^◌, ◌<◌, ◌≤◌, Bool, true, false, if◌then◌else◌, nat_lt, pos, ◌-ℤ◌, ◌≤ℤ◌, nat_abs, List, [], ◌∷◌, ◌++◌, map, length, get_or, drop, arith, mul-le-mul_left, length-take}
+use Rattle.std.proofs.Common.{◌≡◌, inl, inr, refl, sym, ap, subst, ◌∙◌, ℕ, zero, suc, ◌+◌, ◌-◌, ◌*◌, ◌^◌, ◌<◌, ◌≤◌, Bool, true, false, if◌then◌else◌, nat_lt, pos, ◌-ℤ◌, ◌≤ℤ◌, nat_abs, List, [], ◌∷◌, ◌++◌, map, length, get_or, drop, arith, mul-le-mul_left, length-take, length-drop, ext_get_or}
 use Rattle.std.proofs.lemmas.Int.{ints}
 use Rattle.std.proofs.lemmas.List.{get_or-take, get_or-drop, get_or_past}
 use Rattle.std.specs.List.{AllByRecursion, flat_map, range_with_len, zip}
 use native.Mathlib.Nat.{mul-suc}
 use borrow.Author.Tests.{ltb-true, ltb-false}
-use Rattle.byteorder.specs.Endian.{little_number}
+use Rattle.byteorder.specs.Endian.{little_bytes, little_number}
 use Rattle.batch_types.specs.Placed.{bytes_from, offset_at, start_of, length_of}
 use Rattle.batch_types.specs.Rules.{AreOffsetsLong, DoRise as OffsetsDoRise, OffsetsRise}
 use Rattle.batch_types.specs.LaysOut.{values_limit}
@@ -170,6 +170,41 @@ rises_from offsets count limit rise (suc j) within =
     subst (λ k. pos 0 ≤ℤ offset_at 4 offsets k) (sym next)
     (omega (arith, ints, rise.rises j (omega arith), rises_from offsets count limit rise j (omega arith)))
 
+-- an offset that is not below zero is written as it stands
+four_bytes : (a b c d : ℕ) → a < 256 → b < 256 → c < 256 → d < 256 → little_bytes 4 (little_number 4 (a ∷ b ∷ c ∷ d ∷ [])) ≡ a ∷ b ∷ c ∷ d ∷ []
+four_bytes a b c d la lb lc ld =
+    ext_get_or 0 (little_bytes 4 (little_number 4 (a ∷ b ∷ c ∷ d ∷ []))) (a ∷ b ∷ c ∷ d ∷ []) refl at
+  where
+    at : (i : ℕ) → i < 4 → get_or (little_bytes 4 (little_number 4 (a ∷ b ∷ c ∷ d ∷ []))) i 0 ≡ get_or (a ∷ b ∷ c ∷ d ∷ []) i 0
+    at zero within = omega (arith, la)
+    at (suc zero) within = omega (arith, la, lb)
+    at (suc (suc zero)) within = omega (arith, la, lb, lc)
+    at (suc (suc (suc zero))) within = omega (arith, la, lb, lc, ld)
+    at (suc (suc (suc (suc i)))) within = absurd (omega arith)
+
+bytes_back : (xs : List ℕ) → length xs ≡ 4 → ((k : ℕ) → get_or xs k 0 < 256) → little_bytes 4 (little_number 4 xs) ≡ xs
+bytes_back [] long all = absurd (omega (arith, long))
+bytes_back (a ∷ []) long all = absurd (omega (arith, long))
+bytes_back (a ∷ b ∷ []) long all = absurd (omega (arith, long))
+bytes_back (a ∷ b ∷ c ∷ []) long all = absurd (omega (arith, long))
+bytes_back (a ∷ b ∷ c ∷ d ∷ []) long all = four_bytes a b c d (all 0) (all 1) (all 2) (all 3)
+bytes_back (a ∷ b ∷ c ∷ d ∷ e ∷ rest) long all = absurd (omega (arith, long))
+
+not_below : (x : ℕ) (test : Bool) → x < 4294967296 → nat_lt x 2147483648 ≡ test → pos 0 ≤ℤ (if test then pos x else pos x -ℤ pos 4294967296)
+    → nat_abs (if test then pos x else pos x -ℤ pos 4294967296) ≡ x
+not_below x true small is low = refl
+not_below x false small is low = absurd (omega (arith, ints, small, low))
+
+offset_written : (offsets : List ℕ) (j : ℕ) → ((k : ℕ) → get_or offsets k 0 < 256) → 4 * j + 4 ≤ length offsets → pos 0 ≤ℤ offset_at 4 offsets j
+    → little_bytes 4 (start_of 4 offsets j) ≡ bytes_from offsets (4 * j) 4
+offset_written offsets j all long low =
+    let part : List ℕ = bytes_from offsets (4 * j) 4 in
+    let bytes : (k : ℕ) → get_or part k 0 < 256 = λ k. bytes_part offsets (4 * j) 4 k all in
+    let same : start_of 4 offsets j ≡ little_number 4 part =
+    not_below (little_number 4 part) (nat_lt (little_number 4 part) 2147483648) (number_small part bytes) refl low in
+    ap (little_bytes 4) same
+    ∙ bytes_back part (omega (arith, length-take 4 (drop (4 * j) offsets), length-drop (4 * j) offsets, long)) bytes
+
 -- offsets that keep their rules say where values stand
 pub spans_of_rules : (offsets : List ℕ) (asked count total : ℕ) → asked ≤ count → ((k : ℕ) → get_or offsets k 0 < 256) → OffsetsRise 4 offsets count total
     → AreOffsetsLong 4 count (length offsets) → HasSpans offsets asked total
@@ -178,6 +213,7 @@ spans_of_rules offsets asked count total few all rises (inl none) = record {
   rises = λ j below. absurd (omega (arith, none.0, few, below));
   ends = λ j below. absurd (omega (arith, none.0, few, below));
   few = λ j below. absurd (omega (arith, none.0, few, below));
+  written = λ j some within. absurd (omega (arith, none.0, few, some));
 }
 spans_of_rules offsets asked count total few all (inl none) (inr long) = absurd (omega (arith, ap length none, long))
 spans_of_rules offsets asked count total few all (inr rise) (inr long) = record {
@@ -198,4 +234,6 @@ spans_of_rules offsets asked count total few all (inr rise) (inr long) = record 
         rises_to offsets count total rise (count - (j + 1)) (j + 1) (omega (arith, few, below)),
       );
   few = λ j below. offset_small offsets (j + 1) all (rises_from offsets count total rise (j + 1) (omega (arith, few, below)));
+  written = λ j some within.
+      offset_written offsets j all (omega (arith, few, within, long)) (rises_from offsets count total rise j (omega (arith, few, within)));
 }

@@ -13,3 +13,5 @@ pub mod Reading
 pub mod Stepping
 pub mod Counting
 pub mod Whole
+pub mod OneRun
+pub mod Clearing

@@ -1,9 +1,10 @@
 -- Which cells are null and which values are taken.
-use Rattle.std.proofs.Common.{◌≡◌, refl, sym, ap, ap₂, ◌∙◌, ℕ, ◌+◌, ◌<◌, ◌==◌, ◌||◌, ◌&&◌, Bool, true, false, not, if◌then◌else◌, Option, Some, List, [], ◌∷◌, map, length, arith, ne_eqb}
+use Rattle.std.proofs.Common.{◌≡◌, refl, sym, ap, ap₂, ◌∙◌, ℕ, ◌+◌, ◌<◌, ◌==◌, ◌||◌, ◌&&◌, Bool, true, false, not, if◌then◌else◌, Option, Some, List, [], ◌∷◌, map, length, replicate, arith, ne_eqb}
 use Rattle.std.proofs.lemmas.List.{length-map}
 use Rattle.std.proofs.lemmas.List.Sums.{sum_by-cons}
 use Rattle.std.specs.List.{zip}
 use Rattle.bitmaps.specs.Bits.{bit_of, zeros}
+use Rattle.bitmaps.specs.Joined.{set_in_both, set_in_one}
 use Rattle.bitmaps.specs.Packing.{packed_bytes}
 use Rattle.batch_columns.specs.Made.{validity_bytes}
 use Rattle.batch_reading.specs.declared.wanted.Wanted.{Wanted}
@@ -44,6 +45,57 @@ none_null validity (spot ∷ spots) is =
     let one : zeros (is_shown validity spot ∷ map (is_shown validity) spots) ≡ zeros (true ∷ map (is_shown validity) spots) =
     ap (λ bit. zeros (bit ∷ map (is_shown validity) spots)) first in
     omega (arith, one, zeros_first true (map (is_shown validity) spots), none_null validity spots is)
+
+-- ---- marked bits
+
+-- the bits of marked places
+kept_bit : (mark bit : Bool) → bit && mark ≡ (if mark then bit else false)
+kept_bit true true = refl
+kept_bit true false = refl
+kept_bit false true = refl
+kept_bit false false = refl
+
+pub kept_bits : (bytes places : List ℕ) (marks : List Bool) → length marks ≡ length places
+    → set_in_both (map (bit_of bytes) places) marks ≡ map (bit_taken bytes false) (zip places marks)
+kept_bits bytes [] marks same = refl
+kept_bits bytes (p ∷ ps) [] same = absurd (omega (arith, same))
+kept_bits bytes (p ∷ ps) (mark ∷ marks) same =
+    ap₂ (λ bit rest. bit ∷ rest) (kept_bit mark (bit_of bytes p)) (kept_bits bytes ps marks (omega (arith, same)))
+
+-- and set bits for the others
+turned_bit : (mark bit : Bool) → (if (if true then not mark else mark) then not (if mark then bit else false) else (if mark then bit else false)) ≡ (if mark then bit else true)
+turned_bit true true = refl
+turned_bit true false = refl
+turned_bit false bit = refl
+
+turned : (bytes places : List ℕ) (marks : List Bool) → length marks ≡ length places
+    → set_in_one (set_in_one (replicate (length marks) true) marks) (map (bit_taken bytes false) (zip places marks)) ≡ map (bit_taken bytes true) (zip places marks)
+turned bytes [] [] same = refl
+turned bytes [] (mark ∷ marks) same = absurd (omega (arith, same))
+turned bytes (p ∷ ps) [] same = absurd (omega (arith, same))
+turned bytes (p ∷ ps) (mark ∷ marks) same =
+    ap₂ (λ bit rest. bit ∷ rest) (turned_bit mark (bit_of bytes p)) (turned bytes ps marks (omega (arith, same)))
+
+module _ (limit : ℕ) (wanted : Wanted) (is : IsWanted limit wanted) (bytes : List ℕ) (marks bits : List Bool) (there : wanted.there.now ≡ Some marks) where
+  marks_as_long : length marks ≡ length (places_of wanted.runs.now)
+  marks_as_long =
+      ap (λ there. length (marks_of wanted.count there)) (sym there) ∙ marks_long wanted.count wanted.there.now is.marked ∙ is.counted
+
+  pub bits_as_long : bits ≡ map (bit_of bytes) (places_of wanted.runs.now) → length bits ≡ length marks
+  bits_as_long run = ap length run ∙ length-map (places_of wanted.runs.now) (bit_of bytes) ∙ sym marks_as_long
+
+  pub bits_kept : bits ≡ map (bit_of bytes) (places_of wanted.runs.now) → set_in_both bits marks ≡ map (bit_taken bytes false) (spots_of wanted)
+  bits_kept run =
+      ap (λ l. set_in_both l marks) run ∙ kept_bits bytes (places_of wanted.runs.now) marks marks_as_long
+      ∙ ap (λ there. map (bit_taken bytes false) (spots_at wanted.runs.now wanted.count there)) (sym there)
+
+  pub bits_turned : bits ≡ map (bit_taken bytes false) (spots_of wanted)
+      → set_in_one (set_in_one (replicate (length marks) true) marks) bits ≡ map (bit_taken bytes true) (spots_of wanted)
+  bits_turned kept =
+      ap (set_in_one (set_in_one (replicate (length marks) true) marks))
+      (kept ∙ ap (λ there. map (bit_taken bytes false) (spots_at wanted.runs.now wanted.count there)) there)
+      ∙ turned bytes (places_of wanted.runs.now) marks marks_as_long
+      ∙ ap (λ there. map (bit_taken bytes true) (spots_at wanted.runs.now wanted.count there)) (sym there)
 
 -- ---- bits of a bitmap
 

@@ -18,7 +18,7 @@ use Rattle.batch_reading.proofs.Running.{mapped_more, gathered_step, DoRise, ris
 -- ---- offsets
 
 -- a function's lists in order are another's where the two agree
-same_lists_on : (f g : ℕ → List ℕ) (start n : ℕ) → ((j : ℕ) → start ≤ j → j < start + n → f j ≡ g j)
+pub same_lists_on : (f g : ℕ → List ℕ) (start n : ℕ) → ((j : ℕ) → start ≤ j → j < start + n → f j ≡ g j)
     → flat_map f (range_with_len start n) ≡ flat_map g (range_with_len start n)
 same_lists_on f g start zero same = refl
 same_lists_on f g start (suc n) same =

@@ -1,7 +1,9 @@
 pub mod Spots
 pub mod Spread
 pub mod Taken
+pub mod Cleared
 pub mod Planned
 pub mod Gathered
+pub mod OneRun
 pub mod Built
 pub mod Readable

@@ -4,14 +4,16 @@ use Rattle.std.specs.Prelude.{◌≡◌, ◌⊎◌, ℕ, ◌+◌, ◌*◌, ◌^�
 use Rattle.batch_types.specs.Layouts.{Layout, null_layout, bits_layout, bytes_layout, binary_layout, utf8_layout}
 use Rattle.batch_types.specs.Layouts.{list_layout, fixed_size_list_layout, struct_layout}
 use Rattle.batch_types.specs.LaysOut.{values_limit}
-use Rattle.batch_types.specs.Placed.{start_of}
+use Rattle.byteorder.specs.Endian.{little_bytes}
+use Rattle.batch_types.specs.Placed.{bytes_from, start_of}
 
--- the values below this place stand one behind the other within so many bytes or elements
+-- the values below this place stand one behind the other within so many bytes or elements, and no offset is below zero
 pub record HasSpans (offsets : List ℕ) (limit total : ℕ) : Type 0 where
   pub long : (j : ℕ) → j < limit → 4 * (j + 1) + 4 ≤ length offsets
   pub rises : (j : ℕ) → j < limit → start_of 4 offsets j ≤ start_of 4 offsets (j + 1)
   pub ends : (j : ℕ) → j < limit → start_of 4 offsets (j + 1) ≤ total
   pub few : (j : ℕ) → j < limit → start_of 4 offsets (j + 1) < 2 ^ 31
+  pub written : (j : ℕ) → 0 < limit → j ≤ limit → little_bytes 4 (start_of 4 offsets j) ≡ bytes_from offsets (4 * j) 4
 
 -- the layouts of bytes of any number
 abbrev pub IsSpread : Layout → Type 0

@@ -1,15 +1,16 @@
 //! The bits of wanted places.
 
-ghost use Rattle.std.specs.Prelude.{◌≡◌, ℕ, ◌<◌, ◌≤◌, map, length, IfOk};
+ghost use Rattle.std.specs.Prelude.{◌≡◌, ℕ, ◌<◌, ◌≤◌, map, length, replicate, true, Some, IfOk};
 ghost use Rattle.std.specs.List.{zip};
 ghost use Rattle.bitmaps.specs.Bits.{bit_of, zeros};
+ghost use Rattle.bitmaps.specs.Joined.{set_in_one};
 ghost use Rattle.batch_types.specs.LaysOut.{values_limit};
 ghost use Rattle.batch_columns.specs.Made.{validity_bytes};
 ghost use Rattle.batch_reading.specs.Spots.{DoRun, places_of, HasMarks, spots_at, spots_of, IsWanted};
 ghost use Rattle.batch_reading.specs.Taken.{is_shown, seen, bit_taken};
 
-use crate::wanted::{Cursor, Run, Wanted, is_marked, next_place};
-use bitmaps::{Bitmap, bit};
+use crate::wanted::{Run, Wanted};
+use bitmaps::Bitmap;
 use std::alloc::{AllocError, Global};
 
 /// The bits at the places of some runs.
@@ -24,31 +25,38 @@ fn run_bits(alloc: Global, bytes: &[u8], runs: &[Run]) -> Result<Bitmap, AllocEr
     Ok(bits)
 }
 
-/// The bit at a place, or the other one.
-fn bit_or(bytes: &[u8], place: usize, taken: bool, other: bool) -> bool
-    ensures { result ≡ bit_taken bytes.now other (place, taken) }
+/// These bits, which are set only where a mark is, and set bits where none is.
+fn set_unmarked(alloc: Global, bits: &Bitmap, marks: &Bitmap) -> Result<Bitmap, AllocError>
+    requires { length bits.now ≡ length marks.now }
+    ensures { IfOk result
+        (λ made. made ≡ set_in_one (set_in_one (replicate (length marks.now) true) marks.now) bits.now) }
 {
-    if taken { bit(bytes, place) } else { other }
+    let mut made = Bitmap::new(alloc);
+    made.push_run(true, marks.len())?;
+    made.xor_with(marks);
+    made.xor_with(bits);
+    Ok(made)
 }
 
-/// The bits at the wanted places, and the other bit where the cell is not wanted, one by one.
+/// The bits at the wanted places, and the other bit where the cell is not marked.
 fn marked_bits(
     alloc: Global,
     bytes: &[u8],
     wanted: &Wanted<'_>,
+    marks: &Bitmap,
     other: bool,
 ) -> Result<Bitmap, AllocError>
-    requires { (limit : ℕ) × IsWanted limit wanted.now }
+    requires wanted { (limit : ℕ) × IsWanted limit wanted.now }
+    requires marks { wanted.now.there.now ≡ Some marks.now }
     ensures { IfOk result (λ bits. bits ≡ map (bit_taken bytes.now other) (spots_of wanted.now)) }
 {
-    let mut bits = Bitmap::new(alloc);
-    let mut cursor = Cursor::FIRST;
-    for number in 0..wanted.count {
-        let place = next_place(wanted.runs, &mut cursor);
-        let taken = is_marked(wanted.there, wanted.count, number);
-        bits.push(bit_or(bytes, place, taken, other))?;
+    let mut bits = run_bits(alloc, bytes, wanted.runs)?;
+    bits.and_with(marks);
+    if other {
+        set_unmarked(alloc, &bits, marks)
+    } else {
+        Ok(bits)
     }
-    Ok(bits)
 }
 
 /// The bits at the wanted places, and the other bit where the cell is not wanted.
@@ -62,7 +70,7 @@ pub(crate) fn bits_taken(
     ensures { IfOk result (λ bits. bits ≡ map (bit_taken bytes.now other) (spots_of wanted.now)) }
 {
     match wanted.there {
-        Some(_) => marked_bits(alloc, bytes, wanted, other),
+        Some(marks) => marked_bits(alloc, bytes, wanted, marks, other),
         None => run_bits(alloc, bytes, wanted.runs),
     }
 }

@@ -1,12 +1,14 @@
 //! The bytes of wanted values that have so many bytes each.
 
-ghost use Rattle.std.specs.Prelude.{◌≡◌, ℕ, ◌+◌, ◌*◌, ◌≤◌, ◌++◌, length, replicate, IfOk, OnOk};
+ghost use Rattle.std.specs.Prelude.{◌≡◌, ℕ, ◌+◌, ◌*◌, ◌≤◌, length, if◌then◌else◌, Some, IfOk};
 ghost use Rattle.std.specs.List.{flat_map};
 ghost use Rattle.batch_types.specs.Placed.{bytes_from};
 ghost use Rattle.batch_reading.specs.Spots.{DoRun, places_of, spots_of, IsWanted};
+ghost use Rattle.batch_reading.specs.Cleared.{without_block, cleared};
 ghost use Rattle.batch_reading.specs.Taken.{block_taken};
 
-use crate::wanted::{Cursor, Run, Wanted, is_marked, next_place};
+use crate::wanted::{Run, Wanted, bit_at};
+use bitmaps::Bitmap;
 use std::alloc::{AllocError, Global};
 
 /// The bytes of the values of a run.
@@ -31,60 +33,50 @@ fn run_blocks(alloc: Global, size: usize, bytes: &[u8], runs: &[Run]) -> Result<
     Ok(blocks)
 }
 
-/// The bytes of the value at a place.
-fn block(bytes: &[u8], size: usize, place: usize) -> &[u8]
-    requires { size * place + size ≤ length bytes.now }
-    ensures { result.now ≡ bytes_from bytes.now (size * place) size }
+/// Puts zero bytes in place of the value of this number.
+fn clear_block(blocks: &mut [u8], size: usize, number: usize)
+    requires { size * number + size ≤ length blocks.old }
+    ensures { blocks.new ≡ without_block size number blocks.old }
 {
-    let start = size * place;
-    &bytes[start..start + size]
+    let start = size * number;
+    blocks[start..start + size].fill(0);
 }
 
-/// Appends so many zero bytes.
-fn put_zeros(blocks: &mut Vec<u8>, count: usize) -> Result<(), AllocError>
-    ensures { OnOk result (blocks.new.items ≡ blocks.old.items ++ replicate count 0) }
+/// Puts zero bytes in place of the value of this number, unless it is kept.
+fn clear_unless(blocks: &mut [u8], size: usize, number: usize, kept: bool)
+    requires { size * number + size ≤ length blocks.old }
+    ensures { blocks.new ≡ (if kept then blocks.old else without_block size number blocks.old) }
 {
-    for _ in 0..count {
-        blocks.push(0)?;
-    }
-    Ok(())
-}
-
-/// Appends the bytes of the value at a place, or zero bytes.
-fn put_block(
-    blocks: &mut Vec<u8>,
-    bytes: &[u8],
-    size: usize,
-    place: usize,
-    taken: bool,
-) -> Result<(), AllocError>
-    requires { size * place + size ≤ length bytes.now }
-    ensures { OnOk result (blocks.new.items ≡ blocks.old.items ++ block_taken size bytes.now (place, taken)) }
-{
-    if taken {
-        blocks.extend_from_slice(block(bytes, size, place))
-    } else {
-        put_zeros(blocks, size)
+    if !kept {
+        clear_block(blocks, size, number);
     }
 }
 
-/// The bytes of the wanted values, and zero bytes where the value is not wanted, one by one.
+/// Puts zero bytes in place of the values that are not marked.
+fn clear_unmarked(blocks: &mut [u8], size: usize, marks: &Bitmap)
+    requires { size * length marks.now ≤ length blocks.old }
+    ensures cleared { blocks.new ≡ cleared size marks.now blocks.old }
+    ensures long { length blocks.new ≡ length blocks.old }
+{
+    for number in 0..marks.len() {
+        clear_unless(blocks, size, number, bit_at(marks, number));
+    }
+}
+
+/// The bytes of the wanted values, and zero bytes where the value is not marked.
 fn marked_blocks(
     alloc: Global,
     size: usize,
     bytes: &[u8],
     wanted: &Wanted<'_>,
+    marks: &Bitmap,
 ) -> Result<Vec<u8>, AllocError>
-    requires { (limit : ℕ) × IsWanted limit wanted.now × (size * limit ≤ length bytes.now) }
+    requires wanted { (limit : ℕ) × IsWanted limit wanted.now × (size * limit ≤ length bytes.now) }
+    requires marks { wanted.now.there.now ≡ Some marks.now }
     ensures { IfOk result (λ blocks. blocks.items ≡ flat_map (block_taken size bytes.now) (spots_of wanted.now)) }
 {
-    let mut blocks = Vec::new(alloc);
-    let mut cursor = Cursor::FIRST;
-    for number in 0..wanted.count {
-        let place = next_place(wanted.runs, &mut cursor);
-        let taken = is_marked(wanted.there, wanted.count, number);
-        put_block(&mut blocks, bytes, size, place, taken)?;
-    }
+    let mut blocks = run_blocks(alloc, size, bytes, wanted.runs)?;
+    clear_unmarked(blocks.as_mut_slice(), size, marks);
     Ok(blocks)
 }
 
@@ -99,7 +91,7 @@ pub(crate) fn blocks_taken(
     ensures { IfOk result (λ blocks. blocks.items ≡ flat_map (block_taken size bytes.now) (spots_of wanted.now)) }
 {
     match wanted.there {
-        Some(_) => marked_blocks(alloc, size, bytes, wanted),
+        Some(marks) => marked_blocks(alloc, size, bytes, wanted, marks),
         None => run_blocks(alloc, size, bytes, wanted.runs),
     }
 }

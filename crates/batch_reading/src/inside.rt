@@ -13,9 +13,10 @@ ghost use Rattle.batch_reading.specs.Planned.{elements_taken, spots_inside, AreI
 ghost use Rattle.batch_reading.specs.Spots.{DoRun, places_of, marks_of, HasMarks, spots_of, IsWanted};
 ghost use Rattle.batch_reading.specs.Spread.{HasSpans};
 
+use crate::one_run::{only_run, run_lists};
 use crate::plan::Inside;
 use crate::spans::{offset_at, put_offset};
-use crate::wanted::{Cursor, Run, Wanted, is_marked, next_place};
+use crate::wanted::{Cursor, Run, Wanted, bit_at, is_marked, next_place};
 use bitmaps::Bitmap;
 use std::alloc::{AllocError, Global};
 
@@ -32,14 +33,6 @@ fn scaled_runs(alloc: Global, size: usize, runs: &[Run]) -> Result<Vec<Run>, All
         })?;
     }
     Ok(made)
-}
-
-/// The bit of this number, which is there.
-fn bit_at(bits: &Bitmap, number: usize) -> bool
-    requires { number < length bits.now }
-    ensures { result ≡ slice_index_or bits.now number false }
-{
-    bits.get(number).unwrap_or(false)
 }
 
 /// The bits with each so many times.
@@ -178,8 +171,8 @@ fn put_list(
     put_offset(ends, spans.count)
 }
 
-/// The offsets of the wanted lists, and what is wanted inside: the elements of those that are wanted.
-pub(crate) fn lists_inside(
+/// The offsets of the wanted lists, and what is wanted inside: the elements of those that are wanted, list by list.
+fn picked_lists(
     alloc: Global,
     offsets: &[u8],
     wanted: &Wanted<'_>,
@@ -219,4 +212,24 @@ pub(crate) fn lists_inside(
             there: None,
         },
     ))
+}
+
+/// The offsets of the wanted lists, and what is wanted inside: the elements of those that are wanted.
+pub(crate) fn lists_inside(
+    alloc: Global,
+    offsets: &[u8],
+    wanted: &Wanted<'_>,
+) -> Result<(Vec<u8>, Inside), AllocError>
+    requires { (limit : ℕ) × (total : ℕ) × IsWanted limit wanted.now × HasSpans offsets.now limit total
+        × (total ≤ values_limit) }
+    ensures offsets { IfOk result
+        (λ made. made.0.items
+        ≡ offsets_of 4 (map (λ spot. length (elements_taken offsets.now spot)) (spots_of wanted.now))) }
+    ensures inside { IfOk result
+        (λ made. AreInside (spots_inside (list_layout 4) offsets.now (spots_of wanted.now)) made.1) }
+{
+    match only_run(wanted) {
+        Some(run) => run_lists(alloc, offsets, run),
+        None => picked_lists(alloc, offsets, wanted),
+    }
 }

@@ -12,6 +12,7 @@ mod bits;
 mod blocks;
 mod building;
 mod inside;
+mod one_run;
 mod plan;
 mod spans;
 mod wanted;

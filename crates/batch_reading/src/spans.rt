@@ -9,6 +9,7 @@ ghost use Rattle.batch_reading.specs.Spots.{spots_of, IsWanted};
 ghost use Rattle.batch_reading.specs.Spread.{HasSpans};
 ghost use Rattle.batch_reading.specs.Taken.{span_taken};
 
+use crate::one_run::{only_run, run_spans};
 use crate::wanted::{Cursor, Wanted, is_marked, next_place};
 use byteorder::{ByteOrder, LittleEndian};
 use std::alloc::{AllocError, Global};
@@ -30,7 +31,7 @@ pub(crate) fn put_offset(offsets: &mut Vec<u8>, number: usize) -> Result<(), All
 }
 
 /// A part of some bytes.
-fn part(bytes: &[u8], start: usize, end: usize) -> &[u8]
+pub(crate) fn part(bytes: &[u8], start: usize, end: usize) -> &[u8]
     requires { (start ≤ end) × (end ≤ length bytes.now) }
     ensures { result.now ≡ bytes_from bytes.now start (end - start) }
 {
@@ -69,8 +70,8 @@ fn put_span(offsets: &mut Vec<u8>, bytes: &mut Vec<u8>, more: &[u8]) -> Result<(
     put_offset(offsets, bytes.len())
 }
 
-/// The offsets and the bytes of the wanted values, no bytes where the value is not wanted.
-pub(crate) fn spans_taken(
+/// The offsets and the bytes of the wanted values, no bytes where the value is not wanted, one by one.
+fn picked_spans(
     alloc: Global,
     offsets: &[u8],
     bytes: &[u8],
@@ -93,4 +94,23 @@ pub(crate) fn spans_taken(
         put_span(&mut ends, &mut spans, more)?;
     }
     Ok((ends, spans))
+}
+
+/// The offsets and the bytes of the wanted values, no bytes where the value is not wanted.
+pub(crate) fn spans_taken(
+    alloc: Global,
+    offsets: &[u8],
+    bytes: &[u8],
+    wanted: &Wanted<'_>,
+) -> Result<(Vec<u8>, Vec<u8>), AllocError>
+    requires { (limit : ℕ) × IsWanted limit wanted.now × HasSpans offsets.now limit (length bytes.now) }
+    ensures offsets { IfOk result (λ made. made.0.items
+        ≡ offsets_of 4 (map (λ spot. length (span_taken offsets.now bytes.now spot)) (spots_of wanted.now))) }
+    ensures bytes { IfOk result (λ made. made.1.items
+        ≡ flat_map (span_taken offsets.now bytes.now) (spots_of wanted.now)) }
+{
+    match only_run(wanted) {
+        Some(run) => run_spans(alloc, offsets, bytes, run),
+        None => picked_spans(alloc, offsets, bytes, wanted),
+    }
 }

@@ -80,6 +80,14 @@ pub(crate) fn next_place(runs: &[Run], cursor: &mut Cursor) -> usize
     place
 }
 
+/// The bit of this number, which is there.
+pub(crate) fn bit_at(bits: &Bitmap, number: usize) -> bool
+    requires { number < length bits.now }
+    ensures { result ≡ slice_index_or bits.now number false }
+{
+    bits.get(number).unwrap_or(false)
+}
+
 /// Whether the cell of this number among the wanted ones is wanted itself.
 pub(crate) fn is_marked(marks: &Option<Bitmap>, count: usize, number: usize) -> bool
     requires within { number < count }

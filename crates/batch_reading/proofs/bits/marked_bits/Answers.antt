@@ -1,30 +1,40 @@
-use Rattle.std.proofs.Common.{ap, ◌∙◌, map}
-use Rattle.batch_reading.specs.Spots.{places_of, places_ahead}
+use Rattle.std.proofs.Common.{◌≡◌, sym, ap, ◌∙◌, true, map, length, replicate}
+use Rattle.std.proofs.lemmas.Result.{IfOk-weaker}
+use Rattle.bitmaps.specs.Joined.{set_in_one}
+use Rattle.batch_reading.specs.Spots.{spots_of}
 use Rattle.batch_reading.specs.Taken.{bit_taken}
-use Rattle.batch_reading.proofs.Running.{within_all, there_of, step_ahead, mapped_step, all_taken}
+use Rattle.batch_reading.proofs.Marking.{bits_as_long, bits_kept, bits_turned}
+use Rattle.batch_reading.proofs.Running.{within_all}
 use Rattle.batch_reading.proofs.bits.marked_bits.Goals as goal
 
-pub next_place-place-requires-clause-rising : goal.next_place-place-requires-clause-rising
-next_place-place-requires-clause-rising c = within_all c.requires.0 c.args.wanted.now c.requires.1
+pub run_bits-requires : goal.run_bits-requires
+run_bits-requires c = within_all c.requires.wanted.0 c.args.wanted.now c.requires.wanted.1
 
-pub loop-number-preserved : goal.loop-number-preserved
-loop-number-preserved c =
-    let step =
-    step_ahead (places_of c.args.wanted.now.runs.now) (places_ahead c.args.wanted.now.runs.now c.loop-number.cursor)
-    (places_ahead c.args.wanted.now.runs.now c.next_place-place.new.cursor) c.loop-number.number c.next_place-place.result
-    c.loop-number.invariant.ahead (there_of c.requires.0 c.args.wanted.now c.requires.1 c.loop-number.number c.loop-number-test.true)
-    c.next_place-place.ensures.next in
-    record {
-      done =
-          mapped_step (bit_taken c.args.bytes.now c.args.other) c.requires.0 c.args.wanted.now c.requires.1 c.loop-number.number
-          c.next_place-place.result c.is_marked-taken.result c.bit_or.result c.loop-number.bits c.push.new.self
-          c.loop-number-test.true step.0 c.is_marked-taken.ensures c.loop-number.invariant.done c.bit_or.ensures c.in_ok-push.ensures.pushed;
-      ahead = step.1;
-      within = c.next_place-place.ensures.within;
-    }
+pub set_unmarked-requires : goal.set_unmarked-requires
+set_unmarked-requires c =
+    c.and_with.ensures.long
+    ∙ bits_as_long c.requires.wanted.0 c.args.wanted.now c.requires.wanted.1 c.args.bytes.now c.args.marks.now c.in_ok-bits.bits
+    c.requires.marks c.in_ok-bits.ensures
 
-pub returns : goal.returns
-returns c =
-    c.loop-number.invariant.done
-    ∙ ap (map (bit_taken c.args.bytes.now c.args.other))
-    (all_taken c.requires.0 c.args.wanted.now c.requires.1 c.loop-number.number c.loop-number-test.false)
+pub returns-then-other : goal.returns-then-other
+returns-then-other c =
+    let marks = c.args.marks.now in
+    let wanted = c.args.wanted.now in
+    let bytes = c.args.bytes.now in
+    IfOk-weaker c.set_unmarked.result
+    (λ made. made ≡ set_in_one (set_in_one (replicate (length marks) true) marks) c.and_with.new.self)
+    (λ made. made ≡ map (bit_taken bytes c.args.other) (spots_of wanted))
+    (λ made same.
+    same
+    ∙ bits_turned c.requires.wanted.0 wanted c.requires.wanted.1 bytes marks c.and_with.new.self c.requires.marks
+    (c.and_with.ensures.both
+    ∙ bits_kept c.requires.wanted.0 wanted c.requires.wanted.1 bytes marks c.in_ok-bits.bits c.requires.marks c.in_ok-bits.ensures)
+    ∙ ap (λ other. map (bit_taken bytes other) (spots_of wanted)) (sym c.if-other.true))
+    c.set_unmarked.ensures
+
+pub returns-else-other : goal.returns-else-other
+returns-else-other c =
+    c.and_with.ensures.both
+    ∙ bits_kept c.requires.wanted.0 c.args.wanted.now c.requires.wanted.1 c.args.bytes.now c.args.marks.now c.in_ok-bits.bits
+    c.requires.marks c.in_ok-bits.ensures
+    ∙ ap (λ other. map (bit_taken c.args.bytes.now other) (spots_of c.args.wanted.now)) (sym c.if-other.false)

@@ -1,121 +1,36 @@
-use Rattle.std.proofs.Common.{◌≡◌, refl, sym, ap, ◌∙◌, subst, ◌++◌, ◌+◌, [], map, length, arith}
-use Rattle.std.specs.List.{flat_map}
-use Rattle.byteorder.specs.Endian.{little_bytes}
+use Rattle.std.proofs.Common.{◌≡◌, sym, ap, ◌∙◌, true, map, length, arith}
+use Rattle.std.proofs.lemmas.Result.{IfOk-weaker}
 use Rattle.batch_types.specs.Canonical.{offsets_of}
-use Rattle.batch_types.specs.LaysOut.{values_limit}
-use Rattle.batch_types.specs.Placed.{start_of}
-use Rattle.batch_reading.specs.Gathered.{places_gathered}
-use Rattle.batch_reading.specs.Planned.{elements_taken}
-use Rattle.batch_reading.specs.Spots.{DoRun, places_of, places_ahead, spots_of}
-use Rattle.batch_reading.proofs.Running.{within_all, there_of, step_ahead, all_taken, wanted_below, places_rise}
-use Rattle.batch_reading.proofs.Spanning.{spans_step, ends_step}
-use Rattle.batch_reading.proofs.Gathering.{ends_before, list_spots}
+use Rattle.batch_types.specs.Layouts.{list_layout}
+use Rattle.batch_reading.specs.OneRun.{offsets_from_zero, AreElements}
+use Rattle.batch_reading.specs.Planned.{elements_taken, spots_inside, AreInside}
+use Rattle.batch_reading.specs.Spots.{spots_of}
+use Rattle.batch_reading.proofs.OneRun.{only_within, only_mapped, run_ends, elements_long, run_inside}
 use Rattle.batch_reading.proofs.inside.lists_inside.Goals as goal
 
-pub loop-number-init : goal.loop-number-init
-loop-number-init c = record {
-  ended = c.in_ok-put_offset.ensures ∙ ap (λ l. l ++ little_bytes 4 0) c.new-ends.ensures.items;
-  placed = ap (λ l. places_of l ++ []) c.new.ensures.items;
-  kept = (
-    0,
-    0,
-    places_rise 0 values_limit c.args.wanted.now.runs.now (within_all c.requires.0 c.args.wanted.now c.requires.2),
-    record {
-      closed = subst (DoRun 0 0) (sym c.new.ensures.items) (omega arith);
-      opened = omega arith;
-      counted = ap (λ l. length (places_of l ++ [])) (sym c.new.ensures.items);
-    },
-    omega arith,
-  );
-  ahead = refl;
-  within = omega arith;
-}
+pub returns-in-Some-clause-offsets : goal.returns-in-Some-clause-offsets
+returns-in-Some-clause-offsets c =
+    let offsets = c.args.offsets.now in
+    let wanted = c.args.wanted.now in
+    let limit = c.requires.0 in
+    let run = c.in-Some.run' in
+    let within = only_within limit wanted c.requires.2 run c.in-Some.ensures.runs c.in-Some.ensures.there in
+    IfOk-weaker c.run_lists.result (λ made. made.0.items ≡ offsets_from_zero offsets run.start run.count)
+    (λ made. made.0.items ≡ offsets_of 4 (map (λ spot. length (elements_taken offsets spot)) (spots_of wanted)))
+    (λ made same.
+    same
+    ∙ sym (run_ends offsets (λ p. length (elements_taken offsets (p, true))) run.start run.count
+    (λ p from below. elements_long offsets limit c.requires.1 c.requires.3 p (omega (arith, below, within))))
+    ∙ ap (offsets_of 4)
+    (sym (only_mapped limit wanted c.requires.2 run c.in-Some.ensures.runs c.in-Some.ensures.there (λ spot. length (elements_taken offsets spot)))))
+    c.run_lists.ensures.offsets
 
-pub next_place-place-requires-clause-rising : goal.next_place-place-requires-clause-rising
-next_place-place-requires-clause-rising c = within_all c.requires.0 c.args.wanted.now c.requires.2
-
-pub put_list-requires-clause-offsets : goal.put_list-requires-clause-offsets
-put_list-requires-clause-offsets c =
-    let step =
-    step_ahead (places_of c.args.wanted.now.runs.now) (places_ahead c.args.wanted.now.runs.now c.loop-number.cursor)
-    (places_ahead c.args.wanted.now.runs.now c.next_place-place.new.cursor) c.loop-number.number c.next_place-place.result
-    c.loop-number.invariant.ahead (there_of c.requires.0 c.args.wanted.now c.requires.2 c.loop-number.number c.loop-number-test.true)
-    c.next_place-place.ensures.next in (
-      c.requires.0,
-      c.requires.1,
-      c.requires.3,
-      wanted_below c.requires.0 c.args.wanted.now c.requires.2 c.loop-number.number c.next_place-place.result c.loop-number-test.true step.0,
-      c.requires.4,
-    )
-
-pub put_list-requires-clause-kept : goal.put_list-requires-clause-kept
-put_list-requires-clause-kept c =
-    let step =
-    step_ahead (places_of c.args.wanted.now.runs.now) (places_ahead c.args.wanted.now.runs.now c.loop-number.cursor)
-    (places_ahead c.args.wanted.now.runs.now c.next_place-place.new.cursor) c.loop-number.number c.next_place-place.result
-    c.loop-number.invariant.ahead (there_of c.requires.0 c.args.wanted.now c.requires.2 c.loop-number.number c.loop-number-test.true)
-    c.next_place-place.ensures.next in
-    let kept = c.loop-number.invariant.kept in (
-      kept.1,
-      kept.3,
-      (ends_before c.args.offsets.now c.requires.0 c.requires.1 kept.0 kept.1 c.loop-number.number c.next_place-place.result c.args.wanted.now
-          c.requires.2 c.requires.3 c.loop-number-test.true step.0 kept.2 kept.4).0,
-    )
-
-pub loop-number-preserved : goal.loop-number-preserved
-loop-number-preserved c =
-    let step =
-    step_ahead (places_of c.args.wanted.now.runs.now) (places_ahead c.args.wanted.now.runs.now c.loop-number.cursor)
-    (places_ahead c.args.wanted.now.runs.now c.next_place-place.new.cursor) c.loop-number.number c.next_place-place.result
-    c.loop-number.invariant.ahead (there_of c.requires.0 c.args.wanted.now c.requires.2 c.loop-number.number c.loop-number-test.true)
-    c.next_place-place.ensures.next in
-    let kept = c.loop-number.invariant.kept in
-    record {
-      ended =
-          ends_step (elements_taken c.args.offsets.now) c.requires.0 c.args.wanted.now c.requires.2 c.loop-number.number
-          c.next_place-place.result c.is_marked-taken.result c.loop-number.ends.items (places_gathered c.loop-number.spans)
-          (elements_taken c.args.offsets.now (c.next_place-place.result, c.is_marked-taken.result))
-          c.put_list.new.ends.items (places_gathered c.put_list.new.spans) c.loop-number-test.true step.0 c.is_marked-taken.ensures
-          c.loop-number.invariant.ended c.loop-number.invariant.placed refl c.in_ok-put_list.ensures.places
-          (c.in_ok-put_list.ensures.ends
-          ∙ ap (λ l. c.loop-number.ends.items ++ little_bytes 4 (length l)) c.in_ok-put_list.ensures.places);
-      placed =
-          spans_step (elements_taken c.args.offsets.now) c.requires.0 c.args.wanted.now c.requires.2 c.loop-number.number
-          c.next_place-place.result c.is_marked-taken.result c.loop-number.ends.items (places_gathered c.loop-number.spans)
-          (elements_taken c.args.offsets.now (c.next_place-place.result, c.is_marked-taken.result))
-          c.put_list.new.ends.items (places_gathered c.put_list.new.spans) c.loop-number-test.true step.0 c.is_marked-taken.ensures
-          c.loop-number.invariant.ended c.loop-number.invariant.placed refl c.in_ok-put_list.ensures.places
-          (c.in_ok-put_list.ensures.ends
-          ∙ ap (λ l. c.loop-number.ends.items ++ little_bytes 4 (length l)) c.in_ok-put_list.ensures.places);
-      kept = (
-        c.next_place-place.result + 1,
-        start_of 4 c.args.offsets.now (c.next_place-place.result + 1),
-        (ends_before c.args.offsets.now c.requires.0 c.requires.1 kept.0 kept.1 c.loop-number.number c.next_place-place.result c.args.wanted.now
-            c.requires.2 c.requires.3 c.loop-number-test.true step.0 kept.2 kept.4).1,
-        c.in_ok-put_list.ensures.kept,
-        omega arith,
-      );
-      ahead = step.1;
-      within = c.next_place-place.ensures.within;
-    }
-
-pub returns-clause-offsets : goal.returns-clause-offsets
-returns-clause-offsets c =
-    c.loop-number.invariant.ended
-    ∙ ap (λ spots. offsets_of 4 (map (λ spot. length (elements_taken c.args.offsets.now spot)) spots))
-    (all_taken c.requires.0 c.args.wanted.now c.requires.2 c.loop-number.number c.loop-number-test.false)
-
-pub returns-clause-inside : goal.returns-clause-inside
-returns-clause-inside c =
-    let counted : c.loop-number.spans.count ≡ length (places_of c.close.new.runs.items) =
-    c.loop-number.invariant.kept.3.counted ∙ ap length (sym c.in_ok-close.ensures.places) in
-    record {
-      rising = (c.loop-number.spans.last.start + c.loop-number.spans.last.count, c.in_ok-close.ensures.rising);
-      counted = counted;
-      marked = tt;
-      spots_are =
-          list_spots c.args.offsets.now (places_of c.close.new.runs.items) c.loop-number.spans.count (spots_of c.args.wanted.now) counted
-          (c.in_ok-close.ensures.places ∙ c.loop-number.invariant.placed
-          ∙ ap (flat_map (elements_taken c.args.offsets.now))
-          (all_taken c.requires.0 c.args.wanted.now c.requires.2 c.loop-number.number c.loop-number-test.false));
-    }
+pub returns-in-Some-clause-inside : goal.returns-in-Some-clause-inside
+returns-in-Some-clause-inside c =
+    let offsets = c.args.offsets.now in
+    let wanted = c.args.wanted.now in
+    let run = c.in-Some.run' in
+    IfOk-weaker c.run_lists.result (λ made. AreElements offsets run.start run.count made.1)
+    (λ made. AreInside (spots_inside (list_layout 4) offsets (spots_of wanted)) made.1)
+    (λ made are. run_inside offsets c.requires.0 c.requires.1 wanted c.requires.2 run c.requires.3 c.in-Some.ensures.runs c.in-Some.ensures.there made.1 are)
+    c.run_lists.ensures.inside

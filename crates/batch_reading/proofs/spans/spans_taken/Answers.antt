@@ -1,59 +1,44 @@
-use Rattle.std.proofs.Common.{ap, ◌∙◌, map, length}
+use Rattle.std.proofs.Common.{◌≡◌, refl, sym, ap, ◌∙◌, ◌+◌, ◌-◌, true, map, length, arith}
+use Rattle.std.proofs.lemmas.Result.{IfOk-weaker}
 use Rattle.std.specs.List.{flat_map}
 use Rattle.batch_types.specs.Canonical.{offsets_of}
-use Rattle.batch_reading.specs.Spots.{places_of, places_ahead}
+use Rattle.batch_types.specs.Placed.{bytes_from, start_of}
+use Rattle.batch_reading.specs.OneRun.{offsets_from_zero}
+use Rattle.batch_reading.specs.Spots.{spots_of}
 use Rattle.batch_reading.specs.Taken.{span_taken}
-use Rattle.batch_reading.proofs.Running.{within_all, there_of, step_ahead, all_taken, wanted_below}
-use Rattle.batch_reading.proofs.Spanning.{spans_step, ends_step}
+use Rattle.batch_reading.proofs.OneRun.{only_within, only_mapped, only_gathered, run_ends, run_bytes_are, span_long}
 use Rattle.batch_reading.proofs.spans.spans_taken.Goals as goal
 
-pub next_place-place-requires-clause-rising : goal.next_place-place-requires-clause-rising
-next_place-place-requires-clause-rising c = within_all c.requires.0 c.args.wanted.now c.requires.1
+pub returns-in-Some-clause-offsets : goal.returns-in-Some-clause-offsets
+returns-in-Some-clause-offsets c =
+    let offsets = c.args.offsets.now in
+    let bytes = c.args.bytes.now in
+    let wanted = c.args.wanted.now in
+    let limit = c.requires.0 in
+    let run = c.in-Some.run' in
+    let within = only_within limit wanted c.requires.1 run c.in-Some.ensures.runs c.in-Some.ensures.there in
+    IfOk-weaker c.run_spans.result (λ made. made.0.items ≡ offsets_from_zero offsets run.start run.count)
+    (λ made. made.0.items ≡ offsets_of 4 (map (λ spot. length (span_taken offsets bytes spot)) (spots_of wanted)))
+    (λ made same.
+    same
+    ∙ sym (run_ends offsets (λ p. length (span_taken offsets bytes (p, true))) run.start run.count
+    (λ p from below. span_long offsets limit (length bytes) c.requires.2 bytes p refl (omega (arith, below, within))))
+    ∙ ap (offsets_of 4)
+    (sym (only_mapped limit wanted c.requires.1 run c.in-Some.ensures.runs c.in-Some.ensures.there (λ spot. length (span_taken offsets bytes spot)))))
+    c.run_spans.ensures.offsets
 
-pub span_or-more-requires : goal.span_or-more-requires
-span_or-more-requires c =
-    let step =
-    step_ahead (places_of c.args.wanted.now.runs.now) (places_ahead c.args.wanted.now.runs.now c.loop-number.cursor)
-    (places_ahead c.args.wanted.now.runs.now c.next_place-place.new.cursor) c.loop-number.number c.next_place-place.result
-    c.loop-number.invariant.ahead (there_of c.requires.0 c.args.wanted.now c.requires.1 c.loop-number.number c.loop-number-test.true)
-    c.next_place-place.ensures.next in (
-      c.requires.0,
-      c.requires.2,
-      wanted_below c.requires.0 c.args.wanted.now c.requires.1 c.loop-number.number c.next_place-place.result c.loop-number-test.true step.0,
-    )
-
-pub loop-number-preserved : goal.loop-number-preserved
-loop-number-preserved c =
-    let step =
-    step_ahead (places_of c.args.wanted.now.runs.now) (places_ahead c.args.wanted.now.runs.now c.loop-number.cursor)
-    (places_ahead c.args.wanted.now.runs.now c.next_place-place.new.cursor) c.loop-number.number c.next_place-place.result
-    c.loop-number.invariant.ahead (there_of c.requires.0 c.args.wanted.now c.requires.1 c.loop-number.number c.loop-number-test.true)
-    c.next_place-place.ensures.next in
-    record {
-      ended =
-          ends_step (span_taken c.args.offsets.now c.args.bytes.now) c.requires.0 c.args.wanted.now c.requires.1 c.loop-number.number
-          c.next_place-place.result c.is_marked-taken.result c.loop-number.ends.items c.loop-number.spans.items c.span_or-more.result.now
-          c.put_span.new.offsets.items c.put_span.new.bytes.items c.loop-number-test.true step.0 c.is_marked-taken.ensures
-          c.loop-number.invariant.ended c.loop-number.invariant.spanned c.span_or-more.ensures c.in_ok-put_span.ensures.bytes
-          c.in_ok-put_span.ensures.offsets;
-      spanned =
-          spans_step (span_taken c.args.offsets.now c.args.bytes.now) c.requires.0 c.args.wanted.now c.requires.1 c.loop-number.number
-          c.next_place-place.result c.is_marked-taken.result c.loop-number.ends.items c.loop-number.spans.items c.span_or-more.result.now
-          c.put_span.new.offsets.items c.put_span.new.bytes.items c.loop-number-test.true step.0 c.is_marked-taken.ensures
-          c.loop-number.invariant.ended c.loop-number.invariant.spanned c.span_or-more.ensures c.in_ok-put_span.ensures.bytes
-          c.in_ok-put_span.ensures.offsets;
-      ahead = step.1;
-      within = c.next_place-place.ensures.within;
-    }
-
-pub returns-clause-offsets : goal.returns-clause-offsets
-returns-clause-offsets c =
-    c.loop-number.invariant.ended
-    ∙ ap (λ spots. offsets_of 4 (map (λ spot. length (span_taken c.args.offsets.now c.args.bytes.now spot)) spots))
-    (all_taken c.requires.0 c.args.wanted.now c.requires.1 c.loop-number.number c.loop-number-test.false)
-
-pub returns-clause-bytes : goal.returns-clause-bytes
-returns-clause-bytes c =
-    c.loop-number.invariant.spanned
-    ∙ ap (flat_map (span_taken c.args.offsets.now c.args.bytes.now))
-    (all_taken c.requires.0 c.args.wanted.now c.requires.1 c.loop-number.number c.loop-number-test.false)
+pub returns-in-Some-clause-bytes : goal.returns-in-Some-clause-bytes
+returns-in-Some-clause-bytes c =
+    let offsets = c.args.offsets.now in
+    let bytes = c.args.bytes.now in
+    let wanted = c.args.wanted.now in
+    let limit = c.requires.0 in
+    let run = c.in-Some.run' in
+    let within = only_within limit wanted c.requires.1 run c.in-Some.ensures.runs c.in-Some.ensures.there in
+    IfOk-weaker c.run_spans.result
+    (λ made. made.1.items ≡ bytes_from bytes (start_of 4 offsets run.start) (start_of 4 offsets (run.start + run.count) - start_of 4 offsets run.start))
+    (λ made. made.1.items ≡ flat_map (span_taken offsets bytes) (spots_of wanted))
+    (λ made same.
+    same ∙ sym (run_bytes_are offsets limit (length bytes) c.requires.2 bytes run.start run.count within)
+    ∙ sym (only_gathered limit wanted c.requires.1 run c.in-Some.ensures.runs c.in-Some.ensures.there (span_taken offsets bytes)))
+    c.run_spans.ensures.bytes

@@ -7,7 +7,7 @@ use Rattle.batch_reading.specs.Gathered.{places_gathered, AreGathered}
 use Rattle.batch_reading.specs.Planned.{elements_taken}
 use Rattle.batch_reading.specs.Spots.{places_of, places_ahead, spots_of}
 use Rattle.batch_reading.proofs.Running.{DoRise}
-use Rattle.batch_reading.proofs.inside.lists_inside.Given as goal
+use Rattle.batch_reading.proofs.inside.picked_lists.Given as goal
 
 abbrev pub invariant-loop-number : goal.invariant-loop-number
 invariant-loop-number l = record {

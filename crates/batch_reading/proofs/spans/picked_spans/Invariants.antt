@@ -4,7 +4,7 @@ use Rattle.batch_types.specs.Canonical.{offsets_of}
 use Rattle.batch_types.specs.LaysOut.{values_limit}
 use Rattle.batch_reading.specs.Spots.{places_of, places_ahead, spots_of}
 use Rattle.batch_reading.specs.Taken.{span_taken}
-use Rattle.batch_reading.proofs.spans.spans_taken.Given as goal
+use Rattle.batch_reading.proofs.spans.picked_spans.Given as goal
 
 abbrev pub invariant-loop-number : goal.invariant-loop-number
 invariant-loop-number l = record {
