@@ -33,23 +33,18 @@ pub(crate) fn start_at(offsets: &[u8], row: usize) -> usize
     offset_at(offsets, row).unsigned_abs() as usize
 }
 
-/// Whether the offset behind offset `row` is not below it.
-fn rises_at(offsets: &[u8], row: usize) -> bool
-    requires { 4 * row + 8 ≤ length offsets.now }
-    ensures { IsTrue result ↔ (offset_seen 4 offsets.now row ≤ℤ offset_seen 4 offsets.now (row + 1)) }
-{
-    offset_at(offsets, row) <= offset_at(offsets, row + 1)
-}
-
 /// Whether no offset of so many values is below the one before.
 fn rise(offsets: &[u8], count: usize) -> bool
     requires { 4 * (count + 1) ≤ length offsets.now }
     ensures { IsTrue result ↔ Rises offsets.now count }
 {
+    let mut before = offset_at(offsets, 0);
     for row in 0..count {
-        if !rises_at(offsets, row) {
+        let next = offset_at(offsets, row + 1);
+        if next < before {
             return false;
         }
+        before = next;
     }
     true
 }

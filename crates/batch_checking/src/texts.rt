@@ -2,7 +2,7 @@
 
 ghost use Rattle.std.specs.Prelude.{◌≡◌, ◌↔◌, ◌+◌, ◌-◌, ◌*◌, ◌<◌, ◌≤◌, ℕ, IsTrue, length};
 ghost use Rattle.std.specs.List.{AllByRecursion, range_with_len};
-ghost use Rattle.std.specs.Str.{IsUtf8};
+ghost use Rattle.std.specs.Str.{IsUtf8, IsCharBoundary};
 ghost use Rattle.batch_types.specs.Placed.{bytes_from, start_of, value_bytes};
 ghost use Rattle.batch_columns.specs.Held.{layout_named};
 ghost use Rattle.batch_checking.specs.SourceRules.{AreSpreadWithin, TextsSpread};
@@ -13,7 +13,7 @@ use crate::offsets::start_at;
 use crate::validity::is_valid;
 use batch_columns::Layout;
 use batch_sources::Source;
-use simdutf8::is_utf8;
+use simdutf8::basic::from_utf8;
 
 /// The bytes of a run of some.
 fn part(bytes: &[u8], start: usize, end: usize) -> &[u8]
@@ -21,6 +21,16 @@ fn part(bytes: &[u8], start: usize, end: usize) -> &[u8]
     ensures { result.now ≡ bytes_from bytes.now start (end - start) }
 {
     &bytes[start..end]
+}
+
+/// Whether some bytes are UTF-8.
+fn is_utf8(bytes: &[u8]) -> bool
+    ensures { IsTrue result ↔ IsUtf8 bytes.now }
+{
+    match from_utf8(bytes) {
+        Ok(_) => true,
+        Err(_) => false,
+    }
 }
 
 /// Whether the text of a row that is there is UTF-8, by itself.
@@ -45,8 +55,8 @@ fn is_fine(source: &Source, rows: usize, around: &[Source], row: usize) -> bool
     !is_valid(source, row) || is_text(source, row) || !belongs(rows, around, row)
 }
 
-/// Whether each text that belongs to the batch and is valid is UTF-8.
-fn are_texts(source: &Source, rows: usize, around: &[Source]) -> bool
+/// Whether each text that belongs to the batch and is valid is UTF-8, one by one.
+fn are_fine(source: &Source, rows: usize, around: &[Source]) -> bool
     requires spread { AreSpreadWithin source.now.second.now source.now.length (length source.now.third.now) }
     requires steady { AreSteady (range_with_len 0 rows) around.now }
     ensures { IsTrue result ↔ ((row : ℕ) → row < source.now.length
@@ -59,6 +69,47 @@ fn are_texts(source: &Source, rows: usize, around: &[Source]) -> bool
         }
     }
     true
+}
+
+/// Whether a character of a text begins at the offset of each of so many rows, and at the end of the last one.
+fn are_boundaries(text: &str, offsets: &[u8], count: usize) -> bool
+    requires { 4 * (count + 1) ≤ length offsets.now }
+    ensures { IsTrue result → (row : ℕ) → row < count + 1 → IsCharBoundary text.now (start_of 4 offsets.now row) }
+{
+    for row in 0..count + 1 {
+        if !text.is_char_boundary(start_at(offsets, row)) {
+            return false;
+        }
+    }
+    true
+}
+
+/// Whether the bytes of all texts are one text in UTF-8, of which each is a part that begins and ends between characters.
+fn are_parts(source: &Source) -> bool
+    requires some { 0 < source.now.length }
+    requires spread { AreSpreadWithin source.now.second.now source.now.length (length source.now.third.now) }
+    ensures { IsTrue result → (row : ℕ) → row < source.now.length
+        → IsUtf8 (value_bytes 4 source.now.second.now source.now.third.now row) }
+{
+    match from_utf8(source.third) {
+        Ok(text) => are_boundaries(text, source.second, source.length),
+        Err(_) => false,
+    }
+}
+
+/// Whether each text that belongs to the batch and is valid is UTF-8. Most often all of them are, and are looked at
+/// together; where they are not, each is looked at by itself.
+fn are_texts(source: &Source, rows: usize, around: &[Source]) -> bool
+    requires spread { AreSpreadWithin source.now.second.now source.now.length (length source.now.third.now) }
+    requires steady { AreSteady (range_with_len 0 rows) around.now }
+    ensures { IsTrue result ↔ ((row : ℕ) → row < source.now.length
+        → Holds (places_around (range_with_len 0 rows) around.now) row → IsValidAt source.now row
+        → IsUtf8 (value_bytes 4 source.now.second.now source.now.third.now row)) }
+{
+    if source.length > 0 && are_parts(source) {
+        return true;
+    }
+    are_fine(source, rows, around)
 }
 
 /// The same of a column of any layout: only one of texts has texts.

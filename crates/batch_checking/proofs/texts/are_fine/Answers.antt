@@ -1,5 +1,5 @@
 use Rattle.std.proofs.Common.{refl, below_more}
-use Rattle.batch_checking.proofs.texts.are_texts.Goals as goal
+use Rattle.batch_checking.proofs.texts.are_fine.Goals as goal
 
 pub loop-row-preserved : goal.loop-row-preserved
 loop-row-preserved c = below_more _ _ c.loop-row.invariant (c.if-not-is_fine.ensures.0 refl)

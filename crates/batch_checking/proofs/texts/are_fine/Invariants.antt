@@ -3,7 +3,7 @@ use Rattle.std.specs.List.{range_with_len}
 use Rattle.std.specs.Str.{IsUtf8}
 use Rattle.batch_types.specs.Placed.{value_bytes}
 use Rattle.batch_checking.specs.Around.{Holds, IsValidAt, places_around}
-use Rattle.batch_checking.proofs.texts.are_texts.Given as goal
+use Rattle.batch_checking.proofs.texts.are_fine.Given as goal
 
 abbrev pub invariant-loop-row : goal.invariant-loop-row
 invariant-loop-row l =
