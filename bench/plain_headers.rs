@@ -11,7 +11,7 @@ const MAX_BUFFERS: usize = 1_536;
 const HOSTILE_BYTES: usize = 4 << 20;
 
 #[derive(Clone, Copy, Debug, PartialEq)]
-enum Fault {
+pub(crate) enum Fault {
     OutOfBounds,
     Version,
     Endianness,
@@ -24,9 +24,9 @@ enum Fault {
     Unwritable,
 }
 
-type Metadata = Vec<(String, String)>;
+pub(crate) type Metadata = Vec<(String, String)>;
 
-enum Type {
+pub(crate) enum Type {
     Null,
     Int(i32, bool),
     FloatingPoint(u16),
@@ -44,28 +44,28 @@ enum Type {
     Duration(u16),
 }
 
-struct Field {
-    name: String,
-    nullable: bool,
-    ty: Type,
-    children: Vec<Field>,
-    metadata: Metadata,
+pub(crate) struct Field {
+    pub(crate) name: String,
+    pub(crate) nullable: bool,
+    pub(crate) ty: Type,
+    pub(crate) children: Vec<Field>,
+    pub(crate) metadata: Metadata,
 }
 
-struct Schema {
-    fields: Vec<Field>,
-    metadata: Metadata,
+pub(crate) struct Schema {
+    pub(crate) fields: Vec<Field>,
+    pub(crate) metadata: Metadata,
 }
 
-struct BatchHead {
-    length: i64,
-    nodes: Vec<(i64, i64)>,
-    buffers: Vec<(i64, i64)>,
-    compressed: bool,
-    body_length: i64,
+pub(crate) struct BatchHead {
+    pub(crate) length: i64,
+    pub(crate) nodes: Vec<(i64, i64)>,
+    pub(crate) buffers: Vec<(i64, i64)>,
+    pub(crate) compressed: bool,
+    pub(crate) body_length: i64,
 }
 
-enum Header {
+pub(crate) enum Header {
     Schema(Schema),
     Batch(BatchHead),
 }
@@ -299,7 +299,7 @@ impl Reader<'_> {
     }
 }
 
-fn read(text: &[u8]) -> Result<Header, Fault> {
+pub(crate) fn read(text: &[u8]) -> Result<Header, Fault> {
     Reader { text, fields: MAX_FIELDS, entries: MAX_METADATA_ENTRIES, bytes: MAX_TEXT_BYTES }.header()
 }
 
@@ -516,7 +516,7 @@ fn full() -> Header {
     Header::Schema(Schema { fields: (0..MAX_FIELDS).map(column).collect(), metadata: Vec::new() })
 }
 
-fn encoded(header: &Header) -> Vec<u8> {
+pub(crate) fn encoded(header: &Header) -> Vec<u8> {
     let mut text = Vec::new();
     write(header, &mut text);
     text

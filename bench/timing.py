@@ -1,5 +1,6 @@
 """Times programs from outside, and counts their instructions where valgrind is there."""
 import collections
+import os
 import re
 import shutil
 import subprocess
@@ -56,6 +57,45 @@ def one(program, task, file):
     timed = less(Cost(best(many), None), Cost(best(0), None), many)
     counted = less(*(Cost(0, instructions(words(count))) for count in (few, 0)), few)
     return Cost(timed.seconds, counted.instructions)
+
+
+def processor_seconds(words):
+    """The processor time of one run, of the program and of the system for it, whatever else runs on the machine."""
+    child = subprocess.Popen(words, stdin=subprocess.DEVNULL, stdout=subprocess.DEVNULL, stderr=subprocess.DEVNULL)
+    _, _, usage = os.wait4(child.pid, 0)
+    return usage.ru_utime + usage.ru_stime
+
+
+def in_turn(tasks, file, runs=15, most=None):
+    """What one repetition of each `PROGRAM TASK COUNT FILE` costs: the least processor time of some runs of a twentieth
+    of a second, or of no more than so many repetitions, of all the tasks in turn, so that all see the same machine;
+    each less an empty run, and the instructions of one repetition, less those of none."""
+    words = lambda task, count: [*task, str(count), file]
+    taken = lambda task, count: processor_seconds(words(task, count))
+    empty = {task: taken(task, 0) for task in tasks}
+    counts = {task: repetitions(lambda count: taken(task, count) - empty[task], most) for task in tasks}
+    best = dict.fromkeys(tasks, float("inf"))
+    for _ in range(runs):
+        for task in tasks:
+            empty[task] = min(empty[task], taken(task, 0))
+            best[task] = min(best[task], taken(task, counts[task]))
+    words_of = lambda task: lambda count: words(task, count)
+    return [one_of(best[task], empty[task], counts[task], words_of(task)) for task in tasks]
+
+
+def repetitions(taken, most):
+    """How many repetitions take a twentieth of a second and more, or the most that there may be."""
+    count = 1
+    while count != most and taken(count) < 0.05:
+        count *= 2
+    return count
+
+
+def one_of(best, empty, count, words):
+    """One repetition of so many, by their least time and that of none of them, and by instructions of one and of none."""
+    timed = less(Cost(best, None), Cost(empty, None), count)
+    whole, none = (Cost(0, instructions(words(count), check=False)) for count in (1, 0))
+    return Cost(timed.seconds, less(whole, none, 1).instructions)
 
 
 def compared(name, ours, theirs, program="flight_bench"):

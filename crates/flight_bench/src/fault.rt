@@ -3,11 +3,12 @@
 use flatbuf_meta::MetaFault;
 use hex::FromHexError;
 use proto_wire::WireFault;
+use record_batches::BatchFault;
 use std::alloc::AllocError;
 use std::io;
 use thiserror::Error;
 
-/// What ended a run, or stands in a line. A fault of a message or a header is printed by its own name.
+/// What ended a run, or stands in a line. A fault of a message, a header or a batch is printed by its own name.
 #[derive(Clone, Copy, Debug, PartialEq, Eq, Error)]
 pub(crate) enum RunFault {
     /// The bytes are no such message.
@@ -16,6 +17,12 @@ pub(crate) enum RunFault {
     /// The bytes show no header.
     #[error("{0}")]
     Header(MetaFault),
+    /// A header and a body lay out no batch.
+    #[error("{0}")]
+    Batch(BatchFault),
+    /// The bytes are no schema, header of a batch and body, each behind its length.
+    #[error("Parts")]
+    Parts,
     /// The header is none that can be written: a schema outside the profile, a compressed batch, or one with too many
     /// nodes or buffers.
     #[error("Unwritable")]
@@ -54,6 +61,15 @@ impl From<MetaFault> for RunFault {
         match fault {
             MetaFault::OutOfMemory => RunFault::OutOfMemory,
             _ => RunFault::Header(fault),
+        }
+    }
+}
+
+impl From<BatchFault> for RunFault {
+    fn from(fault: BatchFault) -> RunFault {
+        match fault {
+            BatchFault::OutOfMemory => RunFault::OutOfMemory,
+            _ => RunFault::Batch(fault),
         }
     }
 }

@@ -1,5 +1,5 @@
-//! Reads and writes the messages of Arrow Flight and the headers of Arrow's metadata, and calls the parts of a Paxos
-//! node, to be measured and compared from outside. `flight_bench TASK COUNT FILE` does its task so many times on what
+//! Reads and writes the messages of Arrow Flight, the headers of Arrow's metadata and batches, and calls the parts of a
+//! Paxos node, to be measured and compared from outside. `flight_bench TASK COUNT FILE` does its task so many times on what
 //! the file holds.
 //!
 //! A task that is timed takes the file's bytes as they are, and prints the count and a sum that depends on each
@@ -10,6 +10,7 @@
 //! do it.
 #![tactic(auto)]
 
+mod batches;
 mod fault;
 mod headers;
 mod lines;
@@ -17,6 +18,7 @@ mod messages;
 mod parts;
 mod words;
 
+use batches::{read_often, rewrite_often, write_often};
 use fault::RunFault;
 use headers::{decode_header, encode_header};
 use lines::line_made_of;
@@ -89,6 +91,9 @@ fn repeat(alloc: Global, work: Work, count: u64, bytes: &[u8]) -> Result<u64, Ru
         Work::EncodeInfo => encode_info(alloc, count, bytes),
         Work::DecodeHeader => decode_header(alloc, count, bytes),
         Work::EncodeHeader => encode_header(alloc, count, bytes),
+        Work::ReadBatch => read_often(alloc, count, bytes),
+        Work::WriteBatch => write_often(alloc, count, bytes),
+        Work::RewriteBatch => rewrite_often(alloc, count, bytes),
         Work::CallAcceptor => call_acceptor(alloc, count, bytes.len()),
         Work::CallLearner => call_learner(alloc, count, bytes.len()),
         Work::CallLog => call_log(alloc, count, bytes.len()),

@@ -29,6 +29,12 @@ pub(crate) enum Work {
     DecodeHeader,
     /// It is read once, and written each time.
     EncodeHeader,
+    /// A batch is read each time.
+    ReadBatch,
+    /// It is read once, and written each time.
+    WriteBatch,
+    /// It is read and written each time.
+    RewriteBatch,
     /// An acceptor is asked to accept for as many slots as the file has bytes.
     CallAcceptor,
     /// A learner is told of three votes for each of as many slots.
@@ -47,6 +53,9 @@ const TASKS: &[&str] = &[
     "encode-info",
     "decode-header",
     "encode-header",
+    "read-batch",
+    "write-batch",
+    "rewrite-batch",
     "call-acceptor",
     "call-learner",
     "call-log",
@@ -99,7 +108,7 @@ fn count_argument<'a>(alloc: Global) -> Arg<'a> {
 
 fn file_argument<'a>(alloc: Global) -> Arg<'a> {
     Arg::new(alloc, "FILE").required(true).help(
-        "The bytes of one message; for reencode, a line of hexadecimal digits for each",
+        "The bytes of one message, or of a schema, a batch's header and a body; for reencode, a line of hexadecimal digits for each",
     )
 }
 
@@ -142,6 +151,9 @@ fn work_named(word: &str) -> Option<Work> {
         "encode-info" => Some(Work::EncodeInfo),
         "decode-header" => Some(Work::DecodeHeader),
         "encode-header" => Some(Work::EncodeHeader),
+        "read-batch" => Some(Work::ReadBatch),
+        "write-batch" => Some(Work::WriteBatch),
+        "rewrite-batch" => Some(Work::RewriteBatch),
         "call-acceptor" => Some(Work::CallAcceptor),
         "call-learner" => Some(Work::CallLearner),
         "call-log" => Some(Work::CallLog),
