@@ -104,8 +104,7 @@ module _ (schema : SchemaTree) (batches old new header body : List ℕ) (given :
   pub one_read : (rows : Rows) → AreRowsText schema (header, body) rows → StillRows schema batches old
       → StillRows schema batches new × (length new < length old)
   one_read rows are still =
-      let rest = left_has still.list still.has (gives still.list still.has) still.short in
-      (
+      let rest = left_has still.list still.has (gives still.list still.has) still.short in (
         record {
           short = omega (arith, still.short, rest.2);
           list = rest.0;

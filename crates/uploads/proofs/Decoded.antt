@@ -136,16 +136,16 @@ module _ (text t i s b : List ℕ) (found : Found text t i s b) (schema : Schema
   same_text =
       present_then 1 t _ found.table_named.some
       ∙ ap (λ l. part 1 t ++ l) (
-        present_then 2 i _ (omega (arith, found.named.whole))
-        ∙ ap (λ l. part 2 i ++ l) (
-          present_then 3 (schema_text schema) _ (schema_there schema)
-          ∙ ap (λ l. part 3 (schema_text schema) ++ l) (batches_behind schema rows)
-        )
+      present_then 2 i _ (omega (arith, found.named.whole))
+      ∙ ap (λ l. part 2 i ++ l) (
+      present_then 3 (schema_text schema) _ (schema_there schema)
+      ∙ ap (λ l. part 3 (schema_text schema) ++ l) (batches_behind schema rows)
+      )
       )
       ∙ sym (
-        found.parts
-        ∙ ap (λ l. part 1 t ++ (part 2 i ++ (part 3 l ++ b))) is_schema.is
-        ∙ ap (λ l. part 1 t ++ (part 2 i ++ (part 3 (schema_text schema) ++ l))) (found.left.is ∙ ap batches_text (parts_are schema found.list rows are))
+      found.parts
+      ∙ ap (λ l. part 1 t ++ (part 2 i ++ (part 3 l ++ b))) is_schema.is
+      ∙ ap (λ l. part 1 t ++ (part 2 i ++ (part 3 (schema_text schema) ++ l))) (found.left.is ∙ ap batches_text (parts_are schema found.list rows are))
       )
 
   pub is_upload_text : IsUploadText text

@@ -106,11 +106,14 @@ no_body (b ∷ rest) none = absurd (omega (arith, eqb-true (length (b ∷ rest))
 pub body_stands : (rest body : List ℕ) → (length rest == 0) ≡ false → length body < 2 ^ 64 → rest ≡ body_text body
     → (1 ≤ length body) × PartThen 2 rest body []
 body_stands rest [] there fits is = absurd (empty_text rest is there)
-body_stands rest (b ∷ body) there fits is = (omega arith, record {
-  parts = is ∙ body_some (b ∷ body) (omega arith);
-  number_is = (omega arith, omega arith);
-  fits = fits;
-})
+body_stands rest (b ∷ body) there fits is = (
+  omega arith,
+  record {
+    parts = is ∙ body_some (b ∷ body) (omega arith);
+    number_is = (omega arith, omega arith);
+    fits = fits;
+  },
+)
 
 pub more_behind : (behind : List ℕ) → (length behind == 0) ≡ false → behind ≡ [] → ⊥
 more_behind behind there none = empty_text behind none there
@@ -260,8 +263,7 @@ pub one_passed : (id batches rest behind : List ℕ) (count : ℕ) → (length r
     → ((parts : List ℕ × List ℕ) (left : List ℕ) → IsNext id rest parts left → behind ≡ left)
     → StillNext id batches rest count → StillNext id batches behind (count + 1) × (length behind < length rest)
 one_passed id batches rest behind count there below parts next only still =
-    let short = shorter 4 rest (batch_text parts) behind (next_part id rest parts behind next).1 still.short in
-    (
+    let short = shorter 4 rest (batch_text parts) behind (next_part id rest parts behind next).1 still.short in (
       record {
         short = short.1;
         few = omega (arith, below);

@@ -56,7 +56,7 @@ module _ (shown : (x : Header) → IsWritable x → ShowsHeader (header_text x) 
 
 -- what is written of rows lays them out
 pub rows_laid : ((schema : SchemaTree) (rows : Rows) → InProfile schema → CanBeWritten schema rows
-        → LaysOut schema (canonical_head schema rows) (canonical_body schema rows) rows)
+    → LaysOut schema (canonical_head schema rows) (canonical_body schema rows) rows)
     → (schema : SchemaTree) (header body : List ℕ) (rows : Rows) (head : Head) → InProfile schema → AreRowsText schema (header, body) rows
     → head ≡ canonical_head schema rows → LaysOut schema head body rows
 rows_laid law schema header body rows head profile are is =

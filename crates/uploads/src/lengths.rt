@@ -30,7 +30,11 @@ pub(crate) fn field_length(number: u32, count: u64) -> u64
         → result ≡ length (fields_text (present (bytes_field number bytes ∷ []))) }
     ensures few { result ≤ count + 20 }
 {
-    if count == 0 { 0 } else { part_length(number, count) }
+    if count == 0 {
+        0
+    } else {
+        part_length(number, count)
+    }
 }
 
 /// How many bytes an embedded message of so many bytes has, with its key and its length.

@@ -1,4 +1,13 @@
 //! Uploads: what a client hands in, in the one encoding that nodes agree on.
+//!
+//! What an upload is, how it is encoded and which ones are taken is defined in `table_types`; `Texts` in `specs/` has
+//! which bytes are one. An [`Upload`] holds its encoding and nothing else: to encode it, to copy it and to compare it
+//! costs no copy, and its parts are found again by a walk over its few fields (`parts`, and [`EncodedBatches`] for the
+//! batches, one after the other).
+//!
+//! [`Upload::decode`] reads bytes that nobody has checked. Fields, names and limits are looked at first, without memory
+//! (`finding`, `Found` in `specs/`); then the schema and each batch are read, and taken only where writing them again
+//! gives the same bytes (`reading`, `Read` in `specs/`).
 #![tactic(auto)]
 
 mod decoding;
