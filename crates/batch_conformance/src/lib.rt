@@ -16,6 +16,8 @@ mod columns;
 #[cfg(test)]
 mod compared;
 #[cfg(test)]
+mod made_cells;
+#[cfg(test)]
 mod plain_cells;
 #[cfg(test)]
 mod writing;
