@@ -1,4 +1,5 @@
--- Columns that are built of cells, and why there are none: Apache Arrow, "Arrow Columnar Format", "Physical memory layout".
+-- Columns that are built of cells, and why there are none: Apache Arrow, "Arrow Columnar Format", "Physical memory
+-- layout".
 use Rattle.std.specs.Prelude.{◌≡◌, ℕ, suc, pos, ◌≤ℤ◌, List, [], ◌∷◌, map, get_or}
 use Rattle.std.specs.List.{AllByRecursion}
 use Rattle.batch_types.specs.Cells.{Cell}

@@ -1,5 +1,5 @@
--- The cells that a column is built of: some that are lent, and blank ones, which stand in the columns inside a null: Apache
--- Arrow, "Arrow Columnar Format", "Terminology" (a cell is a slot of an array).
+-- The cells that a column is built of: some that are lent, and blank ones, which stand in the columns inside a null:
+-- Apache Arrow, "Arrow Columnar Format", "Terminology" (a cell is a slot of an array).
 use Rattle.std.specs.Prelude.{ℕ, Bool, true, not, Option, Some, None, List, map, length, replicate}
 use Rattle.std.specs.List.{sum_by}
 use Rattle.std.specs.Borrow.{Bor}

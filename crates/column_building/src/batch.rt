@@ -48,8 +48,8 @@ fn columns_of(
     Ok(made)
 }
 
-/// The batch of a table of this schema of so many rows, of these cells: a column of cells for each field, with a cell for
-/// each row, each a null or a value of the field's type. It is
+/// The batch of a table of this schema of so many rows, of these cells: a column of cells for each field, with a cell
+/// for each row, each a null or a value of the field's type. It is
 ///
 /// - `WrongColumns` exactly where there is not one column of cells for each field;
 /// - else `WrongLength` exactly where a column has another number of cells than there are rows;

@@ -147,7 +147,8 @@ fn build_first(
     fields: &[Field],
     slots: &[Option<&Cell>],
 ) -> Result<Vec<Column>, CellsFault>
-    requires whole { (count_shapes (field_shapes fields.now) ≡ 1) × (are_whole_shapes (field_shapes fields.now) ≡ true) }
+    requires whole { (count_shapes (field_shapes fields.now) ≡ 1)
+        × (are_whole_shapes (field_shapes fields.now) ≡ true) }
     requires fit { AllByRecursion (IsElementOf (field_shapes fields.now))
         (slot_cells (first_blank (field_shapes fields.now)) slots.now) }
     requires few { length slots.now ≤ values_limit }
@@ -209,8 +210,10 @@ pub fn column_of(alloc: Global, field: &Field, cells: &[Cell]) -> Result<Column,
     ensures children { IsErrOf result CellsFault.WrongChildren ↔ (is_whole_shape (field_shape field.now) ≡ false) }
     ensures kinds { IsErrOf result CellsFault.NotOfField ↔ ((is_whole_shape (field_shape field.now) ≡ true)
         × ¬ (AllByRecursion (IsCellOf (field_shape field.now)) (map cell_of cells.now))) }
-    ensures many { IsErrOf result CellsFault.TooMany → ¬ (AreFewValues (field_shape field.now) (map cell_of cells.now)) }
-    ensures long { IsErrOf result CellsFault.TooLong → ¬ (AreRooms (field_shape field.now) (map cell_of cells.now)) }
+    ensures many { IsErrOf result CellsFault.TooMany
+        → ¬ (AreFewValues (field_shape field.now) (map cell_of cells.now)) }
+    ensures long { IsErrOf result CellsFault.TooLong
+        → ¬ (AreRooms (field_shape field.now) (map cell_of cells.now)) }
     ensures few { OnOk result (AreFewValues (field_shape field.now) (map cell_of cells.now)) }
     ensures room { OnOk result (AreRooms (field_shape field.now) (map cell_of cells.now)) }
 {
