@@ -167,8 +167,10 @@ fn thousands_of_lists_are_made(rt: HostRuntime) -> Result<(), Fail> {
     for number in 0..5000 {
         let cell = if number % 7 == 0 {
             Cell::Null
+        } else if number % 2 == 0 {
+            Cell::List(numbers(alloc, &[1, 2])?)
         } else {
-            Cell::List(numbers(alloc, &[(number % 256) as u8, 1])?)
+            Cell::List(numbers(alloc, &[3])?)
         };
         cells.push(cell)?;
     }
