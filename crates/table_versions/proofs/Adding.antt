@@ -17,7 +17,8 @@ use Rattle.table_versions.specs.declared.place.Place.{Place}
 use Rattle.table_versions.specs.declared.table.Table.{Table}
 use Rattle.table_versions.specs.declared.prepared.Part.{Part}
 use Rattle.table_versions.specs.Ledger.{frames_of, rows_of_upload, TableEntries, FrameEntries, table_in, is_place, frames_in, names_in}
-use Rattle.table_versions.specs.Ledger.{IsTableOf, IsTable, HasFrames, PutsTable, PutsFrames, IsPartOf, IsOpened, IsGrown}
+use Rattle.table_versions.specs.Ledger.{IsTableOf, IsTable, HasFrames, IsPartOf}
+use Rattle.table_versions.specs.Steps.{PutsTable, PutsFrames, IsOpened, IsGrown}
 use Rattle.table_versions.proofs.Growing.{bytes_same, effective_other}
 
 -- ---- answers

@@ -13,7 +13,8 @@ use Rattle.table_versions.specs.declared.place.Place.{Place}
 use Rattle.table_versions.specs.declared.table.Table.{Table}
 use Rattle.table_versions.specs.declared.prepared.Part.{Part}
 use Rattle.table_versions.specs.Ledger.{frames_of, FirstEntries, TableEntries, FrameEntries, first_in, told_of_first, table_in, frames_in, names_in}
-use Rattle.table_versions.specs.Ledger.{seen_first, IsTableOf, IsTable, HasFrames, IsLedger, PutsFirst, PutsTable, PutsFrames, IsPartOf, IsOpened, IsGrown}
+use Rattle.table_versions.specs.Ledger.{seen_first, IsTableOf, IsTable, HasFrames, IsLedger, IsPartOf}
+use Rattle.table_versions.specs.Steps.{PutsFirst, PutsTable, PutsFrames, IsOpened, IsGrown}
 use Rattle.table_versions.proofs.Growing.{same_bytes, bytes_same, none_any, some_any, like_more, one_if, effective_named, effective_other, effective_new, effective_none, place_none, place_last, told_first, new_is_first}
 use Rattle.table_versions.proofs.Values.{all_push}
 use Rattle.table_versions.proofs.Taking.{OutcomesStay, firsts_repeat, firsts_new, is_no_table, is_a_table, names_named, names_same, names_more}

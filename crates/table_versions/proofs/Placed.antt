@@ -5,7 +5,8 @@ use Rattle.header_types.specs.SameShape.{SameShape}
 use Rattle.header_types.specs.Views.{schema_of}
 use Rattle.table_versions.specs.declared.table.Table.{Table}
 use Rattle.table_versions.specs.declared.prepared.Part.{Part}
-use Rattle.table_versions.specs.Ledger.{TableEntries, names_in, TellsShape, HasRoomToGrow}
+use Rattle.table_versions.specs.Ledger.{TableEntries, names_in}
+use Rattle.table_versions.specs.Steps.{TellsShape, HasRoomToGrow}
 
 pub some_is : {X : Type 0} (x y : X) → Some x ≡ Some y → x ≡ y
 some_is x y same = cc

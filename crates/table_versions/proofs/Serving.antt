@@ -9,7 +9,7 @@ use Rattle.std.proofs.lemmas.List.Sums.{sum_by-cons, sum_by-append}
 use Rattle.proto_fields.specs.Field.{Field, field_text, fields_text, present}
 use Rattle.proto_fields.specs.Varint.{varint_text}
 use Rattle.proto_messages.specs.Canonical.{bytes_field}
-use Rattle.header_types.specs.Fields.{no_more, SchemaTree}
+use Rattle.header_types.specs.Fields.{SchemaTree}
 use Rattle.header_types.specs.Header.{Head, Header, schema_header, batch_header, ShowsHeader}
 use Rattle.header_types.specs.Profile.{InProfile}
 use Rattle.header_writing.specs.Canonical.{header_text}
@@ -22,7 +22,7 @@ use Rattle.table_types.specs.Valid.{IsUpload, FitsFrame, upload_limit}
 use Rattle.table_types.specs.Served.{data_text, in_frame, batch_message, messages_of}
 use Rattle.uploads.specs.Parts.{batch_parts, batch_text, HasLeft, Gives}
 use Rattle.table_versions.specs.Ledger.{frames_of, rows_of_upload}
-use Rattle.table_versions.specs.Serving.{IsWrittenHead, IsWrittenSchema}
+use Rattle.table_versions.specs.Serving.{IsWrittenHead}
 use Rattle.table_versions.proofs.Sizes.{rows_few}
 
 -- ---- a message is no shorter than its body
@@ -246,10 +246,6 @@ abbrev pub BatchesHaveHeaders : Type 0
 BatchesHaveHeaders = (schema : SchemaTree) (rows : Rows) → InProfile schema → CanBeWritten schema rows
     → length (canonical_body schema rows) ≤ upload_limit → IsWritable (batch_header (canonical_head schema rows))
 
-pub schema_shown : WrittenIsShown → (bytes : List ℕ) (schema : SchemaTree) → IsWrittenSchema bytes schema → ShowsHeader bytes (schema_header schema)
-schema_shown shown bytes schema is =
-    subst (λ b. ShowsHeader b (schema_header schema)) (sym is.is) (shown (schema_header schema) (is.profile, is.fits))
-
 pub head_shown : WrittenIsShown → BatchesHaveHeaders → (bytes : List ℕ) (schema : SchemaTree) (rows : Rows) → IsWrittenHead bytes schema rows
     → ShowsHeader bytes (batch_header (canonical_head schema rows))
 head_shown shown headers bytes schema rows is =
@@ -260,19 +256,12 @@ abbrev length_in : Header → ℤ
 length_in (schema_header schema) = pos 0
 length_in (batch_header head) = head.length
 
-abbrev schema_in : Header → SchemaTree
-schema_in (schema_header schema) = schema
-schema_in (batch_header head) = record { fields = no_more; metadata = [] }
-
 abbrev is_batch : Header → Bool
 is_batch (schema_header schema) = false
 is_batch (batch_header head) = true
 
 pub length_is : (one other : Head) → batch_header one ≡ batch_header other → one.length ≡ other.length
 length_is one other same = ap length_in same
-
-pub schema_is : (one other : SchemaTree) → schema_header one ≡ schema_header other → one ≡ other
-schema_is one other same = ap schema_in same
 
 pub kinds_differ : (schema : SchemaTree) (head : Head) → schema_header schema ≡ batch_header head → ⊥
 kinds_differ schema head same = true≢false (sym (ap is_batch same))

@@ -13,8 +13,9 @@ use Rattle.table_versions.specs.declared.table.Table.{Table}
 use Rattle.table_versions.specs.declared.prepared.Part.{Part}
 use Rattle.table_versions.specs.declared.prepared.Prepared.{Prepared}
 use Rattle.table_versions.specs.Outcomes.{told}
-use Rattle.table_versions.specs.Ledger.{seen_first, told_of_first, FirstEntries, TableEntries, FrameEntries, first_in, table_in, IsTableOf, IsTable, IsLedger, IsPartOf, IsPrepared, PutsFirst}
-use Rattle.table_versions.specs.Ledger.{HasRoomToGrow, Places}
+use Rattle.table_versions.specs.Ledger.{seen_first, told_of_first, FirstEntries, TableEntries, FrameEntries, first_in, table_in, IsTableOf, IsTable, IsLedger, IsPartOf, IsPrepared}
+use Rattle.table_versions.specs.Steps.{PutsFirst}
+use Rattle.table_versions.specs.Steps.{HasRoomToGrow, Places}
 use Rattle.table_versions.proofs.Taking.{OutcomesStay}
 use Rattle.table_versions.proofs.BareSchemas.{ShapesApart, ShapesSame, like_it, is_like}
 use Rattle.table_versions.proofs.Sizes.{framed, frames_long, rows_few, records_few, answer_few, all_effective, few_effective}

@@ -8,7 +8,8 @@ use Rattle.table_types.specs.Tables.{has_id, is_to, firsts, like_the_first, effe
 use Rattle.table_types.specs.Tables.{Outcome, applied, mismatched, conflicting, unknown, first_named, place_from, outcome_of}
 use Rattle.table_versions.specs.declared.first.First.{First}
 use Rattle.table_versions.specs.Ledger.{names_after, table_names, FirstEntries, first_in}
-use Rattle.table_versions.specs.Ledger.{seen_first, told_of_first, PutsFirst}
+use Rattle.table_versions.specs.Ledger.{seen_first, told_of_first}
+use Rattle.table_versions.specs.Steps.{PutsFirst}
 use Rattle.table_versions.proofs.Growing.{bytes_same, named_has, unless, firsts_push, told_first, new_is_first, still_first, other_first}
 
 -- what is told of an upload whose name has come stays

@@ -1,6 +1,7 @@
 pub mod Values
 pub mod Outcomes
 pub mod Ledger
+pub mod Steps
 pub mod State
 pub mod Info
 pub mod Serving

@@ -12,7 +12,8 @@ use Rattle.table_versions.specs.Values.{Adds, AreUploadsOf}
 -- the upload that the bytes are is ready, or they are none
 abbrev pub PreparesBytes : List ℕ → Option Prepared → Type 0
 PreparesBytes bytes None = (upload : Upload) → IsUpload upload → upload_text upload ≢ bytes
-PreparesBytes bytes (Some prepared) = (upload : Upload) × IsUpload upload × (upload_text upload ≡ bytes) × IsPrepared prepared upload
+PreparesBytes bytes (Some prepared) =
+    (upload : Upload) × IsUpload upload × (upload_text upload ≡ bytes) × IsPrepared prepared upload
 
 -- what a value adds was put behind the others
 pub record PushesValue (old new : List Prepared) (value : Value) : Type 0 where

@@ -2,11 +2,10 @@
 use Rattle.std.specs.Prelude.{◌≡◌, ℕ, ◌≤◌, List, length}
 use Rattle.header_types.specs.Fields.{SchemaTree}
 use Rattle.header_types.specs.Profile.{InProfile}
-use Rattle.header_writing.specs.Written.{FitsSchema}
 use Rattle.batch_types.specs.Cells.{Rows}
 use Rattle.batch_types.specs.Canonical.{canonical_body}
 use Rattle.batch_types.specs.Written.{CanBeWritten}
-use Rattle.table_types.specs.Uploads.{Upload, schema_text, head_text}
+use Rattle.table_types.specs.Uploads.{Upload, head_text}
 use Rattle.table_types.specs.Valid.{upload_limit}
 use Rattle.table_versions.specs.declared.preparing.ServedFrames.{ServedFrames}
 use Rattle.table_versions.specs.Ledger.{frames_of, rows_of_upload}
@@ -17,12 +16,6 @@ pub record IsWrittenHead (bytes : List ℕ) (schema : SchemaTree) (rows : Rows) 
   pub can : CanBeWritten schema rows
   pub short : length (canonical_body schema rows) ≤ upload_limit
   pub is : bytes ≡ head_text schema rows
-
--- the bytes are the message that is written of this schema
-pub record IsWrittenSchema (bytes : List ℕ) (schema : SchemaTree) : Type 0 where
-  pub profile : InProfile schema
-  pub fits : FitsSchema schema
-  pub is : bytes ≡ schema_text schema
 
 -- the frames and the rows are those of the upload
 pub record IsServed (upload : Upload) (served : ServedFrames) : Type 0 where

@@ -1,5 +1,5 @@
--- Which uploads a list of agreed values holds: those that are the one encoding of an upload that is taken, in their order. A
--- value for nothing, and one with bytes of anything else, adds none.
+-- Which uploads a list of agreed values holds: those that are the one encoding of an upload that is taken, in their
+-- order. A value for nothing, and one with bytes of anything else, adds none.
 use Rattle.std.specs.Prelude.{◌≡◌, ◌≢◌, List, [], ◌∷◌, ◌++◌}
 use Rattle.ballots.specs.declared.value.Value.{Value}
 use Rattle.ballots.specs.declared.value.Value.TheVariants as values

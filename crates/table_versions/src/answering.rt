@@ -8,7 +8,8 @@ ghost use Rattle.std.specs.Option.{option_map};
 ghost use Rattle.table_types.specs.Answers.{answer_of};
 ghost use Rattle.table_types.specs.Tables.{version_of, outcome_of};
 ghost use Rattle.table_versions.specs.Outcomes.{told};
-ghost use Rattle.table_versions.specs.Ledger.{FirstEntries, FrameEntries, TableEntries, IsLedger, HasFrames, frames_of, frames_in};
+ghost use Rattle.table_versions.specs.Ledger.{FirstEntries, FrameEntries, TableEntries, IsLedger, HasFrames, frames_of};
+ghost use Rattle.table_versions.specs.Ledger.{frames_in};
 
 use crate::outcome::Outcome;
 use crate::place::Place;
@@ -76,13 +77,15 @@ pub(crate) fn answer_by(
     version: u64,
 ) -> Result<Option<Vec<u8>>, OutOfMemory>
     requires version { 1 ≤ version }
-    requires ledger { (firsts : FirstEntries) × (uploads : List Upload) × IsLedger firsts tables.now.entries frames.now.entries uploads }
+    requires ledger { (firsts : FirstEntries) × (uploads : List Upload)
+        × IsLedger firsts tables.now.entries frames.now.entries uploads }
     ensures answer { (firsts : FirstEntries) (uploads : List Upload)
         → IsLedger firsts tables.now.entries frames.now.entries uploads
         → IfOk result (λ answer. option_map (λ bytes. bytes.items) answer
         ≡ option_map answer_of (version_of name.now version uploads)) }
     ensures memory { OnErr result ((firsts : FirstEntries) (uploads : List Upload)
-        → IsLedger firsts tables.now.entries frames.now.entries uploads → IsSome (version_of name.now version uploads)) }
+        → IsLedger firsts tables.now.entries frames.now.entries uploads
+        → IsSome (version_of name.now version uploads)) }
 {
     match tables.get(name) {
         Some(table) => {

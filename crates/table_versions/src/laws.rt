@@ -15,7 +15,8 @@ use table_types::laws::uploads_have_one_encoding;
 /// A list of values holds one list of uploads, at most one a value and each of them such as is taken; and two lists end
 /// to end hold the uploads of both.
 pub fn values_hold_one_list_of_uploads()
-    ensures one { (values : List Value) (xs ys : List Upload) → AreUploadsOf values xs → AreUploadsOf values ys → xs ≡ ys }
+    ensures one { (values : List Value) (xs ys : List Upload) → AreUploadsOf values xs → AreUploadsOf values ys
+        → xs ≡ ys }
     ensures valid { (values : List Value) (xs : List Upload) → AreUploadsOf values xs → AllByRecursion IsUpload xs }
     ensures few { (values : List Value) (xs : List Upload) → AreUploadsOf values xs → length xs ≤ length values }
     ensures both { (first second : List Value) (xs ys : List Upload) → AreUploadsOf first xs → AreUploadsOf second ys

@@ -2,11 +2,11 @@
 
 ghost use Rattle.std.specs.Prelude.{◌≡◌, ◌+◌, ◌<◌, ◌≤◌, ◌^◌, None, Some, length, string_bytes};
 ghost use Rattle.indexmap.specs.IndexMap.{spare};
-ghost use Rattle.table_types.specs.Tables.{applied};
 ghost use Rattle.table_versions.specs.declared.table.Table.{Table as Held};
 ghost use Rattle.table_versions.specs.Outcomes.{told};
-ghost use Rattle.table_versions.specs.Ledger.{table_in, names_in, TellsShape, HasRoomToGrow};
-ghost use Rattle.table_versions.specs.Ledger.{Grows, OpensTable, AddsVersion, Places};
+ghost use Rattle.table_versions.specs.Ledger.{table_in, names_in};
+ghost use Rattle.table_versions.specs.Steps.{TellsShape, HasRoomToGrow};
+ghost use Rattle.table_versions.specs.Steps.{Grows, OpensTable, AddsVersion, Places};
 
 use crate::outcome::Outcome;
 use crate::place::Place;
@@ -62,7 +62,8 @@ fn add_version(tables: &mut NamedTables, frames: &mut Frames, name: &str, part: 
     requires frame_room { 0 < spare frames.old }
     requires there { (old : Held) × (table_in tables.old.entries name.now ≡ Some old) × HasRoomToGrow (Some old) part }
     ensures adds { (old : Held) → table_in tables.old.entries name.now ≡ Some old
-        → AddsVersion tables.old.entries tables.new.entries frames.old.entries frames.new.entries name.now part old result }
+        → AddsVersion tables.old.entries tables.new.entries frames.old.entries frames.new.entries name.now part old
+        result }
     ensures table_room { spare tables.old ≤ spare tables.new + 1 }
     ensures frame_room { spare frames.old ≤ spare frames.new + 1 }
 {

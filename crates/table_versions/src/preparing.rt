@@ -1,15 +1,13 @@
 //! How an upload is made ready: what is served of it, made once.
 
-ghost use Rattle.std.specs.Prelude.{◌≡◌, ◌≤◌, ◌++◌, ◌∷◌, [], ℕ, List, length, IfOk};
-ghost use Rattle.std.specs.Prelude.{OnOk};
+ghost use Rattle.std.specs.Prelude.{◌≡◌, [], length, IfOk};
 ghost use Rattle.header_types.specs.Fields.{SchemaTree};
-ghost use Rattle.header_types.specs.Views.{schema_of};
 ghost use Rattle.batch_types.specs.Cells.{Rows};
 ghost use Rattle.table_types.specs.Uploads.{Upload as Uploaded, upload_text};
 ghost use Rattle.table_types.specs.Valid.{IsUpload};
 ghost use Rattle.uploads.specs.Texts.{IsUploadText};
 ghost use Rattle.table_versions.specs.Ledger.{IsPartOf, IsPrepared};
-ghost use Rattle.table_versions.specs.Serving.{IsWrittenHead, IsWrittenSchema, IsServed};
+ghost use Rattle.table_versions.specs.Serving.{IsWrittenHead, IsServed};
 
 use crate::framing::append_data;
 use crate::prepared::{Part, Prepared};
@@ -17,7 +15,7 @@ use ballots::OutOfMemory;
 use bytes::Bytes;
 use flatbuf_meta::laws::written_headers_are_shown;
 use header_reading::read_message;
-use header_types::{Header, Schema};
+use header_types::Header;
 use std::alloc::{AllocError, Global};
 use table_types::laws::batches_have_headers;
 use uploads::Upload;
@@ -40,20 +38,6 @@ fn rows_in(alloc: Global, header: &[u8]) -> Result<u64, OutOfMemory>
     match read_message(alloc, header) {
         Ok(Header::Batch(head)) => Ok(head.length as u64),
         Ok(Header::Schema(_)) => unreachable!(),
-        Err(_) => Err(AllocError),
-    }
-}
-
-/// The schema that a message has.
-fn schema_in(alloc: Global, bytes: &[u8]) -> Result<Schema, OutOfMemory>
-    requires { (schema : SchemaTree) × IsWrittenSchema bytes.now schema }
-    ensures { (schema : SchemaTree) → IsWrittenSchema bytes.now schema
-        → IfOk result (λ read. schema_of read ≡ schema) }
-{
-    written_headers_are_shown();
-    match read_message(alloc, bytes) {
-        Ok(Header::Schema(schema)) => Ok(schema),
-        Ok(Header::Batch(_)) => unreachable!(),
         Err(_) => Err(AllocError),
     }
 }
@@ -85,9 +69,9 @@ fn part_of(alloc: Global, upload: &Upload) -> Result<Part, OutOfMemory>
     ensures { (uploaded : Uploaded) → IsUpload uploaded → upload_text uploaded ≡ upload.now
         → IfOk result (λ part. IsPartOf part uploaded) }
 {
-    let schema_bytes = upload.schema_bytes();
-    let schema = schema_in(alloc, schema_bytes)?;
+    let schema = upload.schema(alloc)?;
     let mut schema_frame = Vec::new(alloc);
+    let schema_bytes = upload.schema_bytes();
     append_data(alloc, &mut schema_frame, schema_bytes, &[], &[])?;
     let served = served(alloc, upload)?;
     Ok(Part {

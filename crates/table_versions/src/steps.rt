@@ -1,10 +1,10 @@
 //! The maps of the tables, and the steps by which they take an upload. No step takes memory.
 
-ghost use Rattle.std.specs.Prelude.{◌≡◌, ◌+◌, ◌<◌, ◌≤◌, ◌^◌, ◌∷◌, ◌++◌, [], None, Some, IsSome, IsTrue, ◌↔◌, is_some, length, string_bytes};
-ghost use Rattle.std.specs.Option.{option_map};
+ghost use Rattle.std.specs.Prelude.{◌≡◌, ◌+◌, ◌<◌, ◌≤◌, ◌^◌, ◌∷◌, ◌++◌, [], None, is_some};
+ghost use Rattle.std.specs.Prelude.{length, string_bytes};
 ghost use Rattle.indexmap.specs.IndexMap.{spare};
-ghost use Rattle.table_versions.specs.Ledger.{first_in, table_in, names_in, frames_in};
-ghost use Rattle.table_versions.specs.Ledger.{PutsFirst, PutsTable, PutsFrames, IsOpened, IsGrown};
+ghost use Rattle.table_versions.specs.Ledger.{first_in, table_in, names_in};
+ghost use Rattle.table_versions.specs.Steps.{PutsFirst, PutsTable, PutsFrames, IsOpened, IsGrown};
 
 use crate::first::First;
 use crate::place::Place;

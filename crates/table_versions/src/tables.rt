@@ -1,6 +1,7 @@
 //! The tables of a node.
 
-ghost use Rattle.std.specs.Prelude.{◌≡◌, ◌≢◌, ◌≤◌, ◌+◌, ◌++◌, [], ℕ, List, length, map, string_bytes, IfOk, OnOk, OnErr, IsSome};
+ghost use Rattle.std.specs.Prelude.{◌≡◌, ◌≢◌, ◌≤◌, ◌+◌, ◌++◌, [], List, length, map, string_bytes, IfOk, OnOk};
+ghost use Rattle.std.specs.Prelude.{OnErr, IsSome};
 ghost use Rattle.std.specs.Option.{option_map};
 ghost use Rattle.table_types.specs.Uploads.{Upload as Uploaded, upload_text};
 ghost use Rattle.table_types.specs.Valid.{IsUpload};
@@ -71,8 +72,8 @@ impl Model for Tables {
 }
 
 impl Tables {
-    /// The tables of no values. Names of tables and of uploads are chosen by clients: `hashing` has the random keys that
-    /// keep look-ups fast whatever they choose. It takes memory from this allocator as it grows.
+    /// The tables of no values. Clients choose the names of tables and of uploads: `hashing` has the random keys that
+    /// keep look-ups fast whatever they choose. Memory is taken from this allocator as the tables grow.
     pub fn new(alloc: Global, hashing: RandomState) -> Tables
         ensures { HasTaken result [] }
     {
@@ -91,8 +92,8 @@ impl Tables {
         self.taken
     }
 
-    /// What is told of an upload, by all values that were taken. It takes no memory, and its time does not grow with what
-    /// was taken.
+    /// What is told of an upload, by all values that were taken. It takes no memory, and its time does not grow with
+    /// what was taken.
     pub fn outcome(&self, upload: &Upload) -> Outcome
         ensures { (values : List Agreed) (uploads : List Uploaded) (uploaded : Uploaded) → HasTaken self.now values
             → AreUploadsOf values uploads → IsUpload uploaded → upload_text uploaded ≡ upload.now
@@ -160,8 +161,8 @@ impl Tables {
         Ok(ready)
     }
 
-    /// Takes what is ready behind the values that were taken, and no memory. [`Tables::ready`] made the room: the tables
-    /// are still able to take it where they hold what they held then.
+    /// Takes what is ready behind the values that were taken, and no memory. [`Tables::ready`] made the room: the
+    /// tables are still able to take it where they hold what they held then.
     pub fn apply(&mut self, ready: Ready)
         requires { CanTake self.old ready }
         ensures takes { (taken values : List Agreed) → HasTaken self.old taken → IsReadyFor ready values

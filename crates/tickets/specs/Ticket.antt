@@ -1,6 +1,6 @@
--- What a client hands in to be given a table, as this service writes it into a ticket: Apache Arrow, "Flight.proto", `Ticket`,
--- opaque bytes of the service. They are a message of two fields in its one written encoding: Protocol Buffers, "Encoding". Its
--- names and its limits are this service's own.
+-- What a client hands in to be given a table, as this service writes it into a ticket: Apache Arrow, "Flight.proto",
+-- `Ticket`, opaque bytes of the service. They are a message of two fields in its one written encoding: Protocol
+-- Buffers, "Encoding". Its names and its limits are this service's own.
 use Rattle.std.specs.Prelude.{◌≡◌, ℕ, ◌^◌, ◌<◌, ◌≤◌, List}
 use Rattle.proto_fields.specs.Scalar.{TypeBytes, TypeUint64}
 use Rattle.proto_messages.specs.Descriptor.{Descriptor, NoMore, One, Values}

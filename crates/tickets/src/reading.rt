@@ -19,7 +19,8 @@ pub(crate) const VERSION: u32 = 2;
 
 /// The table's name that the fields mean, where there are such.
 fn table_in(bytes: &[u8]) -> Option<&[u8]>
-    ensures { (asked : TableVersion) → IsTicket bytes.now asked → IsSomeAnd result (λ table. table.now ≡ asked.table) }
+    ensures { (asked : TableVersion) → IsTicket bytes.now asked
+        → IsSomeAnd result (λ table. table.now ≡ asked.table) }
 {
     canonical_messages_are_messages();
     bytes_at(bytes, TABLE).ok()
@@ -27,7 +28,8 @@ fn table_in(bytes: &[u8]) -> Option<&[u8]>
 
 /// The version that the fields mean, where there are such.
 fn version_in(bytes: &[u8]) -> Option<u64>
-    ensures { (asked : TableVersion) → IsTicket bytes.now asked → IsSomeAnd result (λ version. version ≡ asked.version) }
+    ensures { (asked : TableVersion) → IsTicket bytes.now asked
+        → IsSomeAnd result (λ version. version ≡ asked.version) }
 {
     canonical_messages_are_messages();
     number_at(bytes, VERSION).ok()

@@ -1,5 +1,6 @@
 use Rattle.std.proofs.Common.{refl, sym, subst, ◌∙◌}
-use Rattle.table_versions.specs.Ledger.{table_in, HasRoomToGrow}
+use Rattle.table_versions.specs.Ledger.{table_in}
+use Rattle.table_versions.specs.Steps.{HasRoomToGrow}
 use Rattle.table_versions.proofs.Taken.{room_here, taken_repeat, taken_new}
 use Rattle.table_versions.proofs.ledger.take.Goals as goal
 

@@ -1,5 +1,5 @@
 use Rattle.std.proofs.Common.{refl, subst, arith}
-use Rattle.table_versions.specs.Ledger.{Grows}
+use Rattle.table_versions.specs.Steps.{Grows}
 use Rattle.table_versions.proofs.placing.add_version.Goals as goal
 
 pub returns-clause-adds : goal.returns-clause-adds

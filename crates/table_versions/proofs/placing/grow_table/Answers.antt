@@ -1,7 +1,8 @@
 use Rattle.std.proofs.Common.{◌≡◌, Some, subst, ◌∙◌, rules}
 use Rattle.std.specs.Str.{bytes_eq}
 use Rattle.std.proofs.lemmas.Map.Text.{hash_map_updates_text}
-use Rattle.table_versions.specs.Ledger.{table_in, Grows}
+use Rattle.table_versions.specs.Ledger.{table_in}
+use Rattle.table_versions.specs.Steps.{Grows}
 use Rattle.table_versions.proofs.Adding.{not_here}
 use Rattle.table_versions.proofs.Placed.{some_is}
 use Rattle.table_versions.proofs.placing.grow_table.Goals as goal

@@ -1,5 +1,6 @@
 use Rattle.std.proofs.Common.{◌≡◌, refl, subst, ◌∙◌, length}
-use Rattle.table_versions.specs.Ledger.{names_in, PutsFrames, IsOpened}
+use Rattle.table_versions.specs.Ledger.{names_in}
+use Rattle.table_versions.specs.Steps.{PutsFrames, IsOpened}
 use Rattle.table_versions.proofs.Placed.{names_length}
 use Rattle.table_versions.proofs.placing.open_table.Goals as goal
 

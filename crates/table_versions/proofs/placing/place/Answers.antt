@@ -1,7 +1,8 @@
 use Rattle.std.proofs.Common.{◌≡◌, refl, sym, ap, subst, ◌∙◌, Some, string_bytes}
 use Rattle.header_types.specs.SameShape.{SameShape}
 use Rattle.header_types.specs.Views.{schema_of}
-use Rattle.table_versions.specs.Ledger.{table_in, AddsVersion}
+use Rattle.table_versions.specs.Ledger.{table_in}
+use Rattle.table_versions.specs.Steps.{AddsVersion}
 use Rattle.table_versions.proofs.Placed.{some_is, none_is_some, tells_some, room_some}
 use Rattle.table_versions.proofs.placing.place.Goals as goal
 

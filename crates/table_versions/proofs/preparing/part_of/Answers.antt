@@ -3,11 +3,6 @@ use Rattle.table_types.specs.Served.{data_text}
 use Rattle.table_types.specs.Valid.{FitsFrame}
 use Rattle.table_versions.proofs.preparing.part_of.Goals as goal
 
-pub schema_in-requires : goal.schema_in-requires
-schema_in-requires c =
-    let is = c.requires in
-    (is.0.schema, record { profile = is.1.profile; fits = is.1.schema_fits; is = c.schema_bytes-schema_bytes.ensures is.0 is.1 is.2 })
-
 pub append_data-requires : goal.append_data-requires
 append_data-requires c =
     let is = c.requires in
