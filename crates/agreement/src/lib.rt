@@ -1,8 +1,9 @@
-//! One node's part in agreement (Lamport, *Paxos Made Simple*, sections 2 and 3): its acceptor, its proposer, its learner and
-//! the log of what is decided, as one, by what a node owes to the messages that come (`Due` in the definitions of `histories`).
+//! One node's part in agreement (Lamport, *Paxos Made Simple*, sections 2 and 3): its acceptor, its proposer, its
+//! learner and the log of what is decided, as one, by what a node owes to the messages that come (`Due` in the
+//! definitions of `histories`).
 //!
-//! A call decides a step, makes the room that it will want, and changes nothing else. The record that a step has is kept
-//! before the step is taken, and its messages go out after:
+//! A call decides a step, makes the room that it will want, and changes nothing else. The record that a step has is
+//! kept before the step is taken, and its messages go out after:
 //!
 //! ```text
 //! let step = node.reply_to_accept(seen_round, slot, proposal)?; // decides; makes the room

@@ -57,8 +57,9 @@ fn sending_accept(
 }
 
 impl Agreement {
-    /// What is due to a Promise: it is counted, and with the one that makes the open attempt's majority the Accept goes out
-    /// (section 2.2, phase 2a). Memory can be refused for the message and its value's bytes, and then nothing has changed.
+    /// What is due to a Promise: it is counted, and with the one that makes the open attempt's majority the Accept goes
+    /// out (section 2.2, phase 2a). Memory can be refused for the message and its value's bytes, and then nothing has
+    /// changed.
     pub fn reply_to_promise(
         &self,
         seen_round: u32,

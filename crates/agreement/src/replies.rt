@@ -44,9 +44,9 @@ fn report_of(acceptor: &Acceptor, slot: Slot) -> Result<Option<Acceptance>, OutO
 }
 
 impl Agreement {
-    /// What is due to a Prepare at this ballot: a promise, where it is above all that the slot has promised, with a record,
-    /// and else the refusal that names what it has promised (section 2.2, phase 1b). Room for the record is made; what the
-    /// node stands by stays as it was, also where memory is refused.
+    /// What is due to a Prepare at this ballot: a promise, where it is above all that the slot has promised, with a
+    /// record, and else the refusal that names what it has promised (section 2.2, phase 1b). Room for the record is
+    /// made; what the node stands by stays as it was, also where memory is refused.
     pub fn reply_to_prepare(
         &mut self,
         seen_round: u32,
@@ -68,9 +68,9 @@ impl Agreement {
         }
     }
 
-    /// What is due to an Accept of this proposal: a grant, where its ballot is what the slot has promised or above, with a
-    /// record, and else the refusal that names what it has promised (section 2.2, phase 2b). Room for the record is made;
-    /// what the node stands by stays as it was, also where memory is refused.
+    /// What is due to an Accept of this proposal: a grant, where its ballot is what the slot has promised or above, with
+    /// a record, and else the refusal that names what it has promised (section 2.2, phase 2b). Room for the record is
+    /// made; what the node stands by stays as it was, also where memory is refused.
     pub fn reply_to_accept(
         &mut self,
         seen_round: u32,
