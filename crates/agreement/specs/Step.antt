@@ -1,5 +1,5 @@
 -- What a step of a node's part in agreement keeps, sends and changes.
-use Rattle.std.specs.Prelude.{◌≡◌, ℕ, ◌<◌, max, Option, None, Some, List, [], ◌∷◌, ◌++◌}
+use Rattle.std.specs.Prelude.{◌≡◌, ℕ, ◌<◌, max, Option, None, Some, List, [], ◌∷◌, ◌++◌, Result, Ok, Err}
 use Rattle.ballots.specs.Limits.{max_round}
 use Rattle.ballots.specs.declared.value.Value.{Value}
 use Rattle.ballots.specs.Ballot.{Ballot}
@@ -18,7 +18,10 @@ use Rattle.learner.specs.State.{HasRoomToLearn, HasRoomForVote, decided_at}
 use Rattle.learner.specs.Changes.{LearnsNow}
 use Rattle.decided_log.specs.LogState.{LogState}
 use Rattle.histories.specs.Views.{Config, Views, HasPrefix}
-use Rattle.histories.specs.Due.{Plan, BodyIsDue}
+use Rattle.histories.specs.Due.{Plan, BodyIsDue, AimIsDue, Attempts, Plans, Refuses}
+use Rattle.histories.specs.Due as due
+use Rattle.agreement.specs.declared.refusal.Refusal.{Refusal}
+use Rattle.agreement.specs.declared.refusal.Refusal.TheVariants.{SlotsSpent, RoundsSpent, OutOfMemory}
 use Rattle.agreement.specs.declared.step.Step.{Step}
 use Rattle.agreement.specs.declared.step.Change.{Change}
 use Rattle.agreement.specs.declared.step.Change.TheVariants.{Nothing, Answered, Began, Promised, Refused, Accepted, Decided}
@@ -139,7 +142,7 @@ DecidedNow (Some held) value learned = learned ≡ None
 pub record CanBegin (state : AgreementState) (ballot : Ballot) (began : Record) : Type 0 where
   pub kept : began ≡ kept_as.Began ballot
   pub rounds_left : max state.seen_round state.proposer.highest_round < max_round
-  pub next : ballot ≡ next_ballot state.me state.proposer.highest_round state.seen_round
+  pub next : ballot ≡ next_ballot state.proposer.me state.proposer.highest_round state.seen_round
 
 pub record CanHear (state : AgreementState) (sender slot : ℕ) (acceptance : Acceptance) (learned : Option Value) : Type 0 where
   pub vote : HasRoomForVote state.learner sender slot acceptance.ballot
@@ -205,3 +208,17 @@ StaysAsItWas old new = (views : Views) → Has old views → Has new views
 pub record IsReady (old new : AgreementState) (step : Step) : Type 0 where
   pub same : StaysAsItWas old new
   pub can : CanTake new step.change
+
+-- ---- an attempt
+
+-- What is due where an attempt for this slot is aimed at, memory apart.
+abbrev pub AttemptGives : AgreementState → ℕ → Value → Result Step Refusal → Type 0
+AttemptGives state slot value (Ok step) =
+    (views : Views) → Has state views
+    → AimIsDue state.config state.me views (Attempts slot value) (Plans (plan_of views step))
+AttemptGives state slot value (Err SlotsSpent) =
+    (views : Views) → AimIsDue state.config state.me views (Attempts slot value) (Refuses due.SlotsSpent)
+AttemptGives state slot value (Err RoundsSpent) =
+    (views : Views) → Has state views
+    → AimIsDue state.config state.me views (Attempts slot value) (Refuses due.RoundsSpent)
+AttemptGives state slot value (Err OutOfMemory) = slot < state.config.slot_limit

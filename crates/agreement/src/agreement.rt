@@ -141,7 +141,7 @@ impl Agreement {
     fn begin(&mut self, slot: Slot, candidate: Value)
         requires { max self.old.seen_round self.old.proposer.highest_round < max_round }
         ensures stands { (views : Views) (ballot : Pair) → Has self.old views
-            → ballot ≡ next_ballot self.old.me self.old.proposer.highest_round self.old.seen_round
+            → ballot ≡ next_ballot self.old.proposer.me self.old.proposer.highest_round self.old.seen_round
             → Has self.new (left_by views views.seen_round (Began slot candidate ballot (kept_as.Began ballot))) }
         ensures me { self.new.me ≡ self.old.me }
         ensures config { self.new.config ≡ self.old.config }

@@ -12,13 +12,17 @@
 //! send(messages);                                               // those of the step
 //! ```
 //!
-//! Here are the replies to a Prepare, an Accept, a Promise, a Nack and an Ask, and where each change leaves a node.
+//! Here are attempts, the replies to a Prepare, an Accept, a Promise, a Nack and an Ask, and where each change leaves a
+//! node.
 #![tactic(auto)]
 
 mod agreement;
+mod attempts;
 mod proposals;
+mod refusal;
 mod replies;
 mod step;
 
 pub use agreement::Agreement;
+pub use refusal::Refusal;
 pub use step::{Change, Step};

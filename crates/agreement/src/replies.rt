@@ -68,8 +68,8 @@ impl Agreement {
         }
     }
 
-    /// What is due to an Accept of this proposal: a grant, where its ballot is what the slot has promised or above, with
-    /// a record, and else the refusal that names what it has promised (section 2.2, phase 2b). Room for the record is
+    /// What is due to an Accept of this proposal: a grant, where its ballot is what the slot has promised or above,
+    /// with a record, and else the refusal that names what it has promised (section 2.2, phase 2b). Room for the record is
     /// made; what the node stands by stays as it was, also where memory is refused.
     pub fn reply_to_accept(
         &mut self,

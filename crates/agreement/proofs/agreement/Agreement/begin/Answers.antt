@@ -12,7 +12,7 @@ use Rattle.agreement.proofs.agreement.Agreement.begin.Goals as goal
 
 pub returns-clause-stands : goal.returns-clause-stands
 returns-clause-stands c views ballot had next =
-    let given = subst (λ (s : AgreementState). Has s views × (ballot ≡ next_ballot s.me s.proposer.highest_round s.seen_round) × (max s.seen_round s.proposer.highest_round < max_round))
+    let given = subst (λ (s : AgreementState). Has s views × (ballot ≡ next_ballot s.proposer.me s.proposer.highest_round s.seen_round) × (max s.seen_round s.proposer.highest_round < max_round))
     (sym c.self.view_is) (had, next, c.requires) in
     let has = given.0 in
     let start : Start = record { me = c.self.inside.me; members = c.self.inside.members; highest_round = has.first_round } in
@@ -20,7 +20,7 @@ returns-clause-stands c views ballot had next =
     let is_next = parts.at_ok _ c.begin.result ok.0 ok.1 c.begin.ensures.next in
     let round = parts.at_ok _ c.begin.result ok.0 ok.1 c.begin.ensures.round in
     let stands = parts.at_ok _ c.begin.result ok.0 ok.1 c.begin.ensures.stands in
-    let same : ok.0 ≡ ballot = is_next ∙ ap (λ (n : ℕ). next_ballot n c.self.inside.proposer.highest_round c.self.inside.seen_round) has.asked.me ∙ sym given.1 in
+    let same : ok.0 ≡ ballot = is_next ∙ sym given.1 in
     record {
       restored = c.applied_is_restored.ensures views.records _ _ (kept_as.Began ballot) has.restored (record { promises = λ s. refl; acceptances = λ s. refl });
       begun = subst (λ (r : ℕ). IsHighestRound (views.records ++ kept_as.Began ballot ∷ []) r) (sym (round ∙ ap (λ (b : Pair). b.round) same))
