@@ -129,7 +129,7 @@ def kept_cells():
     for line in PAGE.read_text(encoding="utf-8").partition(FIRST)[2].partition(LAST)[0].splitlines():
         cells = [cell.strip() for cell in line.strip("|").split("|")]
         if line.startswith("| `") and len(cells) == 7:
-            seconds = [float(cell.split(" ")[0] or 0) for cell in (cells[1], cells[2], cells[3], cells[5])]
+            seconds = [float(cell.partition("(")[0] or 0) for cell in (cells[1], cells[2], cells[3], cells[5])]
             kept[cells[0].strip("`")] = dict(zip(KINDS, seconds))
     return kept
 
@@ -156,7 +156,7 @@ def page_of(costs, total, wall, ending, ended):
         lines = sum(file.read_text(encoding="utf-8").count("\n") for file in sources)
         tests, edit, runs = seconds["tests"], seconds["edits"] / max(edits, 1), seconds["runs"]
         cells = [f"`{crate}`", f"{seconds['proof']:.0f}", f"{tests:.0f}" if tests else ""]
-        cells += [f"{seconds['edits']:.0f} ({edits})" if edits else "", f"{edit:.1f}" if edits else ""]
+        cells += [f"{seconds['edits']:.0f} ({edits})" if edit else f"({edits})" if edits else "", f"{edit:.1f}" if edit else ""]
         cells += [f"{runs:.0f}" if runs >= 0.5 else "", f"{lines:,}"]
         rows.append("| " + " | ".join(cells) + " |")
     text = f"The last gate that was measured printed `{ending}`. It took {wall / 60:.0f} minutes on {len(os.sched_getaffinity(0))} processors, and "
