@@ -1,9 +1,9 @@
 -- A walk over fields that checks their columns, step by step.
 use Rattle.std.proofs.Common.{◌≡◌, inl, inr, refl, sym, ap, ap₂, ◌∙◌, subst, ℕ, zero, suc, ◌+◌, ◌<◌, ◌≤◌, pos, nat_abs, List, [], ◌∷◌, ◌++◌, length, get_or, take, drop, slice_index_or, arith}
 use Rattle.std.specs.List.{range_with_len, filter, flat_map}
-use Rattle.header_types.specs.declared.schema.Field.{Field}
+use Rattle.header_types.specs.declared.schema.Field.{Field, out-Field}
 use Rattle.header_types.specs.declared.header.BatchHead.{BatchHead}
-use Rattle.header_types.specs.Fields.{Tree, tree, Forest, no_more, more}
+use Rattle.header_types.specs.Fields.{tree, Forest, no_more, more}
 use Rattle.header_types.specs.FieldView.{field_head_of, entries_in, fields_in}
 use Rattle.header_types.specs.Limits.{forest_depth}
 use Rattle.header_types.proofs.FieldTrees.{forest_next}
@@ -20,18 +20,15 @@ use Rattle.batch_sources.specs.Sources.{nodes_of_tree, buffers_of_tree, columns_
 use Rattle.batch_sources.specs.Read.{IsSourceOf, column_at}
 use Rattle.batch_checking.specs.declared.around.Around.{Around}
 use Rattle.batch_checking.specs.Around.{source_places, places_around, AreSteady}
-use Rattle.batch_checking.specs.Checked.{KeepsOwn, BreaksOwn}
-use Rattle.batch_checking.specs.Columns.{sources_around, first_places, places_in, forest_seen, columns_at, inside_of, AllReach, MayCheck, MayCheckOne, IsBehind, IsOpen}
+use Rattle.batch_checking.specs.Checked.{KeepsOwn, BreaksOwn, InsideIsSound}
+use Rattle.batch_checking.specs.Columns.{sources_around, first_places, places_in, forest_seen, columns_at, inside_of, AllReach, MayCheck, MayCheckOne, IsBehind, IsOpen, tree_seen}
 use Rattle.batch_checking.specs.Walk.{Came}
 use Rattle.batch_checking.proofs.Walking.{around_more, steady_more}
 use Rattle.batch_checking.proofs.Placing.{drop_both, drop_nothing}
 use Rattle.batch_checking.proofs.Going.{reach_inside}
 
-abbrev pub seen : Field → Tree
-seen x = tree (field_head_of x) (entries_in x) (fields_in x)
-
 module _ (body : List ℕ) (head : BatchHead) (asked : ℕ) (around : Around) where
-  pub one_may : (x : Field) (rest : Forest) (place : Place) → MayCheck (more (seen x) rest) head place asked around → MayCheckOne x head place asked around
+  pub one_may : (x : Field) (rest : Forest) (place : Place) → MayCheck (more (tree_seen x) rest) head place asked around → MayCheckOne x head place asked around
   one_may x rest place may = record {
     counted = may.counted;
     nodes = omega (arith, may.nodes);
@@ -118,11 +115,11 @@ module _ (body : List ℕ) (head : BatchHead) (asked : ℕ) (around : Around) wh
     abbrev CameTo : Forest → Place → Type 0
     CameTo rest place = Came body head asked around fields first rest place
 
-    pub own_fault : (x : Field) (rest : Forest) (place : Place) (told : BatchFault) → CameTo (more (seen x) rest) place
+    pub own_fault : (x : Field) (rest : Forest) (place : Place) (told : BatchFault) → CameTo (more (tree_seen x) rest) place
         → BreaksOwn body (column_at x head place) asked (places_in around) told → HaveFault body (columns_at fields head first) asked (places_in around) told
     own_fault x rest place told came breaks = came.fault told (inl (inl breaks))
 
-    pub inside_fault : (x : Field) (rest : Forest) (place : Place) (told : BatchFault) → CameTo (more (seen x) rest) place
+    pub inside_fault : (x : Field) (rest : Forest) (place : Place) (told : BatchFault) → CameTo (more (tree_seen x) rest) place
         → KeepsOwn body (column_at x head place) asked (places_in around)
         → HaveFault body (inside_of (column_at x head place))
         (asked_inside (layout_of (field_head_of x).data_type) (nat_abs (get_or (drop place.node head.nodes.items) 0 (pos 0, pos 0)).0))
@@ -131,9 +128,9 @@ module _ (body : List ℕ) (head : BatchHead) (asked : ℕ) (around : Around) wh
         → HaveFault body (columns_at fields head first) asked (places_in around) told
     inside_fault x rest place told came kept has = came.fault told (inl (inr (kept, has)))
 
-    pub went_on : (x : Field) (rest : Forest) (place after : Place) → CameTo (more (seen x) rest) place
-        → IsSound body (column_at x head place) asked (places_in around) → after.node ≡ place.node + nodes_of_tree (seen x)
-        → after.buffer ≡ place.buffer + buffers_of_tree (seen x) → CameTo rest after
+    pub went_on : (x : Field) (rest : Forest) (place after : Place) → CameTo (more (tree_seen x) rest) place
+        → IsSound body (column_at x head place) asked (places_in around) → after.node ≡ place.node + nodes_of_tree (tree_seen x)
+        → after.buffer ≡ place.buffer + buffers_of_tree (tree_seen x) → CameTo rest after
     went_on x rest place after came sound node buffer = record {
       may = record {
         counted = came.may.counted;
@@ -151,11 +148,11 @@ module _ (body : List ℕ) (head : BatchHead) (asked : ℕ) (around : Around) wh
       fault = λ told h. came.fault told (inr (sound, subst (λ (cs : LaidColumns). HaveFault body cs asked (places_in around) told) (sym columns_rest) h));
     }
       where
-        columns_rest : columns_from rest (drop (nodes_of_tree (seen x)) (drop place.node head.nodes.items))
-            (drop (buffers_of_tree (seen x)) (drop place.buffer head.buffers.items)) ≡ columns_at rest head after
+        columns_rest : columns_from rest (drop (nodes_of_tree (tree_seen x)) (drop place.node head.nodes.items))
+            (drop (buffers_of_tree (tree_seen x)) (drop place.buffer head.buffers.items)) ≡ columns_at rest head after
         columns_rest =
-            ap₂ (columns_from rest) (drop_both (nodes_of_tree (seen x)) place.node head.nodes.items ∙ ap (λ k. drop k head.nodes.items) (sym node))
-            (drop_both (buffers_of_tree (seen x)) place.buffer head.buffers.items ∙ ap (λ k. drop k head.buffers.items) (sym buffer))
+            ap₂ (columns_from rest) (drop_both (nodes_of_tree (tree_seen x)) place.node head.nodes.items ∙ ap (λ k. drop k head.nodes.items) (sym node))
+            (drop_both (buffers_of_tree (tree_seen x)) place.buffer head.buffers.items ∙ ap (λ k. drop k head.buffers.items) (sym buffer))
 
     pub came_end : (rest : Forest) (place : Place) → CameTo rest place → rest ≡ no_more
         → AreSound body (columns_at fields head first) asked (places_in around) × IsBehind fields first place
@@ -177,7 +174,7 @@ drop_end (x ∷ xs) (suc i) all = drop_end xs i (omega arith)
 
 pub came_next : (body : List ℕ) (head : BatchHead) (asked : ℕ) (around : Around) (fields : List Field) (first place : Place) (i : ℕ) (x : Field)
     → i < length fields → x ≡ slice_index_or fields i x → Came body head asked around (forest_seen fields) first (forest_seen (drop i fields)) place
-    → Came body head asked around (forest_seen fields) first (more (seen x) (forest_seen (drop (i + 1) fields))) place
+    → Came body head asked around (forest_seen fields) first (more (tree_seen x) (forest_seen (drop (i + 1) fields))) place
 came_next body head asked around fields first place i x there is came =
     subst (λ r. Came body head asked around (forest_seen fields) first r place) (forest_next fields i x there is) came
 
@@ -192,3 +189,23 @@ depth_left (x ∷ xs) (suc i) = omega (arith, depth_left xs i)
 pub depth_falls : (fields : List Field) (i : ℕ) (x : Field) → i < length fields → x ≡ slice_index_or fields i x
     → forest_depth (fields_in x) < forest_depth (forest_seen fields)
 depth_falls fields i x there is = omega (arith, depth_left fields i, ap forest_depth (forest_next fields i x there is))
+
+-- ---- a column with none inside it
+
+pub none_inside : (x : Field) → (out-Field x).children.items ≡ [] → fields_in x ≡ no_more
+none_inside x none = ap forest_seen none
+
+module _ (body : List ℕ) (head : BatchHead) (around : Around) (x : Field) (place : Place) (none : fields_in x ≡ no_more) where
+  pub bare_nodes : nodes_of_tree (tree_seen x) ≡ 1
+  bare_nodes = ap (λ (f : Forest). nodes_of_tree (tree (field_head_of x) (entries_in x) f)) none
+
+  pub bare_buffers : buffers_of_tree (tree_seen x) ≡ buffers_in_layout (layout_of (field_head_of x).data_type)
+  bare_buffers = ap (λ (f : Forest). buffers_of_tree (tree (field_head_of x) (entries_in x) f)) none ∙ omega arith
+
+  pub bare_is_sound : InsideIsSound body (column_at x head place) (places_in around)
+  bare_is_sound =
+      subst (λ (f : Forest). AreSound body (columns_from f (drop 1 (drop place.node head.nodes.items))
+      (drop (buffers_in_layout (layout_of (field_head_of x).data_type)) (drop place.buffer head.buffers.items)))
+      (asked_inside (layout_of (field_head_of x).data_type) (nat_abs (get_or (drop place.node head.nodes.items) 0 (pos 0, pos 0)).0))
+      (places_inside body (layout_of (field_head_of x).data_type)
+      (take (buffers_in_layout (layout_of (field_head_of x).data_type)) (drop place.buffer head.buffers.items)) (places_in around))) (sym none) tt

@@ -78,11 +78,22 @@ module _ (offsets : List ℕ) (count : ℕ) (rise : (j : ℕ) → j < count → 
       cases_order : (a b : ℕ) → (a < b → a ≡ b) → (b < a → a ≡ b) → a ≡ b
       cases_order a b p q = grind arith
 
-  pub none_before : (place row : ℕ) → row < count → place < start_of 4 offsets 0 → StandsIn offsets row place → ⊥
+  none_before : (place row : ℕ) → row < count → place < start_of 4 offsets 0 → StandsIn offsets row place → ⊥
   none_before place row below early stands = absurd (omega (arith, up 0 row (omega arith) (omega arith)))
 
-  pub none_behind : (place row : ℕ) → row < count → start_of 4 offsets count ≤ place → StandsIn offsets row place → ⊥
+  none_behind : (place row : ℕ) → row < count → start_of 4 offsets count ≤ place → StandsIn offsets row place → ⊥
   none_behind place row below late stands = absurd (omega (arith, up (row + 1) count (omega arith) (omega arith)))
+
+  pub none_outside : (place row : ℕ) → row < count → (place < start_of 4 offsets 0) ⊎ (start_of 4 offsets count ≤ place) → StandsIn offsets row place → ⊥
+  none_outside place row below (inl early) stands = none_before place row below early stands
+  none_outside place row below (inr late) stands = none_behind place row below late stands
+
+-- what begins no higher than a place is not the end, which is higher
+pub not_end : (f : ℕ → ℕ) (low count place : ℕ) → low ≤ count → f low ≤ place → place < f count → low < count
+not_end f low count place within begins late = by_order low count within (λ less. less) (λ same. absurd (omega (arith, ap f same, begins, late)))
+  where
+    by_order : (a b : ℕ) → a ≤ b → (a < b → low < count) → (a ≡ b → low < count) → low < count
+    by_order a b up p q = grind arith
 
 pub value_ends : (offsets : List ℕ) (count limit row : ℕ) → AreSpreadWithin offsets count limit → row < count
     → (start_of 4 offsets row ≤ start_of 4 offsets (row + 1)) × (start_of 4 offsets (row + 1) ≤ limit)

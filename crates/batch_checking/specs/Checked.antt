@@ -1,13 +1,13 @@
 -- The rules of one column in their order, of what is read of it and of the header and the body.
-use Rattle.std.specs.Prelude.{ℕ, ◌<◌, ◌≤◌, ℤ, pos, List, length}
+use Rattle.std.specs.Prelude.{ℕ, ◌<◌, ◌≤◌, ℤ, pos, nat_abs, List, length}
 use Rattle.std.specs.List.{AllByRecursion}
 use Rattle.batch_types.specs.declared.fault.BatchFault.{BatchFault}
 use Rattle.batch_types.specs.declared.fault.BatchFault.TheVariants as fault
 use Rattle.batch_types.specs.Layouts.{Layout}
 use Rattle.batch_types.specs.Laid.{LaidColumn, laid}
 use Rattle.batch_types.specs.Order.{column_order, AreKept, IsFirstBroken}
-use Rattle.batch_types.specs.Rules.{AreLong, HasNullCount}
-use Rattle.batch_types.specs.LaysOut.{KeepsRule}
+use Rattle.batch_types.specs.Rules.{AreLong, HasNullCount, asked_inside, places_inside}
+use Rattle.batch_types.specs.LaysOut.{KeepsRule, AreSound, HaveFault}
 use Rattle.batch_columns.specs.Held.{layout_named}
 use Rattle.batch_sources.specs.declared.source.Source.{Source}
 use Rattle.batch_checking.specs.SourceRules.{OffsetsHold}
@@ -44,6 +44,16 @@ KeepsOwn body (laid layout node ranges inner) asked places =
 abbrev pub BreaksOwn : List ℕ → LaidColumn → ℕ → List ℕ → BatchFault → Type 0
 BreaksOwn body (laid layout node ranges inner) asked places told =
     IsFirstBroken (KeepsRule body layout node ranges inner asked places) column_order told
+
+-- where it does, the columns inside it keep their rules
+abbrev pub InsideIsSound : List ℕ → LaidColumn → List ℕ → Type 0
+InsideIsSound body (laid layout node ranges inner) places =
+    AreSound body inner (asked_inside layout (nat_abs node.0)) (places_inside body layout ranges places)
+
+-- this is the first fault that they have
+abbrev pub InsideHasFault : List ℕ → LaidColumn → List ℕ → BatchFault → Type 0
+InsideHasFault body (laid layout node ranges inner) places told =
+    HaveFault body inner (asked_inside layout (nat_abs node.0)) (places_inside body layout ranges places) told
 
 -- where the column has as many values as are asked of it, these places are among them
 abbrev pub ReachesIf : ℕ → ℕ → List ℕ → Type 0

@@ -3,7 +3,7 @@ use Rattle.std.specs.Prelude.{◌≡◌, ℕ, ◌+◌, ◌<◌, ◌≤◌, pos, 
 use Rattle.std.specs.List.{AllByRecursion, range_with_len}
 use Rattle.header_types.specs.declared.schema.Field.{Field}
 use Rattle.header_types.specs.declared.header.BatchHead.{BatchHead}
-use Rattle.header_types.specs.Fields.{tree, Forest, more, no_more}
+use Rattle.header_types.specs.Fields.{Tree, tree, Forest, more, no_more}
 use Rattle.header_types.specs.FieldView.{field_head_of, entries_in, fields_in}
 use Rattle.header_types.specs.Views.{tree_of, forest_of}
 use Rattle.header_types.specs.Limits.{forest_depth}
@@ -73,10 +73,13 @@ pub record MayCheck (fields : Forest) (head : BatchHead) (place : Place) (asked 
   pub steady : AreSteady (first_places around) (sources_around around)
   pub reach : AllReach asked (columns_at fields head place) (places_in around)
 
+-- a field with those inside it
+abbrev pub tree_seen : Field → Tree
+tree_seen field = tree (field_head_of field) (entries_in field) (fields_in field)
+
 -- the same of one field, with those inside it
 abbrev pub MayCheckOne : Field → BatchHead → Place → ℕ → Around → Type 0
-MayCheckOne field head place asked around =
-    MayCheck (more (tree (field_head_of field) (entries_in field) (fields_in field)) no_more) head place asked around
+MayCheckOne field head place asked around = MayCheck (more (tree_seen field) no_more) head place asked around
 
 -- the place behind the columns of these fields
 abbrev pub IsBehind : Forest → Place → Place → Type 0

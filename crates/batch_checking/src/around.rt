@@ -47,7 +47,8 @@ impl<'a> Around<'a> {
     /// The columns.
     pub(crate) fn sources(&self) -> &[Source<'a>]
         requires { self.now.depth ≤ 16 }
-        ensures { result.now ≡ sources_around self.now }
+        ensures sources { result.now ≡ sources_around self.now }
+        ensures few { length result.now ≤ 16 }
     {
         &self.levels[..self.depth]
     }
@@ -79,8 +80,8 @@ fn block_around(size: usize, place: usize) -> Option<usize>
     if size == 0 { None } else { Some(place / size) }
 }
 
-/// The row whose value has the element or the field at a place inside a column.
-fn row_of(source: &Source, place: usize) -> Option<usize>
+/// The row whose value has the element or the field at a place inside a column. A row near it may be guessed.
+fn row_of(source: &Source, place: usize, guess: usize) -> Option<usize>
     requires { IsSteadySource source.now }
     ensures stands { IfSome result (λ row. StandsInside source.now row place) }
     ensures found { (row : ℕ) → row < source.now.length → StandsInside source.now row place → result ≡ Some row }
@@ -88,19 +89,20 @@ fn row_of(source: &Source, place: usize) -> Option<usize>
     match source.layout {
         Layout::Struct => Some(place),
         Layout::FixedSizeList { size } => block_around(size as usize, place),
-        Layout::List => row_around(source.second, source.length, place),
+        Layout::List => row_around(source.second, source.length, place, guess),
         Layout::Null | Layout::Bits | Layout::Bytes { .. } | Layout::Binary | Layout::Utf8 => None,
     }
 }
 
-/// That row, where its value is valid.
-fn valid_row_of(source: &Source, place: usize) -> Option<usize>
+/// That row, where its value is valid. It is the next guess.
+fn valid_row_of(source: &Source, place: usize, guess: &mut usize) -> Option<usize>
     requires { IsSteadySource source.now }
     ensures stands { IfSome result (λ row. IsValidAt source.now row × StandsInside source.now row place) }
     ensures found { (row : ℕ) → row < source.now.length → IsValidAt source.now row → StandsInside source.now row place
         → result ≡ Some row }
 {
-    let row = row_of(source, place)?;
+    let row = row_of(source, place, *guess)?;
+    *guess = row;
     if is_valid(source, row) {
         Some(row)
     } else {
@@ -116,15 +118,24 @@ fn is_row(row: usize, rows: usize) -> bool
 }
 
 /// Whether a place inside these columns, each around the next, belongs to the batch: there is a row among the first
-/// ones, as many as these, and all the values around the place are valid. It takes no memory, and walks up once.
-pub(crate) fn belongs(rows: usize, around: &[Source], place: usize) -> bool
-    requires { AreSteady (range_with_len 0 rows) around.now }
-    ensures { IsTrue result ↔ Holds (places_around (range_with_len 0 rows) around.now) place }
+/// ones, as many as these, and all the values around the place are valid. It takes no memory, and walks up once. Of each
+/// column the row that was found last is the next guess: places that are asked for in order are found in a few steps.
+pub(crate) fn belongs(
+    rows: usize,
+    around: &[Source],
+    place: usize,
+    guesses: &mut [usize; MAX_DEPTH],
+) -> bool
+    requires steady { AreSteady (range_with_len 0 rows) around.now }
+    requires few { length around.now ≤ 16 }
+    requires room { length guesses.old ≡ 16 }
+    ensures room { length guesses.new ≡ 16 }
+    ensures belongs { IsTrue result ↔ Holds (places_around (range_with_len 0 rows) around.now) place }
 {
     let mut place = place;
     let mut depth = around.len();
     while depth > 0 {
-        match valid_row_of(&around[depth - 1], place) {
+        match valid_row_of(&around[depth - 1], place, &mut guesses[depth - 1]) {
             Some(row) => place = row,
             None => return false,
         }

@@ -52,8 +52,8 @@ fn check_columns(schema: &Schema, head: &BatchHead, body: &[u8]) -> Result<(), B
 /// those of the header come first ([`BatchFault`]), then those of each column, depth first, a parent before the columns
 /// inside it (Apache Arrow, "Arrow Columnar Format", "Physical memory layout" and "RecordBatch message"). The schema is
 /// in profile. It takes no memory, so it never answers `OutOfMemory`. It takes time in proportion to the bytes of the
-/// columns' buffers, those of two columns that overlap counted twice; and for each text that is not UTF-8, a search by
-/// halves in each of the columns around it, of which there are at most 15.
+/// columns' buffers, those of two columns that overlap counted twice; and for each text that is not UTF-8, a search in
+/// each of the columns around it, of which there are at most 15, from where the one before it was found.
 ///
 /// # Errors
 ///

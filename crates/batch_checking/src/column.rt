@@ -53,6 +53,7 @@ pub(crate) fn check_source(
 ) -> Result<(), BatchFault>
     requires few { source.now.length ≤ values_limit }
     requires steady { AreSteady (range_with_len 0 rows) around.now }
+    requires inside { length around.now ≤ 16 }
     requires reaches { ReachesIf asked source.now.length (places_around (range_with_len 0 rows) around.now) }
     ensures kept { OnOk result (AreKept (SourceKeeps source.now first asked
         (places_around (range_with_len 0 rows) around.now)) column_order) }

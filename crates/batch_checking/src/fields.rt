@@ -1,13 +1,14 @@
 //! The columns of fields, depth first.
 
-ghost use Rattle.std.specs.Prelude.{◌≡◌, ◌↔◌, ◌≤◌, ◌<◌, ◌^◌, ◌*◌, pos, nat_abs, IsTrue, IfOk, IfErr, length, get_or};
+ghost use Rattle.std.specs.Prelude.{◌≡◌, ◌↔◌, ◌+◌, ◌≤◌, ◌<◌, ◌^◌, ◌*◌, ℕ, pos, nat_abs, IsTrue, IfOk, IfErr, length, get_or};
 ghost use Rattle.batch_types.specs.Rules.{first_length, asked_inside as asked_of};
 ghost use Rattle.batch_types.specs.LaysOut.{AreSound, HaveFault, values_limit};
 ghost use Rattle.batch_columns.specs.Held.{layout_named};
 ghost use Rattle.batch_sources.specs.Read.{column_at, IsSourceOf};
-ghost use Rattle.batch_checking.specs.Checked.{KeepsOwn, BreaksOwn};
+ghost use Rattle.batch_sources.specs.Sources.{nodes_of_tree, buffers_of_tree};
+ghost use Rattle.batch_checking.specs.Checked.{KeepsOwn, BreaksOwn, InsideIsSound, InsideHasFault};
 ghost use Rattle.batch_checking.specs.Columns.{places_in, forest_seen, columns_at, inside_of, MayCheck, MayCheckOne};
-ghost use Rattle.batch_checking.specs.Columns.{IsBehind, IsOpen};
+ghost use Rattle.batch_checking.specs.Columns.{IsBehind, IsOpen, tree_seen};
 
 use crate::around::Around;
 use crate::column::check_source;
@@ -83,8 +84,42 @@ fn check_column<'a>(
     }
 }
 
+/// The place behind a column and those inside it, if the latter keep their rules, and else the first rule that they break,
+/// depth first. The column stands at this place and keeps its own rules.
+#[cycle(checking)]
+fn check_inside<'a>(
+    field: &Field,
+    head: &BatchHead,
+    place: Place,
+    body: &'a [u8],
+    source: &Source<'a>,
+    around: &Around<'a>,
+) -> Result<Place, BatchFault>
+    requires may { (asked : ℕ) × MayCheckOne field.now head.now place asked around.now }
+    requires source { IsSourceOf body.now (column_at field.now head.now place) source.now }
+    requires seen { IsOpen source.now (column_at field.now head.now place) (places_in around.now) }
+    ensures node { IfOk result (λ next. next.node ≡ place.node + nodes_of_tree (tree_seen field.now)) }
+    ensures buffer { IfOk result (λ next. next.buffer ≡ place.buffer + buffers_of_tree (tree_seen field.now)) }
+    ensures sound { IfOk result (λ next. InsideIsSound body.now (column_at field.now head.now place)
+        (places_in around.now)) }
+    ensures fault { IfErr result (λ told. InsideHasFault body.now (column_at field.now head.now place)
+        (places_in around.now) told) }
+{
+    let inside = place.inside(source.layout);
+    if field.children.is_empty() {
+        return Ok(inside);
+    }
+    let around = around.with(source);
+    let asked = asked_inside(source);
+    match check_fields(&field.children, head, inside, body, asked, &around) {
+        Ok(next) => Ok(next),
+        Err(fault) => Err(fault),
+    }
+}
+
 /// The place behind the columns of these fields, if they and those inside them keep their rules, and else the first
 /// rule that is broken, depth first.
+#[cycle(checking)]
 pub(crate) fn check_fields<'a>(
     fields: &[Field],
     head: &BatchHead,
@@ -103,10 +138,7 @@ pub(crate) fn check_fields<'a>(
     let mut place = place;
     for field in fields {
         let source = check_column(field, head, place, body, asked, around)?;
-        let around = around.with(&source);
-        let inside = place.inside(source.layout);
-        let asked = asked_inside(&source);
-        place = check_fields(&field.children, head, inside, body, asked, &around)?;
+        place = check_inside(field, head, place, body, &source, around)?;
     }
     Ok(place)
 }

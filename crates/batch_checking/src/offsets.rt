@@ -1,6 +1,6 @@
 //! Offsets, which say where values of any size begin and end.
 
-ghost use Rattle.std.specs.Prelude.{◌≡◌, ◌↔◌, ◌+◌, ◌*◌, ◌<◌, ◌≤◌, ◌≤ℤ◌, ℕ, pos, IsTrue, IfSome, IfNone, length};
+ghost use Rattle.std.specs.Prelude.{◌≡◌, ◌↔◌, ◌+◌, ◌*◌, ◌<◌, ◌≤◌, ◌≤ℤ◌, ◌⊎◌, ℕ, pos, IsTrue, IfSome, IfNone, length};
 ghost use Rattle.batch_types.specs.Placed.{bytes_from, offset_at as offset_seen, start_of};
 ghost use Rattle.batch_types.specs.Rules.{AreOffsetsLong, DoRise, OffsetsRise};
 ghost use Rattle.batch_types.specs.LaysOut.{values_limit};
@@ -79,23 +79,62 @@ pub(crate) fn have_risen(offsets: &[u8], count: usize, limit: usize) -> bool
     offsets.is_empty() || do_rise(offsets, count, limit)
 }
 
-/// The row whose value has the element at a place, by offsets that do not fall.
-pub(crate) fn row_around(offsets: &[u8], count: usize, place: usize) -> Option<usize>
-    requires few { count ≤ values_limit }
-    requires spread { AreSpread offsets.now count }
-    ensures some { IfSome result (λ row. (row < count) × StandsIn offsets.now row place) }
-    ensures none { IfNone result ((row : ℕ) → row < count → ¬ (StandsIn offsets.now row place)) }
+/// A row whose value begins no higher than at a place: the guessed one if it does, else the first; `None` where the first
+/// begins higher.
+fn begin_below(offsets: &[u8], count: usize, place: usize, guess: usize) -> Option<usize>
+    requires { 4 * (count + 1) ≤ length offsets.now }
+    ensures below { IfSome result (λ row. (row ≤ count) × (start_of 4 offsets.now row ≤ place)) }
+    ensures none { IfNone result (place < start_of 4 offsets.now 0) }
 {
-    if count == 0 {
-        return None;
+    if guess <= count && start_at(offsets, guess) <= place {
+        return Some(guess);
     }
-    if place < start_at(offsets, 0) {
-        return None;
+    if start_at(offsets, 0) <= place {
+        Some(0)
+    } else {
+        None
     }
-    if place >= start_at(offsets, count) {
-        return None;
+}
+
+/// Two rows, the first of which begins no higher than at a place and the second higher; `None` where the place lies before
+/// the first value or behind the last. They are found in steps that grow from a guess on: any guess will do, and a near
+/// one is found soon.
+fn bounds_around(offsets: &[u8], count: usize, place: usize, guess: usize) -> Option<(usize, usize)>
+    requires few { count ≤ values_limit }
+    requires long { 4 * (count + 1) ≤ length offsets.now }
+    ensures order { IfSome result (λ rows. (rows.0 < rows.1) × (rows.1 ≤ count)) }
+    ensures around { IfSome result
+        (λ rows. (start_of 4 offsets.now rows.0 ≤ place) × (place < start_of 4 offsets.now rows.1)) }
+    ensures outside { IfNone result
+        ((place < start_of 4 offsets.now 0) ⊎ (start_of 4 offsets.now count ≤ place)) }
+{
+    let first = begin_below(offsets, count, place, guess)?;
+    let (mut low, mut step) = (first, 1);
+    while step < count - low {
+        if place < start_at(offsets, low + step) {
+            return Some((low, low + step));
+        }
+        low += step;
+        step = low - first;
     }
-    let (mut low, mut high) = (0, count);
+    if place < start_at(offsets, count) {
+        Some((low, count))
+    } else {
+        None
+    }
+}
+
+/// The row whose value has the element at a place, between two rows of which the first begins no higher than there and the
+/// second higher.
+fn row_between(offsets: &[u8], place: usize, low: usize, high: usize) -> usize
+    requires few { high ≤ values_limit }
+    requires long { 4 * (high + 1) ≤ length offsets.now }
+    requires order { low < high }
+    requires around { (start_of 4 offsets.now low ≤ place) × (place < start_of 4 offsets.now high) }
+    ensures below { result < high }
+    ensures stands { StandsIn offsets.now result place }
+{
+    let (mut low, mut high) = (low, high);
     while high - low > 1 {
         let middle = low + (high - low) / 2;
         if place < start_at(offsets, middle) {
@@ -104,5 +143,21 @@ pub(crate) fn row_around(offsets: &[u8], count: usize, place: usize) -> Option<u
             low = middle;
         }
     }
-    Some(low)
+    low
+}
+
+/// The row whose value has the element at a place, by offsets that do not fall. A row near it may be guessed.
+pub(crate) fn row_around(offsets: &[u8], count: usize, place: usize, guess: usize) -> Option<usize>
+    requires few { count ≤ values_limit }
+    requires spread { AreSpread offsets.now count }
+    ensures some { IfSome result (λ row. (row < count) × StandsIn offsets.now row place) }
+    ensures none { IfNone result ((row : ℕ) → row < count → ¬ (StandsIn offsets.now row place)) }
+{
+    if count == 0 {
+        return None;
+    }
+    match bounds_around(offsets, count, place, guess) {
+        Some((low, high)) => Some(row_between(offsets, place, low, high)),
+        None => None,
+    }
 }

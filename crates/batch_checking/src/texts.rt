@@ -13,6 +13,7 @@ use crate::offsets::start_at;
 use crate::validity::is_valid;
 use batch_columns::Layout;
 use batch_sources::Source;
+use header_types::MAX_DEPTH;
 use simdutf8::basic::from_utf8;
 
 /// The bytes of a run of some.
@@ -45,26 +46,37 @@ fn is_text(source: &Source, row: usize) -> bool
 }
 
 /// Whether a row that is there has no text, or one in UTF-8, or none that belongs to the batch.
-fn is_fine(source: &Source, rows: usize, around: &[Source], row: usize) -> bool
+fn is_fine(
+    source: &Source,
+    rows: usize,
+    around: &[Source],
+    row: usize,
+    guesses: &mut [usize; MAX_DEPTH],
+) -> bool
     requires within { row < source.now.length }
     requires spread { AreSpreadWithin source.now.second.now source.now.length (length source.now.third.now) }
     requires steady { AreSteady (range_with_len 0 rows) around.now }
-    ensures { IsTrue result ↔ (Holds (places_around (range_with_len 0 rows) around.now) row → IsValidAt source.now row
+    requires few { length around.now ≤ 16 }
+    requires room { length guesses.old ≡ 16 }
+    ensures room { length guesses.new ≡ 16 }
+    ensures fine { IsTrue result ↔ (Holds (places_around (range_with_len 0 rows) around.now) row → IsValidAt source.now row
         → IsUtf8 (value_bytes 4 source.now.second.now source.now.third.now row)) }
 {
-    !is_valid(source, row) || is_text(source, row) || !belongs(rows, around, row)
+    !is_valid(source, row) || is_text(source, row) || !belongs(rows, around, row, guesses)
 }
 
 /// Whether each text that belongs to the batch and is valid is UTF-8, one by one.
 fn are_fine(source: &Source, rows: usize, around: &[Source]) -> bool
     requires spread { AreSpreadWithin source.now.second.now source.now.length (length source.now.third.now) }
     requires steady { AreSteady (range_with_len 0 rows) around.now }
+    requires few { length around.now ≤ 16 }
     ensures { IsTrue result ↔ ((row : ℕ) → row < source.now.length
         → Holds (places_around (range_with_len 0 rows) around.now) row → IsValidAt source.now row
         → IsUtf8 (value_bytes 4 source.now.second.now source.now.third.now row)) }
 {
+    let mut guesses = [0; MAX_DEPTH];
     for row in 0..source.length {
-        if !is_fine(source, rows, around, row) {
+        if !is_fine(source, rows, around, row, &mut guesses) {
             return false;
         }
     }
@@ -102,6 +114,7 @@ fn are_parts(source: &Source) -> bool
 fn are_texts(source: &Source, rows: usize, around: &[Source]) -> bool
     requires spread { AreSpreadWithin source.now.second.now source.now.length (length source.now.third.now) }
     requires steady { AreSteady (range_with_len 0 rows) around.now }
+    requires few { length around.now ≤ 16 }
     ensures { IsTrue result ↔ ((row : ℕ) → row < source.now.length
         → Holds (places_around (range_with_len 0 rows) around.now) row → IsValidAt source.now row
         → IsUtf8 (value_bytes 4 source.now.second.now source.now.third.now row)) }
@@ -117,6 +130,7 @@ pub(crate) fn has_texts(source: &Source, rows: usize, around: &[Source]) -> bool
     requires spread { TextsSpread (layout_named source.now.layout) source.now.length source.now.second.now
         source.now.third.now }
     requires steady { AreSteady (range_with_len 0 rows) around.now }
+    requires few { length around.now ≤ 16 }
     requires within { AllByRecursion (λ row. row < source.now.length)
         (places_around (range_with_len 0 rows) around.now) }
     ensures { IsTrue result ↔ TextsHold (layout_named source.now.layout) source.now.validity.now source.now.second.now

@@ -1,10 +1,14 @@
 //! Where in a header a column stands.
 
-ghost use Rattle.std.specs.Prelude.{◌≡◌, ◌+◌, ◌^◌, ◌<◌};
+ghost use Rattle.std.specs.Prelude.{◌≡◌, ◌+◌, ◌*◌, ◌^◌, ◌<◌, ◌≤◌, map};
+ghost use Rattle.header_types.specs.Limits.{fields_limit};
+ghost use Rattle.header_types.specs.Views.{tree_of, forest_of};
+ghost use Rattle.batch_types.specs.Laid.{node_count, buffer_count};
 ghost use Rattle.batch_types.specs.Layouts.{buffers_in_layout};
 ghost use Rattle.batch_columns.specs.Held.{layout_named};
 
-use batch_columns::Layout;
+use batch_columns::{Layout, layout_of};
+use header_types::Field;
 
 /// Where in a header a column stands: how many nodes and how many buffers stand before its own (Apache Arrow, "Arrow
 /// Columnar Format", "RecordBatch message").
@@ -45,4 +49,22 @@ impl Place {
             buffer: self.buffer + buffers_in(layout),
         }
     }
+}
+
+/// Where the columns behind those of these fields stand, and of the fields inside them, if those stand at this place
+/// (Apache Arrow, "Arrow Columnar Format", "RecordBatch message"). There are no more fields than a schema may have,
+/// [`header_types::MAX_FIELDS`].
+pub fn place_behind(fields: &[Field], place: Place) -> Place
+    requires node { place.node + node_count (forest_of (map tree_of fields.now)) ≤ fields_limit }
+    requires buffer { place.buffer ≤ 3 * place.node }
+    ensures node { result.node ≡ place.node + node_count (forest_of (map tree_of fields.now)) }
+    ensures buffer { result.buffer ≡ place.buffer + buffer_count (forest_of (map tree_of fields.now)) }
+    ensures few { result.buffer ≤ 3 * result.node }
+{
+    let mut place = place;
+    for field in fields {
+        let inside = place.inside(layout_of(&field.ty));
+        place = place_behind(&field.children, inside);
+    }
+    place
 }

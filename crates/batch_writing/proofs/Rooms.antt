@@ -89,7 +89,7 @@ abbrev pub IsLaidOut : Type 0
 IsLaidOut = (schema : SchemaTree) (rows : Rows) → InProfile schema → CanBeWritten schema rows
     → LaysOut schema (canonical_head schema rows) (canonical_body schema rows) rows
 
-module _ (law : IsLaidOut) (schema : SchemaTree) (batch : Batch) (columns : List Contents) (of_schema : IsBatchOf schema batch)
+module _ (schema : SchemaTree) (batch : Batch) (columns : List Contents) (of_schema : IsBatchOf schema batch)
     (lent : columns ≡ batch.columns.items) (sound : AreSound columns) where
   held : AreSound batch.columns.items
   held = subst AreSound lent sound
@@ -102,8 +102,8 @@ module _ (law : IsLaidOut) (schema : SchemaTree) (batch : Batch) (columns : List
     room = subst (λ s. HaveRooms s (columns_cells batch.columns.items)) of_schema.shapes (in_rows batch.columns.items held);
   }
 
-  pub laid_out : (head : Head) (body : List ℕ) → head ≡ canonical_head schema (rows_of batch) → body ≡ canonical_body schema (rows_of batch)
+  pub laid_out : IsLaidOut → (head : Head) (body : List ℕ) → head ≡ canonical_head schema (rows_of batch) → body ≡ canonical_body schema (rows_of batch)
       → InProfile schema → LaysOut schema head body (rows_of batch)
-  laid_out head body head_is body_is profile =
+  laid_out law head body head_is body_is profile =
       subst (λ h. LaysOut schema h body (rows_of batch)) (sym head_is)
       (subst (λ b. LaysOut schema (canonical_head schema (rows_of batch)) b (rows_of batch)) (sym body_is) (law schema (rows_of batch) profile written))

@@ -1,13 +1,17 @@
 //! How long a body is.
 
 ghost use Rattle.std.specs.Prelude.{◌≡◌, ◌-◌, ◌^◌, ◌<◌, ◌≤◌, min, length, IfSome, IfNone};
+ghost use Rattle.std.specs.List.{AllByRecursion};
 ghost use Rattle.header_types.specs.Fields.{SchemaTree};
 ghost use Rattle.batch_types.specs.Canonical.{padded, own_buffers, body_with, canonical_body};
 ghost use Rattle.batch_types.specs.Shapes.{shapes_of};
+ghost use Rattle.batch_types.specs.Typed.{IsCellOf};
+ghost use Rattle.batch_types.specs.Written.{HasRoom, CanBeWritten};
 ghost use Rattle.batch_columns.specs.Contents.{layout_in};
 ghost use Rattle.batch_columns.specs.Held.{shapes_held};
-ghost use Rattle.batch_columns.specs.Batches.{rows_of};
+ghost use Rattle.batch_columns.specs.Batches.{rows_of, IsBatchOf};
 ghost use Rattle.batch_writing.specs.Parts.{parts_held};
+ghost use Rattle.batch_writing.specs.Sound.{AreSound};
 
 use crate::writer::padding;
 use batch_columns::{Batch, Column};
@@ -23,10 +27,12 @@ fn padded_length(bytes: &[u8]) -> u64
 }
 
 /// How many bytes the buffers of a column have in a body, those of the columns inside it aside; the largest number
-/// where they are more.
+/// where they are more. A column says that its cells are such of its shape, and that there is room for them.
 fn own_length(column: &Column) -> u64
-    ensures { result
+    ensures length { result
         ≡ min (length (body_with (own_buffers (layout_in column.now) column.now.cells))) (2 ^ 64 - 1) }
+    ensures fit { AllByRecursion (IsCellOf column.now.shape) column.now.cells }
+    ensures room { HasRoom (layout_in column.now) column.now.cells }
 {
     padded_length(column.validity())
         .saturating_add(padded_length(column.second()))
@@ -36,7 +42,8 @@ fn own_length(column: &Column) -> u64
 /// How many bytes the buffers of columns and of those inside them have in a body; the largest number where they are
 /// more.
 pub(crate) fn columns_length(columns: &[Column]) -> u64
-    ensures { result ≡ min (length (body_with (parts_held columns.now).buffers)) (2 ^ 64 - 1) }
+    ensures length { result ≡ min (length (body_with (parts_held columns.now).buffers)) (2 ^ 64 - 1) }
+    ensures sound { AreSound columns.now }
 {
     let mut total = 0_u64;
     for column in columns {
@@ -49,7 +56,7 @@ pub(crate) fn columns_length(columns: &[Column]) -> u64
 
 /// How many bytes the body has that [`crate::write_body`] writes of a batch, with those between its buffers; `None`
 /// exactly where they are 2^63 or more, which no header can say (Apache Arrow, "Arrow Columnar Format", "RecordBatch
-/// message"). It takes no memory.
+/// message"). A batch of a schema has room for its rows: they can be written. It takes no memory.
 pub fn body_length(batch: &Batch) -> Option<u64>
     ensures known { IfSome result (λ n. (schema : SchemaTree)
         → shapes_held batch.now.columns.items ≡ shapes_of schema.fields
@@ -58,6 +65,7 @@ pub fn body_length(batch: &Batch) -> Option<u64>
     ensures long { IfNone result ((schema : SchemaTree)
         → shapes_held batch.now.columns.items ≡ shapes_of schema.fields
         → 2 ^ 63 ≤ length (canonical_body schema (rows_of batch.now))) }
+    ensures room { (schema : SchemaTree) → IsBatchOf schema batch.now → CanBeWritten schema (rows_of batch.now) }
 {
     let length = columns_length(&batch.columns);
     if length < TOO_LONG {

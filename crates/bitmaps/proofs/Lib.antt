@@ -8,3 +8,4 @@ pub mod Equality
 pub mod Packing
 pub mod Wholes
 pub mod Joining
+pub mod JoinedForms

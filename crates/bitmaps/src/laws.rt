@@ -1,8 +1,9 @@
 //! Laws of the definitions that every call here is proved against.
 
 ghost use Rattle.std.specs.Prelude.{◌≡◌, ◌==◌, ℕ, ◌+◌, ◌*◌, ◌/◌, ◌%◌, ◌^◌, ◌<◌, ◌≤◌, Bool, true, false, List};
-ghost use Rattle.std.specs.Prelude.{[], ◌∷◌, ◌++◌, length, get_or};
+ghost use Rattle.std.specs.Prelude.{[], ◌∷◌, ◌++◌, length, get_or, ◌↔◌, ◌≢◌};
 ghost use Rattle.bitmaps.specs.Bits.{bit_of, bits_of, zeros};
+ghost use Rattle.bitmaps.specs.Joined.{set_in_both, set_in_one};
 ghost use Rattle.bitmaps.specs.Packed.{IsPacked};
 ghost use Rattle.bitmaps.specs.Packing.{packed_bytes};
 
@@ -44,4 +45,15 @@ pub fn packed_is_one()
 /// Every list of bits has a packed form: a byte for each eight bits, the first of them its lowest.
 pub fn bits_are_packed_by_eights()
     ensures { (bits : List Bool) → IsPacked bits (packed_bytes bits) }
+{}
+
+/// Two lists of as many bits are joined bit by bit, and no bit is added or left out: a bit is set in both where it is set
+/// in each of them, and set in one of them alone where they differ.
+pub fn lists_are_joined_bit_by_bit()
+    ensures both { (xs ys : List Bool) (j : ℕ) → length xs ≡ length ys
+        → (get_or (set_in_both xs ys) j false ≡ true) ↔ ((get_or xs j false ≡ true) × (get_or ys j false ≡ true)) }
+    ensures one { (xs ys : List Bool) (j : ℕ) → length xs ≡ length ys
+        → (get_or (set_in_one xs ys) j false ≡ true) ↔ (get_or xs j false ≢ get_or ys j false) }
+    ensures long_both { (xs ys : List Bool) → length xs ≡ length ys → length (set_in_both xs ys) ≡ length xs }
+    ensures long_one { (xs ys : List Bool) → length xs ≡ length ys → length (set_in_one xs ys) ≡ length xs }
 {}

@@ -22,7 +22,7 @@ returns-in-Ok-clause-kept c =
     (take (buffers_in_layout (layout_of (field_head_of c.args.field.now).data_type)) (drop c.args.place.buffer c.args.head.now.buffers.items))
     refl c.first_inside-first.ensures
     (subst (λ (l : List Source). AreKept (SourceKeeps c.in-Some.source c.first_inside-first.result c.args.asked (places_around (first_places c.args.around.now) l)) column_order)
-    c.sources.ensures c.in-Ok.ensures.kept)
+    c.sources.ensures.sources c.in-Ok.ensures.kept)
 
 pub returns-in-Ok-clause-seen : goal.returns-in-Ok-clause-seen
 returns-in-Ok-clause-seen c = record {
@@ -47,4 +47,4 @@ returns-in-Err-clause-fault c =
     (take (buffers_in_layout (layout_of (field_head_of c.args.field.now).data_type)) (drop c.args.place.buffer c.args.head.now.buffers.items))
     refl c.first_inside-first.ensures c.in-Err.fault
     (subst (λ (l : List Source). IsFirstBroken (SourceKeeps c.in-Some.source c.first_inside-first.result c.args.asked (places_around (first_places c.args.around.now) l)) column_order c.in-Err.fault)
-    c.sources.ensures c.in-Err.ensures.fault)
+    c.sources.ensures.sources c.in-Err.ensures.fault)

@@ -27,10 +27,10 @@ returns-clause-body c =
 
 pub returns-clause-laid : goal.returns-clause-laid
 returns-clause-laid c =
-    laid_out c.written_rows_are_laid_out.ensures.laid (schema_of c.args.schema.now) c.args.batch.now c.deref-2.result.now c.requires.of_schema
-    c.deref-2.ensures.value c.in_ok-put_columns.ensures.sound _ _ (returns-clause-head c) (returns-clause-body c)
+    laid_out (schema_of c.args.schema.now) c.args.batch.now c.deref-2.result.now c.requires.of_schema
+    c.deref-2.ensures.value c.in_ok-put_columns.ensures.sound c.written_rows_are_laid_out.ensures.laid _ _ (returns-clause-head c) (returns-clause-body c)
 
 pub returns-clause-room : goal.returns-clause-room
 returns-clause-room c =
-    written c.written_rows_are_laid_out.ensures.laid (schema_of c.args.schema.now) c.args.batch.now c.deref-2.result.now c.requires.of_schema
+    written (schema_of c.args.schema.now) c.args.batch.now c.deref-2.result.now c.requires.of_schema
     c.deref-2.ensures.value c.in_ok-put_columns.ensures.sound
