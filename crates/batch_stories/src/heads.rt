@@ -2,7 +2,7 @@
 
 use header_types::BatchHead;
 use std::alloc::{AllocError, Global};
-use story_words::StoryFault;
+use story_words::{StoryFault, split_word};
 
 fn number_of(word: &str) -> Result<i64, StoryFault> {
     match word.parse::<i64>() {
@@ -38,11 +38,6 @@ fn pairs_of(alloc: Global, words: &str) -> Result<Vec<(i64, i64)>, StoryFault> {
     Ok(pairs)
 }
 
-/// The first word, and what stands behind it.
-pub(crate) fn split_word(words: &str) -> (&str, &str) {
-    words.split_once(' ').unwrap_or((words, ""))
-}
-
 // What stands before a bar, and behind it.
 fn parted(words: &str) -> Result<(&str, &str), StoryFault> {
     match words.split_once('|') {
@@ -76,22 +71,15 @@ pub(crate) fn head_of(alloc: Global, words: &str) -> Result<(BatchHead, &str), S
     Ok((head, body))
 }
 
-fn push_shown(alloc: Global, line: &mut String, pair: (i64, i64)) -> Result<(), AllocError> {
-    let shown = format!(in alloc; " ({},{})", pair.0, pair.1)?;
-    line.push_str(shown.as_str())
-}
-
 /// Puts a line with this name and these pairs behind the text.
 pub(crate) fn push_pairs(
-    alloc: Global,
     text: &mut String,
     name: &str,
     pairs: &[(i64, i64)],
 ) -> Result<(), AllocError> {
-    text.push_str("  ")?;
-    text.push_str(name)?;
-    for pair in pairs {
-        push_shown(alloc, text, *pair)?;
+    write!(text, "  {name}")?;
+    for (first, second) in pairs {
+        write!(text, " ({first},{second})")?;
     }
     text.push('\n')
 }

@@ -16,36 +16,9 @@ mod heads;
 mod reader;
 
 use reader::Reader;
-use std::alloc::Global;
-use std::fs;
-use std::io::{BufWriter, Write};
 use std::process::ExitCode;
-use story_words::{StoryFault, tell};
+use story_words::run;
 
 fn main(rt: HostRuntime) -> ExitCode {
-    match tell_all(&rt) {
-        Ok(()) => ExitCode::from(0),
-        Err(fault) => {
-            // Where this fails too, the status alone tells.
-            let _ = eprintln!(rt; "batch_stories: {fault}");
-            ExitCode::from(1)
-        }
-    }
-}
-
-fn tell_file<W: Write>(alloc: Global, text: &str, output: &mut W) -> Result<(), StoryFault> {
-    let mut reader = Reader::new(alloc);
-    tell(alloc, text, &mut reader, output)
-}
-
-fn tell_all(rt: &HostRuntime) -> Result<(), StoryFault> {
-    let alloc = rt.alloc();
-    let words: Vec<String> = std::env::args(rt)?.collect(alloc)?;
-    let mut output = BufWriter::new(alloc, rt.stdout())?;
-    for path in words.iter().skip(1) {
-        let text = fs::read_to_string(rt, path.as_str())?;
-        tell_file(alloc, text.as_str(), &mut output)?;
-    }
-    output.flush()?;
-    Ok(())
+    run::<Reader>(&rt, "batch_stories")
 }

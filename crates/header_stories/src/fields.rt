@@ -5,11 +5,9 @@
 //!   gives it so many entries of metadata, each of two bytes;
 //! - `with:2` puts the two fields below it into it, and `in-lists:3` stands it in so many lists inside one another.
 
-use crate::fault::StoryFault;
-use crate::places::number_of;
-use crate::type_words::type_of;
 use flatbuf_meta::{Field, Ty};
 use std::alloc::{AllocError, Global};
+use story_words::{StoryFault, number_of, type_of};
 
 fn field_of(alloc: Global, ty: Ty) -> Field {
     Field {

@@ -1,29 +1,47 @@
 //! Headers of messages, read and written again (Apache Arrow, "Message.fbs" and "Schema.fbs").
 
-use crate::bytes::{bytes_of, digits_told};
-use crate::fault::StoryFault;
-use crate::places::number_of;
-use crate::shown::header_lines;
-use crate::story::split_word;
+use crate::shown::push_header;
 use flatbuf_meta::{
     BatchHead, Header, MAX_BUFFERS, MAX_FIELDS, MetaFault, Schema, encapsulate, read_message,
     write_batch, write_schema,
 };
 use std::alloc::{AllocError, Global};
+use story_words::{StoryFault, bytes_of, number_of, split_word};
 
-/// What the bytes show as a header, or the fault that is told of them.
-pub(crate) fn tell(alloc: Global, bytes: &[u8]) -> Result<String, StoryFault> {
+/// Tells what the bytes show as a header, or the fault that stands in them.
+pub(crate) fn tell(alloc: Global, bytes: &[u8], told: &mut String) -> Result<(), StoryFault> {
     match read_message(alloc, bytes) {
-        Ok(header) => header_lines(alloc, &header),
-        Err(MetaFault::OutOfMemory) => Err(StoryFault::OutOfMemory),
-        Err(fault) => Ok(format!(in alloc; "  {fault}\n")?),
+        Ok(header) => push_header(alloc, told, &header),
+        Err(fault) => tell_fault(fault, told),
     }
 }
 
+/// Tells the fault that stands in bytes.
+pub(crate) fn tell_fault(fault: MetaFault, told: &mut String) -> Result<(), StoryFault> {
+    match fault {
+        MetaFault::OutOfMemory => Err(StoryFault::OutOfMemory),
+        _ => Ok(writeln!(told, "  {fault}")?),
+    }
+}
+
+/// Tells the digits of the bytes.
+pub(crate) fn tell_digits(
+    alloc: Global,
+    bytes: &[u8],
+    told: &mut String,
+) -> Result<(), AllocError> {
+    let digits = hex::encode(alloc, bytes)?;
+    writeln!(told, "  {digits}")
+}
+
 /// `header BYTES`: what these bytes show, or the fault.
-pub(crate) fn tell_spelled(alloc: Global, words: &str) -> Result<String, StoryFault> {
+pub(crate) fn tell_spelled(
+    alloc: Global,
+    words: &str,
+    told: &mut String,
+) -> Result<(), StoryFault> {
     let bytes = bytes_of(alloc, words)?;
-    tell(alloc, &bytes)
+    tell(alloc, &bytes, told)
 }
 
 // The bytes with this change at a place, which may reach behind their end.
@@ -41,29 +59,27 @@ fn with_change(
     Ok(text)
 }
 
-// The text shows a header.
-fn is_header(alloc: Global, text: &[u8]) -> bool {
-    read_message(alloc, text).is_ok()
-}
-
-// What is told of the text; and of a header, how many bytes it needs.
-fn tell_with_need(alloc: Global, text: &[u8]) -> Result<String, StoryFault> {
-    let mut told = tell(alloc, text)?;
-    if is_header(alloc, text) {
-        let needed = needed_told(alloc, text, told.as_str())?;
-        told.push_str(needed.as_str())?;
-    }
-    Ok(told)
-}
-
 /// `changed PLACE BYTES`: what is told of the bytes where these stand at the place instead; and of a header, how many
 /// bytes it needs.
-pub(crate) fn tell_changed(alloc: Global, words: &str, bytes: &[u8]) -> Result<String, StoryFault> {
+pub(crate) fn tell_changed(
+    alloc: Global,
+    words: &str,
+    bytes: &[u8],
+    told: &mut String,
+) -> Result<(), StoryFault> {
     let (place, change) = split_word(words);
     let place = number_of(place)?;
     let change = bytes_of(alloc, change)?;
     let text = with_change(alloc, bytes, place, &change)?;
-    tell_with_need(alloc, &text)
+    tell_with_need(alloc, &text, told)
+}
+
+fn tell_with_need(alloc: Global, text: &[u8], told: &mut String) -> Result<(), StoryFault> {
+    tell(alloc, text, told)?;
+    if read_message(alloc, text).is_ok() {
+        return tell_need(alloc, text, told);
+    }
+    Ok(())
 }
 
 // The text ends before a byte that is needed.
@@ -84,14 +100,15 @@ fn needed(alloc: Global, text: &[u8]) -> usize {
     text.len()
 }
 
-// How many bytes are needed, where that many show the same.
-fn needed_told(alloc: Global, text: &[u8], whole: &str) -> Result<String, StoryFault> {
+// How many bytes are needed, where that many show what is told already.
+fn tell_need(alloc: Global, text: &[u8], told: &mut String) -> Result<(), StoryFault> {
     let len = needed(alloc, text);
-    let shorter = tell(alloc, text.get(..len).unwrap_or(text))?;
-    if shorter.as_str() == whole {
-        return Ok(format!(in alloc; "  needs {len} bytes\n")?);
+    let mut shorter = String::new(alloc);
+    tell(alloc, text.get(..len).unwrap_or(text), &mut shorter)?;
+    if shorter == *told {
+        return Ok(writeln!(told, "  needs {len} bytes")?);
     }
-    Ok(format!(in alloc; "  {len} bytes show something else\n")?)
+    Ok(writeln!(told, "  {len} bytes show something else")?)
 }
 
 /// Writes the schema, where it can be written.
@@ -128,13 +145,17 @@ fn respelled(alloc: Global, bytes: &[u8]) -> Result<Vec<u8>, StoryFault> {
 }
 
 /// `respelled BYTES`: the one text of the header that the bytes show, or that they are it.
-pub(crate) fn tell_respelled(alloc: Global, words: &str) -> Result<String, StoryFault> {
+pub(crate) fn tell_respelled(
+    alloc: Global,
+    words: &str,
+    told: &mut String,
+) -> Result<(), StoryFault> {
     let bytes = bytes_of(alloc, words)?;
     let out = respelled(alloc, &bytes)?;
     if out == bytes {
-        return Ok(String::from_str(alloc, "  the same bytes\n")?);
+        return Ok(told.push_str("  the same bytes\n")?);
     }
-    digits_told(alloc, &out)
+    Ok(tell_digits(alloc, &out, told)?)
 }
 
 // The text behind its marker and its length, appended.
@@ -146,10 +167,14 @@ fn append(text: &[u8], out: &mut Vec<u8>) -> Result<(), StoryFault> {
 }
 
 /// `encapsulated BYTES MESSAGE`: the bytes, and behind them the message with its marker and its length.
-pub(crate) fn tell_encapsulated(alloc: Global, words: &str) -> Result<String, StoryFault> {
+pub(crate) fn tell_encapsulated(
+    alloc: Global,
+    words: &str,
+    told: &mut String,
+) -> Result<(), StoryFault> {
     let (before, message) = split_word(words);
     let mut out = bytes_of(alloc, before)?;
     let text = bytes_of(alloc, message)?;
     append(&text, &mut out)?;
-    digits_told(alloc, &out)
+    Ok(tell_digits(alloc, &out, told)?)
 }

@@ -1,9 +1,6 @@
 //! Tells stories of the headers of Arrow's messages, and of the places that they are read at. `header_stories FILE ..`
 //! prints each file again, and under each of its commands what the command gives now.
 //!
-//! A story has lines of four kinds: empty ones; comments, which begin with `#`; commands; and answers, which begin with
-//! two spaces and are passed over, since they are told anew. So a file that tells the truth is printed as it stands.
-//!
 //! Bytes are hexadecimal, spaces passed over, and behind a whole byte a letter from `g` to `z` stands for one to twenty
 //! zero bytes.
 //!
@@ -11,8 +8,6 @@
 //! do it.
 #![tactic(auto)]
 
-mod bytes;
-mod fault;
 mod fields;
 mod headers;
 mod places;
@@ -22,34 +17,12 @@ mod sizes;
 mod story;
 mod texts;
 mod trees;
-mod type_names;
-mod type_words;
 mod writing;
 
-use fault::StoryFault;
-use std::fs;
-use std::io::{BufWriter, Write};
 use std::process::ExitCode;
+use story::Headers;
+use story_words::run;
 
 fn main(rt: HostRuntime) -> ExitCode {
-    match tell_all(&rt) {
-        Ok(()) => ExitCode::from(0),
-        Err(fault) => {
-            // Where this fails too, the status alone tells.
-            let _ = eprintln!(rt; "header_stories: {fault}");
-            ExitCode::from(1)
-        }
-    }
-}
-
-fn tell_all(rt: &HostRuntime) -> Result<(), StoryFault> {
-    let alloc = rt.alloc();
-    let words: Vec<String> = std::env::args(rt)?.collect(alloc)?;
-    let mut output = BufWriter::new(alloc, rt.stdout())?;
-    for path in words.iter().skip(1) {
-        let text = fs::read_to_string(rt, path.as_str())?;
-        story::tell(alloc, text.as_str(), &mut output)?;
-    }
-    output.flush()?;
-    Ok(())
+    run::<Headers>(&rt, "header_stories")
 }

@@ -1,17 +1,8 @@
 //! What stands at places of bytes (FlatBuffers, "FlatBuffer Internals").
 
-use crate::fault::StoryFault;
-use crate::story::split_word;
 use flat_places::{PlaceFault, follow, slot, text, uint, vector};
 use std::alloc::{AllocError, Global};
-
-/// The number in decimal digits.
-pub(crate) fn number_of(word: &str) -> Result<usize, StoryFault> {
-    match word.parse::<usize>() {
-        Ok(number) => Ok(number),
-        Err(_) => Err(StoryFault::BadArgument),
-    }
-}
+use story_words::{StoryFault, number_of, split_word};
 
 /// What stands at the place, by its command: `uint PLACE SIZE`, `follow PLACE`, `slot TABLE FIELD`, `vector PLACE SIZE`
 /// and `text PLACE`; and `cut-slot TABLE FIELD` for the beginnings of the bytes.
@@ -20,13 +11,14 @@ pub(crate) fn tell(
     command: &str,
     words: &str,
     bytes: &[u8],
-) -> Result<String, StoryFault> {
+    told: &mut String,
+) -> Result<(), StoryFault> {
     let (first, second) = split_word(words);
     let place = number_of(first)?;
     match command {
-        "follow" => Ok(follow_told(alloc, bytes, place)?),
-        "text" => Ok(text_told(alloc, bytes, place)?),
-        _ => tell_at(alloc, command, bytes, place, second),
+        "follow" => Ok(tell_follow(bytes, place, told)?),
+        "text" => Ok(tell_text(bytes, place, told)?),
+        _ => tell_at(alloc, command, bytes, (place, number_of(second)?), told),
     }
 }
 
@@ -34,30 +26,29 @@ fn tell_at(
     alloc: Global,
     command: &str,
     bytes: &[u8],
-    place: usize,
-    second: &str,
-) -> Result<String, StoryFault> {
-    let at = (place, number_of(second)?);
+    at: (usize, usize),
+    told: &mut String,
+) -> Result<(), StoryFault> {
     match command {
-        "slot" => Ok(slot_told(alloc, bytes, at)?),
-        "cut-slot" => cut_slot_told(alloc, bytes, at),
-        "vector" => Ok(vector_told(alloc, bytes, at)?),
-        _ => uint_told(alloc, bytes, at),
+        "slot" => Ok(tell_slot(bytes, at, told)?),
+        "cut-slot" => Ok(tell_cut_slot(alloc, bytes, at, told)?),
+        "vector" => Ok(tell_vector(bytes, at, told)?),
+        _ => tell_uint(bytes, at, told),
     }
 }
 
-fn fault_told(alloc: Global, fault: PlaceFault) -> Result<String, AllocError> {
-    format!(in alloc; "  {fault}\n")
+fn tell_fault(fault: PlaceFault, told: &mut String) -> Result<(), AllocError> {
+    writeln!(told, "  {fault}")
 }
 
-fn number_told(alloc: Global, read: Result<u64, PlaceFault>) -> Result<String, AllocError> {
+fn tell_number(read: Result<u64, PlaceFault>, told: &mut String) -> Result<(), AllocError> {
     match read {
-        Ok(number) => format!(in alloc; "  {number}\n"),
-        Err(fault) => fault_told(alloc, fault),
+        Ok(number) => writeln!(told, "  {number}"),
+        Err(fault) => tell_fault(fault, told),
     }
 }
 
-fn uint_told(alloc: Global, bytes: &[u8], at: (usize, usize)) -> Result<String, StoryFault> {
+fn tell_uint(bytes: &[u8], at: (usize, usize), told: &mut String) -> Result<(), StoryFault> {
     let (place, size) = at;
     let read = match size {
         1 => uint(bytes, place, 1),
@@ -66,53 +57,58 @@ fn uint_told(alloc: Global, bytes: &[u8], at: (usize, usize)) -> Result<String, 
         8 => uint(bytes, place, 8),
         _ => return Err(StoryFault::BadArgument),
     };
-    Ok(number_told(alloc, read)?)
+    Ok(tell_number(read, told)?)
 }
 
-fn follow_told(alloc: Global, bytes: &[u8], place: usize) -> Result<String, AllocError> {
+fn tell_follow(bytes: &[u8], place: usize, told: &mut String) -> Result<(), AllocError> {
     match follow(bytes, place) {
-        Ok(target) => format!(in alloc; "  to {target}\n"),
-        Err(fault) => fault_told(alloc, fault),
+        Ok(target) => writeln!(told, "  to {target}"),
+        Err(fault) => tell_fault(fault, told),
     }
 }
 
-fn slot_told(alloc: Global, bytes: &[u8], at: (usize, usize)) -> Result<String, AllocError> {
+fn tell_slot(bytes: &[u8], at: (usize, usize), told: &mut String) -> Result<(), AllocError> {
     match slot(bytes, at.0, at.1) {
-        Ok(Some(place)) => format!(in alloc; "  at {place}\n"),
-        Ok(None) => String::from_str(alloc, "  absent\n"),
-        Err(fault) => fault_told(alloc, fault),
+        Ok(Some(place)) => writeln!(told, "  at {place}"),
+        Ok(None) => told.push_str("  absent\n"),
+        Err(fault) => tell_fault(fault, told),
     }
 }
 
-fn vector_told(alloc: Global, bytes: &[u8], at: (usize, usize)) -> Result<String, AllocError> {
+fn tell_vector(bytes: &[u8], at: (usize, usize), told: &mut String) -> Result<(), AllocError> {
     match vector(bytes, at.0, at.1) {
-        Ok((first, count)) => format!(in alloc; "  {count} from {first}\n"),
-        Err(fault) => fault_told(alloc, fault),
+        Ok((first, count)) => writeln!(told, "  {count} from {first}"),
+        Err(fault) => tell_fault(fault, told),
     }
 }
 
-fn text_told(alloc: Global, bytes: &[u8], place: usize) -> Result<String, AllocError> {
+fn tell_text(bytes: &[u8], place: usize, told: &mut String) -> Result<(), AllocError> {
     match text(bytes, place) {
-        Ok(shown) => format!(in alloc; "  {shown:?}\n"),
-        Err(fault) => fault_told(alloc, fault),
+        Ok(shown) => writeln!(told, "  {shown:?}"),
+        Err(fault) => tell_fault(fault, told),
     }
 }
 
 // What the slot gives of each beginning of the bytes: a line for each length from which on it gives something else.
-fn cut_slot_told(alloc: Global, bytes: &[u8], at: (usize, usize)) -> Result<String, StoryFault> {
-    let mut told = String::new(alloc);
+fn tell_cut_slot(
+    alloc: Global,
+    bytes: &[u8],
+    at: (usize, usize),
+    told: &mut String,
+) -> Result<(), AllocError> {
     let mut last = String::new(alloc);
     for len in 0..=bytes.len() {
-        let now = slot_told(alloc, bytes.get(..len).unwrap_or(bytes), at)?;
-        if now.as_str() != last.as_str() {
-            push_from(&mut told, alloc, len, now.as_str())?;
+        let mut now = String::new(alloc);
+        tell_slot(bytes.get(..len).unwrap_or(bytes), at, &mut now)?;
+        if now != last {
+            tell_from(len, now.as_str(), told)?;
         }
         last = now;
     }
-    Ok(told)
+    Ok(())
 }
 
-fn push_from(told: &mut String, alloc: Global, len: usize, now: &str) -> Result<(), AllocError> {
-    let line = format!(in alloc; "  from {len} bytes on:{}", now.get(1..).unwrap_or(now))?;
-    told.push_str(line.as_str())
+fn tell_from(len: usize, now: &str, told: &mut String) -> Result<(), AllocError> {
+    let given = now.trim_start();
+    write!(told, "  from {len} bytes on: {given}")
 }

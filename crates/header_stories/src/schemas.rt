@@ -1,13 +1,10 @@
 //! Schemas from words: how many entries of metadata a schema has, and then the words of its fields.
 
-use crate::bytes::digits_told;
-use crate::fault::StoryFault;
 use crate::fields::{entries, fields_of};
-use crate::headers::put_schema;
-use crate::places::number_of;
-use crate::story::split_word;
+use crate::headers::{put_schema, tell_digits};
 use flatbuf_meta::{Header, Schema, read_message};
 use std::alloc::Global;
+use story_words::{StoryFault, number_of, split_word};
 
 fn schema_of(alloc: Global, words: &str) -> Result<Schema, StoryFault> {
     let (metadata, rest) = split_word(words);
@@ -27,38 +24,42 @@ fn is_read_back(alloc: Global, schema: Schema) -> Result<bool, StoryFault> {
 }
 
 /// `profile SCHEMA`: whether the schema can be written, and is then read back.
-pub(crate) fn tell_profile(alloc: Global, words: &str) -> Result<String, StoryFault> {
+pub(crate) fn tell_profile(
+    alloc: Global,
+    words: &str,
+    told: &mut String,
+) -> Result<(), StoryFault> {
     let schema = schema_of(alloc, words)?;
     if !schema.in_profile() {
-        return Ok(String::from_str(alloc, "  no\n")?);
+        return Ok(told.push_str("  no\n")?);
     }
-    let told = if is_read_back(alloc, schema)? {
-        "  yes, and read back\n"
-    } else {
-        "  yes, and another one is read\n"
-    };
-    Ok(String::from_str(alloc, told)?)
+    if is_read_back(alloc, schema)? {
+        return Ok(told.push_str("  yes, and read back\n")?);
+    }
+    Ok(told.push_str("  yes, and another one is read\n")?)
 }
 
 /// `shapes SCHEMA | SCHEMA`: whether both have the same shape.
-pub(crate) fn tell_shapes(alloc: Global, words: &str) -> Result<String, StoryFault> {
+pub(crate) fn tell_shapes(alloc: Global, words: &str, told: &mut String) -> Result<(), StoryFault> {
     let Some((one, other)) = words.split_once(" | ") else {
         return Err(StoryFault::BadArgument);
     };
     let one = schema_of(alloc, one)?;
     let other = schema_of(alloc, other)?;
-    let told = if one.same_shape(&other) {
-        "  the same\n"
-    } else {
-        "  not the same\n"
-    };
-    Ok(String::from_str(alloc, told)?)
+    if one.same_shape(&other) {
+        return Ok(told.push_str("  the same\n")?);
+    }
+    Ok(told.push_str("  not the same\n")?)
 }
 
 /// `written SCHEMA`: the bytes of the schema's header.
-pub(crate) fn tell_written(alloc: Global, words: &str) -> Result<String, StoryFault> {
+pub(crate) fn tell_written(
+    alloc: Global,
+    words: &str,
+    told: &mut String,
+) -> Result<(), StoryFault> {
     let schema = schema_of(alloc, words)?;
     let mut text = Vec::new(alloc);
     put_schema(&schema, &mut text)?;
-    digits_told(alloc, &text)
+    Ok(tell_digits(alloc, &text, told)?)
 }

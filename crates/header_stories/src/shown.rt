@@ -1,25 +1,26 @@
 //! Headers as lines: a schema's metadata and fields, with those inside a field two spaces deeper; a batch's nodes and
 //! buffers.
 
-use crate::fault::StoryFault;
-use crate::type_names::type_name;
 use flatbuf_meta::{BatchHead, Field, Header, MAX_DEPTH, Schema};
 use std::alloc::{AllocError, Global};
+use story_words::{StoryFault, push_type};
 
-/// The lines of a header.
-pub(crate) fn header_lines(alloc: Global, header: &Header) -> Result<String, StoryFault> {
-    let mut lines = String::new(alloc);
+/// Puts the lines of a header behind those that there are.
+pub(crate) fn push_header(
+    alloc: Global,
+    lines: &mut String,
+    header: &Header,
+) -> Result<(), StoryFault> {
     match header {
-        Header::Schema(schema) => push_schema(&mut lines, alloc, schema)?,
-        Header::Batch(head) => push_batch(&mut lines, alloc, head)?,
+        Header::Schema(schema) => push_schema(alloc, lines, schema),
+        Header::Batch(head) => Ok(push_batch(lines, head)?),
     }
-    Ok(lines)
 }
 
-fn push_schema(lines: &mut String, alloc: Global, schema: &Schema) -> Result<(), StoryFault> {
+fn push_schema(alloc: Global, lines: &mut String, schema: &Schema) -> Result<(), StoryFault> {
     lines.push_str("  schema\n")?;
-    push_entries(lines, alloc, schema.metadata.as_slice(), MAX_DEPTH)?;
-    push_fields(lines, alloc, schema.fields.as_slice(), MAX_DEPTH)
+    push_entries(alloc, lines, &schema.metadata, MAX_DEPTH)?;
+    push_fields(alloc, lines, &schema.fields, MAX_DEPTH)
 }
 
 // Where so many levels may follow, two spaces for each level above, and four more.
@@ -46,51 +47,60 @@ fn is_plain(text: &str) -> bool {
     true
 }
 
-// A text between quotation marks; or the digits of its bytes behind an `x`, where something in it would need an escape.
-fn text_shown(alloc: Global, text: &str) -> Result<String, StoryFault> {
+// Puts a text between quotation marks; or the digits of its bytes behind an `x`, where something in it would need an
+// escape.
+fn push_text(alloc: Global, lines: &mut String, text: &str) -> Result<(), AllocError> {
     if is_plain(text) {
-        return Ok(format!(in alloc; "\"{text}\"")?);
+        return write!(lines, "\"{text}\"");
     }
     let digits = hex::encode(alloc, text.as_bytes())?;
-    Ok(format!(in alloc; "x{digits}")?)
+    write!(lines, "x{digits}")
 }
 
 fn push_entry(
-    lines: &mut String,
     alloc: Global,
+    lines: &mut String,
     entry: &(String, String),
-) -> Result<(), StoryFault> {
-    let key = text_shown(alloc, entry.0.as_str())?;
-    let value = text_shown(alloc, entry.1.as_str())?;
-    let line = format!(in alloc; "metadata {key} = {value}\n")?;
-    Ok(lines.push_str(line.as_str())?)
+) -> Result<(), AllocError> {
+    lines.push_str("metadata ")?;
+    push_text(alloc, lines, entry.0.as_str())?;
+    lines.push_str(" = ")?;
+    push_text(alloc, lines, entry.1.as_str())?;
+    lines.push('\n')
 }
 
 fn push_entries(
-    lines: &mut String,
     alloc: Global,
+    lines: &mut String,
     entries: &[(String, String)],
     levels: usize,
-) -> Result<(), StoryFault> {
+) -> Result<(), AllocError> {
     for entry in entries {
         push_indent(lines, levels)?;
-        push_entry(lines, alloc, entry)?;
+        push_entry(alloc, lines, entry)?;
     }
     Ok(())
 }
 
-fn push_field(lines: &mut String, alloc: Global, field: &Field) -> Result<(), StoryFault> {
-    let name = text_shown(alloc, field.name.as_str())?;
-    let ty = type_name(alloc, &field.ty)?;
-    let nullable = if field.nullable { ", nullable" } else { "" };
-    let line = format!(in alloc; "{name}: {ty}{nullable}\n")?;
-    Ok(lines.push_str(line.as_str())?)
+// Puts the field's own line and its metadata, where so many levels may follow.
+fn push_field(
+    alloc: Global,
+    lines: &mut String,
+    field: &Field,
+    levels: usize,
+) -> Result<(), AllocError> {
+    push_indent(lines, levels)?;
+    push_text(alloc, lines, field.name.as_str())?;
+    lines.push_str(": ")?;
+    push_type(lines, &field.ty)?;
+    lines.push_str(if field.nullable { ", nullable\n" } else { "\n" })?;
+    push_entries(alloc, lines, &field.metadata, levels.saturating_sub(1))
 }
 
-// Fields that stand no deeper than so many levels.
+// Puts fields that stand no deeper than so many levels.
 fn push_fields(
-    lines: &mut String,
     alloc: Global,
+    lines: &mut String,
     fields: &[Field],
     levels: usize,
 ) -> Result<(), StoryFault> {
@@ -98,33 +108,32 @@ fn push_fields(
         if levels == 0 {
             return Err(StoryFault::BadArgument);
         }
-        push_indent(lines, levels)?;
-        push_field(lines, alloc, field)?;
-        push_entries(lines, alloc, field.metadata.as_slice(), levels - 1)?;
-        push_fields(lines, alloc, field.children.as_slice(), levels - 1)?;
+        push_field(alloc, lines, field, levels)?;
+        push_fields(alloc, lines, &field.children, levels - 1)?;
     }
     Ok(())
 }
 
 fn push_pairs(
     lines: &mut String,
-    alloc: Global,
     words: (&str, &str),
     pairs: &[(i64, i64)],
 ) -> Result<(), AllocError> {
     let (before, between) = words;
     for (one, two) in pairs {
-        let line = format!(in alloc; "    {before} {one}{between} {two}\n")?;
-        lines.push_str(line.as_str())?;
+        writeln!(lines, "    {before} {one}{between} {two}")?;
     }
     Ok(())
 }
 
-fn push_batch(lines: &mut String, alloc: Global, head: &BatchHead) -> Result<(), AllocError> {
+fn push_batch(lines: &mut String, head: &BatchHead) -> Result<(), AllocError> {
     let (length, body) = (head.length, head.body_length);
-    let compressed = if head.compressed { ", compressed" } else { "" };
-    let line = format!(in alloc; "  batch of {length} rows, body of {body} bytes{compressed}\n")?;
-    lines.push_str(line.as_str())?;
-    push_pairs(lines, alloc, ("node of", ", nulls"), head.nodes.as_slice())?;
-    push_pairs(lines, alloc, ("buffer at", " of"), head.buffers.as_slice())
+    write!(lines, "  batch of {length} rows, body of {body} bytes")?;
+    lines.push_str(if head.compressed {
+        ", compressed\n"
+    } else {
+        "\n"
+    })?;
+    push_pairs(lines, ("node of", ", nulls"), &head.nodes)?;
+    push_pairs(lines, ("buffer at", " of"), &head.buffers)
 }

@@ -1,11 +1,11 @@
 //! Schemas with texts and metadata of given sizes.
 
-use crate::fault::StoryFault;
-use crate::places::number_of;
-use crate::trees::{refused_told, whole_told};
+use crate::headers::tell_fault;
+use crate::trees::tell_whole;
 use crate::writing::{NONE, forward, letters, put_message, repeated, table};
 use flatbuf_meta::{Field, Header, Schema, Ty, read_message};
 use std::alloc::{AllocError, Global};
+use story_words::{StoryFault, number_of};
 
 // Writes an entry whose key and value have these lengths.
 fn put_entry(text: &mut Vec<u8>, key_len: usize, value_len: usize) -> Result<u64, AllocError> {
@@ -112,7 +112,7 @@ fn numbers_of(alloc: Global, words: &str) -> Result<Vec<usize>, StoryFault> {
 /// `sizes FIELDS INNER OUTER NAME ZONE KEY VALUE`: whether a schema is read whole that refers so often to one field
 /// with a time zone, which refers INNER times to one entry of metadata, as the schema does OUTER times; the lengths of
 /// the name, the time zone, the key and the value follow. Or the fault.
-pub(crate) fn tell_sizes(alloc: Global, words: &str) -> Result<String, StoryFault> {
+pub(crate) fn tell_sizes(alloc: Global, words: &str, told: &mut String) -> Result<(), StoryFault> {
     let numbers = numbers_of(alloc, words)?;
     let [tops, inner, outer, name, zone, key, value] = numbers.as_slice() else {
         return Err(StoryFault::BadArgument);
@@ -120,8 +120,8 @@ pub(crate) fn tell_sizes(alloc: Global, words: &str) -> Result<String, StoryFaul
     let sizes = [*tops, *inner, *outer, *name, *zone, *key, *value];
     let text = sized(alloc, sizes)?;
     match read_message(alloc, text.as_slice()) {
-        Ok(Header::Schema(schema)) => Ok(whole_told(alloc, says(&schema, sizes))?),
-        Ok(Header::Batch(_)) => Ok(whole_told(alloc, false)?),
-        Err(fault) => refused_told(alloc, fault),
+        Ok(Header::Schema(schema)) => Ok(tell_whole(says(&schema, sizes), told)?),
+        Ok(Header::Batch(_)) => Ok(tell_whole(false, told)?),
+        Err(fault) => tell_fault(fault, told),
     }
 }

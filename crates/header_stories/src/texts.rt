@@ -1,12 +1,9 @@
 //! Schemas of one field, of which one type or one entry of metadata is spelled.
 
-use crate::bytes::bytes_of;
-use crate::fault::StoryFault;
 use crate::headers;
-use crate::places::number_of;
-use crate::story::split_word;
 use crate::writing::{NONE, forward, pair, put_bytes, put_message, repeated, string, table};
 use std::alloc::{AllocError, Global};
+use story_words::{StoryFault, bytes_of, number_of, split_word};
 
 // Writes what the vtable and the table of a type spell, and gives the reference to that table, where there is one. The
 // vtable's first number is its size, behind which its table stands.
@@ -39,14 +36,14 @@ fn type_text(alloc: Global, kind: u64, bytes: &[u8], count: usize) -> Result<Vec
 /// `type NUMBER CHILDREN BYTES`: what is told of a schema whose one field has the type of that number, so many fields
 /// without values inside it, and as the type's table these bytes, its vtable first; or no such table where there are
 /// none.
-pub(crate) fn tell_type(alloc: Global, words: &str) -> Result<String, StoryFault> {
+pub(crate) fn tell_type(alloc: Global, words: &str, told: &mut String) -> Result<(), StoryFault> {
     let (kind, rest) = split_word(words);
     let kind = number_of(kind)?;
     let (count, digits) = split_word(rest);
     let count = number_of(count)?;
     let bytes = bytes_of(alloc, digits)?;
     let text = type_text(alloc, kind as u64, &bytes, count)?;
-    headers::tell(alloc, &text)
+    headers::tell(alloc, &text, told)
 }
 
 // Writes the bytes that the digits spell, as a string.
@@ -95,27 +92,25 @@ fn put_beside(text: &mut Vec<u8>, named: u64) -> Result<(), AllocError> {
     put_message(text, fields, beside)
 }
 
-fn inside_told(alloc: Global, words: &str) -> Result<String, StoryFault> {
+fn tell_inside(alloc: Global, words: &str, told: &mut String) -> Result<(), StoryFault> {
     let mut text = Vec::new(alloc);
     let named = put_entry(&mut text, alloc, words)?;
     put_inside(&mut text, named)?;
     let text = forward(alloc, &text)?;
-    headers::tell(alloc, &text)
+    headers::tell(alloc, &text, told)
 }
 
-fn beside_told(alloc: Global, words: &str) -> Result<String, StoryFault> {
+fn tell_beside(alloc: Global, words: &str, told: &mut String) -> Result<(), StoryFault> {
     let mut text = Vec::new(alloc);
     let named = put_entry(&mut text, alloc, words)?;
     put_beside(&mut text, named)?;
     let text = forward(alloc, &text)?;
-    headers::tell(alloc, &text)
+    headers::tell(alloc, &text, told)
 }
 
 /// `entry KEY VALUE`: what is told of a schema with this entry behind an empty one in the metadata of its field, and of
 /// one with it before an empty one in its own. A key or a value is `absent`, `empty`, or its bytes.
-pub(crate) fn tell_entry(alloc: Global, words: &str) -> Result<String, StoryFault> {
-    let mut told = inside_told(alloc, words)?;
-    let beside = beside_told(alloc, words)?;
-    told.push_str(beside.as_str())?;
-    Ok(told)
+pub(crate) fn tell_entry(alloc: Global, words: &str, told: &mut String) -> Result<(), StoryFault> {
+    tell_inside(alloc, words, told)?;
+    tell_beside(alloc, words, told)
 }

@@ -1,11 +1,10 @@
 //! Fields inside fields, of which each refers so often to one table.
 
-use crate::fault::StoryFault;
-use crate::places::number_of;
-use crate::story::split_word;
+use crate::headers::tell_fault;
 use crate::writing::{NONE, forward, listed, put_message, repeated, table};
-use flatbuf_meta::{Header, MetaFault, read_message};
+use flatbuf_meta::{Header, read_message};
 use std::alloc::{AllocError, Global};
+use story_words::{StoryFault, number_of, split_word};
 
 /// The whole numbers at the lowest level, as they are shown.
 const LOWEST: &str =
@@ -115,39 +114,21 @@ fn is_whole(alloc: Global, name: &str, tree: Tree, header: &Header) -> Result<bo
     Ok(shown == wanted)
 }
 
-/// The answer `whole` where what is read is all of what was written.
-pub(crate) fn whole_told(alloc: Global, is_whole: bool) -> Result<String, AllocError> {
-    String::from_str(alloc, if is_whole { "  whole\n" } else { "  in part\n" })
-}
-
-fn header_told(
-    alloc: Global,
-    name: &str,
-    tree: Tree,
-    header: &Header,
-) -> Result<String, AllocError> {
-    let is_whole = is_whole(alloc, name, tree, header)?;
-    whole_told(alloc, is_whole)
-}
-
-/// The answer where what was written is not read.
-pub(crate) fn refused_told(alloc: Global, fault: MetaFault) -> Result<String, StoryFault> {
-    match fault {
-        MetaFault::OutOfMemory => Err(StoryFault::OutOfMemory),
-        _ => Ok(format!(in alloc; "  {fault}\n")?),
-    }
+/// Tells `whole` where what is read is all of what was written.
+pub(crate) fn tell_whole(is_whole: bool, told: &mut String) -> Result<(), AllocError> {
+    told.push_str(if is_whole { "  whole\n" } else { "  in part\n" })
 }
 
 /// `tree TYPE LEVELS WIDTH TOPS`: whether a schema is read whole that refers TOPS times to one field, which has so many
 /// levels: whole numbers at the lowest one, and above them fields of the type, of which each refers WIDTH times to the
 /// one below it; or the fault.
-pub(crate) fn tell_tree(alloc: Global, words: &str) -> Result<String, StoryFault> {
+pub(crate) fn tell_tree(alloc: Global, words: &str, told: &mut String) -> Result<(), StoryFault> {
     let (kind, rest) = split_word(words);
     let (kind, name) = kind_of(kind)?;
     let tree = tree_of(kind, rest)?;
     let text = tree_text(alloc, tree)?;
     match read_message(alloc, text.as_slice()) {
-        Ok(header) => Ok(header_told(alloc, name, tree, &header)?),
-        Err(fault) => refused_told(alloc, fault),
+        Ok(header) => Ok(tell_whole(is_whole(alloc, name, tree, &header)?, told)?),
+        Err(fault) => tell_fault(fault, told),
     }
 }

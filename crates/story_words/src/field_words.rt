@@ -2,7 +2,7 @@
 //! `List(Utf8)`, `Struct(Null,Int(8,true))`, `FixedSizeList(2,Bool)`.
 
 use crate::fault::StoryFault;
-use crate::type_words::type_of;
+use crate::type_words::{split_signed, type_of};
 use header_types::{Field, Ty};
 use std::alloc::{AllocError, Global};
 
@@ -32,13 +32,8 @@ fn opened(words: &str) -> Result<Option<(Ty, &str)>, StoryFault> {
 }
 
 fn fixed(words: &str) -> Result<Option<(Ty, &str)>, StoryFault> {
-    let Some((size, rest)) = words.split_once(',') else {
-        return Err(StoryFault::BadArgument);
-    };
-    match size.parse::<i32>() {
-        Ok(list_size) => Ok(Some((Ty::FixedSizeList { list_size }, rest))),
-        Err(_) => Err(StoryFault::BadArgument),
-    }
+    let (list_size, rest) = split_signed(words)?;
+    Ok(Some((Ty::FixedSizeList { list_size }, rest)))
 }
 
 // A type without parameters, and what stands behind its name.

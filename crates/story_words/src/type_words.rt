@@ -1,6 +1,7 @@
-//! Types from their names and parameters, as `type_names` spells them.
+//! Types from their names and parameters, as they are spelled in `type_names`.
 
 use crate::fault::StoryFault;
+use crate::words::signed_of;
 use header_types::{BitWidth, DateUnit, DecimalWidth, Precision, TimeUnit, Ty};
 use std::alloc::{AllocError, Global};
 
@@ -53,14 +54,6 @@ fn decimal_width_of(bits: &str) -> Result<DecimalWidth, StoryFault> {
     }
 }
 
-// A number, which may be negative.
-fn signed(word: &str) -> Result<i32, StoryFault> {
-    match word.parse::<i32>() {
-        Ok(number) => Ok(number),
-        Err(_) => Err(StoryFault::BadArgument),
-    }
-}
-
 // What stands before a comma, and behind it.
 fn parted(words: &str) -> Result<(&str, &str), StoryFault> {
     match words.split_once(',') {
@@ -79,10 +72,10 @@ fn integer(words: &str) -> Result<Ty, StoryFault> {
     })
 }
 
-// A number, which may be negative, before a comma; and what stands behind that.
-fn split_signed(words: &str) -> Result<(i32, &str), StoryFault> {
+/// A number, which may be negative, before a comma; and what stands behind that.
+pub(crate) fn split_signed(words: &str) -> Result<(i32, &str), StoryFault> {
     let (word, rest) = parted(words)?;
-    let number = signed(word)?;
+    let number = signed_of(word)?;
     Ok((number, rest))
 }
 
@@ -145,15 +138,15 @@ fn time_type(name: &str, words: &str) -> Result<Ty, StoryFault> {
 
 // The types with a size.
 fn sized_type(name: &str, words: &str) -> Result<Ty, StoryFault> {
-    let size = signed(words)?;
+    let size = signed_of(words)?;
     match name {
         "FixedSizeBinary" => Ok(Ty::FixedSizeBinary { byte_width: size }),
         _ => Ok(Ty::FixedSizeList { list_size: size }),
     }
 }
 
-/// The type of a word.
-pub(crate) fn type_of(alloc: Global, word: &str) -> Result<Ty, StoryFault> {
+/// The type that the word names with its parameters, as [`push_type`](crate::push_type) spells it.
+pub fn type_of(alloc: Global, word: &str) -> Result<Ty, StoryFault> {
     let Some((name, rest)) = word.split_once('(') else {
         return bare_type(word);
     };
