@@ -4,3 +4,4 @@ pub mod Shapes
 pub mod Bare
 pub mod Bounds
 pub mod OneEncoding
+pub mod Texts

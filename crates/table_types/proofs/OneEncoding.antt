@@ -49,7 +49,7 @@ mapped schema [] = refl
 mapped schema (rows ∷ batches) = ap (λ fields. bytes_field 4 (fields_text (batch_fields schema rows)) ∷ fields) (mapped schema batches)
 
 module _ (u : Upload) (short : length (upload_text u) ≤ upload_limit) where
-  whole : length (upload_text u) ≡ length (fields_text (present (bytes_field 1 u.table ∷ [])))
+  pub whole : length (upload_text u) ≡ length (fields_text (present (bytes_field 1 u.table ∷ [])))
       + (length (fields_text (present (bytes_field 2 u.id ∷ [])))
       + (length (fields_text (present (bytes_field 3 (schema_text u.schema) ∷ []))) + length (fields_text (fields_of_batches u.schema u.batches))))
   whole =

@@ -1,5 +1,6 @@
 pub mod Uploads
 pub mod Served
 pub mod Valid
+pub mod Texts
 pub mod Tables
 pub mod Answers

@@ -1,6 +1,7 @@
 //! Laws of the tables that a list of uploads makes.
 
-ghost use Rattle.std.specs.Prelude.{◌≡◌, ◌≢◌, ℕ, ◌-◌, ◌<◌, ◌≤◌, List, ◌++◌, length, take, get_or, Some, true, false, ◌↔◌};
+ghost use Rattle.std.specs.Prelude.{◌≡◌, ◌≢◌, ℕ, ◌-◌, ◌<◌, ◌≤◌, List, [], ◌++◌, length, take, get_or, Some, true, false};
+ghost use Rattle.std.specs.Prelude.{◌↔◌};
 ghost use Rattle.flatbuf_meta.specs.Writable.{IsWritable};
 ghost use Rattle.header_types.specs.Fields.{SchemaTree};
 ghost use Rattle.header_types.specs.Header.{schema_header, batch_header};
@@ -10,15 +11,22 @@ ghost use Rattle.table_types.specs.Uploads.{Upload, upload_text};
 ghost use Rattle.batch_types.specs.Cells.{Rows};
 ghost use Rattle.batch_types.specs.Canonical.{canonical_head, canonical_body};
 ghost use Rattle.batch_types.specs.Written.{CanBeWritten};
-ghost use Rattle.table_types.specs.Valid.{IsUpload, upload_limit};
+ghost use Rattle.table_types.specs.declared.names.TheConstants.{MAX_TABLE_NAME_BYTES};
+ghost use Rattle.table_types.specs.Valid.{IsUpload, name_limit, upload_limit};
+ghost use Rattle.table_types.specs.Texts.{IsUploadText, AreUploadsOf};
 ghost use Rattle.table_types.specs.Tables.{bare_schema};
-ghost use Rattle.std.specs.List.{list_any};
+ghost use Rattle.std.specs.List.{AllByRecursion, list_any};
 ghost use Rattle.table_types.specs.Tables.{has_id, shape_text, is_same, effective, Version, version_of, Outcome, applied};
 ghost use Rattle.table_types.specs.Tables.{conflicting, unknown, first_named, outcome_of};
 
 use batch_types::laws::{batches_are_one, written_rows_are_laid_out};
 use flatbuf_meta::laws::written_headers_differ;
 use proto_messages::laws::canonical_messages_are_one;
+
+/// The limit of names in the definitions is the program's.
+pub fn name_limit_is_this()
+    ensures { MAX_TABLE_NAME_BYTES ≡ name_limit }
+{}
 
 /// An encoding is that of one upload: two uploads that are taken are one where their encodings are, cell for cell.
 pub fn uploads_have_one_encoding()
@@ -28,6 +36,20 @@ pub fn uploads_have_one_encoding()
     written_rows_are_laid_out();
     written_headers_differ();
     canonical_messages_are_one();
+}
+
+/// A list of texts holds one list of uploads, at most one a text and each of them such as is taken; two lists end to end
+/// hold the uploads of both; and no bytes at all are no upload.
+pub fn texts_hold_one_list_of_uploads()
+    ensures one { (texts : List (List ℕ)) (xs ys : List Upload) → AreUploadsOf texts xs → AreUploadsOf texts ys
+        → xs ≡ ys }
+    ensures valid { (texts : List (List ℕ)) (xs : List Upload) → AreUploadsOf texts xs → AllByRecursion IsUpload xs }
+    ensures few { (texts : List (List ℕ)) (xs : List Upload) → AreUploadsOf texts xs → length xs ≤ length texts }
+    ensures both { (first second : List (List ℕ)) (xs ys : List Upload) → AreUploadsOf first xs → AreUploadsOf second ys
+        → AreUploadsOf (first ++ second) (xs ++ ys) }
+    ensures none { IsUploadText [] → ⊥ }
+{
+    uploads_have_one_encoding();
 }
 
 /// A batch of an upload has a header that can be written, where its body is no longer than an upload may be.

@@ -16,13 +16,16 @@ use Rattle.table_versions.specs.declared.first.First.{First}
 use Rattle.table_versions.specs.Outcomes.{told}
 use Rattle.table_versions.specs.Ledger.{frames_of, seen_first, told_of_first, FirstEntries, TableEntries, FrameEntries, first_in, table_in, frames_in, HasFrames, IsTable, IsLedger}
 use Rattle.table_versions.proofs.Growing.{bytes_same, named_all}
-use Rattle.table_versions.proofs.Values.{OneEncoding}
 
 none_is_some : {X : Type 0} (x : X) → None ≡ Some x → ⊥
 none_is_some x same = cc
 
 some_is : {X : Type 0} (x y : X) → Some x ≡ Some y → x ≡ y
 some_is x y same = cc
+
+-- an encoding is that of one upload
+abbrev OneEncoding : Type 0
+OneEncoding = (x y : Upload) → IsUpload x → IsUpload y → upload_text x ≡ upload_text y → x ≡ y
 
 -- ---- what is told of an upload
 

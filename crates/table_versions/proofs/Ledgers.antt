@@ -1,6 +1,6 @@
 -- What is kept of uploads is, after each step, what is kept of these and one upload more.
 use Rattle.std.proofs.Common.{◌≡◌, ◌≢◌, refl, sym, ap, ap₂, subst, ◌∙◌, ℕ, ◌+◌, ◌<◌, Bool, true, false, true≢false, Some, None, List, [], ◌∷◌, ◌++◌, length, slice_get, arith}
-use Rattle.std.specs.List.{list_any}
+use Rattle.std.specs.List.{AllByRecursion, list_any}
 use Rattle.std.specs.Option.{option_map}
 use Rattle.std.specs.Str.{bytes_eq}
 use Rattle.std.proofs.lemmas.List.{append-nil}
@@ -16,12 +16,15 @@ use Rattle.table_versions.specs.Ledger.{frames_of, FirstEntries, TableEntries, F
 use Rattle.table_versions.specs.Ledger.{seen_first, IsTableOf, IsTable, HasFrames, IsLedger, IsPartOf}
 use Rattle.table_versions.specs.Steps.{PutsFirst, PutsTable, PutsFrames, IsOpened, IsGrown}
 use Rattle.table_versions.proofs.Growing.{same_bytes, bytes_same, none_any, some_any, like_more, one_if, effective_named, effective_other, effective_new, effective_none, place_none, place_last, told_first, new_is_first}
-use Rattle.table_versions.proofs.Values.{all_push}
 use Rattle.table_versions.proofs.Taking.{OutcomesStay, firsts_repeat, firsts_new, is_no_table, is_a_table, names_named, names_same, names_more}
 use Rattle.table_versions.proofs.Adding.{table_opened, table_grown, tables_put, get_there, get_within, get_last, numbers_put, frames_stay, frames_push, other_number, other_version}
 
 some_is : {X : Type 0} (x y : X) → Some x ≡ Some y → x ≡ y
 some_is x y same = cc
+
+all_push : (P : Upload → Type 0) (xs : List Upload) (u : Upload) → AllByRecursion P xs → P u → AllByRecursion P (xs ++ u ∷ [])
+all_push P [] u all one = (one, tt)
+all_push P (x ∷ xs) u all one = (all.0, all_push P xs u all.1 one)
 
 module _ (stay : OutcomesStay) (first_uploads : FirstEntries) (tables : TableEntries) (frames : FrameEntries) (uploads : List Upload)
     (ledger : IsLedger first_uploads tables frames uploads) (u : Upload) (valid : IsUpload u) where

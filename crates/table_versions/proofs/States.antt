@@ -1,12 +1,13 @@
 -- What tables hold of values: of none, of more of them, and as look-ups need it.
-use Rattle.std.proofs.Common.{◌≡◌, refl, sym, subst, ◌∙◌, ◌+◌, ◌≤◌, Some, None, Result, Ok, Err, OnErr, IfOk, List, [], ◌++◌, length, length-append, arith}
+use Rattle.std.proofs.Common.{◌≡◌, refl, sym, subst, ◌∙◌, ◌+◌, ◌≤◌, Some, None, Result, Ok, Err, OnErr, IfOk, List, [], ◌++◌, map, length, length-append, arith}
 use Rattle.std.specs.List.{AllZip}
 use Rattle.ballots.specs.declared.value.Value.{Value}
+use Rattle.ballots.specs.Message.{value_bytes}
 use Rattle.table_types.specs.Uploads.{Upload}
-use Rattle.table_versions.specs.Values.{AreUploadsOf}
+use Rattle.table_versions.specs.Values.{AreUploadsIn}
 use Rattle.table_versions.specs.Ledger.{IsLedger, IsPrepared}
 use Rattle.table_versions.specs.State.{TablesState, HasTaken, ReadyState, IsReadyFor, IsSame}
-use Rattle.table_versions.proofs.Values.{OneEncoding, uploads_both, are_few, are_one}
+use Rattle.table_versions.proofs.Values.{AreOne, AreFew, AreBoth, uploads_both, uploads_few}
 
 none_is_some : {X : Type 0} (x : X) → None ≡ Some x → ⊥
 none_is_some x same = cc
@@ -33,33 +34,33 @@ nothing_taken state firsts tables frames taken = record {
 }
 
 -- the ledger of the uploads that these values hold
-pub ledger_of : OneEncoding → (state : TablesState) (values : List Value) (uploads : List Upload) → HasTaken state values → AreUploadsOf values uploads
+pub ledger_of : AreOne → (state : TablesState) (values : List Value) (uploads : List Upload) → HasTaken state values → AreUploadsIn values uploads
     → IsLedger state.firsts state.tables state.frames uploads
 ledger_of one state values uploads taken are =
-    subst (IsLedger state.firsts state.tables state.frames) (are_one one values taken.uploads uploads taken.are are) taken.ledger
+    subst (IsLedger state.firsts state.tables state.frames) (one (map value_bytes values) taken.uploads uploads taken.are are) taken.ledger
 
 -- more values were taken
-pub taken_both : (old new : TablesState) (taken values : List Value) (ready : ReadyState) → HasTaken old taken → IsReadyFor ready values → old.taken + ready.count ≤ 1000000
+pub taken_both : AreBoth → (old new : TablesState) (taken values : List Value) (ready : ReadyState) → HasTaken old taken → IsReadyFor ready values → old.taken + ready.count ≤ 1000000
     → new.taken ≡ old.taken + ready.count
     → ((before more : List Upload) → IsLedger old.firsts old.tables old.frames before → AllZip IsPrepared ready.uploads more → IsLedger new.firsts new.tables new.frames (before ++ more))
     → HasTaken new (taken ++ values)
-taken_both old new taken values ready has is few grown takes = record {
+taken_both both old new taken values ready has is few grown takes = record {
   uploads = has.uploads ++ is.uploads;
-  are = uploads_both taken values has.uploads is.uploads has.are is.are;
+  are = uploads_both both taken values has.uploads is.uploads has.are is.are;
   taken_is = omega (arith, grown, has.taken_is, is.count_is, length-append taken values);
   few = omega (arith, few, has.taken_is, is.count_is, length-append taken values);
   ledger = takes has.uploads is.uploads has.ledger is.prepared;
 }
 
 -- all that taking what is ready needs
-pub can_take : (state : TablesState) (taken values : List Value) (ready : ReadyState) → HasTaken state taken → IsReadyFor ready values → state.taken + ready.count ≤ 1000000
+pub can_take : AreFew → (state : TablesState) (taken values : List Value) (ready : ReadyState) → HasTaken state taken → IsReadyFor ready values → state.taken + ready.count ≤ 1000000
     → (before more : List Upload) × IsLedger state.firsts state.tables state.frames before × AllZip IsPrepared ready.uploads more × (length before + length more ≤ 1000000)
-can_take state taken values ready has is few = (
+can_take at_most state taken values ready has is few = (
   has.uploads,
   is.uploads,
   has.ledger,
   is.prepared,
-  omega (arith, few, has.taken_is, is.count_is, are_few taken has.uploads has.are, are_few values is.uploads is.are),
+  omega (arith, few, has.taken_is, is.count_is, uploads_few at_most taken has.uploads has.are, uploads_few at_most values is.uploads is.are),
 )
 
 pub same_taken : (old new : TablesState) (values : List Value) → IsSame old new → HasTaken old values → HasTaken new values

@@ -1,5 +1,5 @@
 -- What is ready of values.
-use Rattle.std.specs.Prelude.{◌≡◌, ◌≢◌, ℕ, Option, None, Some, List, ◌++◌}
+use Rattle.std.specs.Prelude.{◌≡◌, ◌≢◌, ℕ, Option, None, Some, List, [], ◌∷◌, ◌++◌}
 use Rattle.std.specs.List.{AllZip}
 use Rattle.ballots.specs.declared.value.Value.{Value}
 use Rattle.ballots.specs.declared.value.Value.TheVariants as values
@@ -7,7 +7,7 @@ use Rattle.table_types.specs.Uploads.{Upload, upload_text}
 use Rattle.table_types.specs.Valid.{IsUpload}
 use Rattle.table_versions.specs.declared.prepared.Prepared.{Prepared}
 use Rattle.table_versions.specs.Ledger.{IsPrepared}
-use Rattle.table_versions.specs.Values.{Adds, AreUploadsOf}
+use Rattle.table_versions.specs.Values.{AreUploadsIn}
 
 -- the upload that the bytes are is ready, or they are none
 abbrev pub PreparesBytes : List ℕ → Option Prepared → Type 0
@@ -19,7 +19,7 @@ PreparesBytes bytes (Some prepared) =
 pub record PushesValue (old new : List Prepared) (value : Value) : Type 0 where
   pub added : List Upload
   pub more : List Prepared
-  pub adds : Adds value added
+  pub adds : AreUploadsIn (value ∷ []) added
   pub ready : AllZip IsPrepared more added
   pub items : new ≡ old ++ more
 
@@ -29,5 +29,5 @@ PushesBytes old new bytes = PushesValue old new (values.Upload bytes)
 -- the uploads of these values are ready
 pub record AreReady (values : List Value) (items : List Prepared) : Type 0 where
   pub uploads : List Upload
-  pub are : AreUploadsOf values uploads
+  pub are : AreUploadsIn values uploads
   pub prepared : AllZip IsPrepared items uploads

@@ -3,7 +3,7 @@ use Rattle.std.specs.Prelude.{◌≡◌, ℕ, ◌+◌, ◌≤◌, List, length}
 use Rattle.std.specs.List.{AllZip}
 use Rattle.ballots.specs.declared.value.Value.{Value}
 use Rattle.table_types.specs.Uploads.{Upload}
-use Rattle.table_versions.specs.Values.{AreUploadsOf}
+use Rattle.table_versions.specs.Values.{AreUploadsIn}
 use Rattle.table_versions.specs.declared.prepared.Prepared.{Prepared}
 use Rattle.table_versions.specs.Ledger.{FirstEntries, TableEntries, FrameEntries, IsLedger, IsPrepared}
 
@@ -22,7 +22,7 @@ pub record TablesState : Type 0 where
 -- the tables hold what this list of values makes, and nothing else
 pub record HasTaken (state : TablesState) (values : List Value) : Type 0 where
   pub uploads : List Upload
-  pub are : AreUploadsOf values uploads
+  pub are : AreUploadsIn values uploads
   pub taken_is : state.taken ≡ length values
   pub few : length values ≤ values_limit
   pub ledger : IsLedger state.firsts state.tables state.frames uploads
@@ -42,7 +42,7 @@ pub record ReadyState : Type 0 where
 -- those of these values are ready
 pub record IsReadyFor (ready : ReadyState) (values : List Value) : Type 0 where
   pub uploads : List Upload
-  pub are : AreUploadsOf values uploads
+  pub are : AreUploadsIn values uploads
   pub prepared : AllZip IsPrepared ready.uploads uploads
   pub count_is : ready.count ≡ length values
 

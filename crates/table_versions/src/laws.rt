@@ -7,22 +7,22 @@ ghost use Rattle.ballots.specs.declared.value.Value.{Value};
 ghost use Rattle.table_types.specs.Uploads.{Upload};
 ghost use Rattle.table_types.specs.Valid.{IsUpload};
 ghost use Rattle.table_types.specs.Tables.{effective};
-ghost use Rattle.table_versions.specs.Values.{AreUploadsOf};
+ghost use Rattle.table_versions.specs.Values.{AreUploadsIn};
 ghost use Rattle.table_versions.specs.Ledger.{table_names};
 
-use table_types::laws::uploads_have_one_encoding;
+use table_types::laws::texts_hold_one_list_of_uploads;
 
 /// A list of values holds one list of uploads, at most one a value and each of them such as is taken; and two lists end
 /// to end hold the uploads of both.
 pub fn values_hold_one_list_of_uploads()
-    ensures one { (values : List Value) (xs ys : List Upload) → AreUploadsOf values xs → AreUploadsOf values ys
+    ensures one { (values : List Value) (xs ys : List Upload) → AreUploadsIn values xs → AreUploadsIn values ys
         → xs ≡ ys }
-    ensures valid { (values : List Value) (xs : List Upload) → AreUploadsOf values xs → AllByRecursion IsUpload xs }
-    ensures few { (values : List Value) (xs : List Upload) → AreUploadsOf values xs → length xs ≤ length values }
-    ensures both { (first second : List Value) (xs ys : List Upload) → AreUploadsOf first xs → AreUploadsOf second ys
-        → AreUploadsOf (first ++ second) (xs ++ ys) }
+    ensures valid { (values : List Value) (xs : List Upload) → AreUploadsIn values xs → AllByRecursion IsUpload xs }
+    ensures few { (values : List Value) (xs : List Upload) → AreUploadsIn values xs → length xs ≤ length values }
+    ensures both { (first second : List Value) (xs ys : List Upload) → AreUploadsIn first xs → AreUploadsIn second ys
+        → AreUploadsIn (first ++ second) (xs ++ ys) }
 {
-    uploads_have_one_encoding();
+    texts_hold_one_list_of_uploads();
 }
 
 /// The tables that there are, are those that have an effective upload.

@@ -15,7 +15,7 @@
 //!
 //! `HasTaken tables values` in `specs/State` says that the tables hold what this list makes. [`Tables::apply`] takes it
 //! from one list to that list and the values behind it, and every answer is told over the uploads of such a list
-//! (`AreUploadsOf` in `specs/Values`): values for nothing and bytes that are no upload's encoding add none.
+//! (`AreUploadsIn` in `specs/Values`): values for nothing and bytes that are no upload's encoding add none.
 //!
 //! `outcome` and `latest` take the time of a look-up, `ready` and `apply` time in proportion to the new values, and
 //! `answer` in proportion to its bytes. The keys of the maps are names that clients choose, so they are hashed with

@@ -10,6 +10,7 @@ use bytes::Bytes;
 use std::alloc::{AllocError, Global};
 use std::collections::VecDeque;
 use std::marker::Model;
+use table_types::laws::texts_hold_one_list_of_uploads;
 use uploads::{DecodeFault, Upload};
 
 /// The next values of the list, with all that [`crate::Tables::apply`] needs of them.
@@ -46,6 +47,7 @@ impl Ready {
     pub(crate) fn of(alloc: Global, values: &[Value]) -> Result<Ready, OutOfMemory>
         ensures { IfOk result (λ ready. IsReadyFor ready values.now) }
     {
+        texts_hold_one_list_of_uploads();
         let mut uploads = VecDeque::new(alloc);
         for value in values {
             push_value(alloc, &mut uploads, value)?;
@@ -103,6 +105,7 @@ fn push_value(
 ) -> Result<(), OutOfMemory>
     ensures { OnOk result (PushesValue uploads.old.items uploads.new.items value.now) }
 {
+    texts_hold_one_list_of_uploads();
     match value {
         Value::Noop => Ok(()),
         Value::Upload(bytes) => push_bytes(alloc, uploads, bytes.as_bytes()),

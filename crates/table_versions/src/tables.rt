@@ -8,7 +8,7 @@ ghost use Rattle.table_types.specs.Valid.{IsUpload};
 ghost use Rattle.table_types.specs.Answers.{answer_of};
 ghost use Rattle.table_types.specs.Tables.{effective, version_of, outcome_of};
 ghost use Rattle.table_versions.specs.Outcomes.{told};
-ghost use Rattle.table_versions.specs.Values.{AreUploadsOf};
+ghost use Rattle.table_versions.specs.Values.{AreUploadsIn};
 ghost use Rattle.ballots.specs.declared.value.Value.{Value as Agreed};
 ghost use Rattle.table_versions.specs.State.{values_limit, HasTaken, IsReadyFor, CanTake, IsSame};
 ghost use Rattle.table_versions.specs.Info.{IsLatest};
@@ -26,7 +26,7 @@ use indexmap::IndexMap;
 use std::alloc::Global;
 use std::hash::RandomState;
 use std::marker::Model;
-use table_types::laws::uploads_have_one_encoding;
+use table_types::laws::texts_hold_one_list_of_uploads;
 use tickets::Ticket;
 use uploads::Upload;
 
@@ -96,10 +96,10 @@ impl Tables {
     /// what was taken.
     pub fn outcome(&self, upload: &Upload) -> Outcome
         ensures { (values : List Agreed) (uploads : List Uploaded) (uploaded : Uploaded) → HasTaken self.now values
-            → AreUploadsOf values uploads → IsUpload uploaded → upload_text uploaded ≡ upload.now
+            → AreUploadsIn values uploads → IsUpload uploaded → upload_text uploaded ≡ upload.now
             → told result ≡ outcome_of uploads uploaded }
     {
-        uploads_have_one_encoding();
+        texts_hold_one_list_of_uploads();
         told_of(&self.firsts, upload.id(), upload.as_slice())
     }
 
@@ -108,12 +108,12 @@ impl Tables {
     /// can be refused only where it has.
     pub fn answer(&self, ticket: &Ticket) -> Result<Option<Vec<u8>>, OutOfMemory>
         ensures answer { (values : List Agreed) (uploads : List Uploaded) → HasTaken self.now values
-            → AreUploadsOf values uploads → IfOk result (λ answer. option_map (λ bytes. bytes.items) answer
+            → AreUploadsIn values uploads → IfOk result (λ answer. option_map (λ bytes. bytes.items) answer
             ≡ option_map answer_of (version_of ticket.now.table ticket.now.version uploads)) }
         ensures memory { OnErr result ((values : List Agreed) (uploads : List Uploaded) → HasTaken self.now values
-            → AreUploadsOf values uploads → IsSome (version_of ticket.now.table ticket.now.version uploads)) }
+            → AreUploadsIn values uploads → IsSome (version_of ticket.now.table ticket.now.version uploads)) }
     {
-        uploads_have_one_encoding();
+        texts_hold_one_list_of_uploads();
         let alloc = *self.firsts.allocator();
         answer_by(
             alloc,
@@ -128,21 +128,21 @@ impl Tables {
     /// does.
     pub fn latest(&self, table: &str) -> Result<Option<TableInfo>, OutOfMemory>
         ensures latest { (values : List Agreed) (uploads : List Uploaded) → HasTaken self.now values
-            → AreUploadsOf values uploads
+            → AreUploadsIn values uploads
             → IfOk result (λ info. IsLatest info table.now (effective table.now uploads)) }
         ensures memory { OnErr result ((values : List Agreed) (uploads : List Uploaded) → HasTaken self.now values
-            → AreUploadsOf values uploads → effective table.now uploads ≢ []) }
+            → AreUploadsIn values uploads → effective table.now uploads ≢ []) }
     {
-        uploads_have_one_encoding();
+        texts_hold_one_list_of_uploads();
         latest_by(*self.firsts.allocator(), &self.tables, table)
     }
 
     /// The names of the tables, in the order of their first effective uploads.
     pub fn tables(&self) -> Result<Vec<String>, OutOfMemory>
         ensures { (values : List Agreed) (uploads : List Uploaded) → HasTaken self.now values
-            → AreUploadsOf values uploads → IfOk result (λ names. map string_bytes names.items ≡ table_names uploads) }
+            → AreUploadsIn values uploads → IfOk result (λ names. map string_bytes names.items ≡ table_names uploads) }
     {
-        uploads_have_one_encoding();
+        texts_hold_one_list_of_uploads();
         names_by(*self.firsts.allocator(), &self.tables)
     }
 
@@ -169,6 +169,7 @@ impl Tables {
             → HasTaken self.new (taken ++ values) }
         ensures room { self.old.room ≤ self.new.room + length ready.uploads }
     {
+        texts_hold_one_list_of_uploads();
         take_all(
             &mut self.firsts,
             &mut self.tables,

@@ -1,8 +1,6 @@
 //! Laws of tickets.
 
 ghost use Rattle.std.specs.Prelude.{◌≡◌, ℕ, List};
-ghost use Rattle.table_types.specs.Valid.{name_limit};
-ghost use Rattle.tickets.specs.declared.name.TheConstants.{MAX_TABLE_NAME_BYTES};
 ghost use Rattle.tickets.specs.Ticket.{TableVersion, IsTableVersion, ticket_text, IsTicket};
 
 use proto_messages::laws::canonical_messages_are_one;
@@ -14,8 +12,3 @@ pub fn tickets_have_one_encoding()
 {
     canonical_messages_are_one();
 }
-
-/// The limit of the definitions is the program's.
-pub fn name_limit_is_this()
-    ensures { MAX_TABLE_NAME_BYTES ≡ name_limit }
-{}

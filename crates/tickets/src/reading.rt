@@ -6,10 +6,10 @@ ghost use Rattle.table_types.specs.Valid.{IsTableName};
 ghost use Rattle.proto_messages.specs.Stripping.{Strips};
 ghost use Rattle.tickets.specs.Ticket.{TableVersion, ticket_text, IsTicket};
 
-use crate::name::is_table_name;
 use proto_fields::{bytes_at, number_at};
 use proto_messages::laws::canonical_messages_are_messages;
 use proto_messages::{strip_bytes, strip_uint64};
+use table_types::is_table_name;
 
 /// The number of the field with the table's name.
 pub(crate) const TABLE: u32 = 1;

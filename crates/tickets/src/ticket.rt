@@ -4,11 +4,11 @@ ghost use Rattle.table_types.specs.Valid.{IsTableName};
 ghost use Rattle.tickets.specs.Ticket.{TableVersion, IsTableVersion, ticket_text, IsTicket};
 
 use crate::fault::TicketFault;
-use crate::name::is_table_name;
 use crate::reading::{TABLE, VERSION, parts};
 use proto_messages::{append_bytes, append_uint64};
 use std::alloc::{AllocError, Global};
 use std::marker::Model;
+use table_types::is_table_name;
 
 /// Which version of which table a client asks for.
 #[derive(Debug, Drop)]

@@ -1,4 +1,2 @@
 pub mod Texts
 pub mod Parts
-pub mod Found
-pub mod Read

@@ -1,28 +1,29 @@
 //! An upload.
 
-ghost use Rattle.std.specs.Prelude.{◌≡◌, ◌==◌, ℕ, List, length, Err, IfOk, OnOk};
+ghost use Rattle.std.specs.Prelude.{◌≡◌, ◌==◌, ℕ, List, length, map, Err, IfOk, OnOk, IfErr};
+ghost use Rattle.std.specs.List.{AllByRecursion};
 ghost use lib.Pointwise.{pointwise};
 ghost use Rattle.std.specs.Cmp.Rules.{comparing};
 ghost use Rattle.std.proofs.Common.{rules};
 ghost use Rattle.header_types.specs.Views.{schema_of};
+ghost use Rattle.batch_columns.specs.Batches.{rows_of, IsBatchOf};
 ghost use Rattle.table_types.specs.Uploads.{Upload as Uploaded, upload_text, schema_text};
 ghost use Rattle.table_types.specs.Valid.{IsUpload};
-ghost use Rattle.uploads.specs.Texts.{IsUploadText};
-ghost use Rattle.uploads.specs.Found.{HasUploadFields};
-ghost use Rattle.uploads.specs.Parts.{HasLeft, batches_parts};
-ghost use Rattle.uploads.specs.declared.fault.DecodeFault.TheVariants.{NotAnUpload, OutOfMemory};
+ghost use Rattle.upload_parts.specs.Texts.{IsUploadText};
+ghost use Rattle.upload_reading.specs.Found.{HasUploadFields};
+ghost use Rattle.upload_parts.specs.Parts.{HasLeft, batches_parts};
+ghost use Rattle.upload_writing.specs.Making.{AreMade, AreRefused, upload_of};
+ghost use Rattle.upload_reading.specs.declared.fault.DecodeFault.TheVariants.{NotAnUpload, OutOfMemory};
 
-use crate::decoding::check_upload;
-use crate::encoded_batches::EncodedBatches;
-use crate::fault::DecodeFault;
-use crate::parts::parts_of;
-use crate::reading::shown_schema;
+use batch_columns::Batch;
 use bytes::Bytes;
-use flatbuf_meta::laws::written_headers_are_shown;
 use header_types::Schema;
 use std::alloc::{AllocError, Global};
 use std::marker::Model;
 use table_types::laws::uploads_have_one_encoding;
+use upload_parts::{EncodedBatches, parts_of};
+use upload_reading::{DecodeFault, check_upload, written_batches, written_schema};
+use upload_writing::{UploadFault, encode_upload};
 
 /// What a client uploads: rows for a table, under a name of the client's own, in their one encoding. Contracts see the
 /// bytes of the encoding. A clone shares them: it copies no byte, and takes no memory but what a further owner of a
@@ -41,6 +42,41 @@ impl Model for Upload {
 }
 
 impl Upload {
+    /// The upload to this table, under this name of its own, of this schema and these batches, which are encoded in the one
+    /// way that there is, whatever they came from.
+    ///
+    /// The first of these faults is told that holds:
+    /// - [`UploadFault::BadTable`]: the table's name is not 1 to 64 digits, letters of ASCII, `_`, `.` or `-`.
+    /// - [`UploadFault::TooManyBatches`]: there are more than 1,024 batches.
+    /// - [`UploadFault::ShapeDiffers`]: the schema is not one that can be written and read back ([`Schema::in_profile`]), or
+    ///   a batch is not of it ([`Batch::is_of`]).
+    /// - [`UploadFault::TooLarge`]: the encoding would have more than 16,777,216 bytes, or a message that is served of it
+    ///   (`FlightData` of Apache Arrow, "Flight.proto", with the schema, or with a batch and the upload's own name) more
+    ///   than 4,194,304. It is counted before memory is asked.
+    /// - [`UploadFault::OutOfMemory`]: memory was refused, and none of the others holds.
+    pub fn new(
+        alloc: Global,
+        table: &str,
+        id: [u8; 16],
+        schema: &Schema,
+        batches: &[Batch],
+    ) -> Result<Upload, UploadFault>
+        ensures text { IfOk result
+            (λ upload. upload ≡ upload_text (upload_of table.now id (schema_of schema.now) batches.now)) }
+        ensures upload { OnOk result (IsUpload (upload_of table.now id (schema_of schema.now) batches.now)) }
+        ensures made { OnOk result (AreMade table.now id (schema_of schema.now) batches.now) }
+        ensures fault { IfErr result (AreRefused table.now id (schema_of schema.now) batches.now) }
+    {
+        let text = match encode_upload(alloc, table, &id, schema, batches) {
+            Ok(text) => text,
+            Err(fault) => return Err(fault),
+        };
+        match Bytes::from_vec(text) {
+            Ok(text) => Ok(Upload { text }),
+            Err(_) => Err(UploadFault::OutOfMemory),
+        }
+    }
+
     /// The upload of which these bytes are the encoding. It holds them as they are: no byte is copied.
     ///
     /// [`DecodeFault::NotAnUpload`] says that they are that of none that is taken. [`DecodeFault::OutOfMemory`] says that
@@ -117,12 +153,8 @@ impl Upload {
         ensures { (upload : Uploaded) → IsUpload upload → upload_text upload ≡ self.now
             → IfOk result (λ schema. schema_of schema ≡ upload.schema) }
     {
-        written_headers_are_shown();
         let parts = parts_of(self.text.as_slice());
-        match shown_schema(alloc, parts.schema) {
-            Ok(schema) => Ok(schema),
-            Err(_) => Err(AllocError),
-        }
+        written_schema(alloc, parts.schema)
     }
 
     /// Its batches, each as its header and its body are encoded.
@@ -132,6 +164,22 @@ impl Upload {
             → HasLeft result (batches_parts upload) }
     {
         EncodedBatches::new(parts_of(self.text.as_slice()).batches)
+    }
+
+    /// Its batches, in order: each is of its schema, with the rows that were encoded. [`AllocError`] says that memory was
+    /// refused.
+    pub fn batches(&self, alloc: Global) -> Result<Vec<Batch>, AllocError>
+        ensures rows { (upload : Uploaded) → IsUpload upload → upload_text upload ≡ self.now
+            → IfOk result (λ batches. map rows_of batches.items ≡ upload.batches) }
+        ensures of_schema { (upload : Uploaded) → IsUpload upload → upload_text upload ≡ self.now
+            → IfOk result (λ batches. AllByRecursion (IsBatchOf upload.schema) batches.items) }
+    {
+        let schema = self.schema(alloc)?;
+        let parts = parts_of(self.text.as_slice());
+        match written_batches(alloc, &schema, parts.batches) {
+            Ok(batches) => Ok(batches),
+            Err(_) => Err(AllocError),
+        }
     }
 
     /// How many batches it has: at most 1,024.

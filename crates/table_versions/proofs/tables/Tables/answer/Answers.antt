@@ -7,7 +7,7 @@ pub returns-clause-answer : goal.returns-clause-answer
 returns-clause-answer c = λ values uploads taken are.
     rw (← c.table.ensures.value, ← c.version.ensures.value)
     (c.answer_by.ensures.answer c.self.inside.firsts.entries uploads
-    (ledger_of c.uploads_have_one_encoding.ensures _ values uploads (subst (λ s. HasTaken s values) (sym c.self.view_is) taken) are))
+    (ledger_of c.texts_hold_one_list_of_uploads.ensures.one _ values uploads (subst (λ s. HasTaken s values) (sym c.self.view_is) taken) are))
 
 pub returns-clause-memory : goal.returns-clause-memory
 returns-clause-memory c =
@@ -15,5 +15,5 @@ returns-clause-memory c =
     (λ there. λ values uploads taken are.
     rw (← c.table.ensures.value, ← c.version.ensures.value)
     (there c.self.inside.firsts.entries uploads
-    (ledger_of c.uploads_have_one_encoding.ensures _ values uploads (subst (λ s. HasTaken s values) (sym c.self.view_is) taken) are)))
+    (ledger_of c.texts_hold_one_list_of_uploads.ensures.one _ values uploads (subst (λ s. HasTaken s values) (sym c.self.view_is) taken) are)))
     c.answer_by.ensures.memory

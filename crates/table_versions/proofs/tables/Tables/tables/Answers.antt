@@ -8,5 +8,5 @@ pub returns : goal.returns
 returns c = λ values uploads taken are.
     if_ok (λ names. map string_bytes names.items ≡ names_in c.self.inside.tables.entries) (λ names. map string_bytes names.items ≡ table_names uploads) c.names_by.result
     (λ names is. is
-    ∙ (ledger_of c.uploads_have_one_encoding.ensures _ values uploads (subst (λ s. HasTaken s values) (sym c.self.view_is) taken) are).names_are)
+    ∙ (ledger_of c.texts_hold_one_list_of_uploads.ensures.one _ values uploads (subst (λ s. HasTaken s values) (sym c.self.view_is) taken) are).names_are)
     c.names_by.ensures

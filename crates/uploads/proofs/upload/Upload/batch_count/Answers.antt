@@ -1,5 +1,5 @@
 use Rattle.std.proofs.Common.{sym, ◌∙◌, arith}
-use Rattle.uploads.proofs.Walk.{begin_count, next_count, few_left, all_counted}
+use Rattle.uploads.proofs.Counting.{begin_count, next_count, few_left, all_counted}
 use Rattle.uploads.proofs.upload.Upload.batch_count.Goals as goal
 
 pub loop-batches-init : goal.loop-batches-init

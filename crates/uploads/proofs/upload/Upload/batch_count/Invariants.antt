@@ -1,5 +1,5 @@
 use Rattle.std.proofs.Common.{length}
-use Rattle.uploads.proofs.Walk.{StillLeft}
+use Rattle.uploads.proofs.Counting.{StillLeft}
 use Rattle.uploads.proofs.upload.Upload.batch_count.Given as goal
 
 abbrev pub invariant-loop-batches : goal.invariant-loop-batches

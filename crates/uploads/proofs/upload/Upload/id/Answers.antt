@@ -1,5 +1,5 @@
 use Rattle.std.proofs.Common.{sym, ap, ◌∙◌, ℕ, take}
-use Rattle.uploads.proofs.Walk.{whole_id}
+use Rattle.uploads.proofs.Counting.{whole_id}
 use Rattle.uploads.proofs.upload.Upload.id.Goals as goal
 
 pub returns : goal.returns

@@ -1,0 +1,5 @@
+pub mod Fronts
+pub mod Shown
+pub mod Batched
+pub mod Decoded
+pub mod Remade

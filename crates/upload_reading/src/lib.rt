@@ -1,0 +1,19 @@
+//! Uploads read from bytes.
+//!
+//! [`check_upload`] tells whether bytes that nobody has checked are the encoding of an upload that is taken. Fields, names
+//! and limits are looked at first, without memory (`finding`, `Found` in `specs/`); then the schema and each batch are
+//! read, and taken only where writing them again gives the same bytes (`reading`, `Read` in `specs/`).
+//!
+//! [`written_schema`] and [`written_batches`] read again what is known to be written so. How the parts stand one behind the
+//! other is told by `upload_parts`.
+#![tactic(auto)]
+
+mod decoding;
+mod fault;
+mod finding;
+mod reading;
+mod written;
+
+pub use decoding::check_upload;
+pub use fault::DecodeFault;
+pub use written::{written_batches, written_schema};
