@@ -1,0 +1,268 @@
+"""A model of uploads, of tickets, and of the tables that agreed values make. It is written from Protocol Buffers, "Encoding", from
+the columnar format, Schema.fbs, Message.fbs and Flight.proto of Apache Arrow, from gRPC, "gRPC over HTTP2", and from
+docs/FORMATS.md, and not from the code; and it keeps whole lists: which uploads count, which versions there are and what is told
+is asked of all values each time.
+
+Bytes are an upload where they are those that would be written of what is read in them; so a reader that takes too much does no harm.
+Limits of schemas are not looked at, and columns have the types that are carried."""
+import re
+import sys
+from pathlib import Path
+
+TOP = Path(__file__).resolve().parent.parent
+sys.dont_write_bytecode = True
+sys.path.append(str(TOP / "crates" / "flatbuf_meta" / "vectors"))
+
+import canonical
+from batch_model import Head, Type, meaning
+from batch_model import canonical as written_batch
+from make import TYPES, Refused, kind
+from wire_model import Faults, bytes_field, fields_of, number_field
+
+MOST_BATCHES, MOST_BYTES, MOST_SERVED = 1024, 1 << 24, 1 << 22
+
+
+# ---- headers, read by their places
+
+
+class NoUpload(Exception):
+    """Bytes are no upload."""
+
+
+def number_in(text, place, size, signed=False):
+    if not 0 <= place <= len(text) - size:
+        raise NoUpload
+    return int.from_bytes(text[place : place + size], "little", signed=signed)
+
+
+def follow(text, place):
+    return place + number_in(text, place, 4)
+
+
+def slot(text, table, number):
+    """Where the field stands in a table, None where it is absent."""
+    vtable = table - number_in(text, table, 4, True)
+    is_there = 4 + 2 * number < number_in(text, vtable, 2)
+    cell = number_in(text, vtable + 4 + 2 * number, 2) if is_there else 0
+    return table + cell if cell else None
+
+
+def inside(text, table, number):
+    """The tables of the vector in a field."""
+    place = slot(text, table, number)
+    if place is None:
+        return []
+    vector = follow(text, place)
+    return [follow(text, vector + 4 + 4 * index) for index in range(number_in(text, vector, 4))]
+
+
+def string(text, table, number):
+    place = slot(text, table, number)
+    if place is None:
+        return None
+    vector = follow(text, place)
+    return text[vector + 4 : vector + 4 + number_in(text, vector, 4)].decode("utf-8")
+
+
+def metadata(text, table, number):
+    return [{"key": string(text, it, 0) or "", "value": string(text, it, 1) or ""} for it in inside(text, table, number)]
+
+
+def parameter(text, table, name, place, word, default):
+    found = slot(text, table, place)
+    if word == "timezone":
+        return string(text, table, place)
+    if found is None:
+        return default
+    if word in ("unit", "precision"):
+        names = canonical.VALUES.get(name, "SECOND MILLISECOND MICROSECOND NANOSECOND").split()
+        return names[number_in(text, found, 2)]
+    return bool(number_in(text, found, 1)) if word == "is_signed" else number_in(text, found, 4, True)
+
+
+def column_at(text, table):
+    """A field of a schema, as canonical.py has it."""
+    name = {number: name for name, number in canonical.NUMBERS.items()}[number_in(text, slot(text, table, 2), 1)]
+    type_table = follow(text, slot(text, table, 3))
+    words = enumerate(TYPES[name].items())
+    said = {word: parameter(text, type_table, name, place, word, default) for place, (word, default) in words}
+    kind({"type_type": name, "type": said})
+    nullable = slot(text, table, 1)
+    return {
+        "name": string(text, table, 0) or "", "nullable": nullable is not None and number_in(text, nullable, 1) != 0, "type_type": name,
+        "type": said, "children": [column_at(text, it) for it in inside(text, table, 5)],
+        "custom_metadata": metadata(text, table, 6),
+    }
+
+
+def header_in(text):
+    return follow(text, slot(text, follow(text, 0), 2))
+
+
+def schema_at(text):
+    table = header_in(text)
+    columns = [column_at(text, it) for it in inside(text, table, 1)]
+    return {"fields": columns, "custom_metadata": metadata(text, table, 2)}
+
+
+def pairs_at(text, table, number):
+    vector = follow(text, slot(text, table, number))
+    count = number_in(text, vector, 4)
+    if count > len(text):
+        raise NoUpload
+    return tuple(tuple(number_in(text, vector + 4 + 16 * at + half, 8, True) for half in (0, 8)) for at in range(count))
+
+
+def head_at(text):
+    table = header_in(text)
+    length = number_in(text, slot(text, table, 0), 8, True)
+    body_length = number_in(text, slot(text, follow(text, 0), 3), 8, True)
+    return Head(length, pairs_at(text, table, 1), pairs_at(text, table, 2), slot(text, table, 3) is not None, body_length)
+
+
+# ---- uploads
+
+
+def type_in(column):
+    """The type of a field, as batch_model.py has it."""
+    words = tuple(str(it).lower() if isinstance(it, bool) else str(it) for it in column["type"].values())
+    return Type(column["type_type"].rstrip("_"), words, tuple(type_in(it) for it in column["children"]))
+
+
+def schema_text(schema):
+    return bytes.fromhex(canonical.message({"header_type": "Schema", "header": schema}))
+
+
+def bare(schema):
+    """A schema, or a field, without metadata."""
+    inner = "fields" if "fields" in schema else "children"
+    return {**schema, "custom_metadata": [], inner: [bare(it) for it in schema[inner]]}
+
+
+class Upload:
+    """An upload: its table, its own name, its schema, and its batches, each a number of rows and a list of cells a column."""
+
+    def __init__(self, table, id, schema, batches):
+        self.table, self.id, self.schema, self.batches = table, id, schema, batches
+        self.schema_text, self.shape = schema_text(schema), schema_text(bare(schema))
+        self.parts = [self.written(rows, columns) for rows, columns in batches]
+        fields = [bytes_field(1, header) + (bytes_field(2, body) if body else b"") for header, body in self.parts]
+        front = [bytes_field(1, table), bytes_field(2, id), bytes_field(3, self.schema_text)]
+        self.text = b"".join(front + [bytes_field(4, it) for it in fields])
+
+    def written(self, rows, columns):
+        """The header and the body of a batch."""
+        head, body = written_batch([type_in(it) for it in self.schema["fields"]], rows, columns)
+        said = {"length": rows, "nodes": [dict(zip(("length", "null_count"), it)) for it in head.nodes]}
+        said["buffers"] = [dict(zip(("offset", "length"), it)) for it in head.buffers]
+        header = canonical.message({"header_type": "RecordBatch", "header": said, "bodyLength": len(body)})
+        return bytes.fromhex(header), body
+
+    def messages(self):
+        """The messages that are served of it."""
+        name = bytes_field(3, self.id)
+        served = [bytes_field(2, header) + name + (bytes_field(1000, body) if body else b"") for header, body in self.parts]
+        return served or [name]
+
+    def is_taken(self):
+        served = [bytes_field(2, self.schema_text), *self.messages()]
+        return (
+            is_table_name(self.table) and len(self.id) == 16 and len(self.batches) <= MOST_BATCHES
+            and len(self.text) <= MOST_BYTES and all(len(it) <= MOST_SERVED for it in served)
+        )
+
+
+def is_table_name(name):
+    return re.fullmatch(rb"[0-9A-Za-z_.-]{1,64}", name) is not None
+
+
+def batch_at(schema, text):
+    fields = {number: held for number, kind, held in fields_of(text) if kind == 2}
+    head, body = head_at(fields[1]), fields.get(2, b"")
+    columns = meaning([type_in(it) for it in schema["fields"]], head, body)
+    if isinstance(columns, str):
+        raise NoUpload
+    return head.length, columns
+
+
+def upload_of(text):
+    """The upload that the bytes are, None where they are none."""
+    try:
+        fields = [(number, held) for number, kind, held in fields_of(text) if kind == 2]
+        table, id, header = (dict(fields)[number] for number in (1, 2, 3))
+        schema = schema_at(header)
+        upload = Upload(table, id, schema, [batch_at(schema, held) for number, held in fields if number == 4])
+    except (NoUpload, Faults, Refused, LookupError, TypeError, ValueError, OverflowError):
+        return None
+    return upload if upload.is_taken() and upload.text == text else None
+
+
+# ---- tickets
+
+
+def ticket_text(table, version):
+    """The ticket for a version of a table, None where there is none such."""
+    is_one = is_table_name(table) and 1 <= version < 2**64
+    return bytes_field(1, table) + number_field(2, version) if is_one else None
+
+
+def ticket_of(text):
+    """The table and the version that a ticket asks for, None where the bytes are no ticket."""
+    try:
+        held = {number: it for number, _, it in fields_of(text)}
+        asked = held[1], held[2]
+        return asked if ticket_text(*asked) == text else None
+    except (Faults, KeyError, TypeError):
+        return None
+
+
+# ---- tables, by whole lists of uploads
+
+
+def first_named(uploads):
+    """Those that come first of their names."""
+    return [it for place, it in enumerate(uploads) if it.id not in {earlier.id for earlier in uploads[:place]}]
+
+
+def effective(uploads, table):
+    """Those to the table that come first of their names in the whole list, and have the shape of the first of them."""
+    to_table = [it for it in first_named(uploads) if it.table == table]
+    return [it for it in to_table if it.shape == to_table[0].shape]
+
+
+def outcome(uploads, upload):
+    named = [it for it in uploads if it.id == upload.id]
+    if not named:
+        return "Unknown"
+    if named[0].text != upload.text:
+        return "Conflict"
+    ids = [it.id for it in effective(uploads, upload.table)]
+    return f"Applied({1 + ids.index(upload.id)})" if upload.id in ids else "SchemaMismatch"
+
+
+def framed(message):
+    return b"\0" + len(message).to_bytes(4, "big") + message
+
+
+def answer(uploads, table, version):
+    """The frames of a version of a table, None where there is none such."""
+    counted = effective(uploads, table)
+    if not 1 <= version <= len(counted):
+        return None
+    schema = bytes_field(2, counted[0].schema_text)
+    return [framed(it) for it in [schema, *(it for upload in counted[:version] for it in upload.messages())]]
+
+
+def latest(uploads, table):
+    """The version, the rows and the bytes of a table's latest version, and its schema; None where there is none."""
+    counted = effective(uploads, table)
+    if not counted:
+        return None
+    rows = sum(rows for upload in counted for rows, _ in upload.batches)
+    return len(counted), rows, sum(map(len, answer(uploads, table, len(counted)))), counted[0].schema_text
+
+
+def table_names(uploads):
+    """The tables, each where the first of its effective uploads stands."""
+    tables = {it.table for it in uploads if effective(uploads, it.table)}
+    return sorted(tables, key=lambda table: uploads.index(effective(uploads, table)[0]))
