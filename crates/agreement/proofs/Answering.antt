@@ -1,5 +1,5 @@
 -- What an acceptor's answer makes its node send is what is due.
-use Rattle.std.proofs.Common.{◌≡◌, ℕ, Bool, cond, nat_eq, Option, Some, List, [], ◌∷◌, refl, ap, ◌∙◌, eq-eqb, ne_eqb}
+use Rattle.std.proofs.Common.{◌≡◌, ℕ, max, Bool, cond, nat_eq, Option, Some, Ok, List, [], ◌∷◌, refl, ap, subst, ◌∙◌, eq-eqb, ne_eqb}
 use Rattle.ballots.specs.Ballot.{Ballot, IsBelow, IsAbove, IsAtLeast}
 use Rattle.ballots.specs.declared.acceptance.Acceptance.{Acceptance}
 use Rattle.ballots.specs.declared.message.Message.{Message}
@@ -10,12 +10,12 @@ use Rattle.acceptor.specs.Standing.{Standing, Sets, IsSame}
 use Rattle.acceptor.specs.AcceptorState.{standing, promised_at, accepted_at}
 use Rattle.acceptor.specs.declared.answer.Answer.TheVariants as answer
 use Rattle.histories.specs.Views.{Views}
-use Rattle.histories.specs.Due.{Plan}
+use Rattle.histories.specs.Due.{Plan, IsMessageOf, round_in}
 use Rattle.agreement.specs.declared.step.Change.{Change}
 use Rattle.agreement.specs.declared.step.Change.TheVariants.{Nothing, Answered}
 use Rattle.agreement.specs.declared.step.Step.{Step}
 use Rattle.agreement.specs.State.{AgreementState}
-use Rattle.agreement.specs.Step.{Sends, StepGives, kept_of, left_by, plan_of}
+use Rattle.agreement.specs.Step.{Sends, BodyGives, StepGives, MessageGives, kept_of, left_by, sees, plan_of}
 
 -- ---- a slot that is set
 
@@ -134,4 +134,15 @@ refusal_of_accept_gives state seen sender slot proposal promised step is below i
     ),
     it.grown_is,
   ),
+)
+
+-- ---- a message
+
+-- a step of a node that has seen the message's round
+pub message_gives : (state : AgreementState) (m : Message) (step : Step) → IsMessageOf state.config m
+    → StepGives state (max state.seen_round (round_in m.body)) m.sender m.slot m.body step → MessageGives state m (Ok step)
+message_gives state m step is gives = (
+  is,
+  λ views has.
+      subst (λ (n : ℕ). BodyGives state.config state.me (sees views (max n (round_in m.body))) m.sender m.slot m.body (plan_of views step) step.grown.items) has.seen (gives.1 views has),
 )

@@ -1,5 +1,5 @@
 -- How the parts of a node stand after a change, part by part.
-use Rattle.std.proofs.Common.{◌≡◌, ◌⊎◌, ◌↔◌, inl, inr, ℕ, zero, suc, ◌<◌, ◌≤◌, Option, None, Some, List, [], ◌∷◌, ◌++◌, Result, Ok, Err, IfOk, IsErr, IsSome, refl, sym, ap, subst, ◌∙◌, arith}
+use Rattle.std.proofs.Common.{◌≡◌, ◌⊎◌, ◌↔◌, inl, inr, ℕ, zero, suc, ◌<◌, ◌≤◌, Option, None, Some, List, [], ◌∷◌, ◌++◌, Result, Ok, Err, IfOk, OnErr, IsErr, IsSome, refl, sym, ap, subst, ◌∙◌, arith}
 use Rattle.std.specs.List.{Contains, filter_map}
 use Rattle.std.specs.Option.{option_or}
 use Rattle.std.proofs.lemmas.Bool.{cases_eq}
@@ -13,8 +13,8 @@ use Rattle.ballots.specs.declared.record.Record.TheVariants as kept_as
 use Rattle.acceptor.specs.Restored.{IsHighestRound, round_in}
 use Rattle.learner.specs.Calls.{Call, IsLearned}
 use Rattle.learner.specs.State.{LearnerState, decided_at as learned_at}
-use Rattle.learner.specs.Changes.{LearnsNow}
-use Rattle.agreement.specs.Step.{IsAnswer, DecidedNow}
+use Rattle.learner.specs.Changes.{LearnsNow, DecidedNow}
+use Rattle.agreement.specs.Step.{IsAnswer}
 
 -- ---- the highest round that was begun
 
@@ -73,6 +73,10 @@ at_ok P result ballot e holds = subst (λ r. IfOk r P) e holds
 pub map_ok : {T E : Type 0} (P Q : T → Type 0) (result : Result T E) → ((x : T) → P x → Q x) → IfOk result P → IfOk result Q
 map_ok P Q (Ok x) f holds = f x holds
 map_ok P Q (Err fault) f holds = tt
+
+pub any_err : {T E : Type 0} (Q : Type 0) (result : Result T E) → Q → OnErr result Q
+any_err Q (Ok x) holds = tt
+any_err Q (Err fault) holds = holds
 
 -- ---- what is learned and logged
 

@@ -1,27 +1,26 @@
 -- What a node makes of promises and refusals, and what it tells one that asks, is what is due.
-use Rattle.std.proofs.Common.{◌≡◌, ◌↔◌, ℕ, zero, suc, ◌<◌, Option, None, Some, List, [], ◌∷◌, length, slice_get, sym, ap, ◌∙◌, arith}
+use Rattle.std.proofs.Common.{◌≡◌, inl, inr, ℕ, ◌<◌, Option, List, [], ◌∷◌, length, ap, subst, ◌∙◌}
 use Rattle.ballots.specs.Ballot.{Ballot}
 use Rattle.ballots.specs.declared.value.Value.{Value}
 use Rattle.ballots.specs.declared.acceptance.Acceptance.{Acceptance}
 use Rattle.ballots.specs.declared.message.Message.{Message}
 use Rattle.ballots.specs.declared.message.Body.TheVariants as body
+use Rattle.ballots.specs.Message.{message}
 use Rattle.proposer.specs.Call.{Start}
 use Rattle.proposer.specs.Call.{Call as Asked}
 use Rattle.proposer.specs.Attempting.{Answers}
 use Rattle.proposer.specs.State.{StateAfter as ProposerAfter}
-use Rattle.learner.specs.Calls.{Call as Told, IsLearned}
-use Rattle.learner.specs.State.{LearnerState, decided_at as learned_at}
-use Rattle.learner.specs.Learned.{StateAfter as LearnerAfter}
 use Rattle.decided_log.specs.Asked.{asked_of}
 use Rattle.decided_log.specs.Decided.{IsPrefix}
 use Rattle.decided_log.specs.LogState.{decided_at}
 use Rattle.histories.specs.Views.{Views, HasPrefix}
-use Rattle.histories.specs.Due.{accept_of}
+use Rattle.histories.specs.Due.{accept_of, AsksAt}
 use Rattle.agreement.specs.declared.step.Change.TheVariants.{Nothing, Promised, Refused}
 use Rattle.agreement.specs.declared.step.Step.{Step}
 use Rattle.agreement.specs.State.{AgreementState, Has}
-use Rattle.agreement.specs.Step.{Sends, StepGives}
+use Rattle.agreement.specs.Step.{Sends, StepGives, QuestionGives, plan_of}
 use Rattle.agreement.proofs.Answering.{plan_is}
+use Rattle.agreement.proofs.Knowing.{LearnsJust, prefix_has}
 
 pub promised_gives : (state : AgreementState) (seen sender slot : ℕ) (ballot : Ballot) (report : Option Acceptance) (accept : Option (ℕ × Ballot × Value)) (step : Step)
     → ((start : Start) (calls : List Asked) → ProposerAfter start calls state.proposer
@@ -44,29 +43,7 @@ pub refused_gives : (state : AgreementState) (seen sender slot : ℕ) (ballot pr
 refused_gives state seen sender slot ballot promised step it =
     (it.seen_is, λ views has. (plan_is views step (Refused slot ballot) [] seen it.change_is it.sends_are it.seen_is, it.grown_is))
 
--- ---- the prefix
-
--- a slot that has a value is within the list
-within : {X : Type 0} (xs : List X) (k : ℕ) (x : X) → slice_get xs k ≡ Some x → k < length xs
-within [] k x e = absurd cc
-within (y ∷ ys) zero x e = omega arith
-within (y ∷ ys) (suc k) x e = let rest = within ys k x e in omega (arith, rest)
-
--- a state has learned just what its calls made it learn
-abbrev pub LearnsJust : Type 0
-LearnsJust = (members : ℕ) (calls : List Told) (state : LearnerState) (slot : ℕ) (v : Value) → LearnerAfter members calls state
-    → learned_at state slot ≡ Some v ↔ IsLearned members calls slot v
-
-pub prefix_has : LearnsJust → (state : AgreementState) (views : Views) (values : List Value) → Has state views → IsPrefix (decided_at state.log) values
-    → HasPrefix state.config.members views.told values
-prefix_has just state views values has is = record {
-  learned = λ slot value e.
-      (just state.config.members views.told state.learner slot value has.told).0
-      (sym (has.logged slot) ∙ is.held slot (within values slot value e) ∙ e);
-  gap = λ value learned.
-      let e : Some value ≡ None = sym ((just state.config.members views.told state.learner (length values) value has.told).1 learned) ∙ sym (has.logged (length values)) ∙ is.gap in
-      absurd cc;
-}
+-- ---- a question
 
 pub asked_gives : LearnsJust → (state : AgreementState) (seen sender slot : ℕ) (values : List Value) (messages : List Message) (step : Step)
     → IsPrefix (decided_at state.log) values → messages ≡ asked_of state.log.node values slot → Sends step messages seen Nothing
@@ -76,9 +53,28 @@ asked_gives just state seen sender slot values messages step prefix are it = (
   λ views has. (
     (
       values,
-      prefix_has just state views values has prefix,
+      prefix_has just state views has values prefix,
       plan_is views step Nothing (asked_of state.me values slot) seen it.change_is (it.sends_are ∙ are ∙ ap (λ (n : ℕ). asked_of n values slot) has.log_is) it.seen_is,
     ),
     it.grown_is,
   ),
 )
+
+-- ---- one's own question
+
+pub question_gives : (state : AgreementState) (slot : ℕ) (step : Step)
+    → ((views : Views) (values : List Value) → Has state views → HasPrefix state.config.members views.told values → (slot ≡ length values) × (slot < state.config.slot_limit))
+    → Sends step (message state.me slot body.Ask ∷ []) state.seen_round Nothing → QuestionGives state step
+question_gives state slot step free it views values has prefix =
+    let at = free views values has prefix in
+    subst (λ (s : ℕ). AsksAt state.config state.me views s (plan_of views step)) at.0
+    (inl (
+      at.1,
+      plan_is views step Nothing (message state.me slot body.Ask ∷ []) views.seen_round it.change_is it.sends_are (it.seen_is ∙ has.seen),
+    ))
+
+pub no_question_gives : (state : AgreementState) (step : Step)
+    → ((views : Views) (values : List Value) → Has state views → HasPrefix state.config.members views.told values → length values ≡ state.config.slot_limit)
+    → Sends step [] state.seen_round Nothing → QuestionGives state step
+no_question_gives state step all it views values has prefix =
+    inr (all views values has prefix, plan_is views step Nothing [] views.seen_round it.change_is it.sends_are (it.seen_is ∙ has.seen))

@@ -1,7 +1,8 @@
 -- What a node's part in agreement holds, and how it stands for what decides what the node does: Lamport, "Paxos Made Simple",
 -- sections 2.5 and 3.
-use Rattle.std.specs.Prelude.{◌≡◌, refl, ℕ, ◌≤◌, None}
+use Rattle.std.specs.Prelude.{◌≡◌, refl, ℕ, suc, ◌≤◌, None}
 use Rattle.std.specs.Coded.{Coded, code_by, coded×, coded_ℕ}
+use Rattle.ballots.specs.Limits.{max_slot}
 use Rattle.acceptor.specs.AcceptorState.{AcceptorState, standing}
 use Rattle.acceptor.specs.Restored.{IsRestored, IsHighestRound}
 use Rattle.proposer.specs.State.{ProposerState, StateAfter as ProposerAfter}
@@ -52,3 +53,4 @@ pub record Has (state : AgreementState) (views : Views) : Type 0 where
   pub log_is : state.log.node ≡ state.me
   pub beyond : (slot : ℕ) → state.config.slot_limit ≤ slot → learned_at state.learner slot ≡ None
   pub seen : state.seen_round ≡ views.seen_round
+  pub slots : state.config.slot_limit ≤ suc max_slot

@@ -1,5 +1,5 @@
 -- What a step of a node's part in agreement keeps, sends and changes.
-use Rattle.std.specs.Prelude.{◌≡◌, ℕ, ◌<◌, max, Option, None, Some, List, [], ◌∷◌, ◌++◌, Result, Ok, Err}
+use Rattle.std.specs.Prelude.{◌≡◌, ℕ, ◌<◌, max, Option, None, Some, List, [], ◌∷◌, ◌++◌, length, Result, Ok, Err}
 use Rattle.ballots.specs.Limits.{max_round}
 use Rattle.ballots.specs.declared.value.Value.{Value}
 use Rattle.ballots.specs.Ballot.{Ballot}
@@ -15,13 +15,13 @@ use Rattle.proposer.specs.Attempting.{next_ballot}
 use Rattle.learner.specs.Calls.{Call as Told}
 use Rattle.learner.specs.Calls as told
 use Rattle.learner.specs.State.{HasRoomToLearn, HasRoomForVote, decided_at}
-use Rattle.learner.specs.Changes.{LearnsNow}
+use Rattle.learner.specs.Changes.{LearnsNow, DecidedNow}
 use Rattle.decided_log.specs.LogState.{LogState}
 use Rattle.histories.specs.Views.{Config, Views, HasPrefix}
-use Rattle.histories.specs.Due.{Plan, BodyIsDue, AimIsDue, Attempts, Plans, Refuses}
+use Rattle.histories.specs.Due.{Plan, BodyIsDue, AimIsDue, AsksAt, IsMessageOf, has_seen, Attempts, Plans, Refuses}
 use Rattle.histories.specs.Due as due
 use Rattle.agreement.specs.declared.refusal.Refusal.{Refusal}
-use Rattle.agreement.specs.declared.refusal.Refusal.TheVariants.{SlotsSpent, RoundsSpent, OutOfMemory}
+use Rattle.agreement.specs.declared.refusal.Refusal.TheVariants.{OutOfRange, SlotsSpent, RoundsSpent, OutOfMemory}
 use Rattle.agreement.specs.declared.step.Step.{Step}
 use Rattle.agreement.specs.declared.step.Change.{Change}
 use Rattle.agreement.specs.declared.step.Change.TheVariants.{Nothing, Answered, Began, Promised, Refused, Accepted, Decided}
@@ -133,11 +133,6 @@ abbrev pub HasRoomForLearned : LogState → Option Value → Type 0
 HasRoomForLearned log None = Unit {0}
 HasRoomForLearned log (Some value) = 0 < log.room
 
--- a decided value is learned where the slot has none
-abbrev pub DecidedNow : Option Value → Value → Option Value → Type 0
-DecidedNow None value learned = learned ≡ Some value
-DecidedNow (Some held) value learned = learned ≡ None
-
 -- the attempt begins at the node's next ballot
 pub record CanBegin (state : AgreementState) (ballot : Ballot) (began : Record) : Type 0 where
   pub kept : began ≡ kept_as.Began ballot
@@ -193,6 +188,13 @@ pub record Sends (step : Step) (sends : List Message) (seen : ℕ) (change : Cha
   pub seen_is : step.seen_round ≡ seen
   pub change_is : step.change ≡ change
 
+-- the step sends nothing, grows the prefix by these values, and makes this change
+pub record Gains (step : Step) (grown : List Value) (seen : ℕ) (change : Change) : Type 0 where
+  pub sends_none : step.sends.items ≡ []
+  pub grown_is : step.grown.items ≡ grown
+  pub seen_is : step.seen_round ≡ seen
+  pub change_is : step.change ≡ change
+
 -- the step is what this body of this sender and slot gives, whatever records and calls the node stands by
 abbrev pub StepGives : AgreementState → ℕ → (sender slot : ℕ) → Body → Step → Type 0
 StepGives state seen sender slot b step =
@@ -209,6 +211,28 @@ pub record IsReady (old new : AgreementState) (step : Step) : Type 0 where
   pub same : StaysAsItWas old new
   pub can : CanTake new step.change
 
+-- ---- a message
+
+-- What is due to a message, memory apart: it is refused where it names what is none of the configuration's, and else its body
+-- gives what it gives a node that has seen its greatest round.
+abbrev pub MessageGives : AgreementState → Message → Result Step Refusal → Type 0
+MessageGives state m (Ok step) =
+    IsMessageOf state.config m
+    × ((views : Views) → Has state views
+    → BodyGives state.config state.me (has_seen views m) m.sender m.slot m.body (plan_of views step) step.grown.items)
+MessageGives state m (Err OutOfRange) = IsMessageOf state.config m → ⊥
+MessageGives state m (Err SlotsSpent) = ⊥
+MessageGives state m (Err RoundsSpent) = ⊥
+MessageGives state m (Err OutOfMemory) = IsMessageOf state.config m
+
+-- ---- a question
+
+-- What is due where the node asks for what is decided from the first free slot on.
+abbrev pub QuestionGives : AgreementState → Step → Type 0
+QuestionGives state step =
+    (views : Views) (values : List Value) → Has state views → HasPrefix state.config.members views.told values
+    → AsksAt state.config state.me views (length values) (plan_of views step)
+
 -- ---- an attempt
 
 -- What is due where an attempt for this slot is aimed at, memory apart.
@@ -221,4 +245,5 @@ AttemptGives state slot value (Err SlotsSpent) =
 AttemptGives state slot value (Err RoundsSpent) =
     (views : Views) → Has state views
     → AimIsDue state.config state.me views (Attempts slot value) (Refuses due.RoundsSpent)
+AttemptGives state slot value (Err OutOfRange) = ⊥
 AttemptGives state slot value (Err OutOfMemory) = slot < state.config.slot_limit

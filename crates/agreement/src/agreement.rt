@@ -1,8 +1,8 @@
 //! What a node has of agreement.
 
-ghost use Rattle.std.specs.Prelude.{◌≡◌, ℕ, ◌<◌, max, IfOk, IsSome, Option, None, Some};
+ghost use Rattle.std.specs.Prelude.{◌≡◌, ℕ, ◌+◌, ◌<◌, ◌≤◌, max, IfOk, IsSome, Option, None, Some};
 ghost use Rattle.std.specs.Option.{option_or};
-ghost use Rattle.ballots.specs.Limits.{max_round};
+ghost use Rattle.ballots.specs.Limits.{max_round, max_slot};
 ghost use Rattle.ballots.specs.Ballot.{Ballot as Pair};
 ghost use Rattle.ballots.specs.Slots.{OthersStay};
 ghost use Rattle.ballots.specs.declared.value.Value.{Value as Held};
@@ -62,7 +62,8 @@ impl Model for Agreement {
 }
 
 impl Agreement {
-    /// The node that starts with these records, the first of them kept first, and has nothing else (section 2.5).
+    /// The node that starts with these records, the first of them kept first, and has nothing else (section 2.5). It
+    /// takes part in so many slots, which are no more than slots have numbers.
     pub fn open(
         alloc: Global,
         me: NodeId,
@@ -70,6 +71,7 @@ impl Agreement {
         slot_limit: u32,
         records: &[Record],
     ) -> Result<Agreement, OutOfMemory>
+        requires slots { slot_limit ≤ max_slot + 1 }
         ensures stands { IfOk result (λ node. Has node (started_with records.now)) }
         ensures me { IfOk result (λ node. node.me ≡ me) }
         ensures config { IfOk result

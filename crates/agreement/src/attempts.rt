@@ -22,6 +22,7 @@ impl Agreement {
     /// [`Refusal::RoundsSpent`] exactly where no round is left; nothing changes before the step is taken.
     pub fn plan_attempt(&self, slot: Slot, candidate: Value) -> Result<Step, Refusal>
         ensures gives { AttemptGives self.now slot candidate result }
+        ensures grows { IfOk result (λ step. step.grown.items ≡ []) }
         ensures can { IfOk result (λ step. CanTake self.now step.change) }
     {
         if slot.number() >= self.slot_limit {

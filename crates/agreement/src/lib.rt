@@ -12,13 +12,18 @@
 //! send(messages);                                               // those of the step
 //! ```
 //!
-//! Here are attempts, the replies to a Prepare, an Accept, a Promise, a Nack and an Ask, and where each change leaves a
-//! node.
+//! Here are attempts and questions, what is due to each of the seven bodies of messages, where each change leaves a node,
+//! and what it has learned.
 #![tactic(auto)]
 
 mod agreement;
 mod attempts;
+mod hearing;
+mod learned;
+mod messages;
 mod proposals;
+mod questions;
+mod range;
 mod refusal;
 mod replies;
 mod step;

@@ -27,7 +27,7 @@ fn step_with(alloc: Global, sends: Vec<Message>, seen_round: u32, change: Change
 }
 
 // A step that sends nothing.
-fn quiet(alloc: Global, seen_round: u32, change: Change) -> Step
+pub(crate) fn quiet(alloc: Global, seen_round: u32, change: Change) -> Step
     ensures { Sends result [] seen_round change }
 {
     step_with(alloc, Vec::new(alloc), seen_round, change)

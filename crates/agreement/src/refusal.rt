@@ -6,9 +6,12 @@ ghost use Rattle.agreement.specs.declared.refusal.Refusal.TheVariants.{OutOfMemo
 use std::alloc::AllocError;
 use thiserror::Error;
 
-/// Why an attempt does not begin.
+/// Why nothing is done.
 #[derive(Clone, Copy, Debug, PartialEq, Eq, Error)]
 pub enum Refusal {
+    /// A message's sender, its slot, or the node of a ballot in it, is none of the configuration's.
+    #[error("OutOfRange")]
+    OutOfRange,
     /// There is no such slot.
     #[error("SlotsSpent")]
     SlotsSpent,

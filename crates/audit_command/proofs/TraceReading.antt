@@ -15,7 +15,7 @@ use Rattle.ballots.specs.declared.message.Message.{Message}
 use Rattle.ballots.specs.declared.fault.MessageFault.{MessageFault}
 use Rattle.ballots.specs.declared.fault.MessageFault.TheVariants as faults
 use Rattle.ballots.specs.Message.{IsMessageText}
-use Rattle.schedule_runner.specs.Lawful.{IsLawful}
+use Rattle.lawful_histories.specs.Lawful.{IsLawful}
 use Rattle.audit_command.specs.declared.trace_file.TraceFault.{TraceFault}
 use Rattle.audit_command.specs.declared.trace_file.TraceFault.TheVariants.{BadTrace, OutOfMemory}
 use Rattle.audit_command.specs.TraceFile.{IsMessageHex, SpellsMessage, MeansTrace, MeansNothing, Judges, listed, members_at, sent_at}

@@ -10,7 +10,7 @@ use Rattle.grpc_frames.specs.FrameFaults.{IsBeginning}
 use Rattle.ballots.specs.Majority.{IsMembers}
 use Rattle.ballots.specs.declared.message.Message.{Message}
 use Rattle.ballots.specs.Message.{IsMessageText}
-use Rattle.schedule_runner.specs.Lawful.{IsLawful}
+use Rattle.lawful_histories.specs.Lawful.{IsLawful}
 use Rattle.audit_command.specs.declared.judging.AuditFault.{AuditFault}
 use Rattle.audit_command.specs.declared.judging.AuditFault.TheVariants.{BadTrace, OutOfMemory, Io}
 

@@ -9,7 +9,7 @@ ghost use Rattle.audit_command.specs.declared.judging.AuditFault.TheVariants.{Io
 use crate::status::{FAILURE, SUCCESS};
 use crate::trace_file::{TraceFault, read_trace};
 use grpc_frames::transfer::put;
-use schedule_runner::audit;
+use lawful_histories::audit;
 use std::alloc::Global;
 use std::io::Write;
 use thiserror::Error;

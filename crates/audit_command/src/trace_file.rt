@@ -7,13 +7,13 @@ ghost use Rattle.serde_json.specs.View.{view, items_view};
 ghost use Rattle.ballots.specs.Majority.{IsMembers};
 ghost use Rattle.ballots.specs.declared.message.Message.{Message as Meant};
 ghost use Rattle.ballots.specs.declared.fault.MessageFault.TheVariants as MessageFault;
-ghost use Rattle.schedule_runner.specs.Recorded.{members_of, sent_of};
+ghost use Rattle.lawful_histories.specs.Recorded.{members_of, sent_of};
 ghost use Rattle.audit_command.specs.declared.trace_file.TraceFault.TheVariants.{OutOfMemory};
 ghost use Rattle.audit_command.specs.TraceFile.{MeansTrace, SpellsMessage, IsMessageHex, members_at, sent_at};
 
 use ballots::{MAX_MEMBERS, Members, Message, MessageFault};
 use hex::FromHexError;
-use schedule_runner::Trace;
+use lawful_histories::Trace;
 use serde_json::Value;
 use std::alloc::Global;
 use std::str::from_utf8;

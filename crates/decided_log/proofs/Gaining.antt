@@ -1,12 +1,13 @@
 -- By which values a prefix grows.
-use Rattle.std.proofs.Common.{◌≡◌, ◌≢◌, ℕ, ◌+◌, ◌-◌, ◌<◌, ◌≤◌, nat_eq, List, [], ◌∷◌, ◌++◌, length, slice_get, Option, Some, None, refl, sym, ◌∙◌, ap, subst, arith, inl, inr, suc, length-append}
+use Rattle.std.proofs.Common.{◌≡◌, ◌≢◌, ◌↔◌, ℕ, ◌+◌, ◌-◌, ◌<◌, ◌≤◌, nat_eq, Bool, true, false, IsTrue, not, eq-eqb, List, [], ◌∷◌, ◌++◌, length, slice_get, Option, Some, None, refl, sym, ◌∙◌, ap, subst, arith, inl, inr, suc, length-append}
 use Rattle.std.specs.Map.{lookup}
+use Rattle.std.proofs.lemmas.Map.Entries.{lookup_head}
 use Rattle.std.proofs.lemmas.Option.{slice_get_past, slice_get_cases}
 use Rattle.std.proofs.lemmas.List.{append-nil}
 use Rattle.std.proofs.lemmas.Bool.{cases_lt}
 use Rattle.std.proofs.lemmas.Bool.Decides.{eqb_tells}
 use Rattle.ballots.specs.declared.value.Value.{Value}
-use Rattle.decided_log.specs.Decided.{Inserts, IsPrefix}
+use Rattle.decided_log.specs.Decided.{Inserts, IsPrefix, IsKnownBehind}
 use Rattle.decided_log.specs.LogState.{found}
 use Rattle.decided_log.specs.Keeping.{IsKept, grown_at}
 use Rattle.decided_log.proofs.Lookups.{one_prefix}
@@ -94,3 +95,33 @@ gained_none prefix later capacity slot value kept apart before is_before after s
 pub ends_there : (prefix : List Value) (later : List (ℕ × Value)) (capacity slot : ℕ) → IsKept prefix later capacity → slot ≡ length prefix → (before : List Value) → IsPrefix (found prefix later) before → slot ≡ length before
 ends_there prefix later capacity slot kept at before is_before =
     at ∙ ap length (one_prefix (found prefix later) prefix before (kept_prefix prefix later capacity kept) is_before)
+
+-- ---- what is known behind a prefix
+
+-- nothing stands behind the first part
+none_behind : (prefix : List Value) → IsKnownBehind (found prefix []) (length prefix) → ⊥
+none_behind prefix (other, value, behind, is) =
+    let none : found prefix [] other ≡ None = rw (slice_get_past prefix other (omega (arith, behind))) refl in
+    let no : Some value ≡ None = sym is ∙ none in cc
+
+-- the first of what stands there
+first_behind : (prefix : List Value) (e : ℕ × Value) (later : List (ℕ × Value)) (capacity : ℕ) → IsKept prefix (e ∷ later) capacity → IsKnownBehind (found prefix (e ∷ later)) (length prefix)
+first_behind prefix e later capacity kept =
+    let here : lookup (nat_eq e.0) (e ∷ later) ≡ Some e.1 = lookup_head (nat_eq e.0) e later (eq-eqb e.0 e.0 refl) in
+    let apart : e.0 ≢ length prefix = λ same. (let no : Some e.1 ≡ None = sym here ∙ ap (λ (slot : ℕ). lookup (nat_eq slot) (e ∷ later)) same ∙ kept.gap in cc) in
+    let within = (kept.joinable.behind e.0 e.1 here).0 in
+    (e.0, e.1, omega (arith, apart, within), rw (slice_get_past prefix e.0 within) here)
+
+behind_first : (prefix : List Value) (later : List (ℕ × Value)) (capacity : ℕ) (empty : Bool) → IsKept prefix later capacity → (IsTrue empty ↔ (length later ≡ 0))
+    → IsTrue (not empty) ↔ IsKnownBehind (found prefix later) (length prefix)
+behind_first prefix [] capacity true kept is = (λ t. absurd (let no : false ≡ true = t in cc), λ known. absurd (none_behind prefix known))
+behind_first prefix [] capacity false kept is = absurd (let no : false ≡ true = is.1 refl in cc)
+behind_first prefix (e ∷ later) capacity true kept is = absurd (let no = is.0 refl in omega (arith, no))
+behind_first prefix (e ∷ later) capacity false kept is = (λ t. first_behind prefix e later capacity kept, λ known. refl)
+
+-- the same of every prefix that there is
+pub known_behind : (prefix : List Value) (later : List (ℕ × Value)) (capacity : ℕ) (empty : Bool) → IsKept prefix later capacity → (IsTrue empty ↔ (length later ≡ 0))
+    → (before : List Value) → IsPrefix (found prefix later) before → IsTrue (not empty) ↔ IsKnownBehind (found prefix later) (length before)
+known_behind prefix later capacity empty kept is before is_before =
+    subst (λ (p : List Value). IsTrue (not empty) ↔ IsKnownBehind (found prefix later) (length p))
+    (one_prefix (found prefix later) prefix before (kept_prefix prefix later capacity kept) is_before) (behind_first prefix later capacity empty kept is)

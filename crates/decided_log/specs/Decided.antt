@@ -19,6 +19,10 @@ Holds inserts at = (slot : ℕ) → at slot ≡ lookup (nat_eq slot) inserts
 abbrev pub IsSame : (ℕ → Option Value) → (ℕ → Option Value) → Type 0
 IsSame old new = (slot : ℕ) → new slot ≡ old slot
 
+-- a value is known for a slot behind this one
+abbrev pub IsKnownBehind : (ℕ → Option Value) → ℕ → Type 0
+IsKnownBehind at slot = (other : ℕ) × (value : Value) × (slot < other) × (at other ≡ Some value)
+
 -- these are the values at the slots 0, 1, .. up to the first slot that has none
 pub record IsPrefix (at : ℕ → Option Value) (values : List Value) : Type 0 where
   pub held : (slot : ℕ) → slot < length values → at slot ≡ slice_get values slot

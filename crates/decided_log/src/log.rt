@@ -1,7 +1,7 @@
 ghost use Rattle.std.specs.Prelude.{◌≡◌, ℕ, ◌+◌, ◌-◌, ◌<◌, ◌≤◌, ◌⊎◌, List, [], ◌∷◌, ◌++◌, Option, length, min};
-ghost use Rattle.std.specs.Prelude.{IfOk, OnOk, OnErr};
+ghost use Rattle.std.specs.Prelude.{◌↔◌, IsTrue, IfOk, OnOk, OnErr};
 ghost use Rattle.ballots.specs.declared.value.Value.{Value as Decision};
-ghost use Rattle.decided_log.specs.Decided.{Inserts, Holds, IsSame, IsPrefix};
+ghost use Rattle.decided_log.specs.Decided.{Inserts, Holds, IsSame, IsPrefix, IsKnownBehind};
 ghost use Rattle.decided_log.specs.Asked.{asked_of};
 ghost use Rattle.decided_log.specs.LogState.{decided_at};
 
@@ -63,6 +63,15 @@ impl DecidedLog {
         ensures { IsPrefix (decided_at self.now) result.now }
     {
         self.prefix.as_slice()
+    }
+
+    /// Whether a value is known for a slot behind the first that has none, as those of slots 138 and 139 where 135 has
+    /// none (section 3). Nothing is searched.
+    pub fn has_gap(&self) -> bool
+        ensures { (prefix : List Decision) → IsPrefix (decided_at self.now) prefix
+            → IsTrue result ↔ IsKnownBehind (decided_at self.now) (length prefix) }
+    {
+        !self.later.is_empty()
     }
 
     /// Keeps the value for the slot, or drops it where the slot has one. It takes no memory: `gain` makes the room. The

@@ -13,7 +13,7 @@ use Rattle.ballots.specs.Acceptance.{acceptance}
 use Rattle.ballots.proofs.CallerLemmas.{not_below_itself, below_carried, below_above, not_below_more}
 use Rattle.acceptor.specs.Standing.{Standing}
 use Rattle.acceptor.specs.Restored.{promise_in, acceptance_in, IsHighest, IsLastHighest, IsRestored}
-use Rattle.schedule_runner.specs.Messages.{promise, accepted}
+use Rattle.lawful_histories.specs.Messages.{promise, accepted}
 use Rattle.histories.proofs.Lists.{nothing_in, first_or_rest, in_middle, into_map, out_of_map}
 use Rattle.histories.proofs.Rules.{AllowsReport, AllowsPromise, AllowsAccepted}
 use Rattle.histories.proofs.Knowing.{WasProposed, KnowsRecords}

@@ -23,7 +23,7 @@ use Rattle.proposer.specs.Attempting.{next_ballot, IsOpen, answering, Answers}
 use Rattle.learner.specs.Calls.{Call as Told}
 use Rattle.learner.specs.Calls as told
 use Rattle.decided_log.specs.Asked.{asked_of}
-use Rattle.schedule_runner.specs.Messages.{promise, accept, decided, Sent, SentBefore}
+use Rattle.lawful_histories.specs.Messages.{promise, accept, decided, Sent, SentBefore}
 use Rattle.histories.specs.Views.{Config, Views, HasPrefix}
 use Rattle.histories.specs.Due.{Plan, Due, Refuses, Plans, Aim, Attempts, AsksFrom, quietly, begins, answers_with, sends_alone, asked_too, has_seen, accept_of, LearnsOf, ReplyToPrepare, ReplyToAccept, BodyIsDue, AimIsDue, TickIsDue, PutIsDue, waits_too, MessageIsDue}
 use Rattle.histories.proofs.Lists.{nothing_in, only_one, last_in, last_or_before, into_map}

@@ -13,7 +13,7 @@ use Rattle.proposer.specs.Choosing.{HasMajority}
 use Rattle.proposer.specs.Attempting.{IsOpen, answering}
 use Rattle.learner.specs.Calls.{Call as Told}
 use Rattle.learner.specs.Calls as told
-use Rattle.schedule_runner.specs.Messages.{promise, accept, accepted, decided}
+use Rattle.lawful_histories.specs.Messages.{promise, accept, accepted, decided}
 use Rattle.histories.specs.Views.{Views}
 use Rattle.histories.specs.Following.{Seat, IsUp, IsDown, with_due, found_in}
 use Rattle.histories.proofs.Lists.{last_or_before, before_last}

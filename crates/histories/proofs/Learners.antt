@@ -9,7 +9,7 @@ use Rattle.decided_log.specs.Asked.{decided_message, asked_of}
 use Rattle.learner.specs.Calls.{Call as Told, IsLearned}
 use Rattle.learner.specs.Calls as told
 use Rattle.learner.specs.Votes.{IsDecidedOrChosen, IsChosen}
-use Rattle.schedule_runner.specs.Messages.{accept, accepted, decided}
+use Rattle.lawful_histories.specs.Messages.{accept, accepted, decided}
 use Rattle.histories.specs.Views.{HasPrefix}
 use Rattle.histories.proofs.Rules.{AllowsDecided}
 use Rattle.histories.proofs.Knowing.{WasTold}

@@ -7,3 +7,7 @@ pub mod Learners
 pub mod Dues
 pub mod Sending
 pub mod Steps
+pub mod Reached
+pub mod Own
+pub mod Learning
+pub mod Again

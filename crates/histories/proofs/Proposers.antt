@@ -16,9 +16,9 @@ use Rattle.proposer.specs.Choosing.{Report as Reported, is_from, is_sender, HasM
 use Rattle.proposer.specs.Attempting.{IsOpen, ends, is_for, promise_in, answering, Accepts}
 use Rattle.proposer.specs.Promised.{IsAnswerTo}
 use Rattle.learner.specs.Calls.{Call as Told}
-use Rattle.schedule_runner.specs.Saying.{Report, IsUpTo}
-use Rattle.schedule_runner.specs.Majorities.{MajorityOf}
-use Rattle.schedule_runner.specs.Messages.{promise, accept}
+use Rattle.lawful_histories.specs.Saying.{Report, IsUpTo}
+use Rattle.lawful_histories.specs.Majorities.{MajorityOf}
+use Rattle.lawful_histories.specs.Messages.{promise, accept}
 use Rattle.histories.proofs.Lists.{nothing_in, in_front, behind_front, in_middle, first_or_rest, last_or_before, before_last, last_in, into_filter, out_of_filter, SplitsMore, at_last, earlier, splits_more, all_front, all_last}
 use Rattle.histories.proofs.Rules.{AllowsAccept, HasHighest}
 use Rattle.histories.proofs.Knowing.{KnowsCalls}

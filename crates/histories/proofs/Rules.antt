@@ -10,9 +10,9 @@ use Rattle.ballots.specs.declared.message.Message.{Message}
 use Rattle.ballots.specs.declared.message.Body.{Body}
 use Rattle.ballots.specs.declared.message.Body.TheVariants as body
 use Rattle.ballots.specs.Acceptance.{acceptance}
-use Rattle.schedule_runner.specs.Saying.{Report, IsUpTo}
-use Rattle.schedule_runner.specs.Majorities.{MajorityOf}
-use Rattle.schedule_runner.specs.Messages.{promise, accept, accepted, decided, Sent, SentBefore, HasHighestReport, KeepsTheRules}
+use Rattle.lawful_histories.specs.Saying.{Report, IsUpTo}
+use Rattle.lawful_histories.specs.Majorities.{MajorityOf}
+use Rattle.lawful_histories.specs.Messages.{promise, accept, accepted, decided, Sent, SentBefore, HasHighestReport, KeepsTheRules}
 
 -- ---- by kind, where `Was` tells what was sent before
 

@@ -10,7 +10,7 @@ use Rattle.ballots.specs.declared.message.Body.TheVariants as body
 use Rattle.proposer.specs.Call.{Begun, Call as Asked, Begins}
 use Rattle.proposer.specs.Choosing.{HasMajority}
 use Rattle.proposer.specs.Attempting.{IsOpen, answering}
-use Rattle.schedule_runner.specs.Messages.{accept, Sent, SentBefore}
+use Rattle.lawful_histories.specs.Messages.{accept, Sent, SentBefore}
 use Rattle.histories.specs.Views.{Views}
 use Rattle.histories.specs.Following.{Seat, IsUp, IsDown, found_in}
 use Rattle.histories.proofs.Lists.{only_one, in_middle}

@@ -7,9 +7,9 @@ use Rattle.ballots.specs.declared.record.Record.{Record}
 use Rattle.ballots.specs.declared.message.Message.{Message}
 use Rattle.proposer.specs.Call.{Begun, Call as Asked, Begins}
 use Rattle.table_types.specs.Uploads.{Upload}
-use Rattle.schedule_runner.specs.Lawful.{IsLawful}
-use Rattle.schedule_runner.specs.HistoryLaws.{LawfulByMessages}
-use Rattle.schedule_runner.specs.Messages.{accept, Sent, SentBefore}
+use Rattle.lawful_histories.specs.Lawful.{IsLawful}
+use Rattle.lawful_histories.specs.HistoryLaws.{LawfulByMessages}
+use Rattle.lawful_histories.specs.Messages.{accept, Sent, SentBefore}
 use Rattle.histories.specs.Views.{Config, Views, started_with}
 use Rattle.histories.specs.Due.{Input, Plan, Due, Refuses, Plans, IsDue}
 use Rattle.histories.specs.Due as input

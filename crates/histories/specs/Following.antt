@@ -1,7 +1,7 @@
 -- Which histories follow the rules of the nodes: each step is what is due of its node alone, by what the steps before left
 -- that node. So any list of events is a history: deliveries in any order, as often as it likes, or never; nodes that go down
 -- between a record and all that follows from it; nodes that start again.
-use Rattle.std.specs.Prelude.{◌≡◌, ◌≢◌, ◌⊎◌, ℕ, ◌+◌, ◌<◌, ◌≤◌, Bool, true, false, Option, None, Some, List, [], ◌∷◌, ◌++◌, length, take, drop, get_or, slice_get}
+use Rattle.std.specs.Prelude.{◌≡◌, ◌≢◌, ◌⊎◌, ℕ, ◌+◌, ◌<◌, ◌≤◌, Bool, true, false, Option, None, Some, List, [], ◌∷◌, ◌++◌, length, take, drop, slice_get}
 use Rattle.ballots.specs.declared.message.Message.{Message}
 use Rattle.ballots.specs.declared.record.Record.{Record}
 use Rattle.table_types.specs.Uploads.{Upload}

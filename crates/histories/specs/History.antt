@@ -1,5 +1,5 @@
 -- A history: what happened, and all messages that were sent. A sent message stays for good, for all nodes.
-use Rattle.std.specs.Prelude.{ℕ, List}
+use Rattle.std.specs.Prelude.{List}
 use Rattle.ballots.specs.declared.message.Message.{Message}
 use Rattle.histories.specs.Event.{Event}
 use Rattle.histories.specs.Gave.{Gave}

@@ -5,3 +5,5 @@ pub mod Event
 pub mod Gave
 pub mod History
 pub mod Following
+pub mod Reaching
+pub mod Owning

@@ -1,6 +1,6 @@
 -- What a node has, as far as it decides what the node does: Lamport, "Paxos Made Simple", sections 2.5 and 3. A view is a
 -- list of what came: the records that the node kept, and what came since it started.
-use Rattle.std.specs.Prelude.{◌≡◌, ℕ, ◌<◌, List, [], ◌++◌, ◌∷◌, length, slice_get, Some, Bool, IsTrue, ◌↔◌}
+use Rattle.std.specs.Prelude.{◌≡◌, ℕ, ◌<◌, List, [], length, slice_get, Some, Bool, IsTrue, ◌↔◌}
 use Rattle.ballots.specs.Majority.{tally}
 use Rattle.ballots.specs.declared.value.Value.{Value}
 use Rattle.ballots.specs.declared.record.Record.{Record}

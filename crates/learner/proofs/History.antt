@@ -1,5 +1,5 @@
 -- That each learner has a history: it was made, and some calls left it as it is.
-use Rattle.std.specs.Prelude.{◌≡◌, ℕ, List, [], ◌∷◌, ◌++◌}
+use Rattle.std.specs.Prelude.{ℕ, List, [], ◌∷◌, ◌++◌}
 use Rattle.learner.specs.Calls.{Call}
 use Rattle.learner.specs.State.{LearnerState}
 use Rattle.learner.specs.Learned.{StateAfter, HasHistory, IsSame}

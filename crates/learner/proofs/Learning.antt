@@ -7,11 +7,11 @@ use Rattle.ballots.specs.Ballot.{Ballot}
 use Rattle.ballots.specs.Majority.{tally, IsMajority}
 use Rattle.ballots.specs.declared.value.Value.{Value}
 use Rattle.ballots.proofs.CallerLemmas.{tally_same}
-use Rattle.learner.specs.Calls.{Call, Accepted, Decided, is_vote_of, has_voted, first_counted, IsChosenOrDecided, IsLearned}
+use Rattle.learner.specs.Calls.{Call, Accepted, Decided, slot_of, is_vote_of, has_voted, first_counted, IsChosenOrDecided, IsLearned}
 use Rattle.learner.specs.State.{LearnerState, has_vote, tally_in, decided_at, tally_at, voted_at, first_at}
 use Rattle.learner.specs.Learned.{StateAfter, IsSame}
 use Rattle.learner.specs.Changes.{Counts, Puts, IsChosenWith}
-use Rattle.learner.proofs.Settling.{IsApart, slot_of, other_apart, stranger_apart, votes_with, first_with, none_alone, votes_apart, first_apart, unsettled_apart, votes_there, first_there, unsettled_accepted}
+use Rattle.learner.proofs.Settling.{IsApart, other_apart, stranger_apart, votes_with, first_with, none_alone, votes_apart, first_apart, unsettled_apart, votes_there, first_there, unsettled_accepted}
 use Rattle.learner.proofs.OneValue.{learned_more, learned_by_decision, learned_by_majority, settled_of_learned, unsettled_at_first}
 
 -- look-ups that answer as before

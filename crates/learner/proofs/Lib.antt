@@ -4,3 +4,4 @@ pub mod Learning
 pub mod History
 pub mod Lookups
 pub mod Voting
+pub mod Adding

@@ -1,5 +1,5 @@
 -- What the look-ups see of a map that a key is put into or taken out of.
-use Rattle.std.proofs.Common.{arith, ◌≡◌, ◌≢◌, ℕ, suc, ◌<◌, List, [], ◌∷◌, ◌||◌, nat_eq, subst, ◌==◌, not, inl, inr, Bool, true, false, IsTrue, Option, Some, None, is_some, unwrap_or, Bor, refl, sym, ap, ◌∙◌, ◌↔◌}
+use Rattle.std.proofs.Common.{arith, ◌≡◌, ◌≢◌, ℕ, suc, ◌<◌, [], ◌∷◌, ◌||◌, nat_eq, subst, ◌==◌, not, inl, inr, Bool, true, false, IsTrue, Option, Some, None, is_some, unwrap_or, Bor, refl, sym, ap, ◌∙◌, ◌↔◌}
 use Rattle.std.proofs.lemmas.Bool.Decides.{eqb_tells}
 use Rattle.std.proofs.lemmas.Bool.{cases_eq}
 use Rattle.std.proofs.Math.Bool.{or-false}

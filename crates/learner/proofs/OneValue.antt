@@ -5,8 +5,8 @@ use Rattle.std.proofs.lemmas.List.{append-nil, append_assoc}
 use Rattle.ballots.specs.Ballot.{Ballot}
 use Rattle.ballots.specs.Majority.{tally, IsMajority}
 use Rattle.ballots.specs.declared.value.Value.{Value}
-use Rattle.learner.specs.Calls.{Call, Accepted, Decided, has_voted, first_counted, IsChosenOrDecided, IsLearned, DecidingValue}
-use Rattle.learner.proofs.Settling.{settled_more, settled_by_decision, first_of_majority, other_apart, slot_of, unsettled_apart, unsettled_accepted}
+use Rattle.learner.specs.Calls.{Call, Accepted, Decided, slot_of, has_voted, first_counted, IsChosenOrDecided, IsLearned, DecidingValue}
+use Rattle.learner.proofs.Settling.{settled_more, settled_by_decision, first_of_majority, other_apart, unsettled_apart, unsettled_accepted}
 
 -- ---- one value
 

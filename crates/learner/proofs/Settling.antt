@@ -11,7 +11,7 @@ use Rattle.ballots.specs.Ballot.{Ballot, is_same_ballot}
 use Rattle.ballots.specs.Majority.{tally, IsMajority}
 use Rattle.ballots.specs.declared.value.Value.{Value}
 use Rattle.ballots.proofs.CallerLemmas.{same_ballot_is, tally_more, tally_same, some_member}
-use Rattle.learner.specs.Calls.{Call, Accepted, Decided, value_in, is_decision_for, is_vote_of, is_counted, has_voted, first_counted, IsChosenOrDecided}
+use Rattle.learner.specs.Calls.{Call, Accepted, Decided, value_in, slot_of, is_decision_for, is_vote_of, is_counted, has_voted, first_counted, IsChosenOrDecided}
 
 -- ---- one more call
 
@@ -69,10 +69,6 @@ pub record IsApart (n slot : ℕ) (c : Call) : Type 0 where
   pub decision : is_decision_for slot c ≡ false
   pub vote : (b : Ballot) (member : ℕ) → member < n → is_vote_of member slot b c ≡ false
   pub counted : (b : Ballot) → is_counted n slot b c ≡ false
-
-abbrev pub slot_of : Call → ℕ
-slot_of (Accepted acceptor slot ballot value) = slot
-slot_of (Decided slot value) = slot
 
 pub other_apart : (n slot : ℕ) (c : Call) → slot ≢ slot_of c → IsApart n slot c
 other_apart n slot (Accepted a s b v) differs =

@@ -1,22 +1,21 @@
 -- Votes, decisions and first values in the words of the calls.
-use Rattle.std.proofs.Common.{◌≡◌, ◌≢◌, ℕ, ◌*◌, ◌<◌, ◌==◌, ◌&&◌, ◌||◌, ◌⊎◌, ◌↔◌, inl, inr, Bool, true, false, cond, nat_lt, List, [], ◌∷◌, ◌++◌, find, Option, Some, None, refl, sym, ap, subst, ◌∙◌, arith}
+use Rattle.std.proofs.Common.{◌≡◌, ℕ, ◌*◌, ◌<◌, ◌==◌, ◌&&◌, ◌||◌, ◌⊎◌, ◌↔◌, inl, inr, Bool, true, false, cond, nat_lt, List, [], ◌∷◌, ◌++◌, find, Option, Some, None, refl, sym, ap, subst, ◌∙◌, arith}
 use Rattle.std.specs.List.{Contains, list_any}
 use Rattle.std.specs.Option.{option_map, option_map_or}
 use Rattle.std.proofs.lemmas.Bool.{cases_eq, cases_lt}
 use Rattle.std.proofs.lemmas.Bool.Decides.{nat_tests}
-use Rattle.std.proofs.lemmas.Grind.{common_steps}
 use Rattle.std.proofs.lemmas.List.Elements.{Contains-push, Contains-append_left, Contains-append_right, Contains-append_cases, Contains-push_cases}
 use Rattle.std.proofs.lemmas.List.{append_assoc}
 use Rattle.ballots.specs.Ballot.{Ballot, is_same_ballot}
 use Rattle.ballots.specs.Majority.{tally, IsMajority}
 use Rattle.ballots.specs.declared.value.Value.{Value}
 use Rattle.ballots.proofs.CallerLemmas.{same_ballot_is, majority_stays}
-use Rattle.learner.specs.Calls.{Call, Accepted, Decided, value_in, is_decision_for, is_vote_of, is_counted, has_voted, first_counted, IsChosenOrDecided, DecidingValue, IsLearned, Learns}
+use Rattle.learner.specs.Calls.{Call, Accepted, Decided, value_in, slot_of, is_decision_for, is_vote_of, is_counted, has_voted, first_counted, IsChosenOrDecided, DecidingValue, IsLearned, Learns}
 use Rattle.learner.specs.declared.tally.Tally.{Tally}
 use Rattle.learner.specs.State.{LearnerState, has_vote, decided_at, tally_at, voted_at, first_at}
 use Rattle.learner.specs.Learned.{StateAfter}
-use Rattle.learner.specs.Votes.{HasAccepted, MajorityAccepted, IsChosen, IsDecidedOrChosen}
-use Rattle.learner.proofs.Settling.{vote_there, counted_there, unsettled_accepted, unsettled_apart, other_apart, slot_of}
+use Rattle.learner.specs.Votes.{HasAccepted, MajorityAccepted, IsDecidedOrChosen}
+use Rattle.learner.proofs.Settling.{vote_there, counted_there, unsettled_accepted, unsettled_apart, other_apart}
 use Rattle.learner.proofs.OneValue.{one_value, learned_of_settled, settled_of_learned}
 
 -- ---- one element of a list

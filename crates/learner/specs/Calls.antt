@@ -17,6 +17,11 @@ abbrev pub value_in : Call → Value
 value_in (Accepted acceptor slot ballot value) = value
 value_in (Decided slot value) = value
 
+-- the slot that it tells of
+abbrev pub slot_of : Call → ℕ
+slot_of (Accepted acceptor slot ballot value) = slot
+slot_of (Decided slot value) = slot
+
 -- it tells that this value was decided for the slot
 abbrev pub is_decision_for : ℕ → Call → Bool
 is_decision_for slot (Accepted acceptor s ballot value) = false

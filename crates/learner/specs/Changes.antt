@@ -22,6 +22,11 @@ LearnsNow state acceptor slot ballot value (Some learned) =
 LearnsNow state acceptor slot ballot value None =
     acceptor < state.members → decided_at state slot ≡ None → IsChosenWith state acceptor slot ballot → ⊥
 
+-- the value that a decision makes a slot learn that has this one: none where it has learned
+abbrev pub DecidedNow : Option Value → Value → Option Value → Type 0
+DecidedNow None value learned = learned ≡ Some value
+DecidedNow (Some held) value learned = learned ≡ None
+
 -- the acceptor is counted in a ballot's tally, which stands from then on; its value is that of the first
 pub record CountsIn (old new : Option Tally) (acceptor : ℕ) (value : Value) : Type 0 where
   pub votes : (member : ℕ) → option_map_or (λ t. has_vote t member) new false

@@ -1,5 +1,5 @@
 -- What a learner holds after these calls: Lamport, "Paxos Made Simple", section 2.3.
-use Rattle.std.specs.Prelude.{◌≡◌, ℕ, ◌<◌, List, Some, None}
+use Rattle.std.specs.Prelude.{◌≡◌, ◌↔◌, ℕ, ◌<◌, List, Option, Some, None}
 use Rattle.ballots.specs.Ballot.{Ballot}
 use Rattle.ballots.specs.declared.value.Value.{Value}
 use Rattle.learner.specs.Calls.{Call, has_voted, first_counted, IsChosenOrDecided, IsLearned}
@@ -17,6 +17,10 @@ pub record StateAfter (n : ℕ) (calls : List Call) (state : LearnerState) : Typ
       → voted_at state slot ballot member ≡ has_voted calls slot ballot member
   pub firsts : (slot : ℕ) (ballot : Ballot) → decided_at state slot ≡ None
       → first_at state slot ballot ≡ first_counted n calls slot ballot
+
+-- this is what each slot learned of the calls
+abbrev pub HasLearned : ℕ → List Call → (ℕ → Option Value) → Type 0
+HasLearned members calls at = (slot : ℕ) (value : Value) → at slot ≡ Some value ↔ IsLearned members calls slot value
 
 -- it was made of some members, and some calls left it so
 pub record HasHistory (state : LearnerState) : Type 0 where

@@ -2,12 +2,16 @@
 
 ghost use Rattle.std.specs.Prelude.{◌≡◌, ◌≢◌, ℕ, ◌<◌, ◌↔◌, List, [], ◌∷◌, ◌++◌, Option, Some, None};
 ghost use Rattle.std.specs.List.{Contains};
+ghost use Rattle.std.specs.Option.{option_or};
 ghost use Rattle.ballots.specs.Ballot.{Ballot};
+ghost use Rattle.ballots.specs.Slots.{OthersStay};
 ghost use Rattle.ballots.specs.declared.value.Value.{Value};
-ghost use Rattle.learner.specs.Calls.{Call, Accepted, Decided, first_counted, IsChosenOrDecided, IsLearned, Learns};
+ghost use Rattle.learner.specs.Calls.{Call, Accepted, Decided, slot_of, first_counted};
+ghost use Rattle.learner.specs.Calls.{IsChosenOrDecided, IsLearned, Learns};
 ghost use Rattle.learner.specs.Votes.{HasAccepted, MajorityAccepted, IsDecidedOrChosen};
 ghost use Rattle.learner.specs.State.{LearnerState, decided_at, first_at, voted_at};
-ghost use Rattle.learner.specs.Learned.{StateAfter, HasHistory, IsSame};
+ghost use Rattle.learner.specs.Learned.{StateAfter, HasHistory, HasLearned, IsSame};
+ghost use Rattle.learner.specs.Changes.{LearnsNow};
 
 /// Of the same calls, a slot learns one value at most, and a further call makes it learn one thing: a value or nothing.
 pub fn learned_is_one()
@@ -21,6 +25,15 @@ pub fn learned_is_one()
 pub fn learned_stays()
     ensures { (members : ℕ) (calls more : List Call) (slot : ℕ) (v : Value)
         → IsLearned members calls slot v → IsLearned members (calls ++ more) slot v }
+{}
+
+/// With one call more its slot has learned what the call makes it learn, where it had learned nothing, and every other
+/// slot has learned what it had.
+pub fn a_call_adds_to_its_slot()
+    ensures { (members : ℕ) (calls : List Call) (call : Call) (told : Option Value) (old new : ℕ → Option Value)
+        → HasLearned members calls old → Learns members calls call (slot_of call) told
+        → new (slot_of call) ≡ option_or (old (slot_of call)) told → OthersStay old new (slot_of call)
+        → HasLearned members (calls ++ call ∷ []) new }
 {}
 
 /// A slot learns a value exactly where its value was told as decided, or a majority of the members was counted at one
@@ -54,7 +67,7 @@ pub fn first_counted_comes_first()
 {}
 
 /// A learner has of each slot what its calls made it learn, and learners of the same calls answer every look-up alike.
-/// A look, which leaves every look-up as before, is no call.
+/// A look, which leaves every look-up as before, is no call, and what a vote makes a slot learn is as before it.
 pub fn states_are_what_was_learned()
     ensures decided { (members : ℕ) (calls : List Call) (state : LearnerState) (slot : ℕ) (v : Value)
         → StateAfter members calls state → decided_at state slot ≡ Some v ↔ IsLearned members calls slot v }
@@ -65,6 +78,9 @@ pub fn states_are_what_was_learned()
         → StateAfter members calls a → StateAfter members calls b → first_at a slot ballot ≡ first_at b slot ballot }
     ensures looks { (members : ℕ) (calls : List Call) (old new : LearnerState)
         → IsSame old new → StateAfter members calls old → StateAfter members calls new }
+    ensures still { (old new : LearnerState) (acceptor slot : ℕ) (ballot : Ballot) (value : Value)
+        (told : Option Value) → IsSame old new → LearnsNow old acceptor slot ballot value told
+        → LearnsNow new acceptor slot ballot value told }
 {}
 
 /// What a learner has of a slot it was told as decided, or a majority of its members accepted it at one ballot,

@@ -5,7 +5,7 @@ ghost use Rattle.ballots.specs.declared.value.Value.{Value as Held};
 ghost use Rattle.learner.specs.Calls.{Call, Accepted, Decided, Learns};
 ghost use Rattle.learner.specs.State.{decided_at, HasRoomToLearn, HasRoomForVote};
 ghost use Rattle.learner.specs.Learned.{StateAfter, HasHistory, IsSame};
-ghost use Rattle.learner.specs.Changes.{LearnsNow};
+ghost use Rattle.learner.specs.Changes.{LearnsNow, DecidedNow};
 
 use crate::state::State;
 use ballots::{Ballot, Members, NodeId, OutOfMemory, Slot, Value};
@@ -62,8 +62,7 @@ impl Learner {
         ensures room { OnOk result (HasRoomToLearn self.new slot) }
         ensures told { IfOk result (λ told. (n : ℕ) (calls : List Call) → StateAfter n calls self.old
             → Learns n calls (Decided slot value.now) slot told) }
-        ensures now { IfOk result (λ told. option_or (decided_at self.old slot) told
-            ≡ option_or (decided_at self.old slot) (Some value.now)) }
+        ensures now { IfOk result (DecidedNow (decided_at self.old slot) value.now) }
         ensures same { IsSame self.old self.new }
         ensures memory { OnErr result (decided_at self.old slot ≡ None) }
     {

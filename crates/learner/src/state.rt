@@ -13,7 +13,7 @@ ghost use Rattle.learner.specs.Calls.{Call, Accepted, Decided, Learns};
 ghost use Rattle.learner.specs.State.{decided_at, first_at, tally_in, tally_at, voted_at};
 ghost use Rattle.learner.specs.State.{HasRoomToLearn, HasRoomToCount, HasRoomForTally, HasRoomForVote};
 ghost use Rattle.learner.specs.Learned.{StateAfter, IsSame};
-ghost use Rattle.learner.specs.Changes.{Counts, CountsIn, Drops, Puts, IsChosenWith, LearnsNow};
+ghost use Rattle.learner.specs.Changes.{Counts, CountsIn, Drops, Puts, IsChosenWith, LearnsNow, DecidedNow};
 
 use crate::tally::Tally;
 use ballots::{Ballot, Members, NodeId, NodeSet, OutOfMemory, Slot, Value};
@@ -72,8 +72,7 @@ impl State {
         ensures room { OnOk result (HasRoomToLearn self.new slot) }
         ensures told { IfOk result (λ told. (n : ℕ) (calls : List Call) → StateAfter n calls self.old
             → Learns n calls (Decided slot value.now) slot told) }
-        ensures now { IfOk result (λ told. option_or (decided_at self.old slot) told
-            ≡ option_or (decided_at self.old slot) (Some value.now)) }
+        ensures now { IfOk result (DecidedNow (decided_at self.old slot) value.now) }
         ensures same { IsSame self.old self.new }
         ensures memory { OnErr result (decided_at self.old slot ≡ None) }
     {

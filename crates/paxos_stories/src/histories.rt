@@ -2,7 +2,7 @@
 
 use crate::fault::StoryFault;
 use ballots::{Members, Message};
-use schedule_runner::{Trace, audit};
+use lawful_histories::{Trace, audit};
 use std::alloc::Global;
 use std::io::Write;
 

@@ -5,7 +5,7 @@ use Rattle.std.proofs.lemmas.List.{append-nil}
 use Rattle.ballots.specs.declared.value.Value.{Value}
 use Rattle.ballots.specs.declared.message.Message.{Message}
 use Rattle.ballots.specs.Message.{value_bytes}
-use Rattle.schedule_runner.specs.Lawful.{IsLawful}
+use Rattle.lawful_histories.specs.Lawful.{IsLawful}
 use Rattle.table_types.specs.Uploads.{Upload}
 use Rattle.table_types.specs.Tables.{Version, first_of_all, effective, outcome_of}
 use Rattle.table_types.specs.Answers.{answer_of}

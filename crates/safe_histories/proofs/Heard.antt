@@ -8,11 +8,11 @@ use Rattle.ballots.specs.declared.message.Message.{Message}
 use Rattle.ballots.specs.declared.message.Body.{Body}
 use Rattle.ballots.specs.declared.message.Body.TheVariants as body
 use Rattle.ballots.specs.Message.{message}
-use Rattle.schedule_runner.specs.Majorities.{MajorityOf}
-use Rattle.schedule_runner.specs.Saying.{Saying, Silent, Accepted, of_one, says, told}
-use Rattle.schedule_runner.specs.Lawful.{Said, SaidBefore, IsLawful, IsChosen, OneValue}
-use Rattle.schedule_runner.specs.HistoryLaws.{DecidedIsChosen}
-use Rattle.schedule_runner.specs.Messages.{accepted, decided}
+use Rattle.lawful_histories.specs.Majorities.{MajorityOf}
+use Rattle.lawful_histories.specs.Saying.{Saying, Silent, Accepted, of_one, says, told}
+use Rattle.lawful_histories.specs.Lawful.{Said, SaidBefore, IsLawful, IsChosen, OneValue}
+use Rattle.lawful_histories.specs.HistoryLaws.{DecidedIsChosen}
+use Rattle.lawful_histories.specs.Messages.{accepted, decided}
 use Rattle.learner.specs.Calls.{Call, IsLearned}
 use Rattle.learner.specs.Calls as call
 use Rattle.learner.specs.Votes.{MajorityAccepted, IsDecidedOrChosen}

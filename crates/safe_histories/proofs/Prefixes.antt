@@ -4,7 +4,7 @@ use Rattle.std.proofs.lemmas.List.{append-nil, map-append}
 use Rattle.ballots.specs.declared.value.Value.{Value}
 use Rattle.ballots.specs.declared.message.Message.{Message}
 use Rattle.ballots.specs.Message.{value_bytes}
-use Rattle.schedule_runner.specs.Lawful.{IsLawful}
+use Rattle.lawful_histories.specs.Lawful.{IsLawful}
 use Rattle.table_types.specs.Uploads.{Upload}
 use Rattle.table_types.specs.Valid.{IsUpload}
 use Rattle.table_types.specs.Tables.{Version, version_of, Outcome, applied, unknown, outcome_of}

@@ -9,7 +9,7 @@ use Rattle.proto_fields.specs.Varint.{varint_text}
 use Rattle.proto_fields.specs.Scalar.{TypeBytes}
 use Rattle.proto_messages.specs.Descriptor.{One, Messages, NoMore}
 use Rattle.proto_messages.specs.Canonical.{canonical_fields}
-use Rattle.schedule_runner.specs.Lawful.{IsLawful}
+use Rattle.lawful_histories.specs.Lawful.{IsLawful}
 use Rattle.table_types.specs.Uploads.{Upload, upload_text, batch_descriptor, schema_text, batch_values}
 use Rattle.table_types.specs.Valid.{IsUpload}
 use Rattle.histories.specs.Event as event

@@ -1,6 +1,6 @@
 -- What is promised to clients of a history that follows, but for what was put: see `Putting`.
 use Rattle.std.proofs.Common.{◌≡◌, ℕ, List, [], take, Some, slice_get, sym, ap, ◌∙◌}
-use Rattle.schedule_runner.specs.Lawful.{IsLawful}
+use Rattle.lawful_histories.specs.Lawful.{IsLawful}
 use Rattle.table_types.specs.Tables.{applied, outcome_of}
 use Rattle.table_types.specs.Answers.{answer_of}
 use Rattle.histories.specs.Event as event

@@ -1,7 +1,7 @@
 -- What is answered to questions comes from the tables of the asked node's prefix.
 use Rattle.std.proofs.Common.{◌≡◌, ℕ, ◌<◌, ◌⊎◌, inl, inr, Bool, true≢false, List, Some, sym, subst, ◌∙◌, arith}
 use Rattle.ballots.specs.declared.message.Message.{Message}
-use Rattle.schedule_runner.specs.Lawful.{IsLawful}
+use Rattle.lawful_histories.specs.Lawful.{IsLawful}
 use Rattle.table_types.specs.Uploads.{Upload}
 use Rattle.table_types.specs.Tables.{Version, version_of, Outcome, outcome_of}
 use Rattle.table_types.specs.Answers.{answer_of}

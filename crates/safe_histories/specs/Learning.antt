@@ -6,8 +6,8 @@ use Rattle.std.specs.List.{Contains, list_any}
 use Rattle.ballots.specs.Ballot.{Ballot}
 use Rattle.ballots.specs.declared.value.Value.{Value}
 use Rattle.ballots.specs.declared.message.Message.{Message}
-use Rattle.schedule_runner.specs.Majorities.{MajorityOf}
-use Rattle.schedule_runner.specs.Messages.{accepted, decided}
+use Rattle.lawful_histories.specs.Majorities.{MajorityOf}
+use Rattle.lawful_histories.specs.Messages.{accepted, decided}
 use Rattle.table_types.specs.Uploads.{Upload}
 use Rattle.histories.specs.Texts.{AreUploadsIn}
 use Rattle.histories.specs.Event.{Event}

@@ -3,7 +3,7 @@
 ghost use Rattle.std.specs.Prelude.{◌≡◌, ◌⊎◌, ℕ, ◌<◌, ◌≤◌, List, ◌++◌, take, slice_get, Some, false};
 ghost use Rattle.ballots.specs.declared.value.Value.{Value};
 ghost use Rattle.ballots.specs.declared.message.Message.{Message};
-ghost use Rattle.schedule_runner.specs.Lawful.{IsLawful};
+ghost use Rattle.lawful_histories.specs.Lawful.{IsLawful};
 ghost use Rattle.table_types.specs.Uploads.{Upload};
 ghost use Rattle.histories.specs.Texts.{AreUploadsOf};
 ghost use Rattle.histories.specs.History.{Step, History};
@@ -15,9 +15,9 @@ ghost use Rattle.safe_histories.specs.Safe.{IsSafe};
 
 use decided_log::laws::asked_is_a_run_of_the_prefix;
 use histories::laws::what_follows_is_lawful;
+use lawful_histories::laws::{decided_is_one, one_value};
 use learner::laws::learned_is_decided_or_chosen;
 use proposer::laws::{choices_are_one, majorities_are_of_members, senders_count_once};
-use schedule_runner::laws::{decided_is_one, one_value};
 use table_types::laws::{tables_grow, uploads_count_once, uploads_have_one_encoding};
 
 /// A list of texts is that of one list of uploads; and where one list of texts begins another, its uploads begin the

@@ -1,6 +1,2 @@
-pub mod Majorities
-pub mod Agreement
-pub mod Places
-pub mod Slots
-pub mod Judged
-pub mod ByMessages
+pub mod Coming
+pub mod Telling

@@ -1,7 +1,5 @@
-pub mod Majorities
-pub mod Saying
-pub mod Recorded
-pub mod Lawful
-pub mod Messages
-pub mod HistoryLaws
-pub mod Judging
+pub mod Limits
+pub mod Told
+pub mod Traced
+pub mod Happening
+pub mod Runs

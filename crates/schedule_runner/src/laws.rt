@@ -1,49 +1,49 @@
-//! Laws of lawful histories.
+//! Laws of runs, in the words of their traces.
 
-ghost use Rattle.schedule_runner.specs.Lawful.{OneValue, ChosenValueStays};
-ghost use Rattle.schedule_runner.specs.HistoryLaws.{SayingsAreMessages, LawfulByMessages};
-ghost use Rattle.schedule_runner.specs.HistoryLaws.{DecidedIsOne, DecidedIsChosen, PromisesRise};
-ghost use Rattle.schedule_runner.specs.HistoryLaws.{PromisesAboveItsVotes, ReportsItsVotes, ReportsItsValue};
-ghost use Rattle.schedule_runner.specs.HistoryLaws.{NothingIsLawful, BeginningsAreLawful};
+ghost use Rattle.std.specs.Prelude.{◌≡◌, ℕ, ◌≤◌, List, Some, slice_get};
+ghost use Rattle.table_types.specs.Uploads.{Upload as Uploaded};
+ghost use Rattle.tickets.specs.Ticket.{TableVersion};
+ghost use Rattle.table_versions.specs.declared.outcome.Outcome.TheVariants.{Applied};
+ghost use Rattle.histories.specs.Texts.{IsTextOf};
+ghost use Rattle.safe_histories.specs.Safe.{StandsIn};
+ghost use Rattle.schedule_runner.specs.declared.config.Config.{Config as ConfigSpec};
+ghost use Rattle.schedule_runner.specs.declared.config.TheConstants.{MAX_SLOTS, MAX_JOURNAL_ENTRIES};
+ghost use Rattle.schedule_runner.specs.declared.event.Event.{Event as EventSpec};
+ghost use Rattle.schedule_runner.specs.declared.event.Event.TheVariants.{Get, Outcome as AsksOutcome};
+ghost use Rattle.schedule_runner.specs.declared.gave.Gave.{Gave as GaveSpec};
+ghost use Rattle.schedule_runner.specs.declared.gave.Gave.TheVariants.{Answer, Outcome as TellsOutcome};
+ghost use Rattle.schedule_runner.specs.Limits.{most_slots, most_entries};
+ghost use Rattle.schedule_runner.specs.Told.{event_of, gave_of};
+ghost use Rattle.schedule_runner.specs.Traced.{Traced};
+ghost use Rattle.schedule_runner.specs.Runs.{IsRunOf};
 
-/// A lawful history never chooses two values for one slot (Lamport, *Paxos Made Simple*, section 2.1), and once a value
-/// is chosen at a ballot, each Accept above that ballot has this value (section 2.2).
-pub fn one_value()
-    ensures chosen { OneValue }
-    ensures stays { ChosenValueStays }
+/// The limits of the definitions are the program's.
+pub fn limits_are_these()
+    ensures slots { MAX_SLOTS ≡ most_slots }
+    ensures entries { MAX_JOURNAL_ENTRIES ≡ most_entries }
 {}
 
-/// Any two Decided of one slot in a lawful history have one value, and it is the value that was chosen (section 2.3).
-pub fn decided_is_one()
-    ensures agree { DecidedIsOne }
-    ensures chosen { DecidedIsChosen }
+/// Events that are told alike are one event, and so is what they gave: a history says of a run all that its trace says.
+pub fn telling_loses_nothing()
+    ensures events { (x y : EventSpec) → event_of x ≡ event_of y → x ≡ y }
+    ensures given { (x y : GaveSpec) → gave_of x ≡ gave_of y → x ≡ y }
 {}
 
-/// In a lawful history an Accepted binds its sender's later Promises: they are above it, their report is no lower, and
-/// a report of the same ballot has the same value (section 2.2, phase 1b).
-pub fn votes_bind_promises()
-    ensures above { PromisesAboveItsVotes }
-    ensures reported { ReportsItsVotes }
-    ensures value { ReportsItsValue }
+/// Any two answers of a run to one ticket have the same bytes, at whichever nodes and times they were given.
+pub fn one_ticket_has_one_answer()
+    ensures { (config : ConfigSpec) (events : List EventSpec) (trace : Traced) (i j node other : ℕ)
+        (ticket : TableVersion) (x y : List ℕ) → IsRunOf config events trace
+        → slice_get trace.steps i ≡ Some (record { event = Get node ticket; gave = Answer x })
+        → slice_get trace.steps j ≡ Some (record { event = Get other ticket; gave = Answer y }) → x ≡ y }
 {}
 
-/// In a lawful history each Promise of an acceptor is above its earlier ones for the slot, so it promises no ballot
-/// twice (section 2.2, phase 1b).
-pub fn promises_rise()
-    ensures { PromisesRise }
-{}
-
-/// A history is lawful slot by slot exactly where its messages, place by place, keep the rules of Paxos: an Accepted
-/// was proposed and is not below what its sender promised or accepted, a Promise is above that and reports the highest
-/// Accepted, an Accept is the only one of its ballot and safe, and a Decided was chosen.
-pub fn lawful_by_messages()
-    ensures says { SayingsAreMessages }
-    ensures lawful { LawfulByMessages }
-{}
-
-/// A history without a message is lawful, and so is each beginning of a lawful one: what is sent later excuses
-/// nothing.
-pub fn beginnings_are_lawful()
-    ensures nothing { NothingIsLawful }
-    ensures beginnings { BeginningsAreLawful }
+/// An upload that some node of a run told to be applied as a version stands once, at that version's place, in every
+/// answer to a ticket of its table for that version or a later one, at whichever nodes and times.
+pub fn acknowledged_uploads_stand_once()
+    ensures { (config : ConfigSpec) (events : List EventSpec) (trace : Traced) (i j node other number : ℕ)
+        (text y : List ℕ) (upload : Uploaded) (ticket : TableVersion) → IsRunOf config events trace
+        → IsTextOf text upload → ticket.table ≡ upload.table → number ≤ ticket.version
+        → slice_get trace.steps i ≡ Some (record { event = AsksOutcome node text; gave = TellsOutcome (Applied number) })
+        → slice_get trace.steps j ≡ Some (record { event = Get other ticket; gave = Answer y })
+        → (1 ≤ number) × StandsIn y ticket.version number upload }
 {}

@@ -1,13 +1,38 @@
-//! Histories of Paxos messages, and who may have sent them.
+//! Runs of nodes by a list of events: what each event gave, and what that is worth to clients.
 //!
-//! A history is the members and all messages that were sent, in order (`Trace`). `audit` judges one from outside:
-//! whether every message is one that a correct node may have sent after those before it (Lamport, *Paxos Made Simple*,
-//! section 2). The law `one_value` says what that is worth: a lawful history never chooses two values for one slot.
+//! An [`Event`] is of one node: a client hands in an upload or asks for something, time passes, a message is delivered,
+//! or the node goes down or starts again. Any list of events may happen. A message is lost where nothing delivers it; it
+//! is repeated and overtaken where deliveries name messages as they like. [`run_on`] lets events happen to nodes, one
+//! after the other, and hands out a [`Trace`]: each event with what it gave, and all messages that were sent.
+//!
+//! ```text
+//! let trace = run_on(alloc, config, &mut nodes, &events)?;
+//! trace.steps();   // each event, with what it gave
+//! audit(&trace)    // whether what was sent is lawful, judged from the messages alone
+//! ```
+//!
+//! Nodes are whatever meets the contract of [`Nodes`]: each event gives what the rules of a node make it give
+//! (`Following` of `histories`). The definitions of `histories` and `safe_histories` speak of events and of what they
+//! give by values of their own; `specs/Told` tells the types of this crate as these, and `specs/Runs` says what a run
+//! promises.
 #![tactic(auto)]
 
-mod judge;
+mod config;
+mod copying;
+mod event;
+mod gave;
 pub mod laws;
-mod sayings;
+mod nodes;
+mod running;
+mod step;
+mod table_text;
 mod trace;
 
+pub use config::{Config, MAX_JOURNAL_ENTRIES, MAX_SLOTS};
+pub use event::Event;
+pub use gave::{Gave, Reason};
+pub use nodes::Nodes;
+pub use running::run_on;
+pub use step::Step;
+pub use table_text::TableText;
 pub use trace::{Trace, audit};

@@ -1,71 +1,66 @@
-ghost use Rattle.std.specs.Prelude.{◌≡◌, ◌↔◌, IsTrue};
-ghost use Rattle.schedule_runner.specs.Recorded.{members_of, sent_of};
-ghost use Rattle.schedule_runner.specs.Lawful.{IsLawful};
-ghost use Rattle.schedule_runner.specs.Judging.{AllMayBeSent};
+//! What a run hands out.
 
-use crate::judge::may_be_sent;
+ghost use Rattle.std.specs.Prelude.{◌≡◌, ◌↔◌, IsTrue};
+ghost use Rattle.lawful_histories.specs.Lawful.{IsLawful};
+
+use crate::config::Config;
+use crate::step::Step;
 use ballots::{Members, Message};
+use lawful_histories::are_lawful;
 use std::marker::Model;
 
-/// A run of nodes as it can be told from outside: how many nodes agree, and all messages that were sent, by whichever
-/// node, in the order of sending.
+/// A run of nodes: what happened, and all messages that were sent. Only a run makes one.
 #[derive(Debug, Drop)]
 pub struct Trace {
-    members: Members,
-    sent: Vec<Message>,
+    pub(crate) config: Config,
+    pub(crate) sent: Vec<Message>,
+    pub(crate) steps: Vec<Step>,
 }
 
 impl Model for Trace {
-    ghost use Rattle.schedule_runner.specs.Recorded.{Recorded};
+    ghost use Rattle.schedule_runner.specs.Traced.{Traced};
 
-    ghost Value = { Recorded };
+    ghost Value = { Traced };
 
-    ghost view = { λ t. record { members = t.members; sent = t.sent.items } };
+    ghost view = { λ t. record { config = t.config; sent = t.sent.items; steps = t.steps.items } };
 }
 
 impl Trace {
-    /// The run of so many members that sent these messages, in this order. It takes no memory.
-    pub fn new(members: Members, sent: Vec<Message>) -> Trace
-        ensures members { members_of result ≡ members }
-        ensures sent { sent_of result ≡ sent.items }
+    /// What the nodes have in common.
+    pub fn config(&self) -> Config
+        ensures { result ≡ self.now.config }
     {
-        Trace { members, sent }
+        self.config
     }
 
     /// How many nodes agree.
     pub fn members(&self) -> Members
-        ensures { result ≡ members_of self.now }
+        ensures { result ≡ self.now.config.members }
     {
-        self.members
+        self.config.members
     }
 
-    /// All messages that were sent, in the order of sending.
+    /// All messages that were sent, by whichever node, in the order of sending: their numbers are their places.
     pub fn sent(&self) -> &[Message]
-        ensures { result.now ≡ sent_of self.now }
+        ensures { result.now ≡ self.now.sent }
     {
         &self.sent
     }
+
+    /// Each event with what it gave, in the order of the events.
+    pub fn steps(&self) -> &[Step]
+        ensures { result.now ≡ self.now.steps }
+    {
+        &self.steps
+    }
 }
 
-/// Whether what was sent is lawful: every message is one that a correct node may have sent after those before it
-/// (Lamport, *Paxos Made Simple*, section 2). No sender is trusted: senders that are no members have to keep the rules
-/// too, and only members count for a majority.
+/// Whether what was sent is lawful, judged from the messages alone: every message is one that a correct node may have
+/// sent after those before it (Lamport, *Paxos Made Simple*, section 2). Of the nodes nothing is believed.
 ///
 /// It takes no memory. Its time grows at most with the square of the number of messages.
 pub fn audit(trace: &Trace) -> bool
-    ensures { IsTrue result ↔ IsLawful (members_of trace.now) (sent_of trace.now) }
+    ensures { IsTrue result ↔ IsLawful trace.now.config.members trace.now.sent }
 {
-    all_may_be_sent(trace.members(), trace.sent())
-}
-
-// Whether those before each message let it follow.
-fn all_may_be_sent(members: Members, sent: &[Message]) -> bool
-    ensures { IsTrue result ↔ AllMayBeSent members sent.now }
-{
-    for place in 0..sent.len() {
-        if !may_be_sent(members, &sent[..place], &sent[place]) {
-            return false;
-        }
-    }
-    true
+    are_lawful(trace.members(), trace.sent())
 }

@@ -1,7 +1,7 @@
 //! Histories as lines, a message each.
 
 use ballots::{Members, Message};
-use schedule_runner::{Trace, audit};
+use lawful_histories::{Trace, audit};
 use std::alloc::Global;
 use std::test::Fail;
 

@@ -1,5 +1,5 @@
 use Rattle.std.proofs.Common.{rules}
-use Rattle.schedule_runner.specs.Recorded.{members_of, sent_of}
+use Rattle.lawful_histories.specs.Recorded.{members_of, sent_of}
 use Rattle.audit_command.proofs.TraceReading.{means_nothing, judged}
 use Rattle.audit_command.proofs.Telling.{told_in_part}
 use Rattle.audit_command.proofs.judging.audit_file.Goals as goal

@@ -1,6 +1,6 @@
 use Rattle.std.proofs.Common.{ℕ, List, subst}
 use Rattle.ballots.specs.declared.message.Message.{Message}
-use Rattle.schedule_runner.specs.Lawful.{IsLawful}
+use Rattle.lawful_histories.specs.Lawful.{IsLawful}
 use Rattle.audit_command.proofs.TraceReading.{one_trace}
 use Rattle.audit_command.proofs.laws.traces_are_one.Goals as goal
 

@@ -4,7 +4,7 @@ use Rattle.std.proofs.lemmas.Option.{same_Some}
 use Rattle.std.specs.List.{AllZip}
 use Rattle.serde_json.specs.View.{view}
 use Rattle.serde_json.specs.declared.value.Value.{Value}
-use Rattle.schedule_runner.specs.Recorded.{members_of, sent_of}
+use Rattle.lawful_histories.specs.Recorded.{members_of, sent_of}
 use Rattle.ballots.specs.declared.message.Message.{Message}
 use Rattle.audit_command.specs.TraceFile.{MeansTrace, SpellsMessage}
 use Rattle.audit_command.specs.declared.trace_file.TraceFault.TheVariants.{OutOfMemory}

@@ -35,4 +35,5 @@ returns-clause-stands c views ballot had next =
       log_is = has.log_is;
       beyond = has.beyond;
       seen = has.seen;
+      slots = has.slots;
     }

@@ -16,4 +16,5 @@ returns-clause-stands c views had =
       log_is = has.log_is;
       beyond = has.beyond;
       seen = has.seen;
+      slots = has.slots;
     }

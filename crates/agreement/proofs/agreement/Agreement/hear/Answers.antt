@@ -25,4 +25,5 @@ returns-clause-stands c views had =
       log_is = c.log_learned.ensures.node ∙ has.log_is;
       beyond = parts.still_beyond (learned_at c.self.inside.learner) (learned_at c.on_accepted.new.self) c.args.slot _ can.within c.on_accepted.ensures.others has.beyond;
       seen = has.seen;
+      slots = has.slots;
     }

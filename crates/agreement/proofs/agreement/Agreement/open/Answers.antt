@@ -1,4 +1,4 @@
-use Rattle.std.proofs.Common.{◌≡◌, ℕ, None, refl, sym, subst, ◌∙◌}
+use Rattle.std.proofs.Common.{◌≡◌, ℕ, None, refl, sym, subst, ◌∙◌, arith}
 use Rattle.acceptor.specs.Restored.{IsHighestRound}
 use Rattle.learner.specs.State.{decided_at as learned_at}
 use Rattle.agreement.proofs.Parts as parts
@@ -18,4 +18,5 @@ returns-clause-stands c =
       log_is = c.new-3.ensures.node;
       beyond = λ slot le. none slot;
       seen = refl;
+      slots = omega (arith, c.requires);
     }

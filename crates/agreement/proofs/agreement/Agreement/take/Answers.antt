@@ -29,6 +29,7 @@ returns-in-Answered-clause-stands c views had =
       log_is = has.log_is;
       beyond = has.beyond;
       seen = has.seen;
+      slots = has.slots;
     })
 
 pub returns-in-Refused-clause-stands : goal.returns-in-Refused-clause-stands
@@ -53,4 +54,5 @@ returns-in-Refused-clause-stands c views had =
       log_is = has.log_is;
       beyond = has.beyond;
       seen = has.seen;
+      slots = has.slots;
     })

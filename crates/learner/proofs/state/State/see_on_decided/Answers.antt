@@ -1,9 +1,7 @@
-use Rattle.std.proofs.Common.{Some, ap, ◌∙◌}
-use Rattle.std.specs.Option.{option_or}
 use Rattle.learner.specs.Calls.{Decided}
 use Rattle.learner.specs.State.{decided_at}
-use Rattle.learner.proofs.Settling.{or_none}
-use Rattle.learner.proofs.Lookups.{not_both, learned_is_kept}
+use Rattle.learner.proofs.Adding.{nothing_is_decided, copy_is_decided}
+use Rattle.learner.proofs.Lookups.{not_both}
 use Rattle.learner.proofs.Learning.{learnt_over_learned, settles_nothing}
 use Rattle.learner.proofs.OneValue.{learned_by_decision}
 use Rattle.learner.proofs.state.State.see_on_decided.Goals as goal
@@ -23,8 +21,8 @@ returns-clause-told c = λ n calls l.
 
 pub returns-then-not-is_open-clause-now : goal.returns-then-not-is_open-clause-now
 returns-then-not-is_open-clause-now c =
-    or_none (decided_at c.args.self.now c.args.slot)
-    ∙ learned_is_kept (decided_at c.args.self.now c.args.slot) c.args.value.now (λ none. not_both _ (c.is_open.ensures.1 none) c.if-not-is_open.true)
+    nothing_is_decided (decided_at c.args.self.now c.args.slot) c.args.value.now (λ none. not_both _ (c.is_open.ensures.1 none) c.if-not-is_open.true)
 
 pub returns-clause-now : goal.returns-clause-now
-returns-clause-now c = ap (λ v. option_or (decided_at c.args.self.now c.args.slot) (Some v)) c.in_ok-copy_of.ensures
+returns-clause-now c =
+    copy_is_decided (decided_at c.args.self.now c.args.slot) c.args.value.now _ (c.is_open.ensures.0 c.if-not-is_open.false) c.in_ok-copy_of.ensures

@@ -1,7 +1,0 @@
-use Rattle.ballots.specs.Majority.{NodeSet}
-use Rattle.schedule_runner.specs.Judging.{HasAccepted}
-use Rattle.schedule_runner.proofs.Majorities.{majority_of_set}
-use Rattle.schedule_runner.proofs.judge.most_accepted.Goals as goal
-
-pub returns : goal.returns
-returns g = majority_of_set g.args.members g.acceptors_of.result (HasAccepted g.args.slot g.args.before.now g.args.ballot g.args.value.now) g.are_majority.result g.acceptors_of.ensures g.are_majority.ensures

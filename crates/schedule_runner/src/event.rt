@@ -1,0 +1,34 @@
+//! What can happen to nodes.
+
+use crate::table_text::TableText;
+use tickets::Ticket;
+use uploads::Upload;
+
+/// What happens to one node, whose number comes first. Every number may stand there: an event of a node that is no member
+/// is refused ([`crate::Reason::OutOfRange`]), and so is any but a start of a node that is down
+/// ([`crate::Reason::Down`]).
+#[derive(Debug, Drop)]
+pub enum Event {
+    /// A client hands the node an upload.
+    Put(u64, Upload),
+    /// Time passes at the node. The second number tells how many free slots it leaves to others, at most 7
+    /// ([`crate::Reason::OutOfRange`] above).
+    Tick(u64, u8),
+    /// The node is handed a message, by its number in the order of sending, from 0 on. A number that was not sent yet is
+    /// refused ([`crate::Reason::NotSent`]).
+    Deliver(u64, u64),
+    /// The node goes down in the midst of a tick: behind its record, where one is due, and before all else. It goes down
+    /// also where the tick would be refused.
+    TickCut(u64, u8),
+    /// The node goes down in the midst of a delivery, in the same way. Where the message was not sent yet it stays up
+    /// ([`crate::Reason::NotSent`]).
+    DeliverCut(u64, u64),
+    /// The node starts again with the records that it kept, whether it was down or not. Where memory is refused, it is down.
+    Restart(u64),
+    /// A client asks the node for a version of a table.
+    Get(u64, Ticket),
+    /// A client asks the node for the number of a table's latest version.
+    Info(u64, TableText),
+    /// A client asks the node what has become of an upload.
+    Outcome(u64, Upload),
+}

@@ -1,0 +1,68 @@
+//! Events that happen one after the other.
+
+ghost use Rattle.std.specs.Prelude.{List, ◌∷◌, ◌++◌, [], IfOk, OnOk};
+ghost use Rattle.histories.specs.Views.{Config as HistoryConfig};
+ghost use Rattle.histories.specs.Following.{at_first};
+ghost use Rattle.schedule_runner.specs.declared.event.Event.{Event as EventSpec};
+ghost use Rattle.schedule_runner.specs.Told.{config_of};
+ghost use Rattle.schedule_runner.specs.Happening.{HasCome};
+ghost use Rattle.schedule_runner.specs.Runs.{IsRunOf};
+
+use crate::config::Config;
+use crate::copying::copy_of;
+use crate::event::Event;
+use crate::nodes::Nodes;
+use crate::step::Step;
+use crate::trace::Trace;
+use ballots::Message;
+use histories::laws::{nothing_reaches_the_start, one_step_more_reaches, what_is_reached_follows};
+use safe_histories::laws::replicas_agree;
+use std::alloc::{AllocError, Global};
+
+/// Lets an event happen, and puts it behind the steps with what it gave.
+fn take_step<N: Nodes>(
+    alloc: Global,
+    nodes: &mut N,
+    sent: &mut Vec<Message>,
+    steps: &mut Vec<Step>,
+    event: &Event,
+) -> Result<(), AllocError>
+    ensures { OnOk result ((config : HistoryConfig) (events : List EventSpec)
+        → HasCome (N.have nodes.old config) config sent.old.items steps.old.items events
+        → HasCome (N.have nodes.new config) config sent.new.items steps.new.items (events ++ event.now ∷ [])) }
+{
+    one_step_more_reaches();
+    let event = copy_of(alloc, event)?;
+    let gave = nodes.happen(sent, &event);
+    steps.push(Step { event, gave })?;
+    Ok(())
+}
+
+/// Lets these events happen to the nodes, one after the other, and tells what each gave. The nodes are those of this
+/// configuration, each as it is at first: up, and with nothing.
+///
+/// [`AllocError`] says that memory for the steps was refused; a node that wants memory refuses its event, and the run
+/// goes on.
+pub fn run_on<N: Nodes>(
+    alloc: Global,
+    config: Config,
+    nodes: &mut N,
+    events: &[Event],
+) -> Result<Trace, AllocError>
+    requires { N.have nodes.old (config_of config) at_first }
+    ensures { IfOk result (IsRunOf config events.now) }
+{
+    nothing_reaches_the_start();
+    let mut sent = Vec::new(alloc);
+    let mut steps = Vec::new(alloc);
+    for event in events {
+        take_step(alloc, nodes, &mut sent, &mut steps, event)?;
+    }
+    what_is_reached_follows();
+    replicas_agree();
+    Ok(Trace {
+        config,
+        sent,
+        steps,
+    })
+}
