@@ -18,44 +18,10 @@ mod named;
 mod story;
 mod tickets_told;
 
-use std::alloc::Global;
-use std::fs;
-use std::hash::RandomState;
-use std::io::{BufWriter, Write};
 use std::process::ExitCode;
 use story::Story;
-use story_words::{StoryFault, tell};
+use story_words::run;
 
 fn main(rt: HostRuntime) -> ExitCode {
-    match tell_all(&rt) {
-        Ok(()) => ExitCode::from(0),
-        Err(fault) => {
-            // Where this fails too, the status alone tells.
-            let _ = eprintln!(rt; "table_stories: {fault}");
-            ExitCode::from(1)
-        }
-    }
-}
-
-fn tell_file<W: Write>(
-    alloc: Global,
-    hashing: RandomState,
-    text: &str,
-    output: &mut W,
-) -> Result<(), StoryFault> {
-    let mut story = Story::new(alloc, hashing);
-    tell(alloc, text, &mut story, output)
-}
-
-fn tell_all(rt: &HostRuntime) -> Result<(), StoryFault> {
-    let alloc = rt.alloc();
-    let hashing = RandomState::new(rt)?;
-    let words: Vec<String> = std::env::args(rt)?.collect(alloc)?;
-    let mut output = BufWriter::new(alloc, rt.stdout())?;
-    for path in words.iter().skip(1) {
-        let text = fs::read_to_string(rt, path.as_str())?;
-        tell_file(alloc, hashing, text.as_str(), &mut output)?;
-    }
-    output.flush()?;
-    Ok(())
+    run::<Story>(&rt, "table_stories")
 }

@@ -6,7 +6,9 @@ use crate::tickets_told;
 use ballots::Value;
 use std::alloc::{AllocError, Global};
 use std::hash::RandomState;
-use story_words::{StoryFault, Teller};
+use std::io;
+use std::random::RandomSource;
+use story_words::{StoryFault, Teller, split_word};
 use table_versions::Tables;
 use tickets::Ticket;
 
@@ -86,15 +88,6 @@ fn push_name(line: &mut String, name: &str) -> Result<(), AllocError> {
 }
 
 impl Story {
-    /// That has named nothing, with tables of no values.
-    pub(crate) fn new(alloc: Global, hashing: RandomState) -> Story {
-        Story {
-            hashing,
-            names: Vec::new(alloc),
-            tables: Tables::new(alloc, hashing),
-        }
-    }
-
     fn name(&mut self, alloc: Global, words: &str) -> Result<String, StoryFault> {
         let (name, digits) = words.split_once(' ').unwrap_or((words, ""));
         let named = name_bytes(alloc, name, digits)?;
@@ -185,11 +178,10 @@ impl Story {
             None => Ok(String::from_str(alloc, "  none\n")?),
         }
     }
-}
 
-impl Teller for Story {
-    fn answer(&mut self, alloc: Global, command: &str) -> Result<String, StoryFault> {
-        let (word, rest) = command.split_once(' ').unwrap_or((command, ""));
+    // What the command gives.
+    fn answer_to_command(&mut self, alloc: Global, command: &str) -> Result<String, StoryFault> {
+        let (word, rest) = split_word(command);
         match word {
             "upload" => self.name(alloc, rest),
             "cut" => self.cut(alloc, rest),
@@ -205,5 +197,36 @@ impl Teller for Story {
             "frames" => self.frames_shown(alloc, rest),
             _ => Err(StoryFault::NoCommand),
         }
+    }
+}
+
+// The same keys at each run: a story is told alike every time, and none of its names is a stranger's.
+struct NoKeys;
+
+impl RandomSource for NoKeys {
+    fn fill_bytes(&self, _keys: &mut [u8]) -> io::Result<()> {
+        Ok(())
+    }
+}
+
+impl Teller for Story {
+    // That has named nothing, with tables of no values.
+    fn new(alloc: Global) -> Result<Story, StoryFault> {
+        let hashing = RandomState::new(&NoKeys)?;
+        Ok(Story {
+            hashing,
+            names: Vec::new(alloc),
+            tables: Tables::new(alloc, hashing),
+        })
+    }
+
+    fn answer(
+        &mut self,
+        alloc: Global,
+        command: &str,
+        told: &mut String,
+    ) -> Result<(), StoryFault> {
+        let answer = self.answer_to_command(alloc, command)?;
+        Ok(told.push_str(answer.as_str())?)
     }
 }
