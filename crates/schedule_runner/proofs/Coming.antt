@@ -9,7 +9,7 @@ use Rattle.histories.specs.History.{Step as HistoryStep, History}
 use Rattle.histories.specs.Following.{Seat, StepFollows, Follows, at_first}
 use Rattle.histories.specs.Reaching.{Reaches}
 use Rattle.safe_histories.specs.Safe.{IsSafe}
-use Rattle.schedule_runner.specs.declared.event.Event.{Event}
+use Rattle.node_events.specs.declared.event.Event.{Event}
 use Rattle.schedule_runner.specs.declared.step.Step.{Step}
 use Rattle.schedule_runner.specs.Told.{config_of, step_of, steps_of}
 use Rattle.schedule_runner.specs.Traced.{Traced, history_of}

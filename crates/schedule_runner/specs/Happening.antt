@@ -5,8 +5,8 @@ use Rattle.histories.specs.Views.{Config}
 use Rattle.histories.specs.Gave.{count_of}
 use Rattle.histories.specs.Following.{Seat, StepFollows}
 use Rattle.histories.specs.Reaching.{Reaches}
-use Rattle.schedule_runner.specs.declared.event.Event.{Event}
-use Rattle.schedule_runner.specs.declared.gave.Gave.{Gave}
+use Rattle.node_events.specs.declared.event.Event.{Event}
+use Rattle.node_events.specs.declared.gave.Gave.{Gave}
 use Rattle.schedule_runner.specs.declared.step.Step.{Step}
 use Rattle.schedule_runner.specs.Told.{event_of, gave_of, steps_of}
 

@@ -4,7 +4,7 @@ use Rattle.lawful_histories.specs.Lawful.{IsLawful}
 use Rattle.histories.specs.Following.{Follows}
 use Rattle.safe_histories.specs.Safe.{IsSafe}
 use Rattle.schedule_runner.specs.declared.config.Config.{Config}
-use Rattle.schedule_runner.specs.declared.event.Event.{Event}
+use Rattle.node_events.specs.declared.event.Event.{Event}
 use Rattle.schedule_runner.specs.declared.step.Step.{Step}
 use Rattle.schedule_runner.specs.Traced.{Traced, history_of}
 

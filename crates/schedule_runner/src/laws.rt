@@ -8,12 +8,10 @@ ghost use Rattle.histories.specs.Texts.{IsTextOf};
 ghost use Rattle.safe_histories.specs.Safe.{StandsIn};
 ghost use Rattle.schedule_runner.specs.declared.config.Config.{Config as ConfigSpec};
 ghost use Rattle.schedule_runner.specs.declared.config.TheConstants.{MAX_SLOTS, MAX_JOURNAL_ENTRIES};
-ghost use Rattle.schedule_runner.specs.declared.event.Event.{Event as EventSpec};
-ghost use Rattle.schedule_runner.specs.declared.event.Event.TheVariants.{Get, Outcome as AsksOutcome};
-ghost use Rattle.schedule_runner.specs.declared.gave.Gave.{Gave as GaveSpec};
-ghost use Rattle.schedule_runner.specs.declared.gave.Gave.TheVariants.{Answer, Outcome as TellsOutcome};
+ghost use Rattle.node_events.specs.declared.event.Event.{Event as EventSpec};
+ghost use Rattle.node_events.specs.declared.event.Event.TheVariants.{Get, Outcome as AsksOutcome};
+ghost use Rattle.node_events.specs.declared.gave.Gave.TheVariants.{Answer, Outcome as TellsOutcome};
 ghost use Rattle.schedule_runner.specs.Limits.{most_slots, most_entries};
-ghost use Rattle.schedule_runner.specs.Told.{event_of, gave_of};
 ghost use Rattle.schedule_runner.specs.Traced.{Traced};
 ghost use Rattle.schedule_runner.specs.Runs.{IsRunOf};
 
@@ -21,12 +19,6 @@ ghost use Rattle.schedule_runner.specs.Runs.{IsRunOf};
 pub fn limits_are_these()
     ensures slots { MAX_SLOTS ≡ most_slots }
     ensures entries { MAX_JOURNAL_ENTRIES ≡ most_entries }
-{}
-
-/// Events that are told alike are one event, and so is what they gave: a history says of a run all that its trace says.
-pub fn telling_loses_nothing()
-    ensures events { (x y : EventSpec) → event_of x ≡ event_of y → x ≡ y }
-    ensures given { (x y : GaveSpec) → gave_of x ≡ gave_of y → x ≡ y }
 {}
 
 /// Any two answers of a run to one ticket have the same bytes, at whichever nodes and times they were given.

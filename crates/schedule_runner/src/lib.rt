@@ -18,21 +18,15 @@
 #![tactic(auto)]
 
 mod config;
-mod copying;
-mod event;
-mod gave;
 pub mod laws;
 mod nodes;
 mod running;
 mod step;
-mod table_text;
 mod trace;
 
 pub use config::{Config, MAX_JOURNAL_ENTRIES, MAX_SLOTS};
-pub use event::Event;
-pub use gave::{Gave, Reason};
+pub use node_events::{Event, Gave, Reason, TableText};
 pub use nodes::Nodes;
 pub use running::run_on;
 pub use step::Step;
-pub use table_text::TableText;
 pub use trace::{Trace, audit};

@@ -5,9 +5,8 @@ ghost use Rattle.histories.specs.Views.{Config};
 ghost use Rattle.histories.specs.Following.{Seat};
 ghost use Rattle.schedule_runner.specs.Happening.{Happens};
 
-use crate::event::Event;
-use crate::gave::Gave;
 use ballots::Message;
+use node_events::{Event, Gave};
 
 /// All nodes of a run: members, each up or down, with what it has.
 pub trait Nodes {
@@ -18,8 +17,8 @@ pub trait Nodes {
     /// Lets an event happen, and tells what it gives. The messages that it sends are put behind those that were sent
     /// before.
     ///
-    /// An event of a node that is no member is [`crate::Reason::OutOfRange`]; one but a start of a node that is down is
-    /// [`crate::Reason::Down`]; the delivery of a message that was not sent yet is [`crate::Reason::NotSent`]; all
+    /// An event of a node that is no member is [`node_events::Reason::OutOfRange`]; one but a start of a node that is down is
+    /// [`node_events::Reason::Down`]; the delivery of a message that was not sent yet is [`node_events::Reason::NotSent`]; all
     /// else is what the node's rules make of it, memory apart.
     fn happen(&mut self, sent: &mut Vec<Message>, event: &Event) -> Gave
         ensures { (config : Config) (seats : ℕ → Seat) → have self.old config seats

@@ -3,19 +3,18 @@
 ghost use Rattle.std.specs.Prelude.{List, ◌∷◌, ◌++◌, [], IfOk, OnOk};
 ghost use Rattle.histories.specs.Views.{Config as HistoryConfig};
 ghost use Rattle.histories.specs.Following.{at_first};
-ghost use Rattle.schedule_runner.specs.declared.event.Event.{Event as EventSpec};
+ghost use Rattle.node_events.specs.declared.event.Event.{Event as EventSpec};
 ghost use Rattle.schedule_runner.specs.Told.{config_of};
 ghost use Rattle.schedule_runner.specs.Happening.{HasCome};
 ghost use Rattle.schedule_runner.specs.Runs.{IsRunOf};
 
 use crate::config::Config;
-use crate::copying::copy_of;
-use crate::event::Event;
 use crate::nodes::Nodes;
 use crate::step::Step;
 use crate::trace::Trace;
 use ballots::Message;
 use histories::laws::{nothing_reaches_the_start, one_step_more_reaches, what_is_reached_follows};
+use node_events::{Event, copy_of};
 use safe_histories::laws::replicas_agree;
 use std::alloc::{AllocError, Global};
 

@@ -1,7 +1,6 @@
 //! One step of a run.
 
-use crate::event::Event;
-use crate::gave::Gave;
+use node_events::{Event, Gave};
 
 /// An event, and what it gave.
 #[derive(Debug, Drop)]

@@ -1,7 +1,7 @@
 use Rattle.std.proofs.Common.{List, [], ◌∷◌, ◌++◌, take, sym, ap, subst, ◌∙◌}
 use Rattle.std.proofs.lemmas.List.{take_more, take_all}
 use Rattle.ballots.specs.declared.message.Message.{Message}
-use Rattle.schedule_runner.specs.declared.event.Event.{Event}
+use Rattle.node_events.specs.declared.event.Event.{Event}
 use Rattle.schedule_runner.specs.declared.step.Step.{Step}
 use Rattle.schedule_runner.specs.Told.{config_of}
 use Rattle.schedule_runner.specs.Traced.{Traced}

@@ -1,5 +1,5 @@
 use Rattle.std.proofs.Common.{List, [], ◌∷◌, ◌++◌, sym, subst}
-use Rattle.schedule_runner.specs.declared.event.Event.{Event}
+use Rattle.node_events.specs.declared.event.Event.{Event}
 use Rattle.schedule_runner.specs.declared.step.Step.{Step}
 use Rattle.schedule_runner.specs.Happening.{HasCome}
 use Rattle.schedule_runner.proofs.Coming.{come_more}

@@ -1,5 +1,8 @@
 //! What can happen to nodes.
 
+ghost use Rattle.std.specs.Prelude.{◌≡◌};
+ghost use Rattle.histories.specs.Event.{node_of};
+
 use crate::table_text::TableText;
 use tickets::Ticket;
 use uploads::Upload;
@@ -31,4 +34,25 @@ pub enum Event {
     Info(u64, TableText),
     /// A client asks the node what has become of an upload.
     Outcome(u64, Upload),
+}
+
+impl Event {
+    ghost use Rattle.node_events.specs.Told.{event_of};
+
+    /// The number of the node of which it is.
+    pub fn node(&self) -> u64
+        ensures { result ≡ node_of (event_of self.now) }
+    {
+        match self {
+            Event::Put(node, _)
+            | Event::Tick(node, _)
+            | Event::Deliver(node, _)
+            | Event::TickCut(node, _)
+            | Event::DeliverCut(node, _)
+            | Event::Restart(node)
+            | Event::Get(node, _)
+            | Event::Info(node, _)
+            | Event::Outcome(node, _) => *node,
+        }
+    }
 }

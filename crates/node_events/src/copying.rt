@@ -17,8 +17,8 @@ fn copy_of_ticket(alloc: Global, ticket: &Ticket) -> Result<Ticket, AllocError>
     }
 }
 
-/// A copy of an event. An upload's bytes are shared.
-pub(crate) fn copy_of(alloc: Global, event: &Event) -> Result<Event, AllocError>
+/// A copy of an event. An upload's bytes are shared. [`AllocError`] says that memory was refused.
+pub fn copy_of(alloc: Global, event: &Event) -> Result<Event, AllocError>
     ensures { IfOk result (λ copy. copy ≡ event.now) }
 {
     Ok(match event {
