@@ -54,7 +54,7 @@ fn columns_of(
 /// - `WrongColumns` exactly where there is not one column of cells for each field;
 /// - else `WrongLength` exactly where a column has another number of cells than there are rows;
 /// - else `TooManyRows` exactly where there are more than `ROWS_LIMIT` rows;
-/// - else the first fault of the columns, in order, as [`column_of`] tells it; else the batch.
+/// - else a fault of one of the columns, as [`column_of`] tells it; else the batch.
 ///
 /// A batch of no column still has its number of rows.
 pub fn batch_of(
