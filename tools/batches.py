@@ -1,8 +1,9 @@
 #!/usr/bin/env python3
-"""Makes the stories of batches in crates/batch_stories/data: `flat.txt`, `nested.txt`, `layouts.txt` and `faults.txt`
-from the model in batch_model.py; `examples.txt` and `borders.txt` were worked out by hand. First the model is tried:
-what it lays out means the cells that were laid out, what is written of them means them too and is written so again,
-and each story, also by hand, is told as it stands. With --check no file is changed, and those that differ are named."""
+"""Makes the stories of batches in crates/batch_stories/data: `flat.txt`, `nested.txt`, `depths.txt`, `layouts.txt` and
+`faults.txt` from the model in batch_model.py; `examples.txt` and `borders.txt` were worked out by hand. First the model
+is tried: what it lays out means the cells that were laid out, what is written of them means them too and is written so
+again, and each story, also by hand, is told as it stands. With --check no file is changed, and those that differ are
+named."""
 import itertools
 import random
 import re
@@ -146,8 +147,9 @@ class Story:
         return tell("\n".join(self.lines))
 
 
-def drawn(type, draw, nulls):
-    """A cell of the type, as often null as `nulls` says, and its parts too."""
+def drawn(type, draw, nulls, most=3):
+    """A cell of the type, as often null as `nulls` says, and its parts too; a list has so many elements at most, or
+    one where that is none."""
     if type.name == "Null" or draw.random() < nulls:
         return None
     if type.name == "Bool":
@@ -155,10 +157,10 @@ def drawn(type, draw, nulls):
     if type.name == "Utf8":
         return draw.choice(TEXTS)
     if type.name in ("List", "FixedSizeList"):
-        count = draw.randrange(4) if type.name == "List" else int(type.parameters[0])
-        return [drawn(type.children[0], draw, nulls) for _ in range(count)]
+        count = (draw.randrange(most + 1) if most else 1) if type.name == "List" else int(type.parameters[0])
+        return [drawn(type.children[0], draw, nulls, most) for _ in range(count)]
     if type.name == "Struct":
-        return tuple(drawn(child, draw, nulls) for child in type.children)
+        return tuple(drawn(child, draw, nulls, most) for child in type.children)
     return draw.randbytes(draw.randrange(5) if width(type) is None else width(type))
 
 
@@ -221,6 +223,31 @@ def nested():
     word, rows = deep(lambda word: next(turns)(word), "Binary", b"\0", 16)
     story.schema(word)
     story.lay_out(len(rows), [rows])
+    return story.text()
+
+
+def depths():
+    story = Story("Lists, lists of fixed size and structs in one another, in every order down to depth 4, and in drawn "
+                  "ones down to each depth from 5 to 16 (Apache Arrow Columnar Format, \"Physical memory layout\"). "
+                  "Each is laid out as it would be written, and then freely.")
+    draw = random.Random(16)
+    leaves = itertools.cycle(("Int(8,true)", "Utf8", "Bool", "Null", "Binary", "FixedSizeBinary(2)"))
+    orders = [order for depth in (1, 2, 3) for order in itertools.product(("L", "F", "S"), repeat=depth)]
+    orders += [[top, *draw.choices("LFS", k=depth - 2)] for depth in range(5, 17) for top in "LFS"]
+    for number, order in enumerate(orders):
+        is_deep, word = len(order) > 3, next(leaves)
+        forms = {"L": "List(%s)", "F": "FixedSizeList(1,%s)" if is_deep else "FixedSizeList(2,%s)",
+                 "S": draw.choice(("Struct(%s)", "Struct(Bool,%s)", "Struct(%s,Utf8)"))}
+        for kind in reversed(order):
+            word = forms[kind] % word
+        story.say(f"Depth {len(order) + 1}.")
+        story.schema(word)
+        nulls, most, ways = (0.1, 2, {"junk", "bits", "order", "gaps"}) if is_deep else (0.25, 2, FREELY)
+        cells = [drawn(story.types[0], draw, 0, 0), None]
+        cells += [drawn(story.types[0], draw, nulls, most) for _ in range(1 if is_deep else 3)]
+        cells = cells[number % 3:] + cells[:number % 3]
+        story.lay_out(len(cells), [cells])
+        story.lay_out(len(cells), [cells], ways, number)
     return story.text()
 
 
@@ -292,6 +319,29 @@ def surroundings(word, cells):
     yield f"FixedSizeList(2,{word})", halves, 1, 1
 
 
+INSIDE = [  # Of texts inside: the fault, and its change, given the length that the column says it has, as those above.
+    ("BufferRange", lambda head, node, first: {"buffers": {first + 2: (head.buffers[first + 2][0], 99)}}),
+    ("NullCount", lambda head, node, first: {"nodes": {node: (head.nodes[node][0], 2)}}),
+    ("OffsetsFall", lambda head, node, first: {"places": {head.buffers[first + 1][0] + 8: 0}}),
+    ("ChildShort", lambda head, node, first: {"nodes": {node: (3, head.nodes[node][1])}}),
+    ("NotUtf8", lambda head, node, first: {"places": {head.buffers[first + 2][0]: 0xff}}),
+]
+
+
+def inside_columns(story):
+    """Two faults of one column inside others."""
+    story.say("Of two faults of texts inside a List, a Struct and a FixedSizeList the first is told, as of those at "
+              "the top. A List asks for no length of what is inside it.")
+    for outer, column, node, first in list(surroundings("Utf8", WORDS))[1:]:
+        story.schema(outer)
+        rules = [rule for rule in INSIDE if rule[0] != "ChildShort" or not outer.startswith("List")]
+        for (fault, one), (_, other) in itertools.combinations(rules, 2):
+            laid = lay_out(story.types, len(column), [column])
+            for change in (one, other):
+                laid = altered(laid, **change(laid[0], node, first))
+            story.refuse(fault, *laid)
+
+
 def between_columns(story):
     """Faults of two columns in one batch."""
     laid = lay_out([type_of("Utf8")] * 2, 4, [WORDS, WORDS])
@@ -337,6 +387,7 @@ def faults():
         story.refuse(fault, *change(laid))
         for _, other in IN_TURN[place + 1:]:
             story.refuse(fault, *other(change(laid)))
+    inside_columns(story)
     between_columns(story)
     return story.text()
 
@@ -359,7 +410,7 @@ def try_model():
 def main():
     is_check, status = "--check" in sys.argv[1:], 0
     try_model()
-    texts = {f"{make.__name__}.txt": make() for make in (flat, nested, layouts, faults)}
+    texts = {f"{make.__name__}.txt": make() for make in (flat, nested, depths, layouts, faults)}
     texts |= {name: tell((DATA / name).read_text(encoding="utf-8")) for name in BY_HAND}
     for name, text in texts.items():
         file = DATA / name
