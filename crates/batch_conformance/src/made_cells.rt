@@ -2,6 +2,7 @@
 
 use batch_cells::{Cell, cells_of};
 use batch_columns::Batch;
+use batch_types::BatchFault;
 use column_building::{CellsFault, RowsFault, batch_of, column_of};
 use header_types::{BatchHead, BitWidth, Field, Schema, Ty};
 use record_batches::{read_batch, write_body};
@@ -95,6 +96,7 @@ fn written(
     let (head, body) = write_body(alloc, schema, batch)?;
     match read_batch(alloc, schema, &head, &body) {
         Ok(again) if again == *batch => Ok(Some((head, body))),
+        Err(BatchFault::OutOfMemory) => Err(AllocError),
         Ok(_) | Err(_) => Ok(None),
     }
 }

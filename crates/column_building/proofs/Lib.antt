@@ -4,3 +4,4 @@ pub mod Blank
 pub mod Gathered
 pub mod Holding
 pub mod Making
+pub mod Refusing

@@ -1,5 +1,5 @@
 -- Columns that are made one after the other are those of a batch.
-use Rattle.std.proofs.Common.{◌≡◌, ◌⊎◌, inl, ℕ, ◌+◌, ◌<◌, ◌≤◌, false, List, [], ◌∷◌, ◌++◌, map, length, drop, slice_index_or, refl, sym, ap, ap₂, ◌∙◌, subst, arith}
+use Rattle.std.proofs.Common.{◌≡◌, ◌⊎◌, inl, inr, ℕ, ◌+◌, ◌<◌, ◌≤◌, false, List, [], ◌∷◌, ◌++◌, map, length, drop, slice_index_or, refl, sym, ap, ap₂, ◌∙◌, subst, arith}
 use Rattle.std.proofs.lemmas.List.{append-nil, drop_all, length-map}
 use Rattle.std.specs.List.{AllByRecursion}
 use Rattle.header_types.specs.declared.schema.Field.{Field}
@@ -18,25 +18,9 @@ use Rattle.batch_cells.specs.CellViews.{cell_of}
 use Rattle.column_building.specs.declared.fault.CellsFault.{CellsFault}
 use Rattle.column_building.specs.declared.fault.CellsFault.TheVariants.{WrongChildren, NotOfField, TooMany, TooLong, OutOfMemory}
 use Rattle.column_building.specs.Whole.{field_shape, is_whole}
-use Rattle.column_building.specs.Built.{AreFewNodes, AreFewValues}
-use Rattle.column_building.specs.Rows.{AreMade, IsTold, IsToldOfOne}
+use Rattle.column_building.specs.Built.{AreFewNodes, AreFewValues, IsBuilt}
+use Rattle.column_building.specs.Rows.{AreMade, CanBeMade, IsTold, IsToldOfFirst}
 use Rattle.column_building.proofs.Shaped.{dropped, fields_next}
-
--- ---- one column after the other
-
-module _ {X : Type 0} (f : X → List Cell) (fields : List Field) (columns : List X) (i : ℕ) (x : Field) (y : X) (met : i < length fields)
-    (there : i < length columns) (field : x ≡ slice_index_or fields i x) (column : y ≡ slice_index_or columns i y) where
-  columns_next : map f (drop i columns) ≡ f y ∷ map f (drop (i + 1) columns)
-  columns_next = ap (map f) (dropped columns i y there column)
-
-  told_close : (fault : CellsFault) → IsTold (field_shape x) (f y) fault ⊎ IsToldOfOne (field_shapes (drop (i + 1) fields)) (map f (drop (i + 1) columns)) fault
-      → IsToldOfOne (field_shapes (drop i fields)) (map f (drop i columns)) fault
-  told_close fault either =
-      subst (λ s. IsToldOfOne s (map f (drop i columns)) fault) (sym (fields_next fields i x met field))
-      (subst (λ l. IsToldOfOne (shape_then (field_shape x) (field_shapes (drop (i + 1) fields))) l fault) (sym columns_next) either)
-
-  pub told_here : (fault : CellsFault) → IsTold (field_shape x) (f y) fault → IsToldOfOne (field_shapes (drop i fields)) (map f (drop i columns)) fault
-  told_here fault told = told_close fault (inl told)
 
 -- behind the last field all are made
 pub made_done : {X : Type 0} (f : X → List Cell) (fields : List Field) (columns : List X) (i : ℕ) (inside : Shapes) (whole : List (List Cell)) (made : List Contents)
@@ -47,16 +31,6 @@ made_done f fields columns i inside whole made end long done =
     (done []
     (subst (λ l. AreMade (field_shapes l) (map f (drop i columns)) []) (sym (drop_all i fields end))
     (subst (λ l. AreMade no_shape (map f l) []) (sym (drop_all i columns (omega (arith, long, end)))) tt)))
-
--- why cells make no column, by its clauses
-pub told_of : (s : Shape) (held : List Cell) (fault : CellsFault) → (fault ≡ WrongChildren → is_whole s ≡ false)
-    → (fault ≡ NotOfField → AllByRecursion (IsCellOf s) held → ⊥) → (fault ≡ TooMany → AreFewValues s held → ⊥) → (fault ≡ TooLong → AreRooms s held → ⊥)
-    → IsTold s held fault
-told_of s held WrongChildren children kinds many long = children refl
-told_of s held NotOfField children kinds many long = kinds refl
-told_of s held TooMany children kinds many long = many refl
-told_of s held TooLong children kinds many long = long refl
-told_of s held OutOfMemory children kinds many long = tt
 
 -- ---- all columns
 

@@ -1,6 +1,6 @@
 -- Rows that are made of cells, column by column, and why there are none: Apache Arrow, "Arrow Columnar Format",
 -- "RecordBatch message".
-use Rattle.std.specs.Prelude.{◌≡◌, ◌⊎◌, false, List, [], ◌∷◌}
+use Rattle.std.specs.Prelude.{◌≡◌, ◌⊎◌, true, false, List, [], ◌∷◌}
 use Rattle.std.specs.List.{AllByRecursion}
 use Rattle.batch_types.specs.Cells.{Cell}
 use Rattle.batch_types.specs.Shapes.{Shape, Shapes, no_shape, shape_then}
@@ -31,15 +31,23 @@ IsTold s held cells.TooMany = AreFewValues s held → ⊥
 IsTold s held cells.TooLong = AreRooms s held → ⊥
 IsTold s held cells.OutOfMemory = Unit {0}
 
--- of the cells of one of the columns
-abbrev pub IsToldOfOne : Shapes → List (List Cell) → CellsFault → Type 0
-IsToldOfOne no_shape columns fault = ⊥
-IsToldOfOne (shape_then s shapes) [] fault = ⊥
-IsToldOfOne (shape_then s shapes) (held ∷ columns) fault = IsTold s held fault ⊎ IsToldOfOne shapes columns fault
+-- none of these is so of them
+pub record CanBeMade (s : Shape) (held : List Cell) : Type 0 where
+  pub whole : is_whole s ≡ true
+  pub fit : AllByRecursion (IsCellOf s) held
+  pub few : AreFewValues s held
+  pub room : AreRooms s held
+
+-- of the cells of the first column that is not made: those before it can be
+abbrev pub IsToldOfFirst : Shapes → List (List Cell) → CellsFault → Type 0
+IsToldOfFirst no_shape columns fault = ⊥
+IsToldOfFirst (shape_then s shapes) [] fault = ⊥
+IsToldOfFirst (shape_then s shapes) (held ∷ columns) fault =
+    IsTold s held fault ⊎ (CanBeMade s held × IsToldOfFirst shapes columns fault)
 
 -- the other faults have clauses of their own
 abbrev pub IsToldOfCells : Shapes → List (List Cell) → RowsFault → Type 0
 IsToldOfCells shapes columns rows.WrongColumns = Unit {0}
 IsToldOfCells shapes columns rows.WrongLength = Unit {0}
 IsToldOfCells shapes columns rows.TooManyRows = Unit {0}
-IsToldOfCells shapes columns (rows.Cells fault) = IsToldOfOne shapes columns fault
+IsToldOfCells shapes columns (rows.Cells fault) = IsToldOfFirst shapes columns fault

@@ -1,13 +1,16 @@
 //! A batch of some rows, made of plain cells.
 
-ghost use Rattle.std.specs.Prelude.{◌≡◌, ◌≢◌, ◌↔◌, ◌<◌, map, length, IfOk, IfErr, IsErrOf, IsTrue};
+ghost use Rattle.std.specs.Prelude.{◌≡◌, ◌≢◌, ◌↔◌, ◌<◌, ◌++◌, ◌∷◌, [], map, length, IfOk, OnOk, IfErr, IsErrOf, IsTrue};
 ghost use Rattle.std.specs.List.{AllByRecursion};
 ghost use Rattle.header_types.specs.Views.{schema_of};
 ghost use Rattle.batch_types.specs.LaysOut.{rows_limit};
 ghost use Rattle.batch_columns.specs.Batches.{IsBatchOf, rows_of};
 ghost use Rattle.batch_columns.specs.FieldShapes.{field_shapes};
 ghost use Rattle.batch_cells.specs.CellViews.{cell_of};
-ghost use Rattle.column_building.specs.Rows.{AreMade, IsToldOfOne, IsToldOfCells};
+ghost use Rattle.batch_columns.specs.Contents.{Contents};
+ghost use Rattle.column_building.specs.Built.{IsBuilt};
+ghost use Rattle.column_building.specs.Rows.{AreMade, CanBeMade, IsTold, IsToldOfFirst, IsToldOfCells};
+ghost use Rattle.column_building.specs.Whole.{field_shape};
 
 use crate::building::{column_of, put_column};
 use crate::fault::{CellsFault, RowsFault};
@@ -28,6 +31,23 @@ fn have_rows(columns: &[Vec<Cell>], rows: u64) -> bool
     true
 }
 
+/// Appends the column of a field of these cells.
+fn put_made(
+    alloc: Global,
+    columns: &mut Vec<Column>,
+    field: &Field,
+    cells: &[Cell],
+) -> Result<(), CellsFault>
+    ensures made { OnOk result ((column : Contents) × (columns.new.items ≡ columns.old.items ++ column ∷ [])
+        × IsBuilt (field_shape field.now) (map cell_of cells.now) column) }
+    ensures can { OnOk result (CanBeMade (field_shape field.now) (map cell_of cells.now)) }
+    ensures told { IfErr result (λ fault. IsTold (field_shape field.now) (map cell_of cells.now) fault) }
+{
+    let column = column_of(alloc, field, cells)?;
+    put_column(columns, column)?;
+    Ok(())
+}
+
 /// The columns of these fields of these cells, as many as fields.
 fn columns_of(
     alloc: Global,
@@ -38,12 +58,11 @@ fn columns_of(
     ensures made { IfOk result
         (λ made. AreMade (field_shapes fields.now) (map (λ cells. map cell_of cells.items) columns.now) made.items) }
     ensures told { IfErr result
-        (λ fault. IsToldOfOne (field_shapes fields.now) (map (λ cells. map cell_of cells.items) columns.now) fault) }
+        (λ fault. IsToldOfFirst (field_shapes fields.now) (map (λ cells. map cell_of cells.items) columns.now) fault) }
 {
     let mut made = Vec::new(alloc);
     for index in 0..fields.len() {
-        let column = column_of(alloc, &fields[index], &columns[index])?;
-        put_column(&mut made, column)?;
+        put_made(alloc, &mut made, &fields[index], &columns[index])?;
     }
     Ok(made)
 }
@@ -54,7 +73,7 @@ fn columns_of(
 /// - `WrongColumns` exactly where there is not one column of cells for each field;
 /// - else `WrongLength` exactly where a column has another number of cells than there are rows;
 /// - else `TooManyRows` exactly where there are more than `ROWS_LIMIT` rows;
-/// - else a fault of one of the columns, as [`column_of`] tells it; else the batch.
+/// - else the fault of the first column that is not made, as [`column_of`] tells it; else the batch.
 ///
 /// A batch of no column still has its number of rows.
 pub fn batch_of(

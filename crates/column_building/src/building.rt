@@ -16,6 +16,7 @@ ghost use Rattle.column_building.specs.Whole.{field_shape, count_shapes};
 ghost use Rattle.column_building.specs.Whole.{is_whole as is_whole_shape, are_whole as are_whole_shapes};
 ghost use Rattle.column_building.specs.Built.{IsBuilt, IsBuiltFirst, AreBuiltFields, DoFieldsFit};
 ghost use Rattle.column_building.specs.Built.{IsCause, IsCauseFirst, IsCauseOf, AreFewValues};
+ghost use Rattle.column_building.specs.Rows.{CanBeMade};
 
 use crate::fault::CellsFault;
 use crate::fields::{fields_in, is_whole, layout_in};
@@ -214,8 +215,7 @@ pub fn column_of(alloc: Global, field: &Field, cells: &[Cell]) -> Result<Column,
         → ¬ (AreFewValues (field_shape field.now) (map cell_of cells.now)) }
     ensures long { IsErrOf result CellsFault.TooLong
         → ¬ (AreRooms (field_shape field.now) (map cell_of cells.now)) }
-    ensures few { OnOk result (AreFewValues (field_shape field.now) (map cell_of cells.now)) }
-    ensures room { OnOk result (AreRooms (field_shape field.now) (map cell_of cells.now)) }
+    ensures can { OnOk result (CanBeMade (field_shape field.now) (map cell_of cells.now)) }
 {
     if !is_whole(field) {
         return Err(CellsFault::WrongChildren);

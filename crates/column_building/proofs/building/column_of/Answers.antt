@@ -10,6 +10,7 @@ use Rattle.batch_cells.specs.CellViews.{cell_of}
 use Rattle.column_building.specs.Slots.{slot_cells}
 use Rattle.column_building.specs.Whole.{field_shape}
 use Rattle.column_building.specs.Built.{AreFewValues, IsBuilt, IsCause}
+use Rattle.column_building.specs.Rows.{CanBeMade}
 use Rattle.column_building.proofs.Gathered.{slots_long}
 use Rattle.column_building.proofs.building.column_of.Goals as goal
 
@@ -47,16 +48,17 @@ returns-clause-long c told =
     subst (λ l. AreRooms s l → ⊥) same
     (subst (λ r. IfErr r (λ fault. IsCause s (slot_cells (blank_of s) c.deref.result.now) fault)) told c.build_column.ensures.cause)
 
-pub returns-clause-few : goal.returns-clause-few
-returns-clause-few c =
+pub returns-clause-can : goal.returns-clause-can
+returns-clause-can c =
     let s = field_shape c.args.field.now in
     let same = ap (slot_cells (blank_of s)) c.deref.ensures.value ∙ c.in_ok-slots.ensures (blank_of s) in
     IfOk-weaker c.build_column.result (λ column. IsBuilt s (slot_cells (blank_of s) c.deref.result.now) column)
-    (λ _. AreFewValues s (map cell_of c.args.cells.now)) (λ column built. subst (AreFewValues s) same built.few) c.build_column.ensures.built
-
-pub returns-clause-room : goal.returns-clause-room
-returns-clause-room c =
-    let s = field_shape c.args.field.now in
-    let same = ap (slot_cells (blank_of s)) c.deref.ensures.value ∙ c.in_ok-slots.ensures (blank_of s) in
-    IfOk-weaker c.build_column.result (λ column. IsBuilt s (slot_cells (blank_of s) c.deref.result.now) column)
-    (λ _. AreRooms s (map cell_of c.args.cells.now)) (λ column built. subst (AreRooms s) same built.room) c.build_column.ensures.built
+    (λ _. CanBeMade s (map cell_of c.args.cells.now))
+    (λ column built.
+    record {
+      whole = sym c.if-not-is_whole.ensures;
+      fit = c.if-not-are_cells_of.ensures.0 refl;
+      few = subst (AreFewValues s) same built.few;
+      room = subst (AreRooms s) same built.room;
+    })
+    c.build_column.ensures.built
