@@ -6,12 +6,12 @@ use Rattle.std.proofs.lemmas.Bool.{cases_lt}
 use Rattle.std.proofs.lemmas.Int.{ints}
 use Rattle.header_types.specs.Header.{Head}
 use Rattle.batch_types.specs.declared.fault.BatchFault.TheVariants as fault
-use Rattle.batch_types.specs.Layouts.{bytes_layout, utf8_layout, list_layout}
+use Rattle.batch_types.specs.Layouts.{null_layout, bytes_layout, utf8_layout, list_layout}
 use Rattle.batch_types.specs.Laid.{Range, laid, no_column, column_then, LaidColumns}
 use Rattle.batch_types.specs.Placed.{buffer_at, offset_at, is_valid, value_bytes}
 use Rattle.batch_types.specs.Rules.{IsInside, HasBuffers, DoRise, OffsetsRise, AreUtf8}
-use Rattle.batch_types.specs.LaysOut.{HasRowsWithin, HasBody, LaysOut, IsFaultOf}
-use Rattle.batch_types.specs.Examples.{int8_table, int8_rows, int8_head, int8_body, miscounted_head, texts_table, texts_rows, texts_head, texts_body, no_texts_table, falling_head, falling_body}
+use Rattle.batch_types.specs.LaysOut.{rows_limit, values_limit, HasRowsWithin, HasBody, LaysOut, IsFaultOf}
+use Rattle.batch_types.specs.Examples.{int8_table, int8_rows, int8_head, int8_body, miscounted_head, texts_table, texts_rows, texts_head, texts_body, no_texts_table, falling_head, falling_body, nulls_table, nulls_rows, crowded_head}
 
 -- ---- short words
 
@@ -31,12 +31,12 @@ pub all_below : (P : ℕ → Type 0) (n : ℕ) → AllBelow P n → (k : ℕ) �
 all_below P zero all = λ k within. absurd (omega arith)
 all_below P (suc n) all = one_more P n (all_below P n all.0) all.1
 
-pub few_of : (head : Head) (rows n : ℕ) → head.length ≡ pos rows → rows ≤ 1048576 → length head.nodes ≡ n
-    → AllBelow (λ k. (pos 0 ≤ℤ (get_or head.nodes k (pos 0, pos 0)).0) × ((get_or head.nodes k (pos 0, pos 0)).0 ≤ℤ pos 16777216)) n
+pub few_of : (head : Head) (rows n : ℕ) → head.length ≡ pos rows → rows ≤ rows_limit → length head.nodes ≡ n
+    → AllBelow (λ k. (pos 0 ≤ℤ (get_or head.nodes k (pos 0, pos 0)).0) × ((get_or head.nodes k (pos 0, pos 0)).0 ≤ℤ pos values_limit)) n
     → HasRowsWithin head
 few_of head rows n is few all nodes = record {
   counted = omega (arith, ints, is);
-  few = omega (arith, ints, is);
+  few = omega (arith, ints, is, few);
   nodes_counted = λ k within. (all_below _ n nodes k (subst (λ m. k < m) all within)).0;
   nodes_few = λ k within. (all_below _ n nodes k (subst (λ m. k < m) all within)).1;
 }
@@ -50,8 +50,8 @@ body_there head body n is there = record { counted = omega (arith, ints, is); th
 pub below : (a b : ℕ) → a ≤ b → pos a ≤ℤ pos b
 below a b within = omega (arith, ints)
 
-pub some_node : (a b : ℕ) → a ≤ 16777216 → (pos 0 ≤ℤ pos a) × (pos a ≤ℤ pos 16777216)
-some_node a b few = (omega (arith, ints), omega (arith, ints))
+pub some_node : (a b : ℕ) → a ≤ values_limit → (pos 0 ≤ℤ pos a) × (pos a ≤ℤ pos values_limit)
+some_node a b few = (omega (arith, ints), omega (arith, ints, few))
 
 -- ---- Int of eight bits: 1, null, 3
 
@@ -90,6 +90,18 @@ miscounted =
   where
     two_is_not_one : suc 1 ≡ suc 0 → ⊥
     two_is_not_one same = omega arith
+
+-- ---- three rows of as many nulls as a node may have
+
+pub crowded_laid_out : LaysOut nulls_table crowded_head [] nulls_rows
+crowded_laid_out = record {
+  head_kept = (refl, (few_of crowded_head 3 1 refl (omega arith) refl (tt, some_node 16777216 3 (omega arith)), (refl, (refl, (body_there crowded_head [] 0 refl (omega arith), tt)))));
+  columns = column_then (laid null_layout (pos 16777216, pos 3) [] no_column) no_column;
+  columns_are = record { of_schema = ((refl, refl, tt), tt); nodes = refl; buffers = refl };
+  sound = (((record { within = λ n below. absurd (omega (arith, below)); long_enough = tt }, (tt, (tt, (omega arith, (tt, tt))))), tt), tt);
+  count = refl;
+  cells = refl;
+}
 
 -- ---- List of Utf8: ["a", "bc"] and []
 

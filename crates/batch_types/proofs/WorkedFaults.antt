@@ -9,8 +9,8 @@ use Rattle.batch_types.specs.Layouts.{bytes_layout, utf8_layout}
 use Rattle.batch_types.specs.Laid.{Range, laid, no_column, column_then}
 use Rattle.batch_types.specs.Placed.{buffer_at, offset_at}
 use Rattle.batch_types.specs.Rules.{IsInside, HasBuffers, DoRise}
-use Rattle.batch_types.specs.LaysOut.{HasBody, IsFaultOf}
-use Rattle.batch_types.specs.Examples.{int8_table, int8_body, no_texts_table, compressed_head, long_head, nodeless_head}
+use Rattle.batch_types.specs.LaysOut.{values_limit, HasRowsWithin, HasBody, IsFaultOf}
+use Rattle.batch_types.specs.Examples.{int8_table, int8_body, no_texts_table, compressed_head, long_head, heavy_head, nodeless_head}
 use Rattle.batch_types.specs.Examples.{bufferless_head, bodiless_head, cut_head, short_head, garbled_head, garbled_body}
 use Rattle.batch_types.proofs.WorkedBatches.{all_below, few_of, body_there, some_node, range_within, below}
 
@@ -19,6 +19,12 @@ compressed = inl (inl (refl, λ plain. true≢false plain))
 
 pub too_many_rows : IsFaultOf int8_table long_head int8_body fault.TooManyRows
 too_many_rows = inl (inr (refl, inl (refl, λ few. omega (arith, ints, few.few))))
+
+pub too_many_values : IsFaultOf int8_table heavy_head int8_body fault.TooManyRows
+too_many_values = inl (inr (refl, inl (refl, λ few. more few)))
+  where
+    more : HasRowsWithin heavy_head → ⊥
+    more few = let most : pos 16777217 ≤ℤ pos values_limit = few.nodes_few 0 (omega arith) in omega (arith, ints, most)
 
 pub node_count : IsFaultOf int8_table nodeless_head int8_body fault.NodeCount
 node_count = inl (inr (refl, inr (few_of nodeless_head 3 0 refl (omega arith) refl tt, inl (refl, none))))

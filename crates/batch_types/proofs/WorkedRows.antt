@@ -2,7 +2,7 @@
 use Rattle.std.proofs.Common.{refl, arith}
 use Rattle.std.proofs.lemmas.Int.{ints}
 use Rattle.header_types.specs.Profile.{InProfile}
-use Rattle.batch_types.specs.Examples.{points_table, points_rows, bare_table, bare_rows, no_texts_table, no_texts_rows}
+use Rattle.batch_types.specs.Examples.{points_table, points_rows, bare_table, bare_rows, most_rows, no_texts_table, no_texts_rows}
 use Rattle.batch_types.specs.Written.{CanBeWritten}
 
 pub points_profile : InProfile points_table
@@ -29,6 +29,9 @@ bare_profile = record {
 
 pub bare_can : CanBeWritten bare_table bare_rows
 bare_can = record { of_schema = tt; few = omega arith; few_values = tt; room = tt }
+
+pub most_can : CanBeWritten bare_table most_rows
+most_can = record { of_schema = tt; few = omega arith; few_values = tt; room = tt }
 
 pub no_texts_profile : InProfile no_texts_table
 no_texts_profile = record {

@@ -13,7 +13,7 @@ use Rattle.batch_types.specs.Shapes.{Shape, shape, Shapes, no_shape, shape_then,
 use Rattle.batch_types.specs.Typed.{AreColumnsOfRows}
 use Rattle.batch_types.specs.Laid.{Node, LaidColumns}
 use Rattle.batch_types.specs.Placed.{cell_at}
-use Rattle.batch_types.specs.LaysOut.{HasRowsWithin, LaysOut, AreSound, body_of, columns_at}
+use Rattle.batch_types.specs.LaysOut.{values_limit, HasRowsWithin, LaysOut, AreSound, body_of, columns_at}
 use Rattle.batch_types.specs.Canonical.{parts_of, columns_parts, canonical_parts, canonical_body, canonical_head}
 use Rattle.batch_types.specs.Written.{CanBeWritten}
 use Rattle.batch_types.proofs.Typing.{run_below}
@@ -60,7 +60,7 @@ rows_within schema rows can = record {
   counted = omega (arith, ints);
   few = omega (arith, ints, can.few);
   nodes_counted = λ k within. all_at IsCounted (canonical_parts schema rows).nodes k (pos 0, pos 0) (columns_counted (shapes_of schema.fields) rows.columns) within;
-  nodes_few = λ k within. all_at (λ node. node.0 ≤ℤ pos 16777216) (canonical_parts schema rows).nodes k (pos 0, pos 0) can.few_values within;
+  nodes_few = λ k within. all_at (λ node. node.0 ≤ℤ pos values_limit) (canonical_parts schema rows).nodes k (pos 0, pos 0) can.few_values within;
 }
 
 -- ---- rows

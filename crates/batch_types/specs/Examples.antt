@@ -135,6 +135,13 @@ bare_rows = record { count = 5; columns = [] }
 abbrev pub bare_head : Head
 bare_head = head 5 [] [] 0
 
+-- as many rows as a batch may have
+abbrev pub most_rows : Rows
+most_rows = record { count = 1048576; columns = [] }
+
+abbrev pub most_head : Head
+most_head = head 1048576 [] [] 0
+
 -- ---- no row of Utf8, and three rows of nulls
 
 abbrev pub no_texts_table : SchemaTree
@@ -155,6 +162,10 @@ nulls_rows = one_column (null_cell ∷ null_cell ∷ null_cell ∷ []) 3
 abbrev pub nulls_head : Head
 nulls_head = head 3 ((pos 3, pos 3) ∷ []) [] 0
 
+-- three of as many nulls as a node may have
+abbrev pub crowded_head : Head
+crowded_head = head 3 ((pos 16777216, pos 3) ∷ []) [] 0
+
 -- ---- broken ones: a null too many is told of, and offsets 0, 2, 1 fall
 
 abbrev pub miscounted_head : Head
@@ -173,6 +184,10 @@ compressed_head = record { length = pos 3; nodes = []; buffers = []; compressed 
 
 abbrev pub long_head : Head
 long_head = head 1048577 [] [] 0
+
+-- a node of one value too many
+abbrev pub heavy_head : Head
+heavy_head = head 3 ((pos 16777217, pos 1) ∷ []) [] 0
 
 abbrev pub nodeless_head : Head
 nodeless_head = head 3 [] [] 0

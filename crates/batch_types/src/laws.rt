@@ -28,7 +28,7 @@ ghost use Rattle.batch_types.specs.Examples.{texts_head, texts_body, texts_canon
 ghost use Rattle.batch_types.specs.Examples.{bool_table, bool_rows, bool_head, bool_body, pairs_table, pairs_rows};
 ghost use Rattle.batch_types.specs.Examples.{pairs_head, pairs_body, no_texts_table, no_texts_rows, no_texts_head};
 ghost use Rattle.batch_types.specs.Examples.{points_table, points_rows, points_head, points_body, bare_table, bare_rows};
-ghost use Rattle.batch_types.specs.Examples.{bare_head};
+ghost use Rattle.batch_types.specs.Examples.{bare_head, most_rows, most_head, crowded_head, heavy_head};
 ghost use Rattle.batch_types.specs.Examples.{zeros, nulls_table, nulls_rows, nulls_head, miscounted_head, falling_head};
 ghost use Rattle.batch_types.specs.Examples.{falling_body, compressed_head, long_head, nodeless_head, bufferless_head};
 ghost use Rattle.batch_types.specs.Examples.{bodiless_head, cut_head, short_head, garbled_head, garbled_body};
@@ -129,22 +129,27 @@ pub fn worked_bodies_are_canonical()
     ensures nulls { (canonical_head nulls_table nulls_rows ≡ nulls_head) × (canonical_body nulls_table nulls_rows ≡ []) }
 {}
 
-/// Batches that were worked out by hand are laid out: numbers with a null, and lists of texts in a body with more than
-/// they need; and, because they can be written, a struct and a null, no row of texts, and rows of no column.
+/// Batches that were worked out by hand are laid out: numbers with a null, lists of texts in a body with more than they
+/// need, and three rows of as many nulls as a node may have; and, because they can be written, a struct and a null, no row
+/// of texts, and rows of no column, also as many as a batch may have.
 pub fn worked_batches_are_laid_out()
     ensures int8 { LaysOut int8_table int8_head int8_body int8_rows }
     ensures texts { LaysOut texts_table texts_head texts_body texts_rows }
     ensures points { LaysOut points_table points_head points_body points_rows }
     ensures no_texts { LaysOut no_texts_table no_texts_head (zeros 8) no_texts_rows }
     ensures bare { LaysOut bare_table bare_head [] bare_rows }
+    ensures most { LaysOut bare_table most_head [] most_rows }
+    ensures crowded { LaysOut nulls_table crowded_head [] nulls_rows }
 {
     bits_are_packed_by_eights();
 }
 
-/// Of each fault one header and body that were worked out by hand, of which it is told.
+/// Of each fault a header and a body that were worked out by hand, of which it is told; of too many rows also one whose
+/// node has a value too many.
 pub fn worked_faults_are_told()
     ensures compressed { IsFaultOf int8_table compressed_head int8_body Compressed }
     ensures rows { IsFaultOf int8_table long_head int8_body TooManyRows }
+    ensures values { IsFaultOf int8_table heavy_head int8_body TooManyRows }
     ensures nodes { IsFaultOf int8_table nodeless_head int8_body NodeCount }
     ensures buffers { IsFaultOf int8_table bufferless_head int8_body BufferCount }
     ensures body { IsFaultOf int8_table bodiless_head int8_body BufferRange }

@@ -1,6 +1,6 @@
-use Rattle.batch_types.proofs.WorkedBatches.{int8_laid_out, texts_laid_out}
-use Rattle.batch_types.specs.Examples.{points_table, points_rows, bare_table, bare_rows, no_texts_table, no_texts_rows}
-use Rattle.batch_types.proofs.WorkedRows.{points_profile, points_can, bare_profile, bare_can, no_texts_profile, no_texts_can}
+use Rattle.batch_types.proofs.WorkedBatches.{int8_laid_out, texts_laid_out, crowded_laid_out}
+use Rattle.batch_types.specs.Examples.{points_table, points_rows, bare_table, bare_rows, most_rows, no_texts_table, no_texts_rows}
+use Rattle.batch_types.proofs.WorkedRows.{points_profile, points_can, bare_profile, bare_can, most_can, no_texts_profile, no_texts_can}
 use Rattle.batch_types.proofs.WrittenRows.{rows_laid_out}
 use Rattle.batch_types.proofs.laws.worked_batches_are_laid_out.Goals as goal
 
@@ -18,3 +18,9 @@ returns-clause-no_texts c = rows_laid_out c.bits_are_packed_by_eights.ensures no
 
 pub returns-clause-bare : goal.returns-clause-bare
 returns-clause-bare c = rows_laid_out c.bits_are_packed_by_eights.ensures bare_table bare_rows bare_profile bare_can
+
+pub returns-clause-most : goal.returns-clause-most
+returns-clause-most c = rows_laid_out c.bits_are_packed_by_eights.ensures bare_table most_rows bare_profile most_can
+
+pub returns-clause-crowded : goal.returns-clause-crowded
+returns-clause-crowded c = crowded_laid_out

@@ -1,5 +1,5 @@
 use Rattle.batch_types.proofs.WorkedBatches.{miscounted, falling}
-use Rattle.batch_types.proofs.WorkedFaults.{compressed, too_many_rows, node_count, buffer_count, body_range}
+use Rattle.batch_types.proofs.WorkedFaults.{compressed, too_many_rows, too_many_values, node_count, buffer_count, body_range}
 use Rattle.batch_types.proofs.WorkedFaults.{buffer_range, child_short, not_utf8}
 use Rattle.batch_types.proofs.laws.worked_faults_are_told.Goals as goal
 
@@ -8,6 +8,9 @@ returns-clause-compressed c = compressed
 
 pub returns-clause-rows : goal.returns-clause-rows
 returns-clause-rows c = too_many_rows
+
+pub returns-clause-values : goal.returns-clause-values
+returns-clause-values c = too_many_values
 
 pub returns-clause-nodes : goal.returns-clause-nodes
 returns-clause-nodes c = node_count
