@@ -8,7 +8,7 @@ use std::ops::Range;
 
 #[allow(dead_code)]
 #[path = "plain_headers.rs"]
-mod plain_headers;
+pub(crate) mod plain_headers;
 
 const MAX_ROWS: i64 = 1_048_576;
 const MAX_VALUES: i64 = 16_777_216;
@@ -16,7 +16,7 @@ const ROWS: usize = 1_000_000;
 const HOSTILE_BYTES: usize = 4 << 20;
 
 #[derive(Clone, Copy, Debug, PartialEq)]
-enum Fault {
+pub(crate) enum Fault {
     Compressed,
     TooManyRows,
     NodeCount,
@@ -82,8 +82,8 @@ struct Column {
     inside: Vec<Column>,
 }
 
-struct Batch {
-    rows: usize,
+pub(crate) struct Batch {
+    pub(crate) rows: usize,
     columns: Vec<Column>,
 }
 
@@ -456,7 +456,7 @@ fn counts(fields: &[Field]) -> (usize, usize) {
     })
 }
 
-fn read_batch(schema: &Schema, head: &BatchHead, body: &[u8]) -> Result<Batch, Fault> {
+pub(crate) fn read_batch(schema: &Schema, head: &BatchHead, body: &[u8]) -> Result<Batch, Fault> {
     if head.compressed {
         return Err(Fault::Compressed);
     }
@@ -502,7 +502,7 @@ fn write_columns(head: &mut BatchHead, body: &mut Vec<u8>, columns: &[Column]) {
     }
 }
 
-fn write_body(batch: &Batch) -> (BatchHead, Vec<u8>) {
+pub(crate) fn write_body(batch: &Batch) -> (BatchHead, Vec<u8>) {
     let mut body = Vec::with_capacity(body_length(&batch.columns));
     let mut head = BatchHead {
         length: batch.rows as i64,
@@ -519,7 +519,7 @@ fn write_body(batch: &Batch) -> (BatchHead, Vec<u8>) {
 // ---- batches to be read
 
 /// The columns of a file, laid into a body one by one.
-struct Laid {
+pub(crate) struct Laid {
     fields: Vec<Field>,
     head: BatchHead,
     body: Vec<u8>,
@@ -734,7 +734,7 @@ fn parts(mut bytes: &[u8]) -> Result<(Schema, BatchHead, &[u8]), Fault> {
     }
 }
 
-fn bytes_weight(bytes: &[u8]) -> u64 {
+pub(crate) fn bytes_weight(bytes: &[u8]) -> u64 {
     bytes.len() as u64 + u64::from(*bytes.last().unwrap_or(&0))
 }
 

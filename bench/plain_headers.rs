@@ -26,6 +26,7 @@ pub(crate) enum Fault {
 
 pub(crate) type Metadata = Vec<(String, String)>;
 
+#[derive(PartialEq)]
 pub(crate) enum Type {
     Null,
     Int(i32, bool),
