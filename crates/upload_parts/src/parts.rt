@@ -4,7 +4,7 @@
 ghost use Rattle.std.specs.Prelude.{◌≡◌, ℕ, List};
 ghost use Rattle.table_types.specs.Uploads.{Upload, upload_text};
 ghost use Rattle.table_types.specs.Valid.{IsUpload};
-ghost use Rattle.upload_parts.specs.Texts.{IsUploadText};
+ghost use Rattle.table_types.specs.Texts.{IsUploadText};
 ghost use Rattle.upload_parts.specs.Parts.{PartThen, HasParts, IsEncodedBatch, batch_text};
 
 use proto_fields::laws::canonical_fields_are_fields;

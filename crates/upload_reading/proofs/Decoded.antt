@@ -13,7 +13,7 @@ use Rattle.batch_types.specs.Written.{CanBeWritten}
 use Rattle.table_types.specs.Uploads.{Upload, schema_text, head_text, upload_text}
 use Rattle.table_types.specs.Served.{data_text, upload_messages, messages_of, batch_message}
 use Rattle.table_types.specs.Valid.{IsUpload, FitsFrame}
-use Rattle.upload_parts.specs.Texts.{IsUploadText}
+use Rattle.table_types.specs.Texts.{IsUploadText}
 use Rattle.upload_parts.specs.Parts.{batch_parts, batches_parts, batches_text, HasLeft, served_of}
 use Rattle.upload_reading.specs.Found.{Found, AreServed, HasUploadFields}
 use Rattle.upload_reading.specs.Read.{IsSchemaText, AreRowsText, AreBatchesText}
@@ -70,7 +70,7 @@ upload_found u text is same = record {
     few_parts schema batches few = omega (arith, few, length-map batches (batch_parts schema))
 
 pub no_upload : (text : List ℕ) → ¬ HasUploadFields text → ¬ IsUploadText text
-no_upload text none (u, is, same) = none (u.table, u.id, schema_text u.schema, behind_schema u, upload_found u text is same)
+no_upload text none (u, (is, same)) = none (u.table, u.id, schema_text u.schema, behind_schema u, upload_found u text is same)
 
 -- ---- a text with the fields of an upload, its schema and its batches is one
 
@@ -98,20 +98,22 @@ module _ (text t i s b : List ℕ) (found : Found text t i s b) (schema : Schema
   pub is_upload_text : IsUploadText text
   is_upload_text = (
     record { table = t; id = i; schema = schema; batches = rows },
-    record {
-      table_named = found.table_named;
-      named = found.named;
-      batches_few = omega (arith, as_many schema found.list rows are, found.batches_served.few);
-      profile = is_schema.profile;
-      schema_fits = is_schema.fits;
-      batches_written = can_be schema found.list rows are;
-      short = subst (λ l. length l ≤ 16777216) (sym same_text) found.short;
-      schema_served = subst (λ l. FitsFrame (data_text l [] [])) is_schema.is found.schema_served;
-      batches_served =
-          messages_fit (record { table = t; id = i; schema = schema; batches = rows }) found.named.whole
-          (subst (AllByRecursion (λ parts. FitsFrame (served_of i parts))) (parts_are schema found.list rows are) found.batches_served.served);
-    },
-    same_text,
+    (
+      record {
+        table_named = found.table_named;
+        named = found.named;
+        batches_few = omega (arith, as_many schema found.list rows are, found.batches_served.few);
+        profile = is_schema.profile;
+        schema_fits = is_schema.fits;
+        batches_written = can_be schema found.list rows are;
+        short = subst (λ l. length l ≤ 16777216) (sym same_text) found.short;
+        schema_served = subst (λ l. FitsFrame (data_text l [] [])) is_schema.is found.schema_served;
+        batches_served =
+            messages_fit (record { table = t; id = i; schema = schema; batches = rows }) found.named.whole
+            (subst (AllByRecursion (λ parts. FitsFrame (served_of i parts))) (parts_are schema found.list rows are) found.batches_served.served);
+      },
+      same_text,
+    ),
   )
 
 -- ---- which text is none
@@ -119,7 +121,7 @@ module _ (text t i s b : List ℕ) (found : Found text t i s b) (schema : Schema
 pub no_schema_text : (text t i s b : List ℕ)
     → ((table id schema batches : List ℕ) → Found text table id schema batches → (t ≡ table) × (i ≡ id) × (s ≡ schema) × (b ≡ batches))
     → ((schema : SchemaTree) → ¬ IsSchemaText s schema) → ¬ IsUploadText text
-no_schema_text text t i s b only none (u, is, same) =
+no_schema_text text t i s b only none (u, (is, same)) =
     let parts = only u.table u.id (schema_text u.schema) (behind_schema u) (upload_found u text is same) in
     none u.schema (record { profile = is.profile; fits = is.schema_fits; is = parts.2 })
 
@@ -127,7 +129,7 @@ pub no_batches_text : (text t i s b : List ℕ) (schema : SchemaTree)
     → ((table id schema batches : List ℕ) → Found text table id schema batches → (t ≡ table) × (i ≡ id) × (s ≡ schema) × (b ≡ batches))
     → ((other : SchemaTree) → IsSchemaText s other → schema ≡ other)
     → ((list : List (List ℕ × List ℕ)) (rows : List Rows) → HasLeft b list → ¬ AreBatchesText schema list rows) → ¬ IsUploadText text
-no_batches_text text t i s b schema only one none (u, is, same) =
+no_batches_text text t i s b schema only one none (u, (is, same)) =
     let parts = only u.table u.id (schema_text u.schema) (behind_schema u) (upload_found u text is same) in
     let alike = one u.schema (record { profile = is.profile; fits = is.schema_fits; is = parts.2 }) in
     none (batches_parts u) u.batches (subst (λ l. HasLeft l (batches_parts u)) (sym parts.3) (batches_left u is))

@@ -1,7 +1,7 @@
 //! Whether bytes that nobody has checked are an upload.
 
 ghost use Rattle.std.specs.Prelude.{◌≡◌, OnOk, IfErr};
-ghost use Rattle.upload_parts.specs.Texts.{IsUploadText};
+ghost use Rattle.table_types.specs.Texts.{IsUploadText};
 ghost use Rattle.upload_reading.specs.Found.{HasUploadFields};
 ghost use Rattle.upload_reading.specs.declared.fault.DecodeFault.TheVariants.{NotAnUpload, OutOfMemory};
 

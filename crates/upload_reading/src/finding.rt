@@ -5,7 +5,7 @@ ghost use Rattle.std.specs.Prelude.{◌≡◌, ◌≢◌, ◌≤◌, ◌<◌, �
 ghost use Rattle.std.specs.Option.{option_map};
 ghost use Rattle.std.specs.List.{AllByRecursion};
 ghost use Rattle.table_types.specs.Valid.{upload_limit};
-ghost use Rattle.upload_parts.specs.Texts.{IsUploadText};
+ghost use Rattle.table_types.specs.Texts.{IsUploadText};
 ghost use Rattle.proto_fields.specs.Field.{IsFieldNumber, field_text};
 ghost use Rattle.proto_messages.specs.Canonical.{bytes_field};
 ghost use Rattle.upload_parts.specs.Parts.{PartThen, HasLeft, IsEncodedBatch, batch_text, body_text};
@@ -14,9 +14,8 @@ ghost use Rattle.upload_reading.specs.Found.{Found, AreServed, IsNext, BeginsNam
 use proto_fields::laws::canonical_fields_are_fields;
 use proto_fields::split_field;
 use proto_messages::strip_bytes;
-use upload_parts::{
-    MAX_UPLOAD_BATCHES, MAX_UPLOAD_BYTES, Parts, UPLOAD_ID_BYTES, fits_frame, is_table_name,
-};
+use table_types::is_table_name;
+use upload_parts::{MAX_UPLOAD_BATCHES, MAX_UPLOAD_BYTES, Parts, UPLOAD_ID_BYTES, fits_frame};
 
 /// The bytes of the field at the front, where it holds bytes.
 fn front_bytes(bytes: &[u8]) -> Option<&[u8]>

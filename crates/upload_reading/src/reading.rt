@@ -78,7 +78,7 @@ fn is_schema_text(alloc: Global, schema: &Schema, bytes: &[u8]) -> Result<bool, 
     requires profile { InProfile (schema_of schema.now) }
     ensures { IfOk result (λ is. IsTrue is ↔ IsSchemaText bytes.now (schema_of schema.now)) }
 {
-    let mut written = Vec::new(alloc);
+    let mut written = Vec::with_capacity(alloc, bytes.len())?;
     write_schema(schema, &mut written)?;
     Ok(written.as_slice() == bytes)
 }
@@ -132,7 +132,7 @@ fn is_head_text(alloc: Global, head: &BatchHead, bytes: &[u8]) -> Result<bool, A
     requires writable { IsWritable (batch_header (head_of head.now)) }
     ensures { IfOk result (λ is. IsTrue is ↔ (bytes.now ≡ header_text (batch_header (head_of head.now)))) }
 {
-    let mut text = Vec::new(alloc);
+    let mut text = Vec::with_capacity(alloc, bytes.len())?;
     write_batch(head, &mut text)?;
     Ok(text.as_slice() == bytes)
 }

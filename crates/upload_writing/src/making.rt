@@ -14,7 +14,8 @@ use crate::sizes::upload_size;
 use batch_columns::Batch;
 use header_types::Schema;
 use std::alloc::Global;
-use upload_parts::{MAX_UPLOAD_BATCHES, is_table_name};
+use table_types::is_table_name;
+use upload_parts::MAX_UPLOAD_BATCHES;
 
 /// Whether each of these batches is of the schema.
 fn are_batches_of(schema: &Schema, batches: &[Batch]) -> bool

@@ -9,7 +9,7 @@ ghost use Rattle.header_types.specs.Views.{schema_of};
 ghost use Rattle.batch_columns.specs.Batches.{rows_of, IsBatchOf};
 ghost use Rattle.table_types.specs.Uploads.{Upload as Uploaded, upload_text, schema_text};
 ghost use Rattle.table_types.specs.Valid.{IsUpload};
-ghost use Rattle.upload_parts.specs.Texts.{IsUploadText};
+ghost use Rattle.table_types.specs.Texts.{IsUploadText};
 ghost use Rattle.upload_reading.specs.Found.{HasUploadFields};
 ghost use Rattle.upload_parts.specs.Parts.{HasLeft, batches_parts};
 ghost use Rattle.upload_writing.specs.Making.{AreMade, AreRefused, upload_of};

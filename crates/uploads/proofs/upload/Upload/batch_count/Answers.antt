@@ -5,7 +5,7 @@ use Rattle.uploads.proofs.upload.Upload.batch_count.Goals as goal
 pub loop-batches-init : goal.loop-batches-init
 loop-batches-init c =
     let is = c.encoded_batches-batches.ensures.upload in
-    begin_count c.args.self.now c.encoded_batches-batches.result is.0 is.1 is.2 (c.encoded_batches-batches.ensures.left is.0 is.1 is.2)
+    begin_count c.args.self.now c.encoded_batches-batches.result is.0 is.1.0 is.1.1 (c.encoded_batches-batches.ensures.left is.0 is.1.0 is.1.1)
 
 pub returns : goal.returns
 returns c =

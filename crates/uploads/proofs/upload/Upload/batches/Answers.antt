@@ -9,9 +9,9 @@ use Rattle.uploads.proofs.upload.Upload.batches.Goals as goal
 pub written_batches-requires : goal.written_batches-requires
 written_batches-requires c =
     let u = c.self.invariant.0 in
-    let is = c.self.invariant.1 in
-    let left = (c.parts_of-parts.ensures u is (c.self.invariant.2 ∙ sym c.as_slice.ensures)).batches_are in
-    let same = c.in_ok-schema.ensures u is (c.self.invariant.2 ∙ c.self.view_is) in
+    let is = c.self.invariant.1.0 in
+    let left = (c.parts_of-parts.ensures u is (c.self.invariant.1.1 ∙ sym c.as_slice.ensures)).batches_are in
+    let same = c.in_ok-schema.ensures u is (c.self.invariant.1.1 ∙ c.self.view_is) in
     record {
       profile = subst InProfile (sym same) is.profile;
       short = batches_short u is c.parts_of-parts.result.batches.now left;

@@ -5,8 +5,8 @@ use Rattle.uploads.proofs.upload.Upload.schema.Goals as goal
 pub written_schema-requires : goal.written_schema-requires
 written_schema-requires c =
     let u = c.self.invariant.0 in
-    let is = c.self.invariant.1 in
-    let parts = c.parts_of-parts.ensures u is (c.self.invariant.2 ∙ sym c.as_slice.ensures) in
+    let is = c.self.invariant.1.0 in
+    let parts = c.parts_of-parts.ensures u is (c.self.invariant.1.1 ∙ sym c.as_slice.ensures) in
     record { known = (u.schema, record { profile = is.profile; fits = is.schema_fits; is = parts.schema_is }) }
 
 pub returns : goal.returns
