@@ -14,3 +14,4 @@ pub mod Listed
 pub mod Naming
 pub mod Serving
 pub mod Readying
+pub mod Same

@@ -28,3 +28,17 @@ pub record Describes (name : List ℕ) (table : Table) (info : TableInfo) : Type
   pub records : info.records ≡ table.records
   pub total_bytes : info.total_bytes ≡ table.total_bytes
   pub schema : info.schema.items ≡ schema_text (schema_of table.schema)
+
+-- the two say the same
+pub record SaysSame (one other : TableInfo) : Type 0 where
+  pub table : string_bytes one.table ≡ string_bytes other.table
+  pub version : one.version ≡ other.version
+  pub records : one.records ≡ other.records
+  pub total_bytes : one.total_bytes ≡ other.total_bytes
+  pub schema : one.schema.items ≡ other.schema.items
+
+abbrev pub SaySame : Option TableInfo → Option TableInfo → Type 0
+SaySame None None = Unit {0}
+SaySame None (Some other) = ⊥
+SaySame (Some one) None = ⊥
+SaySame (Some one) (Some other) = SaysSame one other

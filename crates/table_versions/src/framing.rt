@@ -19,6 +19,9 @@ const METADATA: u32 = 3;
 /// The number of the field with the body.
 const BODY: u32 = 1_000;
 
+/// The most bytes that the three keys and lengths have.
+const MAX_KEY_BYTES: usize = 20;
+
 /// The message with this header, what the service adds, and this body.
 #[tactic(auto, using(proto_messages::proofs::CallerLemmas::chains))]
 fn data_message(
@@ -29,7 +32,12 @@ fn data_message(
 ) -> Result<Vec<u8>, OutOfMemory>
     ensures { IfOk result (λ message. message.items ≡ data_text header.now metadata.now body.now) }
 {
-    let mut message = Vec::new(alloc);
+    let room = header
+        .len()
+        .saturating_add(metadata.len())
+        .saturating_add(body.len())
+        .saturating_add(MAX_KEY_BYTES);
+    let mut message = Vec::with_capacity(alloc, room)?;
     append_bytes(&mut message, HEADER, header)?;
     append_bytes(&mut message, METADATA, metadata)?;
     append_bytes(&mut message, BODY, body)?;
@@ -41,6 +49,7 @@ fn append_frame(frames: &mut Vec<u8>, message: &[u8]) -> Result<(), OutOfMemory>
     requires { FitsFrame message.now }
     ensures { OnOk result (frames.new.items ≡ frames.old.items ++ in_frame message.now) }
 {
+    frames.reserve(message.len().saturating_add(5))?;
     frames.push(MESSAGE_FLAG)?;
     frames.extend_from_slice(&(message.len() as u32).to_be_bytes())?;
     frames.extend_from_slice(message)

@@ -1,6 +1,6 @@
 //! Laws of the uploads that values hold, and of the tables that there are.
 
-ghost use Rattle.std.specs.Prelude.{◌≡◌, ◌≢◌, ◌↔◌, ◌≤◌, ◌++◌, ℕ, List, [], length, true};
+ghost use Rattle.std.specs.Prelude.{◌≡◌, ◌≢◌, ◌↔◌, ◌≤◌, ◌++◌, ℕ, List, [], Option, length, true};
 ghost use Rattle.std.specs.List.{AllByRecursion, list_any};
 ghost use Rattle.std.specs.Str.{bytes_eq};
 ghost use Rattle.ballots.specs.declared.value.Value.{Value};
@@ -9,6 +9,9 @@ ghost use Rattle.table_types.specs.Valid.{IsUpload};
 ghost use Rattle.table_types.specs.Tables.{effective};
 ghost use Rattle.table_versions.specs.Values.{AreUploadsIn};
 ghost use Rattle.table_versions.specs.Ledger.{table_names};
+ghost use Rattle.table_versions.specs.State.{TablesState, HasTaken, IsSame};
+ghost use Rattle.table_versions.specs.Info.{IsLatest, SaySame};
+ghost use Rattle.table_versions.specs.declared.info.TableInfo.{TableInfo};
 
 use table_types::laws::texts_hold_one_list_of_uploads;
 
@@ -29,4 +32,15 @@ pub fn values_hold_one_list_of_uploads()
 pub fn tables_have_effective_uploads()
     ensures { (name : List ℕ) (uploads : List Upload)
         → (list_any (bytes_eq name) (table_names uploads) ≡ true) ↔ (effective name uploads ≢ []) }
+{}
+
+/// What is told of the latest version of a table is determined by its effective uploads.
+pub fn latest_versions_are_one()
+    ensures { (x y : Option TableInfo) (name : List ℕ) (counted : List Upload) → IsLatest x name counted
+        → IsLatest y name counted → SaySame x y }
+{}
+
+/// Tables that are the same hold what the same values make, whatever room they have.
+pub fn same_tables_hold_the_same()
+    ensures { (x y : TablesState) (values : List Value) → IsSame x y → HasTaken x values → HasTaken y values }
 {}

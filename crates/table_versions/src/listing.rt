@@ -68,7 +68,8 @@ fn name_at(alloc: Global, tables: &NamedTables, number: usize) -> Result<String,
 
 /// Copies of the names of all tables, in their order.
 pub(crate) fn names_by(alloc: Global, tables: &NamedTables) -> Result<Vec<String>, OutOfMemory>
-    ensures { IfOk result (λ names. map string_bytes names.items ≡ names_in tables.now.entries) }
+    ensures names { IfOk result (λ names. map string_bytes names.items ≡ names_in tables.now.entries) }
+    ensures memory { OnErr result (names_in tables.now.entries ≢ []) }
 {
     let mut names = Vec::new(alloc);
     for number in 0..tables.len() {

@@ -5,7 +5,7 @@ ghost use Rattle.header_types.specs.Fields.{SchemaTree};
 ghost use Rattle.batch_types.specs.Cells.{Rows};
 ghost use Rattle.table_types.specs.Uploads.{Upload as Uploaded, upload_text};
 ghost use Rattle.table_types.specs.Valid.{IsUpload};
-ghost use Rattle.uploads.specs.Texts.{IsUploadText};
+ghost use Rattle.table_types.specs.Texts.{IsUploadText};
 ghost use Rattle.table_versions.specs.Ledger.{IsPartOf, IsPrepared};
 ghost use Rattle.table_versions.specs.Serving.{IsWrittenHead, IsServed};
 

@@ -137,10 +137,13 @@ impl Tables {
         latest_by(*self.firsts.allocator(), &self.tables, table)
     }
 
-    /// The names of the tables, in the order of their first effective uploads.
+    /// The names of the tables, in the order of their first effective uploads. Memory can be refused only where there are
+    /// some.
     pub fn tables(&self) -> Result<Vec<String>, OutOfMemory>
-        ensures { (values : List Agreed) (uploads : List Uploaded) → HasTaken self.now values
+        ensures names { (values : List Agreed) (uploads : List Uploaded) → HasTaken self.now values
             → AreUploadsIn values uploads → IfOk result (λ names. map string_bytes names.items ≡ table_names uploads) }
+        ensures memory { OnErr result ((values : List Agreed) (uploads : List Uploaded) → HasTaken self.now values
+            → AreUploadsIn values uploads → table_names uploads ≢ []) }
     {
         texts_hold_one_list_of_uploads();
         names_by(*self.firsts.allocator(), &self.tables)

@@ -8,23 +8,23 @@ use Rattle.table_versions.proofs.preparing.served.Goals as goal
 pub append_data-requires : goal.append_data-requires
 append_data-requires c =
     let is = c.requires in
-    subst (λ id. FitsFrame (data_text [] id [])) (sym (c.id-id.ensures is.0 is.1 is.2))
-    (alone_fits is.0 is.1 (sym (c.batch_count.ensures is.0 is.1 is.2) ∙ c.if-batch_count-eq0.true))
+    subst (λ id. FitsFrame (data_text [] id [])) (sym (c.id-id.ensures is.0 is.1.0 is.1.1))
+    (alone_fits is.0 is.1.0 (sym (c.batch_count.ensures is.0 is.1.0 is.1.1) ∙ c.if-batch_count-eq0.true))
 
 pub append_data-requires-in-Some : goal.append_data-requires-in-Some
 append_data-requires-in-Some c =
     let is = c.requires in
-    let s = c.loop-header.invariant is.0 is.1 is.2 in
-    let next = serving_next is.0 is.1 c.loop-header.frames.items c.loop-header.records c.loop-header.batches c.next.new.self (c.in-Some.header, c.in-Some.body) s
+    let s = c.loop-header.invariant is.0 is.1.0 is.1.1 in
+    let next = serving_next is.0 is.1.0 c.loop-header.frames.items c.loop-header.records c.loop-header.batches c.next.new.self (c.in-Some.header, c.in-Some.body) s
     (c.in-Some.ensures (map (batch_parts is.0.schema) s.rest) s.left_is)
     in
-    subst (λ id. FitsFrame (data_text c.in-Some.header.now id c.in-Some.body.now)) (sym (c.id-id.ensures is.0 is.1 is.2)) next.fits
+    subst (λ id. FitsFrame (data_text c.in-Some.header.now id c.in-Some.body.now)) (sym (c.id-id.ensures is.0 is.1.0 is.1.1)) next.fits
 
 pub rows_in-requires : goal.rows_in-requires
 rows_in-requires c =
     let is = c.requires in
-    let s = c.loop-header.invariant is.0 is.1 is.2 in
-    let next = serving_next is.0 is.1 c.loop-header.frames.items c.loop-header.records c.loop-header.batches c.next.new.self (c.in-Some.header, c.in-Some.body) s
+    let s = c.loop-header.invariant is.0 is.1.0 is.1.1 in
+    let next = serving_next is.0 is.1.0 c.loop-header.frames.items c.loop-header.records c.loop-header.batches c.next.new.self (c.in-Some.header, c.in-Some.body) s
     (c.in-Some.ensures (map (batch_parts is.0.schema) s.rest) s.left_is)
     in
     (is.0.schema, next.rows, next.written)
@@ -32,8 +32,8 @@ rows_in-requires c =
 pub overflow_add-records : goal.overflow_add-records
 overflow_add-records c =
     let is = c.requires in
-    let s = c.loop-header.invariant is.0 is.1 is.2 in
-    let next = serving_next is.0 is.1 c.loop-header.frames.items c.loop-header.records c.loop-header.batches c.next.new.self (c.in-Some.header, c.in-Some.body) s
+    let s = c.loop-header.invariant is.0 is.1.0 is.1.1 in
+    let next = serving_next is.0 is.1.0 c.loop-header.frames.items c.loop-header.records c.loop-header.batches c.next.new.self (c.in-Some.header, c.in-Some.body) s
     (c.in-Some.ensures (map (batch_parts is.0.schema) s.rest) s.left_is)
     in
     fits_64 (c.loop-header.records + c.in_ok-records.field-0)
@@ -42,7 +42,7 @@ overflow_add-records c =
 pub loop-header-smaller : goal.loop-header-smaller
 loop-header-smaller c =
     let is = c.requires in
-    let s = c.loop-header.invariant is.0 is.1 is.2 in
+    let s = c.loop-header.invariant is.0 is.1.0 is.1.1 in
     serving_shorter is.0 c.loop-header.frames.items c.loop-header.records c.loop-header.batches c.next.new.self (c.in-Some.header, c.in-Some.body) s
     (c.in-Some.ensures (map (batch_parts is.0.schema) s.rest) s.left_is)
 
