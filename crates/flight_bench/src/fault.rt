@@ -6,6 +6,7 @@ use proto_wire::WireFault;
 use record_batches::BatchFault;
 use std::alloc::AllocError;
 use std::io;
+use table_tasks::TableTaskFault;
 use thiserror::Error;
 
 /// What ended a run, or stands in a line. A fault of a message, a header or a batch is printed by its own name.
@@ -39,6 +40,9 @@ pub(crate) enum RunFault {
     /// The bytes are no upload's value: there are none, or too many.
     #[error("Upload")]
     Upload,
+    /// What ended a task with uploads and tables.
+    #[error("{0}")]
+    Tables(TableTaskFault),
     /// A read or a write failed.
     #[error("Io")]
     Io,
@@ -70,6 +74,15 @@ impl From<BatchFault> for RunFault {
         match fault {
             BatchFault::OutOfMemory => RunFault::OutOfMemory,
             _ => RunFault::Batch(fault),
+        }
+    }
+}
+
+impl From<TableTaskFault> for RunFault {
+    fn from(fault: TableTaskFault) -> RunFault {
+        match fault {
+            TableTaskFault::OutOfMemory => RunFault::OutOfMemory,
+            _ => RunFault::Tables(fault),
         }
     }
 }

@@ -1,5 +1,5 @@
 //! Reads and writes the messages of Arrow Flight, the headers of Arrow's metadata and batches, and calls the parts of a
-//! Paxos node, to be measured and compared from outside. `flight_bench TASK COUNT FILE` does its task so many times on what
+//! Paxos node and the tables that uploads make, to be measured and compared from outside. `flight_bench TASK COUNT FILE` does its task so many times on what
 //! the file holds.
 //!
 //! A task that is timed takes the file's bytes as they are, and prints the count and a sum that depends on each
@@ -26,8 +26,10 @@ use messages::{Format, decode_data, decode_info, encode_data, encode_info};
 use parts::{call_acceptor, call_learner, call_log, report_value};
 use std::alloc::Global;
 use std::fs;
+use std::hash::RandomState;
 use std::io::{BufWriter, Write};
 use std::process::ExitCode;
+use table_tasks::{answer_often, decode_uploads, hold_all, take_often};
 use words::{Task, Work};
 
 /// The status of a run that met no fault.
@@ -71,7 +73,7 @@ fn run(rt: &HostRuntime, task: Task, count: u64, path: &str) -> Result<u8, RunFa
     match task {
         Task::Repeat(work) => {
             let bytes = fs::read(rt, path)?;
-            let sum = repeat(rt.alloc(), work, count, &bytes)?;
+            let sum = repeat(rt, work, count, &bytes)?;
             println!(rt; "{count} {sum}")?;
         }
         Task::Reencode(format) => {
@@ -83,7 +85,8 @@ fn run(rt: &HostRuntime, task: Task, count: u64, path: &str) -> Result<u8, RunFa
 }
 
 // Does the work so many times, and gives the sum of the weights of all repetitions, modulo 2^64.
-fn repeat(alloc: Global, work: Work, count: u64, bytes: &[u8]) -> Result<u64, RunFault> {
+fn repeat(rt: &HostRuntime, work: Work, count: u64, bytes: &[u8]) -> Result<u64, RunFault> {
+    let alloc = rt.alloc();
     match work {
         Work::DecodeData => decode_data(alloc, count, bytes),
         Work::EncodeData => encode_data(alloc, count, bytes),
@@ -98,6 +101,10 @@ fn repeat(alloc: Global, work: Work, count: u64, bytes: &[u8]) -> Result<u64, Ru
         Work::CallLearner => call_learner(alloc, count, bytes.len()),
         Work::CallLog => call_log(alloc, count, bytes.len()),
         Work::ReportValue => report_value(alloc, count, bytes),
+        Work::TakeUploads => Ok(take_often(alloc, RandomState::new(rt)?, count, bytes)?),
+        Work::HoldUploads => Ok(hold_all(alloc, RandomState::new(rt)?, count, bytes)?),
+        Work::DecodeUploads => Ok(decode_uploads(alloc, count, bytes)?),
+        Work::AnswerTickets => Ok(answer_often(alloc, RandomState::new(rt)?, count, bytes)?),
     }
 }
 

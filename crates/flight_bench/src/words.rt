@@ -43,6 +43,14 @@ pub(crate) enum Work {
     CallLog,
     /// An acceptor that has accepted the file's bytes promises ballots, and reports them in each promise.
     ReportValue,
+    /// Tables take the file's uploads each time.
+    TakeUploads,
+    /// Tables take them each time, and all are kept to the end.
+    HoldUploads,
+    /// The uploads are read each time.
+    DecodeUploads,
+    /// Tables take them once, and answer a ticket each time.
+    AnswerTickets,
 }
 
 /// The words of all tasks.
@@ -60,6 +68,10 @@ const TASKS: &[&str] = &[
     "call-learner",
     "call-log",
     "report-value",
+    "take-uploads",
+    "hold-uploads",
+    "decode-uploads",
+    "answer-tickets",
     "reencode-descriptor",
     "reencode-ticket",
     "reencode-location",
@@ -108,7 +120,7 @@ fn count_argument<'a>(alloc: Global) -> Arg<'a> {
 
 fn file_argument<'a>(alloc: Global) -> Arg<'a> {
     Arg::new(alloc, "FILE").required(true).help(
-        "The bytes of one message, or of a schema, a batch's header and a body; for reencode, a line of hexadecimal digits for each",
+        "The bytes of one message, of a schema, a batch's header and a body, or of uploads; for reencode, a line of hexadecimal digits for each",
     )
 }
 
@@ -158,6 +170,10 @@ fn work_named(word: &str) -> Option<Work> {
         "call-learner" => Some(Work::CallLearner),
         "call-log" => Some(Work::CallLog),
         "report-value" => Some(Work::ReportValue),
+        "take-uploads" => Some(Work::TakeUploads),
+        "hold-uploads" => Some(Work::HoldUploads),
+        "decode-uploads" => Some(Work::DecodeUploads),
+        "answer-tickets" => Some(Work::AnswerTickets),
         _ => None,
     }
 }

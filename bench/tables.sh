@@ -1,0 +1,70 @@
+#!/usr/bin/env bash
+# Times uploads and the tables that they make by `flight_bench`, beside the same work in plain Rust over the maps of std
+# (bench/plain_tables.rs, rustc -O): uploads of one batch of three numbers of eight bits, read and taken one by one, over
+# 1 and over 100 tables, by 1,000, 10,000 and 100,000 of them; and the reading and the answering of uploads of 1 MiB, of
+# one batch and of sixteen. Each line gives the processor time of one upload, or of one repetition, the least of fifteen
+# short runs of each program in turn without the time that an empty run takes, its instructions where valgrind is there,
+# and the ratios. Then it measures what tables hold in memory beside the uploads themselves, which who agreed on them
+# holds and shares: the peak resident size of a run that keeps tables, less that of one that makes none. First it shows
+# that both programs add up to the same sums.
+cd "$(dirname "${BASH_SOURCE[0]}")/.."
+source bench/programs.sh plain_tables
+
+for tables in 1 100; do
+  for uploads in 1000 10000 100000; do
+    "$plain" generate "$uploads" "$tables" 1 3 >"$work/$uploads-$tables"
+    agree take-uploads 1 "$work/$uploads-$tables"
+  done
+done
+"$plain" generate 1 1 1 1048576 >"$work/whole"
+"$plain" generate 1 1 16 65536 >"$work/parted"
+"$plain" generate 64 1 1 1048576 >"$work/many-whole"
+"$plain" generate 64 1 16 65536 >"$work/many-parted"
+for file in whole parted; do
+  agree decode-uploads 3 "$work/$file"
+  agree answer-tickets 3 "$work/$file"
+done
+for file in 1000-100 many-whole many-parted; do
+  agree hold-uploads 2 "$work/$file"
+done
+echo "all tallies agree"
+
+PYTHONPATH=bench python3 -B - "$proved" "$plain" "$work" <<'P'
+import os
+import subprocess
+import sys
+from timing import Cost, compared, in_turn, less
+
+proved, plain, work = sys.argv[1:]
+
+for tables in (1, 100):
+    took = {}
+    for uploads in (1_000, 10_000, 100_000):
+        runs = in_turn([(proved, "take-uploads"), (plain, "take-uploads")], f"{work}/{uploads}-{tables}")
+        took[uploads] = [less(run, Cost(0, 0), uploads) for run in runs]
+        print(compared(f"take-uploads, {uploads:,} held, tables {tables}", *took[uploads]))
+    grown = [after.seconds / before.seconds for before, after in zip(took[1_000], took[100_000])]
+    print(f"from 1,000 to 100,000 held an upload takes {grown[0]:.2f} times as long, in plain Rust {grown[1]:.2f} times")
+
+for file in ("whole", "parted"):
+    size = os.path.getsize(f"{work}/{file}") - 4
+    for task in ("decode-uploads", "answer-tickets"):
+        ours, theirs = in_turn([(proved, task), (plain, task)], f"{work}/{file}")
+        speeds = [f"{size / 2**20 / cost.seconds:,.0f}" for cost in (ours, theirs)]
+        print(f"{compared(f'{task} {file}', ours, theirs)}; MiB/s {speeds[0]}, plain Rust {speeds[1]}")
+
+def peak(program, count, file):  # bytes
+    child = subprocess.Popen([program, "hold-uploads", str(count), file], stdout=subprocess.DEVNULL)
+    _, status, usage = os.wait4(child.pid, 0)
+    if status:
+        sys.exit(f"hold-uploads {count}: status {status}")
+    return usage.ru_maxrss * 1024
+
+for file, uploads in (("1000-100", 1_000), ("100000-1", 100_000), ("many-whole", 64), ("many-parted", 64)):
+    path = f"{work}/{file}"
+    size = os.path.getsize(path) - 4 * uploads
+    least, most = (100, 200) if file == "1000-100" else (1, 3)
+    for program, name in ((proved, "flight_bench"), (plain, "plain Rust")):
+        held = (peak(program, most, path) - peak(program, least, path)) / (most - least)
+        print(f"tables of {file}, {size:,} bytes uploaded: {name} holds {held / size:.3f} bytes for each beside the upload")
+P
