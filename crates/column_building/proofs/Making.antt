@@ -1,26 +1,20 @@
 -- Columns that are made one after the other are those of a batch.
-use Rattle.std.proofs.Common.{◌≡◌, ◌⊎◌, inl, inr, ℕ, ◌+◌, ◌<◌, ◌≤◌, false, List, [], ◌∷◌, ◌++◌, map, length, drop, slice_index_or, refl, sym, ap, ap₂, ◌∙◌, subst, arith}
+use Rattle.std.proofs.Common.{◌≡◌, ℕ, ◌≤◌, List, [], ◌∷◌, ◌++◌, map, length, drop, refl, sym, ap, ap₂, ◌∙◌, subst, arith}
 use Rattle.std.proofs.lemmas.List.{append-nil, drop_all, length-map}
 use Rattle.std.specs.List.{AllByRecursion}
 use Rattle.header_types.specs.declared.schema.Field.{Field}
 use Rattle.batch_types.specs.Cells.{Cell}
 use Rattle.batch_types.specs.Laid.{Node}
 use Rattle.batch_types.specs.Canonical.{parts_of, columns_parts}
-use Rattle.batch_types.specs.Shapes.{Shape, Shapes, no_shape, shape_then}
-use Rattle.batch_types.specs.Typed.{IsCellOf}
-use Rattle.batch_types.specs.Written.{AreRooms}
+use Rattle.batch_types.specs.Shapes.{Shapes, no_shape, shape_then}
 use Rattle.batch_columns.specs.Contents.{Contents}
 use Rattle.batch_columns.specs.Few.{columns_cells}
 use Rattle.batch_columns.specs.FieldShapes.{field_shapes}
 use Rattle.batch_columns.specs.Held.{shapes_held}
 use Rattle.batch_cells.specs.declared.cell.Cell.{Cell as Plain}
 use Rattle.batch_cells.specs.CellViews.{cell_of}
-use Rattle.column_building.specs.declared.fault.CellsFault.{CellsFault}
-use Rattle.column_building.specs.declared.fault.CellsFault.TheVariants.{WrongChildren, NotOfField, TooMany, TooLong, OutOfMemory}
-use Rattle.column_building.specs.Whole.{field_shape, is_whole}
-use Rattle.column_building.specs.Built.{AreFewNodes, AreFewValues, IsBuilt}
-use Rattle.column_building.specs.Rows.{AreMade, CanBeMade, IsTold, IsToldOfFirst}
-use Rattle.column_building.proofs.Shaped.{dropped, fields_next}
+use Rattle.column_building.specs.Built.{AreFewNodes}
+use Rattle.column_building.specs.Rows.{AreMade}
 
 -- behind the last field all are made
 pub made_done : {X : Type 0} (f : X → List Cell) (fields : List Field) (columns : List X) (i : ℕ) (inside : Shapes) (whole : List (List Cell)) (made : List Contents)

@@ -1,5 +1,5 @@
 -- Which fault is told of which column.
-use Rattle.std.proofs.Common.{◌≡◌, ◌≢◌, inl, inr, refl, sym, ◌∙◌, true, false, true≢false, List, ◌∷◌}
+use Rattle.std.proofs.Common.{◌≢◌, inl, inr, refl, sym, ◌∙◌, true≢false, List, ◌∷◌}
 use Rattle.batch_types.specs.Cells.{Cell}
 use Rattle.batch_types.specs.Shapes.{Shape, Shapes, shape_then}
 use Rattle.column_building.specs.declared.fault.CellsFault.{CellsFault}
