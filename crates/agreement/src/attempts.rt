@@ -1,6 +1,6 @@
 //! How a node begins an attempt.
 
-ghost use Rattle.std.specs.Prelude.{◌≡◌, ℕ, ◌<◌, [], ◌∷◌, Some, IfOk, IfErr, max};
+ghost use Rattle.std.specs.Prelude.{◌≡◌, ◌↔◌, ℕ, ◌<◌, [], ◌∷◌, Some, IfOk, IfErr, IsTrue, max};
 ghost use Rattle.ballots.specs.Limits.{max_round};
 ghost use Rattle.ballots.specs.Message.{message};
 ghost use Rattle.ballots.specs.declared.message.Body.TheVariants as body;
@@ -32,6 +32,16 @@ impl Agreement {
             Ok(ballot) => self.attempt_at(slot, candidate, ballot),
             Err(_) => Err(Refusal::RoundsSpent),
         }
+    }
+
+    /// Whether a round is left for an attempt, for this slot as for any other: where none is, [`Agreement::plan_attempt`]
+    /// tells [`Refusal::RoundsSpent`]. It takes no memory, so a caller can ask before it makes a candidate.
+    pub fn has_round_left(&self, slot: Slot) -> bool
+        ensures { IsTrue result ↔ (max self.now.seen_round self.now.proposer.highest_round < max_round) }
+    {
+        self.proposer
+            .see_begin(slot, self.seen_round, &Value::Noop)
+            .is_ok()
     }
 
     // The attempt at this ballot.

@@ -9,7 +9,7 @@ use thiserror::Error;
 /// Why nothing is done.
 #[derive(Clone, Copy, Debug, PartialEq, Eq, Error)]
 pub enum Refusal {
-    /// A message's sender, its slot, or the node of a ballot in it, is none of the configuration's.
+    /// A node or a slot that a message or a record names is none of the configuration's, or a tick is above 7.
     #[error("OutOfRange")]
     OutOfRange,
     /// There is no such slot.

@@ -1,0 +1,10 @@
+pub mod Waiting
+pub mod Prefixes
+pub mod Leading
+pub mod Within
+pub mod Standing
+pub mod Messages
+pub mod Beginning
+pub mod Free
+pub mod Putting
+pub mod Starting

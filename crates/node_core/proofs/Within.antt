@@ -1,0 +1,133 @@
+-- No slot at the limit or behind it learns anything, and so a prefix is no longer than there are slots.
+use Rattle.std.proofs.Common.{◌≡◌, inl, inr, ℕ, zero, suc, ◌+◌, ◌<◌, ◌≤◌, ◌↔◌, Bool, true, false, ◌&&◌, ◌||◌, if◌then◌else◌, IsTrue, Option, None, Some, List, [], ◌∷◌, ◌++◌, length, slice_get, refl, sym, ap, subst, ◌∙◌, arith, ne_eqb, eqb, nat_eq, ◌==◌}
+use Rattle.std.specs.List.{list_any}
+use Rattle.std.proofs.lemmas.Bool.{cases_lt}
+use Rattle.std.proofs.lemmas.List.{length-append}
+use Rattle.std.proofs.lemmas.Option.{slice_get_cases}
+use Rattle.ballots.specs.Majority.{tally, IsMajority}
+use Rattle.ballots.specs.Ballot.{Ballot, is_same_ballot}
+use Rattle.ballots.specs.declared.value.Value.{Value}
+use Rattle.ballots.specs.declared.message.Body.{Body}
+use Rattle.ballots.specs.declared.message.Body.TheVariants as body
+use Rattle.learner.specs.Calls.{Call as Told, slot_of, is_decision_for, is_vote_of, has_voted, IsChosenOrDecided, IsLearned}
+use Rattle.learner.specs.Calls as told
+use Rattle.learner.specs.State.{LearnerState, decided_at}
+use Rattle.learner.specs.Learned.{StateAfter}
+use Rattle.histories.specs.Views.{Config, Views, IsFree, HasPrefix}
+use Rattle.histories.specs.Due.{Plan}
+use Rattle.agreement.specs.State.{AgreementState, Has}
+use Rattle.agreement.specs.Step.{Grows, BodyGives}
+
+-- a slot has learned a value exactly where one was chosen or decided for it
+abbrev pub LearnedWhereSettled : Type 0
+LearnedWhereSettled = (members : ℕ) (calls : List Told) (slot : ℕ) → IsChosenOrDecided members calls slot → (v : Value) × IsLearned members calls slot v
+
+abbrev pub SettledWhereLearned : Type 0
+SettledWhereLearned = (members : ℕ) (calls : List Told) (slot : ℕ) (v : Value) → IsLearned members calls slot v → IsChosenOrDecided members calls slot
+
+-- what a learner holds is what was learned
+abbrev pub HeldIsLearned : Type 0
+HeldIsLearned = (members : ℕ) (calls : List Told) (state : LearnerState) (slot : ℕ) (v : Value) → StateAfter members calls state
+    → decided_at state slot ≡ Some v ↔ IsLearned members calls slot v
+
+-- ---- a call of another slot
+
+no_decision : (call : Told) (slot : ℕ) → (slot_of call ≡ slot → ⊥) → is_decision_for slot call ≡ false
+no_decision (told.Accepted acceptor s ballot v) slot other = refl
+no_decision (told.Decided s v) slot other = ne_eqb s slot other
+
+between_false : (p q r : Bool) → q ≡ false → (p && q && r) ≡ false
+between_false true q r e = subst (λ (x : Bool). (true && x && r) ≡ false) (sym e) refl
+between_false false q r e = refl
+
+no_vote : (call : Told) (member slot : ℕ) (ballot : Ballot) → (slot_of call ≡ slot → ⊥) → is_vote_of member slot ballot call ≡ false
+no_vote (told.Accepted acceptor s b v) member slot ballot other = between_false (acceptor == member) (s == slot) (is_same_ballot b ballot) (ne_eqb s slot other)
+no_vote (told.Decided s v) member slot ballot other = refl
+
+any_before : {X : Type 0} (test : X → Bool) (xs : List X) (y : X) → test y ≡ false → list_any test (xs ++ y ∷ []) ≡ list_any test xs
+any_before test [] y e = subst (λ (b : Bool). (b || false) ≡ false) (sym e) refl
+any_before test (x ∷ xs) y e = ap (λ (b : Bool). test x || b) (any_before test xs y e)
+
+tally_same : (n : ℕ) (p q : ℕ → Bool) → ((m : ℕ) → p m ≡ q m) → tally n p ≡ tally n q
+tally_same zero p q same = refl
+tally_same (suc n) p q same =
+    subst (λ (b : Bool). (if p n then suc (tally n p) else tally n p) ≡ (if b then suc (tally n q) else tally n q)) (same n)
+    (ap (λ (t : ℕ). if p n then suc t else t) (tally_same n p q same))
+
+still_settled : (members : ℕ) (calls : List Told) (call : Told) (slot : ℕ) → (slot_of call ≡ slot → ⊥)
+    → IsChosenOrDecided members (calls ++ call ∷ []) slot → IsChosenOrDecided members calls slot
+still_settled members calls call slot other (inl is) =
+    inl (subst IsTrue (any_before (is_decision_for slot) calls call (no_decision call slot other)) is)
+still_settled members calls call slot other (inr (ballot, most)) =
+    inr (
+      ballot,
+      subst (IsMajority members)
+          (tally_same members (has_voted (calls ++ call ∷ []) slot ballot) (has_voted calls slot ballot)
+          (λ m. any_before (is_vote_of m slot ballot) calls call (no_vote call m slot ballot other))) most,
+    )
+
+still_free : LearnedWhereSettled → SettledWhereLearned → (members : ℕ) (calls : List Told) (call : Told) (slot : ℕ)
+    → (slot_of call ≡ slot → ⊥) → IsFree members calls slot → IsFree members (calls ++ call ∷ []) slot
+still_free learned settled members calls call slot other free v is =
+    let old = learned members calls slot (still_settled members calls call slot other (settled members (calls ++ call ∷ []) slot v is)) in
+    free old.0 old.1
+
+-- ---- prefixes
+
+pub free_behind : HeldIsLearned → (state : AgreementState) (views : Views) → Has state views → (slot : ℕ)
+    → state.config.slot_limit ≤ slot → IsFree state.config.members views.told slot
+free_behind held state views has slot le v is =
+    let some = (held state.config.members views.told state.learner slot v has.told).1 is in
+    let none = has.beyond slot le in
+    let both = sym none ∙ some in cc
+
+no_longer : (members : ℕ) (calls : List Told) (values : List Value) (limit : ℕ) → IsFree members calls limit
+    → HasPrefix members calls values → length values ≤ limit
+no_longer members calls values limit free prefix = elim (cases_lt limit (length values)) as (λ _. length values ≤ limit) [
+  | inl longer ↦ elim (slice_get_cases values limit).1 as (λ _. length values ≤ limit) [
+    | inl there ↦ absurd (free there.0 (prefix.learned limit there.0 there.2))
+    | inr past ↦ past.0
+  ]
+  | inr within ↦ within
+]
+
+pub prefix_fits : HeldIsLearned → (state : AgreementState) (views : Views) → Has state views → (values : List Value)
+    → HasPrefix state.config.members views.told values → length values ≤ state.config.slot_limit
+prefix_fits held state views has values prefix =
+    no_longer state.config.members views.told values state.config.slot_limit (free_behind held state views has state.config.slot_limit (omega arith)) prefix
+
+module _ (learned : LearnedWhereSettled) (settled : SettledWhereLearned) (held : HeldIsLearned) (state : AgreementState) (views : Views) (has : Has state views) where
+  told_fits : (call : Told) (grown : List Value) → slot_of call < state.config.slot_limit
+      → Grows state.config.members views.told (views.told ++ call ∷ []) grown → (values : List Value)
+      → HasPrefix state.config.members views.told values → length values + length grown ≤ state.config.slot_limit
+  told_fits call grown within grows values prefix =
+      let limit = state.config.slot_limit in
+      subst (λ (n : ℕ). n ≤ limit) (length-append values grown)
+      (no_longer state.config.members (views.told ++ call ∷ []) (values ++ grown) limit
+      (still_free learned settled state.config.members views.told call limit (λ same. absurd (omega (arith, within, same)))
+      (free_behind held state views has limit (omega arith))) (grows values prefix))
+
+  none_fits : (grown : List Value) → grown ≡ [] → (values : List Value)
+      → HasPrefix state.config.members views.told values → length values + length grown ≤ state.config.slot_limit
+  none_fits grown none values prefix =
+      let fits = prefix_fits held state views has values prefix in
+      subst (λ (l : List Value). length values + length l ≤ state.config.slot_limit) (sym none) (omega (arith, fits))
+
+  -- by what a body makes the prefix grow it is no longer than there are slots
+  pub body_fits : (config : Config) (me : ℕ) (seen : Views) (sender slot : ℕ) (said : Body) (plan : Plan) (grown : List Value)
+      → seen.told ≡ views.told → config.members ≡ state.config.members → slot < state.config.slot_limit
+      → BodyGives config me seen sender slot said plan grown → (values : List Value)
+      → HasPrefix state.config.members views.told values → length values + length grown ≤ state.config.slot_limit
+  body_fits config me seen sender slot (body.Prepare ballot) plan grown same members within gives = none_fits grown gives.1
+  body_fits config me seen sender slot (body.Accept proposal) plan grown same members within gives = none_fits grown gives.1
+  body_fits config me seen sender slot (body.Promise ballot report) plan grown same members within gives = none_fits grown gives.1
+  body_fits config me seen sender slot (body.Nack ballot promised) plan grown same members within gives = none_fits grown gives.1
+  body_fits config me seen sender slot body.Ask plan grown same members within gives = none_fits grown gives.1
+  body_fits config me seen sender slot (body.Accepted acceptance) plan grown same members within gives =
+      let call = told.Accepted sender slot acceptance.ballot acceptance.value in
+      told_fits call grown within (subst (λ (n : ℕ). Grows n views.told (views.told ++ call ∷ []) grown) members
+      (subst (λ (l : List Told). Grows config.members l (l ++ call ∷ []) grown) same gives.grows))
+  body_fits config me seen sender slot (body.Decided value) plan grown same members within gives =
+      let call = told.Decided slot value in
+      told_fits call grown within (subst (λ (n : ℕ). Grows n views.told (views.told ++ call ∷ []) grown) members
+      (subst (λ (l : List Told). Grows config.members l (l ++ call ∷ []) grown) same gives.grows))

@@ -1,0 +1,14 @@
+use Rattle.std.proofs.Common.{◌≡◌, List, map, string_bytes, IfOk, subst}
+use Rattle.table_types.specs.Uploads.{Upload}
+use Rattle.table_versions.specs.Ledger.{table_names}
+use Rattle.histories.specs.Views.{Views, HasUploads}
+use Rattle.node_core.specs.State.{NodeState, NodeHas}
+use Rattle.node_core.proofs.Prefixes.{same_uploads}
+use Rattle.node_core.proofs.node.Node.tables.Goals as goal
+
+pub returns : goal.returns
+returns c =
+    subst (λ (s : NodeState). (views : Views) (uploads : List Upload) → NodeHas s views → HasUploads s.agreement.config.members views.told uploads
+    → IfOk c.tables.result (λ names. map string_bytes names.items ≡ table_names uploads)) c.self.view_is
+    (λ views uploads has of. c.tables.ensures.names has.values uploads has.taken
+    (same_uploads c.prefixes_are_one.ensures.one c.learned_is_one.ensures.learned _ views.told has.values uploads has.prefix of))

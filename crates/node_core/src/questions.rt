@@ -1,0 +1,75 @@
+//! What a node answers to clients, from the tables of its prefix.
+
+ghost use Rattle.std.specs.Prelude.{◌≡◌, ◌≢◌, List, [], map, string_bytes, IfOk, OnErr, IsSome};
+ghost use Rattle.std.specs.Option.{option_map};
+ghost use Rattle.table_types.specs.Uploads.{Upload as Uploaded};
+ghost use Rattle.table_types.specs.Texts.{IsTextOf};
+ghost use Rattle.table_types.specs.Answers.{answer_of};
+ghost use Rattle.table_types.specs.Tables.{effective, version_of, outcome_of};
+ghost use Rattle.table_versions.specs.Outcomes.{told};
+ghost use Rattle.table_versions.specs.Info.{IsLatest};
+ghost use Rattle.table_versions.specs.Ledger.{table_names};
+ghost use Rattle.histories.specs.Views.{Views, HasUploads};
+ghost use Rattle.node_core.specs.State.{NodeHas};
+
+use crate::node::Node;
+use ballots::OutOfMemory;
+use decided_log::laws::prefixes_are_one;
+use learner::laws::learned_is_one;
+use table_versions::{Outcome, TableInfo};
+use tickets::Ticket;
+use uploads::Upload;
+
+impl Node {
+    /// The bytes that answer a ticket: those of this version of this table, in the tables that the node's prefix makes.
+    /// `None` exactly where it has none; and memory can be refused only where it has one. Nothing changes.
+    pub fn get(&self, ticket: &Ticket) -> Result<Option<Vec<u8>>, OutOfMemory>
+        ensures answer { (views : Views) (uploads : List Uploaded) → NodeHas self.now views
+            → HasUploads self.now.agreement.config.members views.told uploads
+            → IfOk result (λ answer. option_map (λ bytes. bytes.items) answer
+            ≡ option_map answer_of (version_of ticket.now.table ticket.now.version uploads)) }
+        ensures memory { OnErr result ((views : Views) (uploads : List Uploaded) → NodeHas self.now views
+            → HasUploads self.now.agreement.config.members views.told uploads
+            → IsSome (version_of ticket.now.table ticket.now.version uploads)) }
+    {
+        learned_is_one();
+        prefixes_are_one();
+        self.tables.answer(ticket)
+    }
+
+    /// The latest version of a table, `None` exactly where no upload to it counts. Memory can be refused only where one
+    /// does. Nothing changes.
+    pub fn info(&self, table: &str) -> Result<Option<TableInfo>, OutOfMemory>
+        ensures latest { (views : Views) (uploads : List Uploaded) → NodeHas self.now views
+            → HasUploads self.now.agreement.config.members views.told uploads
+            → IfOk result (λ info. IsLatest info table.now (effective table.now uploads)) }
+        ensures memory { OnErr result ((views : Views) (uploads : List Uploaded) → NodeHas self.now views
+            → HasUploads self.now.agreement.config.members views.told uploads → effective table.now uploads ≢ []) }
+    {
+        learned_is_one();
+        prefixes_are_one();
+        self.tables.latest(table)
+    }
+
+    /// The names of the tables, in the order of their first effective uploads. Nothing changes.
+    pub fn tables(&self) -> Result<Vec<String>, OutOfMemory>
+        ensures { (views : Views) (uploads : List Uploaded) → NodeHas self.now views
+            → HasUploads self.now.agreement.config.members views.told uploads
+            → IfOk result (λ names. map string_bytes names.items ≡ table_names uploads) }
+    {
+        learned_is_one();
+        prefixes_are_one();
+        self.tables.tables()
+    }
+
+    /// What is told of an upload, by the node's prefix. It takes no memory, and nothing changes.
+    pub fn outcome(&self, upload: &Upload) -> Outcome
+        ensures { (views : Views) (uploads : List Uploaded) (uploaded : Uploaded) → NodeHas self.now views
+            → HasUploads self.now.agreement.config.members views.told uploads → IsTextOf upload.now uploaded
+            → told result ≡ outcome_of uploads uploaded }
+    {
+        learned_is_one();
+        prefixes_are_one();
+        self.tables.outcome(upload)
+    }
+}
