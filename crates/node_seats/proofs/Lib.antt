@@ -1,0 +1,6 @@
+mod Dues
+mod Placing
+mod Leaving
+mod Happening
+mod Arms
+mod Answering

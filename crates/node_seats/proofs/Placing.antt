@@ -1,0 +1,71 @@
+-- The record that is due is of the configuration, so that a node can start with it.
+use Rattle.std.proofs.Common.{◌≡◌, sym, subst, inl, inr, ℕ, ◌<◌, true, false, Bool, Option, None, Some, List, [], ◌∷◌, ◌++◌}
+use Rattle.std.specs.List.{AllByRecursion}
+use Rattle.ballots.specs.Ballot.{Ballot}
+use Rattle.ballots.specs.declared.acceptance.Acceptance.{Acceptance}
+use Rattle.ballots.specs.declared.record.Record.{Record}
+use Rattle.ballots.specs.declared.message.Body.{Body}
+use Rattle.ballots.specs.declared.message.Body.TheVariants as body
+use Rattle.acceptor.specs.declared.answer.Answer.{Answer}
+use Rattle.acceptor.specs.declared.answer.Answer.TheVariants as answer
+use Rattle.histories.specs.Views.{Config, Views}
+use Rattle.histories.specs.Due.{Input, Put, Tick, Deliver, Plan, Plans, IsDue, BodyIsDue, AimIsDue, Aim, Attempts, AsksFrom, ReplyToPrepare, ReplyToAccept, IsBodyOf, has_seen}
+use Rattle.histories.specs.Following.{with_due}
+use Rattle.node_core.specs.State.{IsRecordOf}
+
+abbrev pub IsOf : Config → Option Record → Type 0
+IsOf config None = Unit {0}
+IsOf config (Some kept) = IsRecordOf config kept
+
+of_plan : (config : Config) (plan made : Plan) → plan ≡ made → IsOf config made.kept → IsOf config plan.kept
+of_plan config plan made is of = subst (λ (p : Plan). IsOf config p.kept) (sym is) of
+
+prepared : (config : Config) (me : ℕ) (views : Views) (slot : ℕ) (ballot : Ballot) (reply : Answer) (plan : Plan)
+    → slot < config.slot_limit → ballot.node < config.members → ReplyToPrepare me views slot ballot reply plan → IsOf config plan.kept
+prepared config me views slot ballot (answer.Promise report) plan within member is = of_plan config plan _ is (within, member)
+prepared config me views slot ballot (answer.Nack promised) plan within member is = of_plan config plan _ is tt
+prepared config me views slot ballot answer.Granted plan within member is = absurd is
+
+accepted : (config : Config) (me : ℕ) (views : Views) (slot : ℕ) (proposal : Acceptance) (reply : Answer) (plan : Plan)
+    → slot < config.slot_limit → proposal.ballot.node < config.members → ReplyToAccept me views slot proposal reply plan → IsOf config plan.kept
+accepted config me views slot proposal (answer.Promise report) plan within member is = absurd is
+accepted config me views slot proposal (answer.Nack promised) plan within member is = of_plan config plan _ is tt
+accepted config me views slot proposal answer.Granted plan within member is = of_plan config plan _ is (within, member)
+
+body_of : (config : Config) (me : ℕ) (views : Views) (sender slot : ℕ) (said : Body) (plan : Plan)
+    → slot < config.slot_limit → IsBodyOf config.members said → BodyIsDue config me views sender slot said plan → IsOf config plan.kept
+body_of config me views sender slot (body.Prepare ballot) plan within of due = prepared config me views slot ballot due.2 plan within of due.5
+body_of config me views sender slot (body.Accept proposal) plan within of due = accepted config me views slot proposal due.2 plan within of due.5
+body_of config me views sender slot (body.Promise ballot report) plan within of due = of_plan config plan _ due.2 tt
+body_of config me views sender slot (body.Nack ballot promised) plan within of due = of_plan config plan _ due tt
+body_of config me views sender slot (body.Accepted acceptance) plan within of due = of_plan config plan _ due.4 tt
+body_of config me views sender slot (body.Decided value) plan within of due = of_plan config plan _ due.4 tt
+body_of config me views sender slot body.Ask plan within of due = of_plan config plan _ due.2 tt
+
+aim_of : (config : Config) (me : ℕ) (views : Views) (aim : Aim) (plan : Plan) → me < config.members
+    → AimIsDue config me views aim (Plans plan) → IsOf config plan.kept
+aim_of config me views (Attempts slot value) plan member due = of_plan config plan _ due.4 member
+aim_of config me views (AsksFrom slot) plan member (inl due) = of_plan config plan _ due.1 tt
+aim_of config me views (AsksFrom slot) plan member (inr due) = of_plan config plan _ due.1 tt
+
+pub due_is_of : (config : Config) (me : ℕ) (views : Views) (input : Input) (plan : Plan) → me < config.members
+    → IsDue config me views input (Plans plan) → IsOf config plan.kept
+due_is_of config me views (Put text) plan member (inl due) = of_plan config plan _ due.1 tt
+due_is_of config me views (Put text) plan member (inr due) = of_plan config plan _ due.3 tt
+due_is_of config me views (Tick left) plan member (inl due) = absurd (cc)
+due_is_of config me views (Tick left) plan member (inr due) = aim_of config me views due.0 plan member due.3
+due_is_of config me views (Deliver m) plan member due =
+    body_of config me (has_seen views m) m.sender m.slot m.body plan due.0.slot due.0.body due.1
+
+-- records of the configuration, with the one that is due or without it, are of the configuration
+records_and : (config : Config) (records : List Record) (kept : Record) → AllByRecursion (IsRecordOf config) records
+    → IsRecordOf config kept → AllByRecursion (IsRecordOf config) (records ++ kept ∷ [])
+records_and config [] kept all of = (of, tt)
+records_and config (first ∷ others) kept all of = (all.0, records_and config others kept all.1 of)
+
+pub found_are_of : (config : Config) (found : Bool) (records : List Record) (kept : Option Record)
+    → AllByRecursion (IsRecordOf config) records → IsOf config kept → AllByRecursion (IsRecordOf config) (with_due found records kept)
+found_are_of config true records None all of = all
+found_are_of config false records None all of = all
+found_are_of config true records (Some kept) all of = records_and config records kept all of
+found_are_of config false records (Some kept) all of = all

@@ -1,0 +1,18 @@
+use Rattle.std.proofs.Common.{sym, subst}
+use Rattle.histories.specs.Views.{Views}
+use Rattle.node_core.specs.Inputs.{input_of}
+use Rattle.node_core.specs.State.{NodeState, NodeHas}
+use Rattle.node_seats.specs.State.{SeatState, StandsUp}
+use Rattle.node_seats.specs.Steps.{KeepsAlone}
+use Rattle.node_seats.proofs.Leaving.{same_node}
+use Rattle.node_seats.specs.contracts.seat.Seat.{the_view}
+use Rattle.node_seats.proofs.seat.Seat.keep_due.Goals as goal
+
+pub returns-clause-kept : goal.returns-clause-kept
+returns-clause-kept c =
+    let kept = c.keep_alone.new.store in
+    let input = input_of c.args.input in
+    subst (λ (s : SeatState). (views : Views) (up : StandsUp s views) → KeepsAlone up.node views input s.records kept) c.self.view_is
+    (λ views up. let same = same_node (the_view c.self.inside) views up c.in-Some.node c.in-Some.is in
+    subst (λ (n : NodeState). KeepsAlone n views input c.self.inside.store kept) same
+    (c.keep_alone.ensures views (subst (λ (n : NodeState). NodeHas n views) (sym same) up.has)))
