@@ -2,4 +2,5 @@ pub mod Limits
 pub mod Told
 pub mod Traced
 pub mod Happening
+pub mod Seated
 pub mod Runs

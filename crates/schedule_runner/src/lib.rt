@@ -11,6 +11,7 @@
 //! audit(&trace)    // whether what was sent is lawful, judged from the messages alone
 //! ```
 //!
+//! [`run`] does so with nodes of its own, each with the store of its records (`node_seats`), and is what a program calls.
 //! Nodes are whatever meets the contract of [`Nodes`]: each event gives what the rules of a node make it give
 //! (`Following` of `histories`). The definitions of `histories` and `safe_histories` speak of events and of what they
 //! give by values of their own; `specs/Told` tells the types of this crate as these, and `specs/Runs` says what a run
@@ -18,15 +19,18 @@
 #![tactic(auto)]
 
 mod config;
+mod fault;
 pub mod laws;
 mod nodes;
 mod running;
+mod seats;
 mod step;
 mod trace;
 
 pub use config::{Config, MAX_JOURNAL_ENTRIES, MAX_SLOTS};
+pub use fault::RunFault;
 pub use node_events::{Event, Gave, Reason, TableText};
 pub use nodes::Nodes;
-pub use running::run_on;
+pub use running::{run, run_on};
 pub use step::Step;
 pub use trace::{Trace, audit};

@@ -1,15 +1,19 @@
 //! Events that happen one after the other.
 
-ghost use Rattle.std.specs.Prelude.{List, ◌∷◌, ◌++◌, [], IfOk, OnOk};
+ghost use Rattle.std.specs.Prelude.{◌≡◌, ◌↔◌, List, ◌∷◌, ◌++◌, [], Err, IfOk, OnOk};
 ghost use Rattle.histories.specs.Views.{Config as HistoryConfig};
 ghost use Rattle.histories.specs.Following.{at_first};
 ghost use Rattle.node_events.specs.declared.event.Event.{Event as EventSpec};
 ghost use Rattle.schedule_runner.specs.Told.{config_of};
 ghost use Rattle.schedule_runner.specs.Happening.{HasCome};
 ghost use Rattle.schedule_runner.specs.Runs.{IsRunOf};
+ghost use Rattle.schedule_runner.specs.Limits.{IsWithinLimits};
+ghost use Rattle.schedule_runner.specs.declared.fault.RunFault.TheVariants.{BadConfig};
 
 use crate::config::Config;
+use crate::fault::RunFault;
 use crate::nodes::Nodes;
+use crate::seats::Seats;
 use crate::step::Step;
 use crate::trace::Trace;
 use ballots::Message;
@@ -17,6 +21,7 @@ use histories::laws::{nothing_reaches_the_start, one_step_more_reaches, what_is_
 use node_events::{Event, copy_of};
 use safe_histories::laws::replicas_agree;
 use std::alloc::{AllocError, Global};
+use std::hash::RandomState;
 
 /// Lets an event happen, and puts it behind the steps with what it gave.
 fn take_step<N: Nodes>(
@@ -64,4 +69,26 @@ pub fn run_on<N: Nodes>(
         sent,
         steps,
     })
+}
+
+/// Lets these events happen, one after the other, to nodes of this configuration, each of which is up at first and has
+/// nothing; and tells what each gave. `hashing` has the random keys that keep look-ups fast whatever names clients choose.
+///
+/// [`RunFault::BadConfig`] exactly where a limit of the configuration is 0 or too great ([`Config::is_within_limits`]).
+/// [`RunFault::OutOfMemory`] says that memory for the nodes or for the steps was refused; a node that wants memory refuses
+/// its event, and the run goes on.
+pub fn run(
+    alloc: Global,
+    hashing: RandomState,
+    config: Config,
+    events: &[Event],
+) -> Result<Trace, RunFault>
+    ensures run { IfOk result (IsRunOf config events.now) }
+    ensures config { result ≡ Err BadConfig ↔ (IsWithinLimits config → ⊥) }
+{
+    if !config.is_within_limits() {
+        return Err(RunFault::BadConfig);
+    }
+    let mut seats = Seats::open(alloc, hashing, config)?;
+    Ok(run_on(alloc, config, &mut seats, events)?)
 }

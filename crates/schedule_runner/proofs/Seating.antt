@@ -1,0 +1,162 @@
+-- An event of one seat, as a step of all nodes of a run.
+use Rattle.std.proofs.Common.{◌≡◌, ◌≢◌, refl, sym, ap, subst, ◌∙◌, inl, inr, ℕ, ◌<◌, ◌≤◌, arith, Bool, true, if◌then◌else◌, zero, suc, List, [], ◌∷◌, ◌++◌, length, slice_get, slice_set, get_or, None, Some}
+use Rattle.std.proofs.lemmas.Bool.{eq-eqb, ne_eqb, cases_eq, cases_lt}
+use Rattle.std.proofs.lemmas.List.{append-nil, length-append, length-set}
+use Rattle.std.proofs.lemmas.Option.{slice_get_within, slice_get_past, slice_get-get_or}
+use Rattle.ballots.specs.declared.message.Message.{Message}
+use Rattle.histories.specs.Views.{Config}
+use Rattle.histories.specs.History.{Step}
+use Rattle.histories.specs.Event.{node_of}
+use Rattle.histories.specs.Gave as gave
+use Rattle.histories.specs.Following.{Seat, SeatGives, StepFollows, at_first}
+use Rattle.histories.specs.Reaching.{with_seat}
+use Rattle.node_events.specs.declared.event.Event.{Event}
+use Rattle.node_events.specs.declared.gave.Gave.{Gave}
+use Rattle.node_events.specs.Told.{event_of, gave_of}
+use Rattle.node_seats.specs.State.{SeatState, IsPlaced, Stands, SeatHappens}
+use Rattle.schedule_runner.specs.Happening.{Happens}
+use Rattle.schedule_runner.specs.Seated.{IsSeatOf, AreSeated}
+
+-- what a member gives is a step of all nodes
+abbrev pub StepsAlone : Type 0
+StepsAlone = (config : Config) (sent : List Message) (next : ℕ) (seats : ℕ → Seat) (step : Step) (found : Bool) (seat : Seat) → node_of step.event < config.members
+    → SeatGives config sent next found (seats (node_of step.event)) step.event step.gave seat
+    → StepFollows config sent next seats step found (with_seat seats (node_of step.event) seat)
+
+own_seat : (seats : ℕ → Seat) (node : ℕ) (seat : Seat) → with_seat seats node seat node ≡ seat
+own_seat seats node seat = ap (λ (b : Bool). if b then seat else seats node) (eq-eqb node node refl)
+
+other_seat : (seats : ℕ → Seat) (node other : ℕ) (seat : Seat) → other ≢ node → with_seat seats node seat other ≡ seats other
+other_seat seats node other seat differs = ap (λ (b : Bool). if b then seat else seats other) (ne_eqb other node differs)
+
+some_same : {X : Type 0} (x y : X) → Some x ≡ Some y → x ≡ y
+some_same x y same = cc
+
+none_is_some : {X : Type 0} (x : X) → None ≡ Some x → ⊥
+none_is_some x same = cc
+
+-- one of the list is another now, and all others are as before
+pub record IsChangedAt (old new : List SeatState) (place : ℕ) (state : SeatState) : Type 0 where
+  pub long : length new ≡ length old
+  pub there : slice_get new place ≡ Some state
+  pub others : (other : ℕ) → other ≢ place → slice_get new other ≡ slice_get old other
+
+module _ (config : Config) (seats : ℕ → Seat) (states after : List SeatState) (place : ℕ) (old new : SeatState) (are : AreSeated states config seats)
+    (was : slice_get states place ≡ Some old) (changed : IsChangedAt states after place new) (left : Seat) (placed : IsPlaced new) (me : new.me ≡ old.me)
+    (same : new.config ≡ old.config) (stands : Stands new left) where
+  abbrev first : IsSeatOf config place old (seats place)
+  first = are.each place old was
+
+  each_seat : (number : ℕ) (state : SeatState) → slice_get after number ≡ Some state → IsSeatOf config number state (with_seat seats place left number)
+  each_seat number state there = elim (cases_eq number place) as (λ _. IsSeatOf config number state (with_seat seats place left number)) [
+    | inl is ↦
+        subst (λ (n : ℕ). IsSeatOf config n state (with_seat seats place left n)) (sym is)
+        (subst (λ (s : SeatState). IsSeatOf config place s (with_seat seats place left place))
+        (some_same new state (sym changed.there ∙ subst (λ (n : ℕ). slice_get after n ≡ Some state) is there))
+        (subst (λ (s : Seat). IsSeatOf config place new s) (sym (own_seat seats place left))
+        (record { placed = placed; me = me ∙ first.me; config_is = same ∙ first.config_is; stands = stands })))
+    | inr differs ↦
+        subst (λ (s : Seat). IsSeatOf config number state s) (sym (other_seat seats place number left differs))
+        (are.each number state (sym (changed.others number differs) ∙ there))
+  ]
+
+  pub seated : AreSeated after config (with_seat seats place left)
+  seated = record { one_each = changed.long ∙ are.one_each; each = each_seat }
+
+pub one_happens : StepsAlone → (config : Config) (seats : ℕ → Seat) (states states_after : List SeatState) (old new : SeatState) (before after : List Message) (event : Event) (given : Gave)
+    → AreSeated states config seats → slice_get states (node_of (event_of event)) ≡ Some old → IsChangedAt states states_after (node_of (event_of event)) new
+    → (IsPlaced old → node_of (event_of event) ≡ old.me → (seat : Seat) → Stands old seat → SeatHappens old new seat before after (event_of event) (gave_of given))
+    → Happens (AreSeated states_after config) config seats before after event given
+one_happens alone config seats states states_after old new before after event given are was changed happens =
+    let place = node_of (event_of event) in
+    let is : IsSeatOf config place old (seats place) = are.each place old was in
+    let happened : SeatHappens old new (seats place) before after (event_of event) (gave_of given) = happens is.placed (sym is.me) (seats place) is.stands in
+    let leaves = happened.1 in
+    let step : Step = record { event = event_of event; gave = gave_of given } in
+    record {
+      more = leaves.more;
+      behind = leaves.behind;
+      counted = leaves.counted;
+      found = happened.0;
+      left = with_seat seats place leaves.left;
+      follows = alone config after (length before) seats step happened.0 leaves.left
+          (subst (λ (n : ℕ). place < n) are.one_each (slice_get_within states place old was))
+          (subst (λ (c : Config). SeatGives c after (length before) happened.0 (seats place) step.event step.gave leaves.left) is.config_is leaves.gives);
+      have = seated config seats states states_after place old new are was changed leaves.left leaves.placed leaves.me_is leaves.config_is leaves.stands;
+    }
+
+-- an event of none of the nodes
+pub none_happens : (config : Config) (seats : ℕ → Seat) (states : List SeatState) (before : List Message) (event : Event) (given : Gave)
+    → AreSeated states config seats → config.members ≤ node_of (event_of event) → gave_of given ≡ gave.Refused gave.OutOfRange
+    → Happens (AreSeated states config) config seats before before event given
+none_happens config seats states before event given are past is = record {
+  more = [];
+  behind = sym (append-nil before);
+  counted = sym (ap gave.count_of is);
+  found = true;
+  left = seats;
+  follows = inr (past, is, λ other. refl);
+  have = are;
+}
+
+-- ---- the first seats
+
+-- so many of the members are up, and have nothing
+pub record AreOpened (config : Config) (states : List SeatState) (count : ℕ) : Type 0 where
+  pub so_many : length states ≡ count
+  pub each : (number : ℕ) (state : SeatState) → slice_get states number ≡ Some state → IsSeatOf config number state (at_first number)
+
+pub none_opened : (config : Config) → AreOpened config [] 0
+none_opened config = record { so_many = refl; each = λ number state there. absurd (none_is_some state (sym (slice_get_past {X = SeatState} [] number (omega arith)) ∙ there)) }
+
+get_left : (xs ys : List SeatState) (k : ℕ) → k < length xs → slice_get (xs ++ ys) k ≡ slice_get xs k
+get_left [] ys k within = absurd (omega (arith, within))
+get_left (x ∷ xs) ys zero within = refl
+get_left (x ∷ xs) ys (suc k) within = get_left xs ys k (omega (arith, within))
+
+get_last : (xs : List SeatState) (x : SeatState) (k : ℕ) → k ≡ length xs → slice_get (xs ++ x ∷ []) k ≡ Some x
+get_last [] x zero is = refl
+get_last [] x (suc k) is = absurd (omega (arith, is))
+get_last (y ∷ xs) x zero is = absurd (omega (arith, is))
+get_last (y ∷ xs) x (suc k) is = get_last xs x k (omega (arith, is))
+
+module _ (config : Config) (states : List SeatState) (count : ℕ) (opened : AreOpened config states count) (state : SeatState) (is : IsSeatOf config count state (at_first count)) where
+  each_opened : (number : ℕ) (other : SeatState) → slice_get (states ++ state ∷ []) number ≡ Some other → IsSeatOf config number other (at_first number)
+  each_opened number other there = elim (cases_lt number count) as (λ _. IsSeatOf config number other (at_first number)) [
+    | inl within ↦ opened.each number other (sym (get_left states (state ∷ []) number (omega (arith, within, opened.so_many))) ∙ there)
+    | inr past ↦
+        let last : number ≡ count = omega (arith, past, opened.so_many, slice_get_within (states ++ state ∷ []) number other there, length-append states (state ∷ [])) in
+        subst (λ (n : ℕ). IsSeatOf config n other (at_first n)) (sym last)
+        (subst (λ (s : SeatState). IsSeatOf config count s (at_first count))
+        (some_same state other (sym (get_last states state number (last ∙ sym opened.so_many)) ∙ there)) is)
+  ]
+
+  pub one_opened : AreOpened config (states ++ state ∷ []) (suc count)
+  one_opened = record { so_many = length-append states (state ∷ []) ∙ omega (arith, opened.so_many); each = each_opened }
+
+pub all_opened : (config : Config) (states : List SeatState) → AreOpened config states config.members → AreSeated states config at_first
+all_opened config states opened = record { one_each = opened.so_many; each = opened.each }
+
+-- ---- one seat among the others
+
+set_there : (xs : List SeatState) (k : ℕ) (x : SeatState) → k < length xs → slice_get (slice_set xs k x) k ≡ Some x
+set_there [] k x within = absurd (omega (arith, within))
+set_there (y ∷ xs) zero x within = refl
+set_there (y ∷ xs) (suc k) x within = set_there xs k x (omega (arith, within))
+
+set_other : (xs : List SeatState) (k other : ℕ) (x : SeatState) → other ≢ k → slice_get (slice_set xs k x) other ≡ slice_get xs other
+set_other [] k other x differs = refl
+set_other (y ∷ xs) zero zero x differs = absurd (differs refl)
+set_other (y ∷ xs) zero (suc other) x differs = refl
+set_other (y ∷ xs) (suc k) zero x differs = refl
+set_other (y ∷ xs) (suc k) (suc other) x differs = set_other xs k other x (λ same. differs (omega (arith, same)))
+
+pub changed_at : (states : List SeatState) (place : ℕ) (state : SeatState) → place < length states → IsChangedAt states (slice_set states place state) place state
+changed_at states place state within = record {
+  long = length-set states place state;
+  there = set_there states place state within;
+  others = λ other differs. set_other states place other state differs;
+}
+
+pub was_there : (states : List SeatState) (place : ℕ) (state : SeatState) → place < length states → state ≡ get_or states place state → slice_get states place ≡ Some state
+was_there states place state within is = slice_get-get_or states place state within ∙ ap (λ s. Some s) (sym is)
