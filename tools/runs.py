@@ -1,0 +1,106 @@
+#!/usr/bin/env python3
+"""Makes the stories of runs in crates/run_stories/data: `examples.txt`, the schedules of examples/ that have their lines beside them,
+and `drawn.txt`, schedules that are drawn, with what the model in runs_model.py says of each event and each message.
+
+    tools/runs.py --write   makes them
+    tools/runs.py --check   says which of them differ"""
+import hashlib
+import sys
+from pathlib import Path
+
+from paxos_model import KINDS, MESSAGE, encoding
+from runs_model import drawn, is_lawful, lines_of, schedules
+from wire_model import put
+
+DATA = Path(__file__).resolve().parent.parent / "crates" / "run_stories" / "data"
+# how many runs are drawn for the stories
+DRAWN = 120
+# the letters for zero bytes: `g` is one, and each letter after it one more
+MOST_ZEROS = 20
+
+
+def md5(text):
+    return hashlib.md5(text).hexdigest()
+
+
+def message_text(said):
+    """The bytes of a message."""
+    parts = {"kind": KINDS.index(said["what"]), "sender": said["sender"], "slot": said["slot"], "value": said["value"]}
+    second = said["promised"]
+    if said["report"]:
+        second, parts["value"] = said["report"]
+    for ballot, names in ((said["ballot"], ("round", "node")), (second, ("second round", "second node"))):
+        if ballot:
+            parts |= dict(zip(names, ballot))
+    return encoding(MESSAGE, parts)
+
+
+def spelled(text):
+    """Pairs of digits, with a letter for zero bytes that follow one another."""
+    out, place = [], 0
+    while place < len(text):
+        zeros = 0
+        while place + zeros < len(text) and zeros < MOST_ZEROS and text[place + zeros] == 0:
+            zeros += 1
+        out.append(chr(ord("g") + zeros - 1) if zeros else f"{text[place]:02x}")
+        place += zeros or 1
+    return "".join(out)
+
+
+def told_line(line):
+    """The line of an event, an answer by its length and its digest."""
+    place, word, *rest = line.split(" ")
+    if word != "answer":
+        return line
+    text = bytes.fromhex(rest[0])
+    return f"{place} answer of {len(text)} bytes, md5 {md5(text)}"
+
+
+def begun(run):
+    return [f"nodes {run.members} {run.slot_limit}", *(f"upload {spelled(it.text)}" for it in run.uploads)]
+
+
+def happened(events):
+    return [" ".join(str(it) for it in event) for event in events]
+
+
+def played(lines):
+    return ["play", *("  " + told_line(it) for it in lines)]
+
+
+def judged(run):
+    return ["  lawful" if is_lawful(run) else "  unlawful"]
+
+
+def messages(run):
+    return ["messages", *(f"  {number} {message_text(it).hex()}" for number, it in enumerate(run.sent)), *judged(run)]
+
+
+def digest(run):
+    return ["digest", f"  messages {len(run.sent)}, md5 {md5(b''.join(message_text(it) for it in run.sent))}", *judged(run)]
+
+
+def examples():
+    lines = ["# The schedules of examples/, with each message that is sent. tools/runs.py makes this file."]
+    for file, schedule in schedules():
+        run, told = lines_of(schedule)
+        lines += ["", *(f"# {it}" for it in schedule.get("note", [file.stem]))]
+        lines += [*begun(run), *happened(schedule["events"]), *played(told), *messages(run)]
+    return "\n".join(lines) + "\n"
+
+
+def drawn_runs():
+    lines = ["# Drawn runs, in which messages are lost, late and repeated, and nodes go down and start again. tools/runs.py makes this", "# file."]
+    for seed in range(DRAWN):
+        run = drawn(seed)
+        told = [f"{place} {' '.join(str(it) for it in gave)}" for place, (_, gave) in enumerate(run.steps)]
+        lines += ["", *begun(run), *happened(event for event, _ in run.steps), *played(told), *digest(run)]
+    return "\n".join(lines) + "\n"
+
+
+def main():
+    return put(DATA, {"examples.txt": examples(), "drawn.txt": drawn_runs()}, "--write" not in sys.argv[1:])
+
+
+if __name__ == "__main__":
+    sys.exit(main())
