@@ -1,0 +1,9 @@
+pub mod Majorities
+pub mod Places
+pub mod Sendings
+pub mod Following
+pub mod Breaking
+pub mod Sets
+pub mod Reported
+pub mod Chosen
+pub mod Found

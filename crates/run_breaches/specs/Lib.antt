@@ -1,0 +1,5 @@
+pub mod Earlier
+pub mod Rules
+pub mod Highest
+pub mod FirstBreach
+pub mod BreachLaws

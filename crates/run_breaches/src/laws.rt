@@ -1,0 +1,14 @@
+//! Laws of the rules of single messages.
+
+ghost use Rattle.run_breaches.specs.BreachLaws.{KeepingIsLawful, BreakingIsNotKeeping};
+
+use lawful_histories::laws::lawful_by_messages;
+
+/// After a lawful history a message may follow exactly where it keeps every rule, and one that breaks a rule does not
+/// keep them all (Lamport, *Paxos Made Simple*, sections 2.2 and 2.3).
+pub fn a_message_follows_where_it_keeps_the_rules()
+    ensures lawful { KeepingIsLawful }
+    ensures broken { BreakingIsNotKeeping }
+{
+    lawful_by_messages();
+}
