@@ -1,5 +1,5 @@
 -- A message that breaks a rule does not keep them all.
-use Rattle.std.proofs.Common.{◌≡◌, ℕ, ◌⊎◌, inl, inr, Bool, true, false, IsTrue, IsSome, List, Option, Some, None, refl}
+use Rattle.std.proofs.Common.{◌≡◌, ℕ, inl, inr, Bool, true, false, IsTrue, IsSome, List, Option, Some, None}
 use Rattle.std.specs.List.{All, Any}
 use Rattle.ballots.specs.Ballot.{Ballot}
 use Rattle.ballots.specs.declared.value.Value.{Value}
@@ -13,7 +13,7 @@ use Rattle.run_breaches.specs.declared.breach.BrokenRules.TheVariants.{Promise, 
 use Rattle.run_breaches.specs.Earlier.{LetsPropose, LetsAccept, LetsPromise, LetsReport, Promises, IsWithin, IsPromiseWith, MostPromised, IsPromised, IsSafe, WasProposed}
 use Rattle.run_breaches.specs.Rules.{Tells, IsFirstAgainst, TellsReport, IsReportBelow, IsReportProposed, BodyBreaks, BodyKeeps, IsSomeBroken}
 use Rattle.run_breaches.proofs.Majorities.{most_weaker}
-use Rattle.run_breaches.proofs.Sendings.{promise_is, report_is}
+use Rattle.run_breaches.proofs.Sendings.{report_is}
 
 -- any message: what a read past the end would give
 blank : Message

@@ -1,5 +1,5 @@
 -- What was told as decided, or shows a majority, was chosen.
-use Rattle.std.proofs.Common.{◌≡◌, ℕ, ◌<◌, IsSomeAnd, List, Some, refl, sym, subst}
+use Rattle.std.proofs.Common.{◌≡◌, ℕ, IsSomeAnd, List, refl, sym, subst}
 use Rattle.std.specs.List.{Any}
 use Rattle.ballots.specs.Ballot.{Ballot}
 use Rattle.ballots.specs.declared.value.Value.{Value}
@@ -16,9 +16,11 @@ module _ (n s : ℕ) (before : List Message) (v : Value) where
   pub chosen_where_decided : KeepsTheRules n before → Any (Decides s v) before → WasChosen n s before v
   chosen_where_decided rules h =
       let e : Message = h.1 in
-      let it = rules.decided_was_chosen h.0 e.sender s v (found_as before (Decides s v) h (decided e.sender s v) (decision_is s v e h.4)) in
-      (it.0, most_weaker n (λ a. SentBefore before h.0 (accepted a s it.0 v)) (λ a. Any (Accepts s it.0 v a) before) (λ a lt was.
-      any_there before (Accepts s it.0 v a) was.0 (accepted a s it.0 v) was.2 (refl, refl, (refl, refl))) it.1)
+      let it = rules.decided_was_chosen h.0 e.sender s v (found_as before (Decides s v) h (decided e.sender s v) (decision_is s v e h.4)) in (
+        it.0,
+        most_weaker n (λ a. SentBefore before h.0 (accepted a s it.0 v)) (λ a. Any (Accepts s it.0 v a) before) (λ a lt was.
+            any_there before (Accepts s it.0 v a) was.0 (accepted a s it.0 v) was.2 (refl, refl, (refl, refl))) it.1,
+      )
 
   chosen_body : (x : Body) → IsSomeAnd (acceptance_in x) (λ p. (p.value ≡ v) × MostAccepted n s before p.ballot v) → WasChosen n s before v
   chosen_body (body.Accepted q) h = (q.ballot, h.1)

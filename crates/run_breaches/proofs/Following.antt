@@ -1,6 +1,6 @@
 -- A message may follow lawful ones exactly where it keeps every rule.
-use Rattle.std.proofs.Common.{◌≡◌, ℕ, ◌<◌, ◌≤◌, ◌⊎◌, inl, inr, List, [], ◌∷◌, ◌++◌, length, get_or, Some, None, IfSome, refl, sym, ap, subst, ◌∙◌, arith}
-use Rattle.std.specs.List.{All, Any}
+use Rattle.std.proofs.Common.{◌≡◌, ℕ, ◌<◌, ◌≤◌, ◌⊎◌, inl, inr, List, [], ◌∷◌, ◌++◌, length, Some, None, refl, sym, ap, subst, ◌∙◌, arith}
+use Rattle.std.specs.List.{Any}
 use Rattle.std.proofs.lemmas.Bool.{cases_lt}
 use Rattle.ballots.specs.Ballot.{Ballot, IsBelow}
 use Rattle.ballots.proofs.CallerLemmas.{not_below_itself}
@@ -15,7 +15,7 @@ use Rattle.lawful_histories.specs.Saying.{Report, IsUpTo}
 use Rattle.lawful_histories.specs.Majorities.{MajorityOf}
 use Rattle.lawful_histories.specs.Judging.{ReportCovers}
 use Rattle.lawful_histories.specs.Messages.{promise, accept, accepted, decided, Sent, SentBefore, HasHighestReport, KeepsTheRules}
-use Rattle.run_breaches.specs.Earlier.{LetsPropose, LetsAccept, LetsPromise, LetsReport, Proposes, Accepts, Promises, Reports, WasProposed, MostPromised, IsWithin, ShowsSafe, IsSafe, WasChosen}
+use Rattle.run_breaches.specs.Earlier.{LetsPropose, LetsAccept, LetsPromise, LetsReport, Proposes, Accepts, Promises, WasProposed, MostPromised, IsWithin, ShowsSafe, IsSafe, WasChosen}
 use Rattle.run_breaches.specs.Rules.{IsReportBelow, IsReportProposed, KeepsPromise, KeepsAccept, KeepsAccepted, BodyKeeps, Keeps}
 use Rattle.run_breaches.proofs.Majorities.{most_weaker, most_with}
 use Rattle.run_breaches.proofs.Places.{all_let, let_all, any_there, found_as, older, newer, last_is, last_sent, earlier, still_before, before_last, last_before}
@@ -225,9 +225,11 @@ module _ (n : ℕ) (before : List Message) (m : Message) (rules : KeepsTheRules 
         let it = rules.decided_was_chosen k p s v (older before m k (decided p s v) in' h) in
         (it.0, most_weaker n (λ a. SentBefore before k (accepted a s it.0 v)) (λ a. SentBefore with_it k (accepted a s it.0 v)) (λ a lt was. still_before before m k (accepted a s it.0 v) was) it.1)
     | inr le ↦
-        let kept : WasChosen n s before v = kept_as k (decided p s v) le h in
-        (kept.0, most_weaker n (λ a. Any (Accepts s kept.0 v a) before) (λ a. SentBefore with_it k (accepted a s kept.0 v)) (λ a lt found.
-        let it = accepted_as n s before kept.0 v a found in before_last before m k it.0 (accepted a s kept.0 v) le it.1) kept.1)
+        let kept : WasChosen n s before v = kept_as k (decided p s v) le h in (
+          kept.0,
+          most_weaker n (λ a. Any (Accepts s kept.0 v a) before) (λ a. SentBefore with_it k (accepted a s kept.0 v)) (λ a lt found.
+              let it = accepted_as n s before kept.0 v a found in before_last before m k it.0 (accepted a s kept.0 v) le it.1) kept.1,
+        )
   ]
 
   pub rules_with_it : KeepsTheRules n with_it
@@ -314,10 +316,12 @@ module _ (n : ℕ) (before : List Message) (a s : ℕ) where
 
   was_chosen : (v : Value) (rules : KeepsTheRules n (after (body.Decided v))) → WasChosen n s before v
   was_chosen v rules =
-      let it = rules.decided_was_chosen (length before) a s v (here (body.Decided v)) in
-      (it.0, most_weaker n (λ i. SentBefore (after (body.Decided v)) (length before) (accepted i s it.0 v)) (λ i. Any (Accepts s it.0 v i) before) (λ i lt h.
-      let was = last_before before (message a s (body.Decided v)) (accepted i s it.0 v) h in
-      any_there before (Accepts s it.0 v i) was.0 (accepted i s it.0 v) was.1 (refl, refl, (refl, refl))) it.1)
+      let it = rules.decided_was_chosen (length before) a s v (here (body.Decided v)) in (
+        it.0,
+        most_weaker n (λ i. SentBefore (after (body.Decided v)) (length before) (accepted i s it.0 v)) (λ i. Any (Accepts s it.0 v i) before) (λ i lt h.
+            let was = last_before before (message a s (body.Decided v)) (accepted i s it.0 v) h in
+            any_there before (Accepts s it.0 v i) was.0 (accepted i s it.0 v) was.1 (refl, refl, (refl, refl))) it.1,
+      )
 
   body_keeps : (x : Body) → KeepsTheRules n (after x) → BodyKeeps n s before a x
   body_keeps (body.Prepare b) rules = tt

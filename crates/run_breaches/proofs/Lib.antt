@@ -7,3 +7,5 @@ pub mod Sets
 pub mod Reported
 pub mod Chosen
 pub mod Found
+pub mod Filters
+pub mod Apart

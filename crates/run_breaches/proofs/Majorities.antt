@@ -1,8 +1,8 @@
 -- What holds of more members holds of a majority too.
-use Rattle.std.proofs.Common.{◌≡◌, ◌≢◌, ℕ, ◌*◌, ◌<◌, ◌≤◌, inl, inr, Bool, true, false, cond, nat_eq, IsTrue, refl, sym, subst, ◌∙◌, arith}
+use Rattle.std.proofs.Common.{◌≡◌, ◌≢◌, ℕ, ◌*◌, ◌<◌, ◌≤◌, inl, inr, Bool, true, cond, nat_eq, IsTrue, sym, subst, ◌∙◌, arith}
 use Rattle.std.proofs.lemmas.Bool.{cases_eq}
 use Rattle.std.proofs.lemmas.Bool.Decides.{nat_tests}
-use Rattle.ballots.specs.Majority.{tally, IsMajority}
+use Rattle.ballots.specs.Majority.{tally}
 use Rattle.ballots.proofs.CallerLemmas.{Member, some_member, tally_more}
 use Rattle.lawful_histories.specs.Majorities.{MajorityOf}
 

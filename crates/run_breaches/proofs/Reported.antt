@@ -1,6 +1,6 @@
 -- The highest report among the Promises of a ballot, message by message, and what it bounds.
-use Rattle.std.proofs.Common.{◌≡◌, ℕ, ◌<◌, ◌≤◌, ◌⊎◌, ◌↔◌, inl, inr, IsSomeAnd, List, [], ◌∷◌, ◌++◌, length, get_or, take, Option, Some, None, refl, sym, ap, subst, ◌∙◌, arith}
-use Rattle.std.specs.List.{All, Any}
+use Rattle.std.proofs.Common.{◌≡◌, ℕ, ◌<◌, ◌≤◌, ◌↔◌, inl, inr, IsSomeAnd, List, [], ◌∷◌, ◌++◌, length, take, Option, Some, None, refl, sym, subst, ◌∙◌, arith}
+use Rattle.std.specs.List.{All}
 use Rattle.std.proofs.lemmas.Bool.{cases_lt}
 use Rattle.std.proofs.lemmas.List.{take-append-le, get_or_push, get_or_append_left, take_all}
 use Rattle.ballots.specs.Ballot.{Ballot, IsBelow}
@@ -9,11 +9,9 @@ use Rattle.ballots.specs.declared.acceptance.Acceptance.{Acceptance}
 use Rattle.ballots.specs.declared.message.Message.{Message}
 use Rattle.ballots.specs.declared.message.Body.{Body}
 use Rattle.ballots.specs.declared.message.Body.TheVariants as body
-use Rattle.lawful_histories.specs.Saying.{Report, IsUpTo}
-use Rattle.lawful_histories.specs.Messages.{Sent}
-use Rattle.run_breaches.specs.Earlier.{IsPromiseWith, Promises, Reports, IsWithin}
+use Rattle.run_breaches.specs.Earlier.{IsPromiseWith, Reports}
 use Rattle.run_breaches.specs.Rules.{IsHighestReport}
-use Rattle.run_breaches.specs.Highest.{IsBestOf, Turns, BoundsReports}
+use Rattle.run_breaches.specs.Highest.{IsBestOf, Turns}
 use Rattle.run_breaches.proofs.Places.{let_all, all_let, older, last_is, last_sent}
 
 some_is : (x y : Ballot) → Some x ≡ Some y → x ≡ y
@@ -76,11 +74,11 @@ module _ (n s : ℕ) (b : Ballot) where
     stays : (j : ℕ) (top : Ballot) → IsHighestReport n s before b j top → (Reports n s b (λ q. IsBelow top q.ballot) m → ⊥) → IsHighestReport n s longer b j top
     stays j top best no_more =
         let lt : j < length before = best.within in record {
-      within = omega (arith, lt, (last_sent before m).0);
-      here = λ d. subst (Reports n s b (λ q. q.ballot ≡ top)) (sym (get_or_append_left before (m ∷ []) d j lt)) (best.here d);
-      none_above = all_more (λ e. Reports n s b (λ q. IsBelow top q.ballot) e → ⊥) best.none_above no_more;
-      first = subst (All (λ e. Reports n s b (λ q. IsBelow q.ballot top → ⊥) e → ⊥)) (sym (front j (omega (arith, lt)))) best.first;
-    }
+          within = omega (arith, lt, (last_sent before m).0);
+          here = λ d. subst (Reports n s b (λ q. q.ballot ≡ top)) (sym (get_or_append_left before (m ∷ []) d j lt)) (best.here d);
+          none_above = all_more (λ e. Reports n s b (λ q. IsBelow top q.ballot) e → ⊥) best.none_above no_more;
+          first = subst (All (λ e. Reports n s b (λ q. IsBelow q.ballot top → ⊥) e → ⊥)) (sym (front j (omega (arith, lt)))) best.first;
+        }
 
     -- this message is the best where it reports above all before
     becomes : (h : Ballot) → found ≡ Some h → All (λ e. Reports n s b (λ q. IsBelow q.ballot h → ⊥) e → ⊥) before → IsHighestReport n s longer b (length before) h

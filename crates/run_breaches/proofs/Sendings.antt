@@ -1,5 +1,5 @@
 -- What a message says, as one of the messages of its slot.
-use Rattle.std.proofs.Common.{◌≡◌, ℕ, ◌<◌, Some, refl, ap, ◌∙◌}
+use Rattle.std.proofs.Common.{◌≡◌, ℕ, Some, ap, ◌∙◌}
 use Rattle.ballots.specs.Ballot.{Ballot}
 use Rattle.ballots.specs.declared.value.Value.{Value}
 use Rattle.ballots.specs.declared.acceptance.Acceptance.{Acceptance}

@@ -3,3 +3,4 @@ pub mod Rules
 pub mod Highest
 pub mod FirstBreach
 pub mod BreachLaws
+pub mod Slots

@@ -61,9 +61,7 @@ pub(crate) fn lets_report(
 {
     match &message.body {
         Body::Accepted(acceptance) => {
-            message.slot != at
-                || message.sender != node
-                || report_covers(report, acceptance.ballot)
+            message.slot != at || message.sender != node || report_covers(report, acceptance.ballot)
         }
         _ => true,
     }
@@ -157,8 +155,10 @@ pub(crate) fn reported_by(
     ensures { (h : Pair) → (result ≡ Some h) ↔ Reports members at promised (λ q. q.ballot ≡ h) message.now }
 {
     match &message.body {
-        Body::Promise { ballot, report: Some(reported) }
-            if message.slot == at && members.have(message.sender) && *ballot == promised => {
+        Body::Promise {
+            ballot,
+            report: Some(reported),
+        } if message.slot == at && members.have(message.sender) && *ballot == promised => {
             Some(reported.ballot)
         }
         _ => None,

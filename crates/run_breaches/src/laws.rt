@@ -1,6 +1,7 @@
 //! Laws of the rules of single messages.
 
 ghost use Rattle.run_breaches.specs.BreachLaws.{KeepingIsLawful, BreakingIsNotKeeping};
+ghost use Rattle.run_breaches.specs.Slots.{SlotsAreApart};
 
 use lawful_histories::laws::lawful_by_messages;
 
@@ -12,3 +13,8 @@ pub fn a_message_follows_where_it_keeps_the_rules()
 {
     lawful_by_messages();
 }
+
+/// A message keeps the rules after all messages before it exactly where it keeps them after those of its slot.
+pub fn slots_are_apart()
+    ensures { SlotsAreApart }
+{}

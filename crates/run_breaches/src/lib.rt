@@ -3,10 +3,15 @@
 //!
 //! `lawful_histories` says whether a run is lawful. `first_breach` is `None` exactly where it is, and else tells the place
 //! and the slot of the first message that breaks a rule, with each rule that it breaks and the first message before it
-//! that it goes against.
+//! that it goes against. `are_lawful_by_slot` says the same as `lawful_histories::are_lawful`, with an index by slot: a
+//! run of many slots takes seconds in place of minutes.
+//!
+//! The laws say what the rules of single messages are worth: after a lawful history a message may follow exactly where it
+//! keeps every rule, and messages of other slots have no part in that.
 #![tactic(auto)]
 
 mod breach;
+mod by_slot;
 mod earlier;
 mod finding;
 pub mod laws;
@@ -14,4 +19,5 @@ mod rules;
 mod searches;
 
 pub use breach::{Breach, BrokenRules};
+pub use by_slot::are_lawful_by_slot;
 pub use finding::first_breach;

@@ -129,7 +129,10 @@ fn broken_by_accepted(
     let not_proposed = !was_proposed(before, slot, acceptance.ballot, &acceptance.value);
     let below = first_bound_above(before, slot, node, acceptance.ballot);
     if not_proposed || below.is_some() {
-        return Some(BrokenRules::Accepted { not_proposed, below });
+        return Some(BrokenRules::Accepted {
+            not_proposed,
+            below,
+        });
     }
     None
 }

@@ -108,7 +108,10 @@ fn shows_safe(
     ensures { IsTrue result ↔ ShowsSafe members at before.now promised wanted.now message.now }
 {
     match &message.body {
-        Body::Promise { ballot, report: Some(reported) } => {
+        Body::Promise {
+            ballot,
+            report: Some(reported),
+        } => {
             message.slot == at
                 && members.have(message.sender)
                 && *ballot == promised
@@ -174,7 +177,11 @@ pub(crate) fn highest_report(
 {
     let mut best = None;
     for place in 0..before.len() {
-        best = better_of(best, place, reported_by(&before[place], members, slot, ballot));
+        best = better_of(
+            best,
+            place,
+            reported_by(&before[place], members, slot, ballot),
+        );
     }
     best
 }
@@ -191,7 +198,11 @@ fn better_of(
         (_, None) => best,
         (None, Some(ballot)) => Some((place, ballot)),
         (Some((_, highest)), Some(ballot)) => {
-            if highest.is_below(ballot) { Some((place, ballot)) } else { best }
+            if highest.is_below(ballot) {
+                Some((place, ballot))
+            } else {
+                best
+            }
         }
     }
 }

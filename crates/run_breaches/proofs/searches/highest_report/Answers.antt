@@ -1,5 +1,5 @@
-use Rattle.std.proofs.Common.{◌≡◌, ℕ, ◌+◌, ◌<◌, List, length, take, refl, sym, subst, arith}
-use Rattle.std.proofs.lemmas.List.{length-take-le, take_all}
+use Rattle.std.proofs.Common.{◌≡◌, ℕ, List, length, take, refl, sym, subst, arith}
+use Rattle.std.proofs.lemmas.List.{length-take-le}
 use Rattle.ballots.specs.declared.message.Message.{Message}
 use Rattle.run_breaches.specs.Highest.{Turns, IsBestOf}
 use Rattle.run_breaches.proofs.Sets.{one_more}

@@ -1,7 +1,6 @@
-use Rattle.std.proofs.Common.{◌≡◌, ℕ, ◌+◌, List, take, subst}
+use Rattle.std.proofs.Common.{ℕ, ◌+◌, List, take, subst}
 use Rattle.std.specs.List.{Any}
 use Rattle.std.proofs.lemmas.List.{take_all}
-use Rattle.ballots.specs.Majority.{NodeSet}
 use Rattle.ballots.specs.declared.message.Message.{Message}
 use Rattle.lawful_histories.specs.Judging.{IsSetOf}
 use Rattle.run_breaches.specs.Earlier.{Promises, IsWithin}
