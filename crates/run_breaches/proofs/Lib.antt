@@ -9,3 +9,4 @@ pub mod Chosen
 pub mod Found
 pub mod Filters
 pub mod Apart
+pub mod Told

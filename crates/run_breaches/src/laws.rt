@@ -1,6 +1,6 @@
 //! Laws of the rules of single messages.
 
-ghost use Rattle.run_breaches.specs.BreachLaws.{KeepingIsLawful, BreakingIsNotKeeping};
+ghost use Rattle.run_breaches.specs.BreachLaws.{KeepingIsLawful, BreakingIsNotKeeping, BreachesAreOne};
 ghost use Rattle.run_breaches.specs.Slots.{SlotsAreApart};
 
 use lawful_histories::laws::lawful_by_messages;
@@ -13,6 +13,11 @@ pub fn a_message_follows_where_it_keeps_the_rules()
 {
     lawful_by_messages();
 }
+
+/// What is told of a message is one: which rules it breaks, and for each the first message that it goes against.
+pub fn breaches_are_one()
+    ensures { BreachesAreOne }
+{}
 
 /// A message keeps the rules after all messages before it exactly where it keeps them after those of its slot.
 pub fn slots_are_apart()
