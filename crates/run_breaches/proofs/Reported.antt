@@ -1,17 +1,19 @@
 -- The highest report among the Promises of a ballot, message by message, and what it bounds.
-use Rattle.std.proofs.Common.{◌≡◌, ℕ, ◌<◌, ◌≤◌, ◌↔◌, inl, inr, IsSomeAnd, List, [], ◌∷◌, ◌++◌, length, take, Option, Some, None, refl, sym, subst, ◌∙◌, arith}
-use Rattle.std.specs.List.{All}
+use Rattle.std.proofs.Common.{◌≡◌, ◌≢◌, ℕ, ◌<◌, ◌≤◌, ◌↔◌, inl, inr, IsSomeAnd, List, [], ◌∷◌, ◌++◌, length, get_or, take, Option, Some, None, refl, sym, subst, ◌∙◌, arith}
+use Rattle.std.specs.List.{All, Any}
 use Rattle.std.proofs.lemmas.Bool.{cases_lt}
-use Rattle.std.proofs.lemmas.List.{take-append-le, get_or_push, get_or_append_left, take_all}
+use Rattle.std.proofs.lemmas.List.{take-append-le, get_or_push, get_or_append_left, get_or_default, take_all}
 use Rattle.ballots.specs.Ballot.{Ballot, IsBelow}
 use Rattle.ballots.proofs.CallerLemmas.{either_below, below_carried, not_below_itself}
 use Rattle.ballots.specs.declared.acceptance.Acceptance.{Acceptance}
 use Rattle.ballots.specs.declared.message.Message.{Message}
 use Rattle.ballots.specs.declared.message.Body.{Body}
 use Rattle.ballots.specs.declared.message.Body.TheVariants as body
-use Rattle.run_breaches.specs.Earlier.{IsPromiseWith, Reports}
+use Rattle.ballots.specs.declared.value.Value.{Value}
+use Rattle.run_breaches.specs.Earlier.{IsPromiseWith, Promises, Reports, IsPromised, MostPromised, IsWithin, IsSafe}
 use Rattle.run_breaches.specs.Rules.{IsHighestReport}
 use Rattle.run_breaches.specs.Highest.{IsBestOf, Turns}
+use Rattle.run_breaches.proofs.Majorities.{most_weaker}
 use Rattle.run_breaches.proofs.Places.{let_all, all_let, older, last_is, last_sent}
 
 some_is : (x y : Ballot) → Some x ≡ Some y → x ≡ y
@@ -107,3 +109,32 @@ module _ (n s : ℕ) (b : Ballot) where
           (reports_more (λ q. IsBelow q.ballot h → ⊥) (λ q. IsBelow best.1 q.ballot) (λ q p. above_not_below best.1 h q.ballot higher.0 p) e reports))))
       | inr lower ↦ subst (IsBestOf n s longer b) (sym lower.1) (stays best.0 best.1 highest (λ reports. lower.0 (found_here (λ c. IsBelow best.1 c) h is reports)))
     ]
+
+  -- ---- what the highest report bounds
+
+  module _ (before : List Message) where
+    within_top : (top : Ballot) (x : Body) → IsPromiseWith b (λ r. Unit {0}) x → (IsPromiseWith b (λ r. IsSomeAnd r (λ q. IsBelow top q.ballot)) x → ⊥) → IsPromiseWith b (IsWithin (Some top)) x
+    within_top top (body.Promise c None) promise none = (promise.0, tt)
+    within_top top (body.Promise c (Some q)) promise none = (promise.0, λ above. none (promise.0, above))
+    within_top top other promise none = absurd promise
+
+    bounded : (j : ℕ) (top : Ballot) → IsHighestReport n s before b j top → (a : ℕ) → a < n → Any (Promises s b (λ r. Unit {0}) a) before → Any (Promises s b (IsWithin (Some top)) a) before
+    bounded j top highest a lt h =
+        let none_above = all_let before (λ e. Reports n s b (λ q. IsBelow top q.ballot) e → ⊥) h.0 h.1 highest.none_above (h.2, h.3) in
+        (h.0, h.1, h.2, h.3, (h.4.0, h.4.1, within_top top h.1.body h.4.2 (λ reports. none_above (h.4.0, subst (λ (i : ℕ). i < n) (sym h.4.1) lt, reports))))
+
+    other_body : (top : Ballot) (v : Value) → MostPromised n s before b (IsWithin (Some top)) → (x : Body) → IsPromiseWith b (λ r. IsSomeAnd r (λ q. q.ballot ≡ top)) x
+        → (IsPromiseWith b (λ r. IsSomeAnd r (λ q. (q.value ≡ v) × MostPromised n s before b (IsWithin (Some q.ballot)))) x → ⊥) → IsPromiseWith b (λ r. IsSomeAnd r (λ q. q.value ≢ v)) x
+    other_body top v most (body.Promise c (Some q)) h unsafe =
+        (h.0, λ same. unsafe (h.0, (same, subst (λ (t : Ballot). MostPromised n s before b (IsWithin (Some t))) (sym h.1) most)))
+    other_body top v most (body.Promise c r) h unsafe = absurd h.1
+    other_body top v most other h unsafe = absurd h
+
+    -- where the value is not safe though a majority promised, the highest report has another
+    pub has_other_value : (v : Value) (j : ℕ) (top : Ballot) → IsHighestReport n s before b j top → IsPromised n s before b → (IsSafe n s before b v → ⊥)
+        → (d : Message) → Reports n s b (λ q. q.value ≢ v) (get_or before j d)
+    has_other_value v j top highest promised unsafe d =
+        let e : Message = get_or before j d in
+        let here : Reports n s b (λ q. q.ballot ≡ top) e = highest.here d in
+        let most = most_weaker n (λ a. Any (Promises s b (λ r. Unit {0}) a) before) (λ a. Any (Promises s b (IsWithin (Some top)) a) before) (bounded j top highest) promised in
+        (here.0, here.1, other_body top v most e.body here.2 (λ shown. unsafe (inr (j, e, highest.within, get_or_default before j e d highest.within, (here.0, here.1, shown)))))

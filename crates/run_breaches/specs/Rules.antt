@@ -1,6 +1,6 @@
 -- The rules of Paxos that a message keeps or breaks, by what was sent before it: Lamport, "Paxos Made Simple", section 2.2,
 -- and of a Decided section 2.3.
-use Rattle.std.specs.Prelude.{◌≡◌, ℕ, ◌<◌, ◌⊎◌, ◌↔◌, Bool, not, IsTrue, IsSome, List, length, take, get_or, Option, Some, None}
+use Rattle.std.specs.Prelude.{◌≡◌, ◌≢◌, ℕ, ◌<◌, ◌⊎◌, ◌↔◌, Bool, not, IsTrue, IsSome, List, length, take, get_or, Option, Some, None}
 use Rattle.std.specs.List.{All}
 use Rattle.ballots.specs.Ballot.{Ballot, IsBelow}
 use Rattle.ballots.specs.declared.value.Value.{Value}
@@ -78,18 +78,22 @@ abbrev pub TellsReport : ℕ → ℕ → List Message → Ballot → Value → O
 TellsReport n s before b v None = IsPromised n s before b → IsSafe n s before b v
 TellsReport n s before b v (Some j) =
     IsPromised n s before b × (IsSafe n s before b v → ⊥) × ((top : Ballot) × IsHighestReport n s before b j top)
+    × ((d : Message) → Reports n s b (λ q. q.value ≢ v) (get_or before j d))
 
+-- what is told of a Promise, rule by rule
 pub record BreaksPromise (s : ℕ) (before : List Message) (a : ℕ) (b : Ballot) (r : Report) (not_above unreported : Option ℕ) (report_not_below report_not_proposed : Bool) : Type 0 where
   pub above : IsFirstAgainst before (LetsPromise s a b) not_above
   pub highest : IsFirstAgainst before (LetsReport s a r) unreported
   pub below : Tells report_not_below (IsReportBelow r b)
   pub proposed : Tells report_not_proposed (IsReportProposed s before r)
 
+-- what is told of an Accept
 pub record BreaksAccept (n s : ℕ) (before : List Message) (b : Ballot) (v : Value) (second_value : Option ℕ) (not_promised : Bool) (not_reported : Option ℕ) : Type 0 where
   pub only : IsFirstAgainst before (LetsPropose s b v) second_value
   pub promised : Tells not_promised (IsPromised n s before b)
   pub reported : TellsReport n s before b v not_reported
 
+-- what is told of an Accepted
 pub record BreaksAccepted (s : ℕ) (before : List Message) (a : ℕ) (b : Ballot) (v : Value) (not_proposed : Bool) (below : Option ℕ) : Type 0 where
   pub proposed : Tells not_proposed (WasProposed s before b v)
   pub least : IsFirstAgainst before (LetsAccept s a b) below
