@@ -1,6 +1,6 @@
 //! A run judged slot by slot: each message after those of its slot alone.
 
-ghost use Rattle.std.specs.Prelude.{◌≡◌, ◌↔◌, ◌<◌, List, [], IsTrue, IfOk, OnOk, MatchBool, length};
+ghost use Rattle.std.specs.Prelude.{◌≡◌, ◌↔◌, ◌<◌, List, [], IsTrue, IfOk, OnErr, MatchBool, length};
 ghost use Rattle.indexmap.specs.IndexMap.{spare};
 ghost use Rattle.ballots.specs.Slots.{OthersStay, SetsSlot};
 ghost use Rattle.lawful_histories.specs.Lawful.{IsLawful};
@@ -33,14 +33,15 @@ impl Model for SlotMessages {
 /// Whether messages that so many members sent, in this order, are lawful, as `lawful_histories::are_lawful` says
 /// (Lamport, *Paxos Made Simple*, section 2).
 ///
-/// It keeps a clone of each message, which shares an upload's bytes, in an index by slot. Its time grows with the number
-/// of messages, and at most with the square of the number of one slot's messages.
+/// It keeps a clone of each message, which shares an upload's bytes, in an index by slot, and takes memory for nothing
+/// else. Its time grows with the number of messages, and at most with the square of the number of one slot's messages.
 pub fn are_lawful_by_slot(
     alloc: Global,
     members: Members,
     sent: &[Message],
 ) -> Result<bool, OutOfMemory>
-    ensures { IfOk result (λ lawful. IsTrue lawful ↔ IsLawful members sent.now) }
+    ensures lawful { IfOk result (λ lawful. IsTrue lawful ↔ IsLawful members sent.now) }
+    ensures memory { OnErr result (0 < length sent.now) }
 {
     beginnings_are_lawful();
     a_message_follows_where_it_keeps_the_rules();

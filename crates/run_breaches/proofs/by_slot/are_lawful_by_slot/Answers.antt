@@ -7,8 +7,8 @@ use Rattle.run_breaches.specs.Slots.{messages_at, Joins}
 use Rattle.run_breaches.proofs.Apart.{refused, joined}
 use Rattle.run_breaches.proofs.by_slot.are_lawful_by_slot.Goals as goal
 
-pub returns-then-not-branch : goal.returns-then-not-branch
-returns-then-not-branch c =
+pub returns-then-not-branch-clause-lawful : goal.returns-then-not-branch-clause-lawful
+returns-then-not-branch-clause-lawful c =
     let n : ℕ = c.args.members in
     let sent : List Message = c.args.sent.now in
     let m : Message = c.index-sent-place.result in
@@ -30,7 +30,7 @@ loop-place-preserved c =
     c.if-not-branch.false c.in_ok-joins.ensures in
     joined n c.args.sent.now c.loop-place.place m c.loop-place-test.true c.index-sent-place.is c.a_message_follows_where_it_keeps_the_rules.ensures.lawful c.loop-place.slots.entries c.joins.new.slots.entries told.1 told.0 c.loop-place.invariant
 
-pub returns : goal.returns
-returns c =
+pub returns-clause-lawful : goal.returns-clause-lawful
+returns-clause-lawful c =
     let whole : IsLawful c.args.members c.args.sent.now = subst (IsLawful c.args.members) (take_all c.loop-place.place c.args.sent.now c.loop-place-test.false) c.loop-place.invariant.0 in
     ((λ e. whole), (λ lawful. refl))
