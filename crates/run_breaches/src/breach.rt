@@ -46,6 +46,7 @@ pub enum BrokenRules {
         /// Its sender had promised a higher ballot, or accepted at one, by the message in this place.
         below: Option<usize>,
     },
-    /// A Decided breaks the one rule that there is for it: at no ballot had a majority accepted its value (section 2.3).
+    /// A Decided breaks the one rule that there is for it: at no ballot had a majority accepted its value (section
+    /// 2.3).
     Decided,
 }

@@ -96,7 +96,8 @@ pub(crate) fn is_safe(
         || before.iter().any(|message| shows_safe(members, before, message, slot, ballot, value))
 }
 
-// Whether it is a member's Promise of the ballot that reports this value, and a majority promised with no higher report.
+// Whether it is a member's Promise of the ballot that reports this value, and a majority promised with no higher
+// report.
 fn shows_safe(
     members: Members,
     before: &[Message],
