@@ -1,0 +1,4 @@
+pub mod Methods
+pub mod Statuses
+pub mod Names
+pub mod Texts

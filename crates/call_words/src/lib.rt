@@ -1,0 +1,16 @@
+//! The words of Flight calls: which method a path asks for, what a descriptor names, and with which status and text a call
+//! ends.
+#![tactic(auto)]
+
+mod back_fault;
+pub mod laws;
+mod method;
+mod names;
+mod refusal;
+mod status;
+
+pub use back_fault::BackFault;
+pub use method::{Method, SERVICE};
+pub use names::{id_digits, id_in, table_in, upload_in};
+pub use refusal::Refusal;
+pub use status::Status;
