@@ -1,0 +1,6 @@
+pub mod Requests
+pub mod Faults
+pub mod Replies
+pub mod Serving
+pub mod Backing
+pub mod Reading

@@ -1,0 +1,75 @@
+//! What stands behind the calls of one connection.
+
+ghost use Rattle.std.specs.Prelude.{◌≡◌, ◌++◌, ◌∷◌, [], ℕ, List, IfOk, IfErr, OnOk};
+ghost use Rattle.header_types.specs.Fields.{SchemaTree};
+ghost use Rattle.table_types.specs.Uploads.{schema_text};
+ghost use Rattle.table_types.specs.Valid.{FitsFrame};
+ghost use Rattle.table_types.specs.Tables.{Version};
+ghost use Rattle.table_types.specs.Answers.{answer_of};
+ghost use Rattle.table_versions.specs.Outcomes.{told};
+ghost use Rattle.flight_calls.specs.Requests.{Request, describes, shows, lists, serves, puts};
+ghost use Rattle.flight_calls.specs.Replies.{BackAnswer, Description, described, shown, listed, served, decided, failed};
+ghost use Rattle.flight_calls.specs.Backing.{Describes, DescribeAll};
+
+use crate::described::Described;
+use call_words::BackFault;
+use std::alloc::Global;
+use table_versions::Outcome;
+use tickets::Ticket;
+use uploads::Upload;
+
+/// What stands behind the calls of one connection: it takes uploads, and tells of tables. It names which answers each call
+/// may give, so that whoever serves a call over it can say what goes out.
+pub trait Backend {
+    /// What it may answer to a request, as it is when it is asked.
+    ghost may_answer: { Self → Request → BackAnswer → Type 0 };
+
+    /// The encodings of the uploads that it was handed, in order.
+    ghost handed: { Self → List (List ℕ) };
+
+    /// What it may be after an upload was put that it took.
+    ghost leaves: { Self → List ℕ → Self → Type 0 };
+
+    /// Hands over an upload. After a fault it was handed over too.
+    fn put(&mut self, upload: &Upload) -> Result<(), BackFault>
+        ensures hands { handed self.new ≡ handed self.old ++ upload.now ∷ [] }
+        ensures leaves { OnOk result (leaves self.old upload.now self.new) }
+        ensures fault { IfErr result (λ fault. may_answer self.old (puts upload.now) (failed fault)) };
+
+    /// What has become of an upload that was put; it may wait until that is known.
+    fn outcome(&mut self, upload: &Upload) -> Result<Outcome, BackFault>
+        ensures decided { IfOk result
+            (λ outcome. may_answer self.old (puts upload.now) (decided (told outcome))) }
+        ensures fault { IfErr result (λ fault. may_answer self.old (puts upload.now) (failed fault)) }
+        ensures same { handed self.new ≡ handed self.old };
+
+    /// The bytes that answer a ticket: the frames of the version that it asks for.
+    fn get(&mut self, alloc: Global, ticket: &Ticket) -> Result<Vec<u8>, BackFault>
+        ensures served { IfOk result (λ bytes. (version : Version)
+            × may_answer self.old (serves ticket.now) (served version) × (bytes.items ≡ answer_of version)) }
+        ensures fault { IfErr result (λ fault. may_answer self.old (serves ticket.now) (failed fault)) }
+        ensures same { handed self.new ≡ handed self.old };
+
+    /// What is told of the latest version of a table, and where it is served.
+    fn info(&mut self, alloc: Global, table: &str) -> Result<Described, BackFault>
+        ensures described { IfOk result (λ found. (description : Description)
+            × may_answer self.old (describes table.now) (described description) × Describes found description) }
+        ensures fault { IfErr result (λ fault. may_answer self.old (describes table.now) (failed fault)) }
+        ensures same { handed self.new ≡ handed self.old };
+
+    /// The message with the schema of a table (Apache Arrow, "Schema.fbs"), as it is written, no longer than a frame's
+    /// payload.
+    fn schema(&mut self, alloc: Global, table: &str) -> Result<Vec<u8>, BackFault>
+        ensures shown { IfOk result (λ bytes. (schema : SchemaTree)
+            × may_answer self.old (shows table.now) (shown schema) × (bytes.items ≡ schema_text schema)
+            × FitsFrame bytes.items) }
+        ensures fault { IfErr result (λ fault. may_answer self.old (shows table.now) (failed fault)) }
+        ensures same { handed self.new ≡ handed self.old };
+
+    /// What is told of the latest version of each table.
+    fn list(&mut self, alloc: Global) -> Result<Vec<Described>, BackFault>
+        ensures listed { IfOk result (λ all. (descriptions : List Description)
+            × may_answer self.old lists (listed descriptions) × DescribeAll all.items descriptions) }
+        ensures fault { IfErr result (λ fault. may_answer self.old lists (failed fault)) }
+        ensures same { handed self.new ≡ handed self.old };
+}
