@@ -11,7 +11,7 @@ use std::sync::Arc;
 
 #[allow(dead_code)]
 #[path = "plain_batches.rs"]
-mod plain_batches;
+pub(crate) mod plain_batches;
 
 const MAX_NAME_BYTES: usize = 64;
 const MAX_BATCHES: usize = 1_024;
@@ -28,7 +28,7 @@ fn put_varint(out: &mut Vec<u8>, mut number: u64) {
     out.push(number as u8);
 }
 
-fn put_bytes(out: &mut Vec<u8>, number: u64, bytes: &[u8]) {
+pub(crate) fn put_bytes(out: &mut Vec<u8>, number: u64, bytes: &[u8]) {
     if !bytes.is_empty() {
         put_varint(out, 8 * number + 2);
         put_varint(out, bytes.len() as u64);
@@ -59,7 +59,7 @@ fn take_varint(bytes: &mut &[u8]) -> Option<u64> {
 }
 
 /// The bytes of a field of this number at the front.
-fn take_bytes<'a>(bytes: &mut &'a [u8], number: u64) -> Option<&'a [u8]> {
+pub(crate) fn take_bytes<'a>(bytes: &mut &'a [u8], number: u64) -> Option<&'a [u8]> {
     if take_varint(bytes)? != 8 * number + 2 {
         return None;
     }
@@ -80,7 +80,7 @@ fn fits_frame(header: usize, metadata: usize, body: usize) -> bool {
     field_length(2, header) + field_length(3, metadata) + field_length(1_000, body) <= MAX_FRAME
 }
 
-struct Parts<'a> {
+pub(crate) struct Parts<'a> {
     table: &'a str,
     id: [u8; 16],
     schema: &'a [u8],
@@ -152,7 +152,7 @@ fn frames_of(parts: &Parts) -> Vec<u8> {
 }
 
 /// The schema and the rows of an encoding that is one.
-fn checked(text: &[u8]) -> Option<(Parts<'_>, Schema, u64)> {
+pub(crate) fn checked(text: &[u8]) -> Option<(Parts<'_>, Schema, u64)> {
     let parts = parts(text).filter(|_| text.len() <= MAX_BYTES)?;
     let Ok(Header::Schema(schema)) = plain_headers::read(parts.schema) else {
         return None;
@@ -178,24 +178,24 @@ fn upload_of(text: &Arc<[u8]>) -> Option<Upload> {
 
 #[derive(Clone, Copy)]
 #[allow(dead_code)]
-enum Outcome {
+pub(crate) enum Outcome {
     Applied(u64),
     SchemaMismatch,
 }
 
-struct Table {
+pub(crate) struct Table {
     schema: Schema,
     schema_frame: Vec<u8>,
-    frames: Vec<Vec<u8>>,
+    pub(crate) frames: Vec<Vec<u8>>,
     records: u64,
     total_bytes: u64,
 }
 
 #[derive(Default)]
 #[allow(dead_code)]
-struct Tables {
-    firsts: HashMap<[u8; 16], (Arc<[u8]>, Outcome)>,
-    tables: HashMap<String, Table>,
+pub(crate) struct Tables {
+    pub(crate) firsts: HashMap<[u8; 16], (Arc<[u8]>, Outcome)>,
+    pub(crate) tables: HashMap<String, Table>,
     names: Vec<String>,
     taken: u64,
 }
@@ -212,7 +212,7 @@ fn same_field(one: &Field, two: &Field) -> bool {
 }
 
 impl Tables {
-    fn take(&mut self, value: &Arc<[u8]>) {
+    pub(crate) fn take(&mut self, value: &Arc<[u8]>) {
         self.taken += 1;
         if let Some(upload) = upload_of(value) {
             self.take_upload(upload);
@@ -252,7 +252,7 @@ impl Tables {
         Outcome::Applied(1)
     }
 
-    fn answer(&self, name: &str, version: usize) -> Option<Vec<u8>> {
+    pub(crate) fn answer(&self, name: &str, version: usize) -> Option<Vec<u8>> {
         let table = self.tables.get(name)?;
         let frames = table.frames.get(..version)?;
         let length = table.schema_frame.len() + frames.iter().map(Vec::len).sum::<usize>();
@@ -297,7 +297,7 @@ fn batch_of(rows: usize) -> Vec<u8> {
     batch
 }
 
-fn generated(uploads: u64, tables: u64, batches: usize, rows: usize) -> Vec<u8> {
+pub(crate) fn generated(uploads: u64, tables: u64, batches: usize, rows: usize) -> Vec<u8> {
     let (schema, batch) = (plain_headers::encoded(&Header::Schema(int8())), batch_of(rows));
     let mut out = Vec::new();
     for number in 0..uploads {
@@ -314,7 +314,7 @@ fn generated(uploads: u64, tables: u64, batches: usize, rows: usize) -> Vec<u8> 
 
 // ---- the tasks of flight_bench
 
-fn values(mut bytes: &[u8]) -> Option<Vec<Arc<[u8]>>> {
+pub(crate) fn values(mut bytes: &[u8]) -> Option<Vec<Arc<[u8]>>> {
     let mut values = Vec::new();
     while !bytes.is_empty() {
         let (count, rest) = bytes.split_first_chunk()?;
