@@ -4,6 +4,7 @@ use flatbuf_meta::MetaFault;
 use hex::FromHexError;
 use proto_wire::WireFault;
 use record_batches::BatchFault;
+use run_tasks::RunTaskFault;
 use std::alloc::AllocError;
 use std::io;
 use table_tasks::TableTaskFault;
@@ -43,6 +44,9 @@ pub(crate) enum RunFault {
     /// What ended a task with uploads and tables.
     #[error("{0}")]
     Tables(TableTaskFault),
+    /// What ended a task with runs of nodes.
+    #[error("{0}")]
+    Runs(RunTaskFault),
     /// A read or a write failed.
     #[error("Io")]
     Io,
@@ -83,6 +87,15 @@ impl From<TableTaskFault> for RunFault {
         match fault {
             TableTaskFault::OutOfMemory => RunFault::OutOfMemory,
             _ => RunFault::Tables(fault),
+        }
+    }
+}
+
+impl From<RunTaskFault> for RunFault {
+    fn from(fault: RunTaskFault) -> RunFault {
+        match fault {
+            RunTaskFault::OutOfMemory => RunFault::OutOfMemory,
+            _ => RunFault::Runs(fault),
         }
     }
 }

@@ -1,6 +1,6 @@
 //! Reads and writes the messages of Arrow Flight, the headers of Arrow's metadata and batches, and calls the parts of a
-//! Paxos node and the tables that uploads make, to be measured and compared from outside. `flight_bench TASK COUNT FILE` does its task so many times on what
-//! the file holds.
+//! Paxos node, the tables that uploads make and runs of whole nodes, to be measured and compared from outside.
+//! `flight_bench TASK COUNT FILE` does its task so many times on what the file holds.
 //!
 //! A task that is timed takes the file's bytes as they are, and prints the count and a sum that depends on each
 //! repetition. A task `reencode-..` takes a line of hexadecimal digits a message, and prints a line for each: the bytes
@@ -24,6 +24,7 @@ use headers::{decode_header, encode_header};
 use lines::line_made_of;
 use messages::{Format, decode_data, decode_info, encode_data, encode_info};
 use parts::{call_acceptor, call_learner, call_log, report_value};
+use run_tasks::run_often;
 use std::alloc::Global;
 use std::fs;
 use std::hash::RandomState;
@@ -105,6 +106,7 @@ fn repeat(rt: &HostRuntime, work: Work, count: u64, bytes: &[u8]) -> Result<u64,
         Work::HoldUploads => Ok(hold_all(alloc, RandomState::new(rt)?, count, bytes)?),
         Work::DecodeUploads => Ok(decode_uploads(alloc, count, bytes)?),
         Work::AnswerTickets => Ok(answer_often(alloc, RandomState::new(rt)?, count, bytes)?),
+        Work::RunEvents => Ok(run_often(alloc, RandomState::new(rt)?, count, bytes)?),
     }
 }
 

@@ -51,6 +51,8 @@ pub(crate) enum Work {
     DecodeUploads,
     /// Tables take them once, and answer a ticket each time.
     AnswerTickets,
+    /// Nodes decide the file's uploads each time.
+    RunEvents,
 }
 
 /// The words of all tasks.
@@ -72,6 +74,7 @@ const TASKS: &[&str] = &[
     "hold-uploads",
     "decode-uploads",
     "answer-tickets",
+    "run-events",
     "reencode-descriptor",
     "reencode-ticket",
     "reencode-location",
@@ -120,7 +123,7 @@ fn count_argument<'a>(alloc: Global) -> Arg<'a> {
 
 fn file_argument<'a>(alloc: Global) -> Arg<'a> {
     Arg::new(alloc, "FILE").required(true).help(
-        "The bytes of one message, of a schema, a batch's header and a body, or of uploads; for reencode, a line of hexadecimal digits for each",
+        "The bytes of one message, of a schema, a batch's header and a body, of uploads, or of a run; for reencode, a line of hexadecimal digits for each",
     )
 }
 
@@ -174,6 +177,7 @@ fn work_named(word: &str) -> Option<Work> {
         "hold-uploads" => Some(Work::HoldUploads),
         "decode-uploads" => Some(Work::DecodeUploads),
         "answer-tickets" => Some(Work::AnswerTickets),
+        "run-events" => Some(Work::RunEvents),
         _ => None,
     }
 }
