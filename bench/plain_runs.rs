@@ -1,7 +1,7 @@
 //! Whole Paxos nodes in plain Rust, over the maps of std, with nothing proved: what `flight_bench` is timed against. A run
 //! is a list of events, each of which happens to one node, with what it gives, and all messages that were sent.
-//! `generate MEMBERS UPLOADS BATCHES ROWS` writes a file of a run: how many members and slots there are, and so many
-//! uploads, each behind its length, of one column of Int8 to one table. `run-events COUNT FILE` does what `flight_bench`
+//! `generate MEMBERS UPLOADS BATCHES ROWS` writes a file of a run: how many members there are, a slot for each upload,
+//! and the uploads, each behind its length, of one column of Int8 to one table. `run-events COUNT FILE` does what `flight_bench`
 //! does at these words. `play FILE` plays events that are told a line each, and prints the lines that
 //! tools/runs_model.py prints.
 use plain_tables::plain_batches::bytes_weight;
@@ -18,6 +18,7 @@ use std::sync::Arc;
 mod plain_tables;
 
 const MAX_ROUND: u32 = 4_000_000_000;
+const MAX_SLOTS: Slot = 1_000_000;
 const MOST_LEFT: u8 = 7;
 const MAX_ASKED: usize = 16;
 
@@ -717,7 +718,8 @@ fn plan_in(bytes: &[u8]) -> Option<Plan> {
     let (members, bytes) = bytes.split_first_chunk()?;
     let (slots, bytes) = bytes.split_first_chunk()?;
     let members = u8::try_from(u32::from_le_bytes(*members)).ok().filter(|members| (1..=7).contains(members))?;
-    let config = Config { members, slots: u32::from_le_bytes(*slots) };
+    let slots = Some(u32::from_le_bytes(*slots)).filter(|slots| (1..=MAX_SLOTS).contains(slots))?;
+    let config = Config { members, slots };
     let uploads = values(bytes)?.into_iter().map(Upload::decode).collect::<Option<_>>()?;
     Some(Plan { config, uploads })
 }
@@ -836,7 +838,7 @@ fn main() -> io::Result<()> {
     match words.iter().map(String::as_str).collect::<Vec<_>>()[..] {
         ["generate", members, uploads, batches, rows] => {
             let laid = generated(number(uploads)?.into(), 1, number(batches)? as usize, number(rows)? as usize);
-            let head = [number(members)?.to_le_bytes(), number(uploads)?.to_le_bytes()].concat();
+            let head = [number(members)?.to_le_bytes(), number(uploads)?.max(1).to_le_bytes()].concat();
             io::stdout().write_all(&[head, laid].concat())
         }
         ["run-events", count, file] => {

@@ -1,0 +1,67 @@
+#!/usr/bin/env bash
+# Times runs of whole nodes by `flight_bench`, beside the same nodes in plain Rust over the maps of std
+# (bench/plain_runs.rs, rustc -O): a leader of three members that loses no message and has uploads decided, one after
+# the other, 100, 1,000 and 10,000 of one batch of three numbers of eight bits, and 100 and 1,000 of 64 KiB. An upload is
+# twenty events: it is put, a tick begins, its Prepare goes to all, their three promises to the leader, its Accept to all,
+# and what each of the three accepted to all. Each line gives the processor time of one event, the least of fifteen short
+# runs of each program in turn without the time that an empty run takes, its instructions where valgrind is there, and
+# the ratios. Then it measures memory: the peak resident size of a run, and what of it, without the file itself and the
+# program, there is for each byte of the uploads: the uploads, what three nodes hold of them, their records, all messages
+# that were sent and all steps. First it shows that the plain nodes give what tools/runs_model.py says of each event of
+# many schedules, and that both programs add up to the same sums over all messages and steps.
+cd "$(dirname "${BASH_SOURCE[0]}")/.."
+source bench/programs.sh plain_runs
+
+python3 -B bench/model_runs.py "$plain" "$work/schedule" 200
+"$plain" generate 3 0 1 3 >"$work/empty"
+for uploads in 100 1000 10000; do "$plain" generate 3 "$uploads" 1 3 >"$work/small-$uploads"; done
+for uploads in 100 1000; do "$plain" generate 3 "$uploads" 1 65536 >"$work/large-$uploads"; done
+for members in 1 2 4 5 7; do
+  "$plain" generate "$members" 20 2 5 >"$work/members-$members"
+  agree run-events 2 "$work/members-$members"
+done
+for file in small-100 small-1000 small-10000 large-100 large-1000; do
+  agree run-events 1 "$work/$file"
+done
+echo "all tallies agree"
+
+PYTHONPATH=bench python3 -B - "$proved" "$plain" "$work" <<'P'
+import os
+import subprocess
+import sys
+from timing import Cost, compared, in_turn, less
+
+proved, plain, work = sys.argv[1:]
+EVENTS = 20  # for each upload, of three members
+NAMES = {"small": "a batch of three numbers", "large": "64 KiB"}
+
+def timed(size, uploads):  # what one event costs both
+    runs = in_turn([(proved, "run-events"), (plain, "run-events")], f"{work}/{size}-{uploads}")
+    return [less(run, Cost(0, 0), EVENTS * uploads + 3) for run in runs]
+
+for size, counts in (("small", (100, 1_000, 10_000)), ("large", (100, 1_000))):
+    took = {uploads: timed(size, uploads) for uploads in counts}
+    for uploads, costs in took.items():
+        print(compared(f"an event, {uploads:,} uploads of {NAMES[size]}", *costs))
+    grown = [after.seconds / before.seconds for before, after in zip(took[counts[0]], took[counts[-1]])]
+    times = f"{grown[0]:.2f} times as long, in plain Rust {grown[1]:.2f} times"
+    print(f"from {counts[0]:,} to {counts[-1]:,} uploads of {NAMES[size]} an event takes {times}")
+
+def peak(program, path):  # bytes
+    child = subprocess.Popen([program, "run-events", "1", path], stdout=subprocess.DEVNULL)
+    _, status, usage = os.wait4(child.pid, 0)
+    if status:
+        sys.exit(f"run-events 1 {path}: status {status}")
+    return usage.ru_maxrss * 1024
+
+for size, counts in (("small", (100, 1_000, 10_000)), ("large", (100, 1_000))):
+    for uploads in counts:
+        path = f"{work}/{size}-{uploads}"
+        file = os.path.getsize(path)
+        put = file - 8 - 4 * uploads
+        for program, name in ((proved, "flight_bench"), (plain, "plain Rust")):
+            most = peak(program, path)
+            held = most - peak(program, f"{work}/empty") - file
+            of_each = f"{held / put:.2f} bytes for each byte put"
+            print(f"{uploads:,} uploads of {NAMES[size]}, {put:,} bytes: {name} peaks at {most / 2**20:.1f} MiB, {of_each}")
+P
