@@ -1,8 +1,8 @@
-//! Whole Paxos nodes in plain Rust, over the maps of std, with nothing proved: what `flight_bench` is timed against. A run
-//! is a list of events, each of which happens to one node, with what it gives, and all messages that were sent.
+//! Whole Paxos nodes in plain Rust, over the maps of std, with nothing proved: what `flight_bench` is timed against. A
+//! run is a list of events, each of which happens to one node, with what it gives, and all messages that were sent.
 //! `generate MEMBERS UPLOADS BATCHES ROWS` writes a file of a run: how many members there are, a slot for each upload,
-//! and the uploads, each behind its length, of one column of Int8 to one table. `run-events COUNT FILE` does what `flight_bench`
-//! does at these words. `play FILE` plays events that are told a line each, and prints the lines that
+//! and the uploads, each behind its length, of one column of Int8 to one table. `run-events COUNT FILE` does what
+//! `flight_bench` does at these words. `play FILE` plays events that are told a line each, and prints the lines that
 //! tools/runs_model.py prints.
 use plain_tables::plain_batches::bytes_weight;
 use plain_tables::{checked, generated, take_bytes, values, Outcome, Tables};
@@ -198,7 +198,14 @@ impl Proposer {
     }
 
     /// The value to propose, where the promise makes the majority.
-    fn on_promise(&mut self, members: u8, sender: u8, slot: Slot, ballot: Ballot, report: Option<Acceptance>) -> Option<Value> {
+    fn on_promise(
+        &mut self,
+        members: u8,
+        sender: u8,
+        slot: Slot,
+        ballot: Ballot,
+        report: Option<Acceptance>,
+    ) -> Option<Value> {
         let attempt = self.attempt_at(slot, ballot).filter(|attempt| !attempt.counted.contains(sender))?;
         attempt.counted = attempt.counted.with(sender);
         let choice = attempt.choice.as_mut()?;
@@ -687,8 +694,8 @@ fn event_of(words: &[&str], uploads: &[Upload]) -> Option<Event> {
     })
 }
 
-/// Plays a text whose first line has the members and the slots; a line with one word is an upload in hexadecimal digits,
-/// each other line an event.
+/// Plays a text whose first line has the members and the slots. A line with one word is an upload in hexadecimal
+/// digits, each other line an event.
 fn play(text: &str) -> Option<String> {
     let mut lines = text.lines().map(|line| line.split(' ').collect::<Vec<_>>());
     let [members, slots] = lines.next()?[..] else {

@@ -1,14 +1,14 @@
 #!/usr/bin/env bash
 # Times runs of whole nodes by `flight_bench`, beside the same nodes in plain Rust over the maps of std
 # (bench/plain_runs.rs, rustc -O): a leader of three members that loses no message and has uploads decided, one after
-# the other, 100, 1,000 and 10,000 of one batch of three numbers of eight bits, and 100 and 1,000 of 64 KiB. An upload is
-# twenty events: it is put, a tick begins, its Prepare goes to all, their three promises to the leader, its Accept to all,
-# and what each of the three accepted to all. Each line gives the processor time of one event, the least of fifteen short
-# runs of each program in turn without the time that an empty run takes, its instructions where valgrind is there, and
-# the ratios. Then it measures memory: the peak resident size of a run, and what of it, without the file itself and the
-# program, there is for each byte of the uploads: the uploads, what three nodes hold of them, their records, all messages
-# that were sent and all steps. First it shows that the plain nodes give what tools/runs_model.py says of each event of
-# many schedules, and that both programs add up to the same sums over all messages and steps.
+# the other: 100, 1,000 and 10,000 of one batch of three numbers of eight bits, and 100 and 1,000 of 64 KiB. An upload
+# is twenty events: it is put, a tick begins, its Prepare goes to all, their three promises to the leader, its Accept to
+# all, and what each of the three accepted to all. Each line gives the processor time of one event, the least of fifteen
+# short runs of each program in turn without the time that an empty run takes, its instructions where valgrind is there,
+# and the ratios. Then it measures memory: the peak resident size of a run, and what of it, without the file itself and
+# the program, there is for each byte of the uploads: the uploads, what three nodes hold of them, their records, all
+# messages that were sent and all steps. First it shows that the plain nodes give what tools/runs_model.py says of each
+# event of many schedules, and that both programs add up to the same sums over all messages and steps.
 cd "$(dirname "${BASH_SOURCE[0]}")/.."
 source bench/programs.sh plain_runs
 
@@ -62,6 +62,6 @@ for size, counts in (("small", (100, 1_000, 10_000)), ("large", (100, 1_000))):
         for program, name in ((proved, "flight_bench"), (plain, "plain Rust")):
             most = peak(program, path)
             held = most - peak(program, f"{work}/empty") - file
-            of_each = f"{held / put:.2f} bytes for each byte put"
-            print(f"{uploads:,} uploads of {NAMES[size]}, {put:,} bytes: {name} peaks at {most / 2**20:.1f} MiB, {of_each}")
+            both = f"{most / 2**20:.1f} MiB, {held / put:.2f} bytes for each byte put"
+            print(f"{uploads:,} uploads of {NAMES[size]}, {put:,} bytes: {name} peaks at {both}")
 P

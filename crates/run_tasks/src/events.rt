@@ -32,8 +32,8 @@ fn push_from_all(events: &mut Vec<Event>, members: u8, first: u64) -> Result<(),
     Ok(())
 }
 
-/// What happens so that one upload is decided at the first of the members and learned by all of them: its Prepare, which
-/// has this number, goes to all, their promises to the first, its Accept to all, and what each accepted to all. Gives the
+/// What happens so that one upload is decided at the first of the members and learned by all: its Prepare, which has this
+/// number, goes to all of them, their promises to the first, its Accept to all, and what each accepted to all. Gives the
 /// number of the message that is sent next.
 fn push_decision(
     events: &mut Vec<Event>,

@@ -28,8 +28,8 @@ fn run_weight(
     Ok(trace_weight(&trace))
 }
 
-/// Plays a leader that loses no message so many times, each time over new nodes. A repetition weighs the number of messages
-/// that are sent, each of them, and what each event gives.
+/// Plays a leader that loses no message so many times, each time over new nodes. A repetition weighs the number of
+/// messages that are sent, each of them, and what each event gives.
 pub fn run_often(
     alloc: Global,
     hashing: RandomState,

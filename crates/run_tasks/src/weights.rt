@@ -17,10 +17,7 @@ fn bytes_weight(bytes: &[u8]) -> u64 {
 }
 
 fn ballot_weight(ballot: Ballot) -> u64 {
-    mixed(
-        u64::from(ballot.round()),
-        u64::from(ballot.node().number()),
-    )
+    mixed(u64::from(ballot.round()), u64::from(ballot.node().number()))
 }
 
 fn value_weight(value: &Value) -> u64 {
