@@ -1,6 +1,6 @@
-"""`model_runs.py PROGRAM FILE COUNT` plays schedules by `PROGRAM play FILE`, each written into the file, and ends with status 1
-where a line is not that of tools/runs_model.py: those of examples/, those of leaders that lose no message, and COUNT
-drawn ones."""
+"""`model_runs.py PROGRAM FILE COUNT` plays schedules by `PROGRAM play FILE`, each written into the file, and ends with
+status 1 where a line is not that of tools/runs_model.py: those of examples/, those of leaders that lose no message, and
+COUNT drawn ones."""
 import subprocess
 import sys
 from pathlib import Path

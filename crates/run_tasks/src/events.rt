@@ -32,9 +32,9 @@ fn push_from_all(events: &mut Vec<Event>, members: u8, first: u64) -> Result<(),
     Ok(())
 }
 
-/// What happens so that one upload is decided at the first of the members and learned by all: its Prepare, which has this
-/// number, goes to all of them, their promises to the first, its Accept to all, and what each accepted to all. Gives the
-/// number of the message that is sent next.
+/// What happens so that one upload is decided at the first of the members and learned by all: its Prepare, which has
+/// this number, goes to all of them, their promises to the first, its Accept to all, and what each accepted to all.
+/// Gives the number of the message that is sent next.
 fn push_decision(
     events: &mut Vec<Event>,
     members: u8,
