@@ -39,20 +39,24 @@ def timed(size, uploads):  # what one event costs both
     runs = in_turn([(proved, "run-events"), (plain, "run-events")], f"{work}/{size}-{uploads}")
     return [less(run, Cost(0, 0), EVENTS * uploads + 3) for run in runs]
 
+def grown(before, after):  # how an event's cost grew, ours and in plain Rust
+    times = [after.seconds / before.seconds for before, after in zip(before, after)]
+    line = f"an event takes {times[0]:.2f} times as long, in plain Rust {times[1]:.2f} times"
+    if None in (it.instructions for it in (*before, *after)):
+        return line
+    counts = [after.instructions / before.instructions for before, after in zip(before, after)]
+    return f"{line}; {counts[0]:.2f} times the instructions, in plain Rust {counts[1]:.2f} times"
+
 for size, counts in (("small", (100, 1_000, 10_000)), ("large", (100, 1_000))):
     took = {uploads: timed(size, uploads) for uploads in counts}
     for uploads, costs in took.items():
         print(compared(f"an event, {uploads:,} uploads of {NAMES[size]}", *costs))
-    grown = [after.seconds / before.seconds for before, after in zip(took[counts[0]], took[counts[-1]])]
-    times = f"{grown[0]:.2f} times as long, in plain Rust {grown[1]:.2f} times"
-    print(f"from {counts[0]:,} to {counts[-1]:,} uploads of {NAMES[size]} an event takes {times}")
+    print(f"from {counts[0]:,} to {counts[-1]:,} uploads of {NAMES[size]} {grown(took[counts[0]], took[counts[-1]])}")
 
-def peak(program, path):  # bytes
-    child = subprocess.Popen([program, "run-events", "1", path], stdout=subprocess.DEVNULL)
-    _, status, usage = os.wait4(child.pid, 0)
-    if status:
-        sys.exit(f"run-events 1 {path}: status {status}")
-    return usage.ru_maxrss * 1024
+def peak(program, path):  # bytes; a child that Python starts would count the memory of Python as its own
+    words = ["/usr/bin/time", "-f", "%M", program, "run-events", "1", path]
+    told = subprocess.run(words, stdout=subprocess.DEVNULL, stderr=subprocess.PIPE, check=True).stderr
+    return int(told.split()[-1]) * 1024
 
 for size, counts in (("small", (100, 1_000, 10_000)), ("large", (100, 1_000))):
     for uploads in counts:

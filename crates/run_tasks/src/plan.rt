@@ -20,18 +20,22 @@ fn split_number(bytes: &[u8]) -> Option<(u32, &[u8])> {
     Some((u32::from_le_bytes(*number), rest))
 }
 
-/// The configuration at the front, and what follows it.
-fn split_config(bytes: &[u8]) -> Result<(Config, &[u8]), RunTaskFault> {
-    let (count, rest) = split_number(bytes).ok_or(RunTaskFault::Plan)?;
-    let (slot_limit, rest) = split_number(rest).ok_or(RunTaskFault::Plan)?;
-    let count = u8::try_from(count).map_err(|_| RunTaskFault::BadConfig)?;
-    let members = Members::new(count).ok_or(RunTaskFault::BadConfig)?;
-    let config = Config {
+/// How many members and how many slots there are, and what follows these numbers.
+fn split_head(bytes: &[u8]) -> Option<(u32, u32, &[u8])> {
+    let (members, rest) = split_number(bytes)?;
+    let (slots, rest) = split_number(rest)?;
+    Some((members, slots, rest))
+}
+
+/// The configuration with so many members and slots.
+fn config_of(members: u32, slots: u32) -> Result<Config, RunTaskFault> {
+    let members = u8::try_from(members).map_err(|_| RunTaskFault::BadConfig)?;
+    let members = Members::new(members).ok_or(RunTaskFault::BadConfig)?;
+    Ok(Config {
         members,
-        slot_limit,
+        slot_limit: slots,
         journal_limit: MAX_JOURNAL_ENTRIES,
-    };
-    Ok((config, rest))
+    })
 }
 
 /// The bytes behind a length at the front, and what follows them.
@@ -69,7 +73,10 @@ fn uploads_in(alloc: Global, bytes: &[u8]) -> Result<Vec<Upload>, RunTaskFault> 
 
 /// The run that the bytes tell of.
 pub(crate) fn plan_in(alloc: Global, bytes: &[u8]) -> Result<Plan, RunTaskFault> {
-    let (config, rest) = split_config(bytes)?;
+    let Some((members, slots, rest)) = split_head(bytes) else {
+        return Err(RunTaskFault::Plan);
+    };
+    let config = config_of(members, slots)?;
     let uploads = uploads_in(alloc, rest)?;
     Ok(Plan { config, uploads })
 }
