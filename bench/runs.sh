@@ -9,6 +9,22 @@
 # the program, there is for each byte of the uploads: the uploads, what three nodes hold of them, their records, all
 # messages that were sent and all steps. First it shows that the plain nodes give what tools/runs_model.py says of each
 # event of many schedules, and that both programs add up to the same sums over all messages and steps.
+#
+# Seen on four processors that ten other tasks shared, in microseconds for an event, of a program that plays the same
+# nodes and was proved to be safe and to end, before `run` had its contract:
+#
+#                           ours  plain Rust  ratio  instructions, ratio  bytes for each byte put, plain Rust
+#   100 small uploads       1.10        0.51   2.14         6,833   1.85        19.8        12.9
+#   1,000                   1.31        0.65   2.00         6,538   1.76        20.5        14.5
+#   10,000                  1.46        0.79   1.84         6,494   1.78        19.8        13.9
+#   100 uploads of 64 KiB   10.2        8.75   1.16        57,694   1.64        4.16        4.07
+#   1,000                   11.5        9.37   1.23        57,543   1.63        4.09        4.05
+#
+# From 100 to 10,000 small uploads an event took 1.33 times as long, with thirteen other tasks 1.26 times (plain Rust
+# 1.55 and 1.65), with 0.95 times the instructions: a run holds 7 KB for each upload, and soon no cache holds a run. What
+# is more than in plain Rust: of the 131,000 instructions of a small upload (plain Rust 74,000) 43,000 read it at the
+# three nodes (39,000), 10,000 find its parts again, 7,000 read its schema and its header once more, and 25,000 move plans
+# and steps from one function to the next. An upload took 140 allocations, in plain Rust 102.
 cd "$(dirname "${BASH_SOURCE[0]}")/.."
 source bench/programs.sh plain_runs
 
