@@ -21,10 +21,10 @@
 #   1,000                   11.5        9.37   1.23        57,543   1.63        4.09        4.05
 #
 # From 100 to 10,000 small uploads an event took 1.33 times as long, with thirteen other tasks 1.26 times (plain Rust
-# 1.55 and 1.65), with 0.95 times the instructions: a run holds 7 KB for each upload, and soon no cache holds a run. What
-# is more than in plain Rust: of the 131,000 instructions of a small upload (plain Rust 74,000) 43,000 read it at the
-# three nodes (39,000), 10,000 find its parts again, 7,000 read its schema and its header once more, and 25,000 move plans
-# and steps from one function to the next. An upload took 140 allocations, in plain Rust 102.
+# 1.55 and 1.65), with 0.95 times the instructions: a run holds 7 KB for each upload, and soon no cache holds a run.
+# What is more than in plain Rust: of the 131,000 instructions of a small upload (plain Rust 74,000) 43,000 read it at
+# the three nodes (39,000), 10,000 find its parts again, 7,000 read its schema and its header once more, and 25,000
+# move plans and steps from one function to the next. An upload took 140 allocations, in plain Rust 102.
 cd "$(dirname "${BASH_SOURCE[0]}")/.."
 source bench/programs.sh plain_runs
 
