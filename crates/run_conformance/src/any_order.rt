@@ -22,11 +22,11 @@ fn next(drawn: u64) -> u64 {
 
 // Node 0 begins an attempt for an upload; then any of the first ten messages comes to any node, again and again; then each
 // node is asked for the first version.
-fn drawn_order(alloc: Global, seed: u64) -> Result<Vec<Event>, Fail> {
+fn drawn_order(alloc: Global, order: u64) -> Result<Vec<Event>, Fail> {
     let mut events = Vec::new(alloc);
     events.push(Event::Put(0, upload(alloc, 1)?))?;
     events.push(Event::Tick(0, 0))?;
-    let mut drawn = next(seed);
+    let mut drawn = next(order);
     for _ in 0..DELIVERIES {
         drawn = next(drawn);
         events.push(Event::Deliver((drawn >> 32) % 3, (drawn >> 40) % 10))?;
@@ -37,9 +37,9 @@ fn drawn_order(alloc: Global, seed: u64) -> Result<Vec<Event>, Fail> {
     Ok(events)
 }
 
-// Whether the run by this order is lawful, and its answers are one; and how many there are.
-fn is_well(alloc: Global, hashing: RandomState, seed: u64) -> Result<bool, Fail> {
-    let events = drawn_order(alloc, seed)?;
+// Whether the run by this order is lawful, and its answers are one.
+fn is_well(alloc: Global, hashing: RandomState, order: u64) -> Result<bool, Fail> {
+    let events = drawn_order(alloc, order)?;
     let trace = played(alloc, hashing, 4, events.as_slice())?;
     Ok(audit(&trace) && answers_are_one(&trace))
 }
@@ -47,8 +47,8 @@ fn is_well(alloc: Global, hashing: RandomState, seed: u64) -> Result<bool, Fail>
 #[test]
 fn each_drawn_order_is_lawful(rt: HostRuntime) -> Result<(), Fail> {
     let hashing = RandomState::new(&rt)?;
-    for seed in 0..ORDERS {
-        let well = is_well(rt.alloc(), hashing, seed)?;
+    for order in 0..ORDERS {
+        let well = is_well(rt.alloc(), hashing, order)?;
         assert!(rt; well);
     }
     Ok(())
