@@ -26,8 +26,8 @@ taken from the code's loops. What tests alone tie to a public standard is in [TE
 | in every version numbered from it, at whichever node serves that version | so it is in every answer to a ticket of its table for that version or a later one, earlier or later in the history, at any node |
 | provided a restarted node has back every promise, acceptance and begun ballot that it answered for | a node starts with the records of all steps that it took, and of the one in the midst of which it went down with the record that was due or without it (`found_in`) |
 
-That every history of nodes that follow their rules is so is the law `what_follows_is_safe`. The nodes' rules stand as definitions (`IsDue`);
-no code of a node is proved against them yet.
+That every history of nodes that follow their rules (`IsDue`) is so is the law `what_follows_is_safe`; that a run of nodes is such a
+history, of the events that were handed in, is the contract of `run` in `schedule_runner` (`IsRunOf`).
 """
 DEFINED = re.compile(r"^\s*(?:(?:abbrev|unfoldable)\s+)?pub (?:record |data )?([^\s:(]+)")
 OWN_LINE = re.compile(r"^(?:(?:abbrev|unfoldable) )?pub |^(?:abbrev )?mutual$")

@@ -20,7 +20,7 @@ use Rattle.call_words.specs.declared.refusal.Refusal.TheVariants as refusals
 use Rattle.call_words.specs.Statuses.{refusal_trailer}
 use Rattle.call_words.specs.Names.{table_descriptor}
 use Rattle.call_words.specs.Texts.{answer_text}
-use Rattle.flight_calls.specs.Requests.{Request, describes, shows, lists, serves, puts}
+use Rattle.call_reading.specs.Requests.{Request, describes, shows, lists, serves, puts}
 
 -- ---- what a backend may answer
 

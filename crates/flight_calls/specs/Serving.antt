@@ -8,8 +8,8 @@ use Rattle.call_words.specs.declared.refusal.Refusal.{Refusal}
 use Rattle.call_words.specs.declared.refusal.Refusal.TheVariants as refusals
 use Rattle.flight_calls.specs.declared.fault.CallFault.{CallFault}
 use Rattle.flight_calls.specs.declared.fault.CallFault.TheVariants as faults
-use Rattle.flight_calls.specs.Requests.{Request, describes, shows, lists, serves, puts, IsCall}
-use Rattle.flight_calls.specs.Faults.{RefusalStands}
+use Rattle.call_reading.specs.Requests.{Request, describes, shows, lists, serves, puts, IsCall}
+use Rattle.call_reading.specs.Faults.{RefusalStands}
 use Rattle.flight_calls.specs.Replies.{BackAnswer, failed, Reply, answers, refuses, reply_text, Replies}
 
 -- What a backend may answer to a request, which uploads it was handed, and what a put may leave.

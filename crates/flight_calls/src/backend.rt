@@ -7,7 +7,7 @@ ghost use Rattle.table_types.specs.Valid.{FitsFrame};
 ghost use Rattle.table_types.specs.Tables.{Version};
 ghost use Rattle.table_types.specs.Answers.{answer_of};
 ghost use Rattle.table_versions.specs.Outcomes.{told};
-ghost use Rattle.flight_calls.specs.Requests.{Request, describes, shows, lists, serves, puts};
+ghost use Rattle.call_reading.specs.Requests.{Request, describes, shows, lists, serves, puts};
 ghost use Rattle.flight_calls.specs.Replies.{BackAnswer, Description, described, shown, listed, served, decided, failed};
 ghost use Rattle.flight_calls.specs.Backing.{Describes, DescribeAll};
 

@@ -15,3 +15,4 @@ mod sizes;
 
 pub use fault::UploadFault;
 pub use making::encode_upload;
+pub use sizes::batch_size;

@@ -45,9 +45,9 @@ fn encoded_length(header: u64, body: u64) -> u64
     part_length(4, field_length(1, header) + field_length(2, body))
 }
 
-/// How many bytes the field of a batch has; `None` exactly where no frame has room for what is served of it, with the
-/// upload's own name.
-fn batch_size(schema: &Schema, id: &[u8], batch: &Batch) -> Option<u64>
+/// How many bytes a batch has in the encoding of an upload of this schema: those of its field, with its header and its body
+/// as they are written. `None` exactly where no frame has room for what is served of it, with the upload's own name.
+pub fn batch_size(schema: &Schema, id: &[u8], batch: &Batch) -> Option<u64>
     requires profile { InProfile (schema_of schema.now) }
     requires of_schema { IsBatchOf (schema_of schema.now) batch.now }
     ensures size { IfSome result (λ n. n

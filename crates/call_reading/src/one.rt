@@ -1,0 +1,114 @@
+//! The calls that have one message: what each asks for.
+
+ghost use Rattle.std.specs.Prelude.{◌≡◌, ◌⊎◌, ℕ, List, string_bytes, IfOk, IfErr, OnOk};
+ghost use Rattle.grpc_frames.specs.FrameFaults.{WhereKnown};
+ghost use Rattle.proto_messages.specs.Descriptor.{IsMessage};
+ghost use Rattle.proto_wire.specs.Flight.{flight_descriptor_descriptor, ticket_descriptor, criteria_descriptor};
+ghost use Rattle.tickets.specs.Ticket.{TableVersion};
+ghost use Rattle.call_words.specs.Names.{TableFault};
+ghost use Rattle.call_words.specs.declared.refusal.Refusal.{Refusal as RefusalModel};
+ghost use Rattle.call_words.specs.declared.refusal.Refusal.TheVariants.{OutOfMemory};
+ghost use Rattle.call_reading.specs.Requests.{AsksForTable, AsksForAll, AsksForVersion};
+ghost use Rattle.call_reading.specs.Faults.{IsNoMessage, MeansAtFault, CriteriaFault, TicketFault};
+ghost use Rattle.call_reading.specs.Reading.{ReadsTable, ReadsCriteria, ReadsTicket};
+
+use crate::frames::{first_message, read_end};
+use call_words::{Refusal, table_in};
+use proto_messages::ProtoMessage;
+use proto_wire::{Criteria, FlightDescriptor, Ticket as TicketMessage};
+use std::alloc::Global;
+use std::io::Read;
+use tickets::{Ticket, TicketFault as BadTicket};
+
+/// The message that these bytes mean.
+pub(crate) fn decoded<M: ProtoMessage + Drop>(alloc: Global, message: &[u8]) -> Result<M, Refusal>
+    ensures read { IfOk result (λ read. IsMessage M.descriptor message.now (M.values read)) }
+    ensures fault { IfErr result (IsNoMessage M.descriptor message.now) }
+{
+    match M::decode(alloc, message) {
+        Ok(read) => Ok(read),
+        Err(fault) => Err(Refusal::Wire(fault)),
+    }
+}
+
+/// The table that a descriptor names.
+fn table_asked(alloc: Global, message: &[u8]) -> Result<String, Refusal>
+    ensures asks { IfOk result (λ table. AsksForTable message.now (string_bytes table)) }
+    ensures fault { IfErr result (λ refusal.
+        MeansAtFault flight_descriptor_descriptor TableFault message.now refusal ⊎ (refusal ≡ OutOfMemory)) }
+{
+    let descriptor = decoded::<FlightDescriptor>(alloc, message)?;
+    let table = match table_in(&descriptor) {
+        Ok(table) => table,
+        Err(refusal) => return Err(refusal),
+    };
+    match String::from_str(alloc, table) {
+        Ok(table) => Ok(table),
+        Err(_) => Err(Refusal::OutOfMemory),
+    }
+}
+
+/// Whether the criteria leave out no flight.
+fn check_criteria(alloc: Global, message: &[u8]) -> Result<(), Refusal>
+    ensures asks { OnOk result (AsksForAll message.now) }
+    ensures fault { IfErr result (MeansAtFault criteria_descriptor CriteriaFault message.now) }
+{
+    let criteria = decoded::<Criteria>(alloc, message)?;
+    if criteria.expression.is_empty() {
+        Ok(())
+    } else {
+        Err(Refusal::Criteria)
+    }
+}
+
+/// The version that a ticket asks for.
+fn version_asked(alloc: Global, message: &[u8]) -> Result<Ticket, Refusal>
+    ensures asks { IfOk result (AsksForVersion message.now) }
+    ensures fault { IfErr result (MeansAtFault ticket_descriptor TicketFault message.now) }
+{
+    let asked = decoded::<TicketMessage>(alloc, message)?;
+    match Ticket::decode(alloc, &asked.ticket) {
+        Ok(ticket) => Ok(ticket),
+        Err(BadTicket::BadTicket) => Err(Refusal::BadTicket),
+        Err(BadTicket::OutOfMemory) => Err(Refusal::OutOfMemory),
+    }
+}
+
+/// The table of a call that asks for one.
+pub(crate) fn read_table<R: Read>(alloc: Global, r: &mut R) -> Result<String, Refusal>
+    ensures { WhereKnown (R.remaining r.old) (R.remaining r.new)
+        (ReadsTable result) }
+{
+    let message = first_message(alloc, r)?;
+    let table = table_asked(alloc, &message)?;
+    match read_end(alloc, r) {
+        Ok(()) => Ok(table),
+        Err(refusal) => Err(refusal),
+    }
+}
+
+/// Reads a call that asks for all tables.
+pub(crate) fn read_criteria<R: Read>(alloc: Global, r: &mut R) -> Result<(), Refusal>
+    ensures { WhereKnown (R.remaining r.old) (R.remaining r.new)
+        (ReadsCriteria result) }
+{
+    let message = first_message(alloc, r)?;
+    check_criteria(alloc, &message)?;
+    match read_end(alloc, r) {
+        Ok(()) => Ok(()),
+        Err(refusal) => Err(refusal),
+    }
+}
+
+/// The version of a call that asks for one.
+pub(crate) fn read_ticket<R: Read>(alloc: Global, r: &mut R) -> Result<Ticket, Refusal>
+    ensures { WhereKnown (R.remaining r.old) (R.remaining r.new)
+        (ReadsTicket result) }
+{
+    let message = first_message(alloc, r)?;
+    let ticket = version_asked(alloc, &message)?;
+    match read_end(alloc, r) {
+        Ok(()) => Ok(ticket),
+        Err(refusal) => Err(refusal),
+    }
+}
