@@ -1,6 +1,6 @@
 //! Thousands of uploads, one after the other.
 
-use crate::support::{played, ticket, upload};
+use crate::support::{played, push_attempt, ticket, upload};
 use schedule_runner::{Event, Gave, Step};
 use std::alloc::Global;
 use std::hash::RandomState;
@@ -8,23 +8,6 @@ use std::test::Fail;
 
 /// How many uploads there are.
 const UPLOADS: u64 = 2_000;
-
-// The messages of an attempt whose Prepare has this number, each to the nodes by which it is decided at node 0.
-fn push_attempt(events: &mut Vec<Event>, first: u64) -> Result<(), Fail> {
-    for (node, number) in [
-        (0, 0),
-        (1, 0),
-        (0, 1),
-        (0, 2),
-        (0, 3),
-        (1, 3),
-        (0, 4),
-        (0, 5),
-    ] {
-        events.push(Event::Deliver(node, first.saturating_add(number)))?;
-    }
-    Ok(())
-}
 
 fn leader(alloc: Global) -> Result<Vec<Event>, Fail> {
     let mut events = Vec::new(alloc);

@@ -1,4 +1,4 @@
-//! Runs and uploads without batches.
+//! Runs, what is asked of them, and uploads without batches.
 
 use ballots::Members;
 use header_types::Schema;
@@ -6,6 +6,7 @@ use schedule_runner::{Config, Event, Gave, RunFault, Trace, run};
 use std::alloc::Global;
 use std::hash::RandomState;
 use std::test::Fail;
+use table_versions::Outcome;
 use tickets::Ticket;
 use uploads::Upload;
 
@@ -32,6 +33,43 @@ pub(crate) fn ticket(alloc: Global, version: u64) -> Result<Ticket, Fail> {
     Ok(Ticket::new(String::from_str(alloc, "t")?, version).ok_or("no ticket")?)
 }
 
+/// The next drawn number (a linear congruence modulo 2 to the power of 64: Knuth, *The Art of Computer Programming*,
+/// volume 2, section 3.3.4).
+pub(crate) fn next(drawn: u64) -> u64 {
+    drawn
+        .wrapping_mul(6_364_136_223_846_793_005)
+        .wrapping_add(1_442_695_040_888_963_407)
+}
+
+/// Each of these messages comes to the node before it.
+pub(crate) fn push_deliveries(
+    events: &mut Vec<Event>,
+    deliveries: &[(u64, u64)],
+) -> Result<(), Fail> {
+    for (node, number) in deliveries {
+        events.push(Event::Deliver(*node, *number))?;
+    }
+    Ok(())
+}
+
+/// Of an attempt of node 0 whose Prepare has this number, each message to the nodes by which it is decided there. Six are
+/// sent.
+pub(crate) fn push_attempt(events: &mut Vec<Event>, first: u64) -> Result<(), Fail> {
+    for (node, number) in [
+        (0, 0),
+        (1, 0),
+        (0, 1),
+        (0, 2),
+        (0, 3),
+        (1, 3),
+        (0, 4),
+        (0, 5),
+    ] {
+        events.push(Event::Deliver(node, first.saturating_add(number)))?;
+    }
+    Ok(())
+}
+
 /// The run of three nodes, for so many slots, by these events.
 pub(crate) fn played(
     alloc: Global,
@@ -39,8 +77,19 @@ pub(crate) fn played(
     slot_limit: u32,
     events: &[Event],
 ) -> Result<Trace, Fail> {
+    played_by(alloc, hashing, 3, slot_limit, events)
+}
+
+/// The run of so many nodes, for so many slots, by these events.
+pub(crate) fn played_by(
+    alloc: Global,
+    hashing: RandomState,
+    count: u8,
+    slot_limit: u32,
+    events: &[Event],
+) -> Result<Trace, Fail> {
     let config = Config {
-        members: members(3)?,
+        members: members(count)?,
         slot_limit,
         journal_limit: 1,
     };
@@ -49,6 +98,15 @@ pub(crate) fn played(
         Err(RunFault::BadConfig) => Err(Fail::from("BadConfig")),
         Err(RunFault::OutOfMemory) => Err(Fail::from("OutOfMemory")),
     }
+}
+
+/// How many answers are in the run.
+pub(crate) fn count_answers(trace: &Trace) -> usize {
+    trace
+        .steps()
+        .iter()
+        .filter(|step| matches!(step.gave, Gave::Answer(_)))
+        .count()
 }
 
 /// Whether all answers in the run are one.
@@ -61,4 +119,13 @@ pub(crate) fn answers_are_one(trace: &Trace) -> bool {
         Some(first) => answers.all(|answer| answer == first),
         None => true,
     }
+}
+
+/// Whether these are the outcomes in the run, in order.
+pub(crate) fn tells_outcomes(trace: &Trace, wanted: &[Outcome]) -> bool {
+    let told = trace.steps().iter().filter_map(|step| match &step.gave {
+        Gave::Outcome(outcome) => Some(*outcome),
+        _ => None,
+    });
+    told.eq(wanted.iter().copied())
 }

@@ -1,0 +1,151 @@
+//! Runs and plans that are refused memory: a run ends for want of it or is lawful, and a plan that is refused changes
+//! nothing. Run with every allocation refused in turn, each test ends as before or for want of memory.
+
+ghost use Rattle.std.specs.Prelude.{IfOk};
+ghost use Rattle.node_core.specs.Plans.{CanCommit};
+
+use crate::nodes::{node, send};
+use crate::support::{answers_are_one, members, push_attempt, ticket, upload};
+use agreement::Refusal;
+use ballots::Message;
+use node_core::{Input, Node, Plan};
+use node_events::Reason;
+use schedule_runner::{Config, Event, Gave, RunFault, Step, Trace, audit, run};
+use std::alloc::Global;
+use std::hash::RandomState;
+use std::test::Fail;
+use table_versions::Outcome;
+
+// Node 0 has two uploads decided and is asked. It goes down in the midst of a delivery, and starts again.
+fn events(alloc: Global) -> Result<Vec<Event>, Fail> {
+    let mut events = Vec::new(alloc);
+    for number in 0..2 {
+        events.push(Event::Put(0, upload(alloc, number)?))?;
+        events.push(Event::Tick(0, 0))?;
+        push_attempt(&mut events, number.saturating_mul(6))?;
+    }
+    events.push(Event::Get(0, ticket(alloc, 1)?))?;
+    events.push(Event::Outcome(0, upload(alloc, 0)?))?;
+    events.push(Event::DeliverCut(0, 3))?;
+    events.push(Event::Restart(0))?;
+    events.push(Event::Tick(0, 0))?;
+    Ok(events)
+}
+
+// What is left of a run where memory is refused.
+#[derive(Drop)]
+enum Rest {
+    Wanting,
+    Whole(Trace),
+}
+
+fn ran(alloc: Global, hashing: RandomState, events: &[Event]) -> Result<Rest, Fail> {
+    let config = Config {
+        members: members(3)?,
+        slot_limit: 4,
+        journal_limit: 1,
+    };
+    match run(alloc, hashing, config, events) {
+        Ok(trace) => Ok(Rest::Whole(trace)),
+        Err(RunFault::OutOfMemory) => Ok(Rest::Wanting),
+        Err(RunFault::BadConfig) => Err(Fail::from("BadConfig")),
+    }
+}
+
+// Whether each refusal in the run is for want of memory or comes of one before.
+fn is_of_memory(step: &Step) -> bool {
+    match &step.gave {
+        Gave::Refused(reason) => matches!(
+            reason,
+            Reason::OutOfMemory | Reason::NotSent | Reason::Down
+        ),
+        _ => true,
+    }
+}
+
+#[test]
+fn a_run_is_lawful_or_wants_memory(rt: HostRuntime) -> Result<(), Fail> {
+    let hashing = RandomState::new(&rt)?;
+    let events = events(rt.alloc())?;
+    match ran(rt.alloc(), hashing, events.as_slice())? {
+        Rest::Whole(trace) => {
+            let whole = trace.steps().len() == events.len();
+            assert!(rt; whole && audit(&trace) && answers_are_one(&trace));
+            assert!(rt; trace.steps().iter().all(is_of_memory));
+        }
+        Rest::Wanting => {}
+    }
+    Ok(())
+}
+
+// What is due to an input. Where memory is refused the same input is planned again.
+fn planned(node: &mut Node, input: Input, again: Input) -> Result<Plan, Refusal>
+    ensures can { IfOk result (CanCommit node.new) }
+{
+    match node.plan(input) {
+        Err(Refusal::OutOfMemory) => node.plan(again),
+        planned => planned,
+    }
+}
+
+// Lets the node do what is due to an input, of which there are two: how many records and messages that are.
+fn take(
+    node: &mut Node,
+    sent: &mut Vec<Message>,
+    input: Input,
+    again: Input,
+) -> Result<usize, Fail> {
+    let plan = match planned(node, input, again) {
+        Ok(plan) => plan,
+        Err(_) => return Err(Fail::from("refused")),
+    };
+    let kept = usize::from(plan.record().is_some());
+    send(sent, plan.sends())?;
+    node.commit(plan);
+    Ok(kept)
+}
+
+// Hands the node the message of this number.
+fn come(node: &mut Node, sent: &mut Vec<Message>, number: usize) -> Result<usize, Fail> {
+    let message = sent.get(number).ok_or("not sent")?;
+    let input = Input::Deliver(message.clone()?);
+    let again = Input::Deliver(message.clone()?);
+    take(node, sent, input, again)
+}
+
+// Hands the node the upload, and lets time pass.
+fn begin(node: &mut Node, sent: &mut Vec<Message>, alloc: Global) -> Result<usize, Fail> {
+    let input = Input::Put(upload(alloc, 1)?);
+    let again = Input::Put(upload(alloc, 1)?);
+    let put = take(node, sent, input, again)?;
+    let ticked = take(node, sent, Input::Tick(0), Input::Tick(0))?;
+    Ok(put.saturating_add(ticked))
+}
+
+// The messages of these numbers come to the node: how many records are kept.
+fn come_all(node: &mut Node, sent: &mut Vec<Message>, numbers: &[usize]) -> Result<usize, Fail> {
+    let mut kept = 0_usize;
+    for number in numbers {
+        kept = kept.saturating_add(come(node, sent, *number)?);
+    }
+    Ok(kept)
+}
+
+#[test]
+fn a_plan_that_is_refused_is_made_again(rt: HostRuntime) -> Result<(), Fail> {
+    let alloc = rt.alloc();
+    let hashing = RandomState::new(&rt)?;
+    let mut first = node(alloc, hashing, 0, &[])?;
+    let mut second = node(alloc, hashing, 1, &[])?;
+    let mut sent = Vec::new(alloc);
+    let begun = begin(&mut first, &mut sent, alloc)?;
+    let promised = come_all(&mut first, &mut sent, &[0])?;
+    let promised_too = come_all(&mut second, &mut sent, &[0])?;
+    let accepted = come_all(&mut first, &mut sent, &[1, 2, 3])?;
+    let accepted_too = come_all(&mut second, &mut sent, &[3])?;
+    let learned = come_all(&mut first, &mut sent, &[4, 5])?;
+    assert!(rt; begun == 1 && promised == 1 && promised_too == 1);
+    assert!(rt; accepted == 1 && accepted_too == 1 && learned == 0);
+    assert!(rt; sent.len() == 6 && first.outcome(&upload(alloc, 1)?) == Outcome::Applied(1));
+    Ok(())
+}
