@@ -52,6 +52,7 @@ pub(crate) fn take(
 ) -> Result<(), Fail> {
     let plan = match node.plan(input) {
         Ok(plan) => plan,
+        Err(Refusal::OutOfMemory) => return Err(Fail::from("OutOfMemory")),
         Err(_) => return Err(Fail::from("refused")),
     };
     keep(kept, plan.record())?;

@@ -8,7 +8,7 @@ use std::hash::RandomState;
 use std::test::Fail;
 use table_versions::Outcome;
 use tickets::Ticket;
-use uploads::Upload;
+use uploads::{Upload, UploadFault};
 
 /// So many members.
 pub(crate) fn members(count: u8) -> Result<Members, Fail> {
@@ -24,6 +24,7 @@ pub(crate) fn upload(alloc: Global, number: u64) -> Result<Upload, Fail> {
     let id = u128::from(number).to_be_bytes();
     match Upload::new(alloc, "t", id, &schema, &[]) {
         Ok(upload) => Ok(upload),
+        Err(UploadFault::OutOfMemory) => Err(Fail::from("OutOfMemory")),
         Err(_) => Err(Fail::from("no upload")),
     }
 }
