@@ -40,8 +40,8 @@ fn push_proposal(events: &mut Vec<Event>, ballot: u64, accept: u64) -> Result<()
     Ok(())
 }
 
-// Nodes 0 and 1 duel: each begins above the other before its proposal comes to node 2.
-fn push_duel(events: &mut Vec<Event>, alloc: Global) -> Result<(), Fail> {
+/// Nodes 0 and 1 duel: each begins above the other before its proposal comes to node 2.
+pub(crate) fn push_duel(events: &mut Vec<Event>, alloc: Global) -> Result<(), Fail> {
     events.push(Event::Put(0, upload(alloc, 0)?))?;
     events.push(Event::Put(1, upload(alloc, 1)?))?;
     push_begin(events, 0)?;
@@ -52,8 +52,8 @@ fn push_duel(events: &mut Vec<Event>, alloc: Global) -> Result<(), Fail> {
     Ok(())
 }
 
-// Then node 1, which began last, is left alone, and node 0 begins once more, message 120.
-fn push_end(events: &mut Vec<Event>, alloc: Global) -> Result<(), Fail> {
+/// Then node 1, which began last, is left alone, and node 0 begins once more, message 120.
+pub(crate) fn push_end(events: &mut Vec<Event>, alloc: Global) -> Result<(), Fail> {
     push_proposal(events, BALLOTS - 1, 117)?;
     events.push(Event::Tick(0, 0))?;
     push_deliveries(events, &[(0, 120), (2, 120), (0, 121), (0, 122)])?;

@@ -4,6 +4,8 @@
 ghost use Rattle.std.specs.Prelude.{IfOk};
 ghost use Rattle.node_core.specs.Plans.{CanCommit};
 
+use crate::chosen::is_chosen_twice;
+use crate::duel::{push_duel, push_end};
 use crate::nodes::{node, send};
 use crate::support::{answers_are_one, members, push_attempt, ticket, upload};
 use agreement::Refusal;
@@ -71,6 +73,23 @@ fn a_run_is_lawful_or_wants_memory(rt: HostRuntime) -> Result<(), Fail> {
         Rest::Whole(trace) => {
             let whole = trace.steps().len() == events.len();
             assert!(rt; whole && audit(&trace) && answers_are_one(&trace));
+            assert!(rt; trace.steps().iter().all(is_of_memory));
+        }
+        Rest::Wanting => {}
+    }
+    Ok(())
+}
+
+#[test]
+fn a_duel_is_lawful_or_wants_memory(rt: HostRuntime) -> Result<(), Fail> {
+    let hashing = RandomState::new(&rt)?;
+    let mut events = Vec::new(rt.alloc());
+    push_duel(&mut events, rt.alloc())?;
+    push_end(&mut events, rt.alloc())?;
+    match ran(rt.alloc(), hashing, events.as_slice())? {
+        Rest::Whole(trace) => {
+            let twice = is_chosen_twice(trace.members(), trace.sent());
+            assert!(rt; !twice && audit(&trace));
             assert!(rt; trace.steps().iter().all(is_of_memory));
         }
         Rest::Wanting => {}
