@@ -1,6 +1,7 @@
-"""Writes a lawful recorded run of MESSAGES messages to standard output, as `flightd audit` reads it.
+"""Writes a lawful recorded run of MESSAGES messages over SLOTS slots, ten if none are named, to standard output, as
+`flightd audit` reads it.
 
-Three nodes and several slots. Each round of a slot is nine messages: a Prepare by one of the nodes at the next ballot,
+Three nodes. Each round of a slot is nine messages: a Prepare by one of the nodes at the next ballot,
 the promises of all three, its Accept, the three Accepteds, and a Decided. What was accepted in one round is reported
 and proposed again in the next, so every promise from the second round on has a report. Slots take turns, round by
 round.
@@ -10,7 +11,7 @@ import json
 import sys
 
 MEMBERS = 3
-SLOTS = 10
+SLOTS = int(sys.argv[2]) if len(sys.argv) > 2 else 10
 PREPARE, PROMISE, ACCEPT, ACCEPTED, DECIDED = 1, 2, 4, 5, 7
 KIND, SENDER, SLOT, ROUND, NODE, SECOND_ROUND, SECOND_NODE, VALUE = 1, 2, 3, 5, 6, 7, 8, 9
 

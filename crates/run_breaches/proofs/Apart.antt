@@ -9,10 +9,10 @@ use Rattle.ballots.specs.declared.message.Body.{Body}
 use Rattle.ballots.specs.declared.message.Body.TheVariants as body
 use Rattle.lawful_histories.specs.Saying.{Report}
 use Rattle.lawful_histories.specs.Lawful.{IsLawful}
+use Rattle.run_breaches.specs.FirstBreach.{IsFirstUnlawful}
 use Rattle.run_breaches.specs.Earlier.{LetsPropose, LetsAccept, LetsPromise, LetsReport, Proposes, Accepts, Promises, MostPromised, IsWithin, ShowsSafe, IsSafe, WasChosen}
 use Rattle.run_breaches.specs.Rules.{IsReportProposed, BodyKeeps, Keeps}
 use Rattle.run_breaches.specs.BreachLaws.{KeepingIsLawful}
-use Rattle.lawful_histories.specs.HistoryLaws.{BeginningsAreLawful}
 use Rattle.run_breaches.specs.Slots.{of_slot, messages_at, Indexes, IsLawfulBySlot, Joins}
 use Rattle.run_breaches.proofs.Majorities.{most_weaker}
 use Rattle.run_breaches.proofs.Reported.{reports_more}
@@ -132,10 +132,12 @@ module _ (n : ℕ) (before : List Message) (m : Message) (old new : List (ℕ ×
 -- ---- the message in a place, after those of its slot
 
 module _ (n : ℕ) (sent : List Message) (place : ℕ) (m : Message) (within : place < length sent) (is : m ≡ get_or sent place m) where
-  pub refused : KeepingIsLawful → BeginningsAreLawful → IsLawful n (take place sent) → (Keeps n (of_slot m.slot (take place sent)) m → ⊥) → IsLawful n sent → ⊥
-  refused law beginnings before not_kept lawful =
-      let whole = subst (IsLawful n) (sym (one_more sent place m within is)) (beginnings n sent (place + 1) (omega (arith, within)) lawful) in
-      not_kept ((slots_apart n (take place sent) m).1 ((law n (take place sent) m before).0 whole))
+  pub refused : KeepingIsLawful → IsLawful n (take place sent) → (Keeps n (of_slot m.slot (take place sent)) m → ⊥) → IsFirstUnlawful n sent place
+  refused law before not_kept = record {
+    within = within;
+    before = before;
+    breaks = λ lawful. not_kept ((slots_apart n (take place sent) m).1 ((law n (take place sent) m before).0 (subst (IsLawful n) (sym (one_more sent place m within is)) lawful)));
+  }
 
   pub joined : KeepingIsLawful → (old new : List (ℕ × List Message)) → Joins old new m → Keeps n (messages_at old m.slot) m
       → IsLawful n (take place sent) × Indexes old (take place sent) × IsLawfulBySlot n (take place sent)

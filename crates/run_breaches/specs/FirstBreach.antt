@@ -5,6 +5,12 @@ use Rattle.lawful_histories.specs.Lawful.{IsLawful}
 use Rattle.run_breaches.specs.declared.breach.Breach.{Breach}
 use Rattle.run_breaches.specs.Rules.{Breaks, IsSomeBroken}
 
+-- the messages before that place are lawful, and with the one in that place they are not
+pub record IsFirstUnlawful (n : ℕ) (sent : List Message) (place : ℕ) : Type 0 where
+  pub within : place < length sent
+  pub before : IsLawful n (take place sent)
+  pub breaks : IsLawful n (take (place + 1) sent) → ⊥
+
 -- the messages before that place are lawful, with the one in that place they are not, and this is what it breaks
 pub record IsFirstBreach (n : ℕ) (sent : List Message) (b : Breach) : Type 0 where
   pub within : b.place < length sent

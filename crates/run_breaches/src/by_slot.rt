@@ -1,10 +1,11 @@
 //! A run judged slot by slot: each message after those of its slot alone.
 
-ghost use Rattle.std.specs.Prelude.{◌≡◌, ◌↔◌, ◌<◌, List, [], IsTrue, IfOk, OnErr, MatchBool, length};
+ghost use Rattle.std.specs.Prelude.{◌≡◌, ◌↔◌, ◌<◌, List, [], IsTrue, IfOk, OnErr, MatchBool, MatchOption, length};
 ghost use Rattle.indexmap.specs.IndexMap.{spare};
 ghost use Rattle.ballots.specs.Slots.{OthersStay, SetsSlot};
 ghost use Rattle.lawful_histories.specs.Lawful.{IsLawful};
 ghost use Rattle.run_breaches.specs.Rules.{Keeps};
+ghost use Rattle.run_breaches.specs.FirstBreach.{IsFirstUnlawful};
 ghost use Rattle.run_breaches.specs.Slots.{messages_at, Joins};
 
 use crate::laws::a_message_follows_where_it_keeps_the_rules;
@@ -44,14 +45,29 @@ pub fn are_lawful_by_slot(
     ensures memory { OnErr result (0 < length sent.now) }
 {
     beginnings_are_lawful();
+    Ok(first_unlawful(alloc, members, sent)?.is_none())
+}
+
+/// The place of the first message that no correct node may have sent after those before it, or `None` exactly where what
+/// was sent is lawful. Its memory and its time are those of [`are_lawful_by_slot`].
+pub(crate) fn first_unlawful(
+    alloc: Global,
+    members: Members,
+    sent: &[Message],
+) -> Result<Option<usize>, OutOfMemory>
+    ensures place { IfOk result (λ found. MatchOption found (IsLawful members sent.now)
+        (λ place. IsFirstUnlawful members sent.now place)) }
+    ensures memory { OnErr result (0 < length sent.now) }
+{
+    beginnings_are_lawful();
     a_message_follows_where_it_keeps_the_rules();
     let mut slots = IndexMap::new(alloc);
     for place in 0..sent.len() {
         if !joins(alloc, members, &mut slots, &sent[place])? {
-            return Ok(false);
+            return Ok(Some(place));
         }
     }
-    Ok(true)
+    Ok(None)
 }
 
 // Puts the message behind those of its slot, where it keeps the rules after them, and says whether it does.

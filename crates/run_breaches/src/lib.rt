@@ -20,4 +20,4 @@ mod searches;
 
 pub use breach::{Breach, BrokenRules};
 pub use by_slot::are_lawful_by_slot;
-pub use finding::first_breach;
+pub use finding::{first_breach, first_breach_by_slot};

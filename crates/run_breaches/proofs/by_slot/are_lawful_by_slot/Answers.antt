@@ -1,36 +1,10 @@
-use Rattle.std.proofs.Common.{◌≡◌, ℕ, Bool, true, false, MatchBool, List, refl, subst}
-use Rattle.std.proofs.lemmas.List.{take_all}
-use Rattle.ballots.specs.declared.message.Message.{Message}
-use Rattle.lawful_histories.specs.Lawful.{IsLawful}
-use Rattle.run_breaches.specs.Rules.{Keeps}
-use Rattle.run_breaches.specs.Slots.{messages_at, Joins}
-use Rattle.run_breaches.proofs.Apart.{refused, joined}
+use Rattle.std.proofs.Common.{rules}
+use Rattle.run_breaches.proofs.Found.{lawful_where_none}
 use Rattle.run_breaches.proofs.by_slot.are_lawful_by_slot.Goals as goal
-
-pub returns-then-not-branch-clause-lawful : goal.returns-then-not-branch-clause-lawful
-returns-then-not-branch-clause-lawful c =
-    let n : ℕ = c.args.members in
-    let sent : List Message = c.args.sent.now in
-    let m : Message = c.index-sent-place.result in
-    let told : Keeps n (messages_at c.loop-place.slots.entries m.slot) m → ⊥ =
-    subst (λ (t : Bool). MatchBool t (Keeps n (messages_at c.loop-place.slots.entries m.slot) m × Joins c.loop-place.slots.entries c.joins.new.slots.entries m) (Keeps n (messages_at c.loop-place.slots.entries m.slot) m → ⊥))
-    c.if-not-branch.true c.in_ok-joins.ensures in
-    let inv = c.loop-place.invariant in (
-      (λ e. absurd (let no : false ≡ true = e in cc)),
-      (λ lawful. absurd (refused n sent c.loop-place.place m c.loop-place-test.true c.index-sent-place.is c.a_message_follows_where_it_keeps_the_rules.ensures.lawful c.beginnings_are_lawful.ensures.beginnings inv.0
-          (subst (λ (l : List Message). Keeps n l m → ⊥) (inv.1 m.slot) told) lawful)),
-    )
-
-pub loop-place-preserved : goal.loop-place-preserved
-loop-place-preserved c =
-    let n : ℕ = c.args.members in
-    let m : Message = c.index-sent-place.result in
-    let told : Keeps n (messages_at c.loop-place.slots.entries m.slot) m × Joins c.loop-place.slots.entries c.joins.new.slots.entries m =
-    subst (λ (t : Bool). MatchBool t (Keeps n (messages_at c.loop-place.slots.entries m.slot) m × Joins c.loop-place.slots.entries c.joins.new.slots.entries m) (Keeps n (messages_at c.loop-place.slots.entries m.slot) m → ⊥))
-    c.if-not-branch.false c.in_ok-joins.ensures in
-    joined n c.args.sent.now c.loop-place.place m c.loop-place-test.true c.index-sent-place.is c.a_message_follows_where_it_keeps_the_rules.ensures.lawful c.loop-place.slots.entries c.joins.new.slots.entries told.1 told.0 c.loop-place.invariant
 
 pub returns-clause-lawful : goal.returns-clause-lawful
 returns-clause-lawful c =
-    let whole : IsLawful c.args.members c.args.sent.now = subst (IsLawful c.args.members) (take_all c.loop-place.place c.args.sent.now c.loop-place-test.false) c.loop-place.invariant.0 in
-    ((λ e. whole), (λ lawful. refl))
+    let both = lawful_where_none c.args.members c.args.sent.now c.beginnings_are_lawful.ensures.beginnings c.in_ok-first_unlawful.field-0 c.in_ok-first_unlawful.ensures.place in (
+      (λ e. both.0 (search rules)),
+      (λ lawful. let none = both.1 lawful in search rules),
+    )
