@@ -17,6 +17,7 @@ use Rattle.ballots.specs.declared.fault.MessageFault.TheVariants as faults
 use Rattle.ballots.specs.Message.{IsMessageText}
 use Rattle.lawful_histories.specs.Lawful.{IsLawful}
 use Rattle.audit_command.specs.declared.trace_file.TraceFault.{TraceFault}
+use Rattle.audit_command.specs.declared.trace_file.TraceFlaw.{TraceFlaw}
 use Rattle.audit_command.specs.declared.trace_file.TraceFault.TheVariants.{BadTrace, OutOfMemory}
 use Rattle.audit_command.specs.TraceFile.{IsMessageHex, SpellsMessage, MeansTrace, MeansNothing, Judges, listed, members_at, sent_at}
 
@@ -188,8 +189,8 @@ one_trace one file m n s t a b =
 -- ---- what an audit says of it
 
 -- a file that is no trace, by a fault that is not memory
-pub means_nothing : (file : List ℕ) (fault : TraceFault) → fault ≡ BadTrace → ((members : ℕ) (sent : List Message) → MeansTrace file members sent → fault ≡ OutOfMemory) → MeansNothing file
-means_nothing file fault is only members sent h = let e = sym is ∙ only members sent h in absurd cc
+pub means_nothing : (file : List ℕ) (fault : TraceFault) (flaw : TraceFlaw) → fault ≡ BadTrace flaw → ((members : ℕ) (sent : List Message) → MeansTrace file members sent → fault ≡ OutOfMemory) → MeansNothing file
+means_nothing file fault flaw is only members sent h = let e = sym is ∙ only members sent h in absurd cc
 
 pub judged : (lawful : Bool) (file : List ℕ) (members : ℕ) (sent : List Message) → MeansTrace file members sent → (IsTrue lawful ↔ IsLawful members sent) → Judges (Ok lawful) file
 judged true file members sent means exact = record { members = members; sent = sent; means = means; lawful = exact.0 refl }

@@ -1,1 +1,2 @@
 pub mod TraceFile
+pub mod Explained

@@ -1,15 +1,18 @@
 //! `flightd audit FILE`, over any writers: the judgement of a recorded run, and where it is written.
 
-ghost use Rattle.std.specs.Prelude.{◌≡◌, ◌⊎◌, ℕ, List, true, IfErr, OnOk, OnErr};
+ghost use Rattle.std.specs.Prelude.{◌≡◌, ◌⊎◌, ◌↔◌, ℕ, List, true, IsTrue, IfOk, IfErr, OnOk, OnErr};
 ghost use Rattle.std.specs.Io.KnownBytes.{Appends, Keeps};
 ghost use Rattle.grpc_frames.specs.FrameFaults.{IsBeginning};
 ghost use Rattle.audit_command.specs.TraceFile.{Judges, Tells, MeansLawful, AuditFails, judgement_line};
-ghost use Rattle.audit_command.specs.declared.judging.AuditFault.TheVariants.{Io};
+ghost use Rattle.lawful_histories.specs.Recorded.{members_of, sent_of};
+ghost use Rattle.lawful_histories.specs.Lawful.{IsLawful};
+ghost use Rattle.audit_command.specs.declared.judging.AuditFault.TheVariants.{Io, OutOfMemory};
 
 use crate::status::{FAILURE, SUCCESS};
 use crate::trace_file::{TraceFault, read_trace};
 use grpc_frames::transfer::put;
-use lawful_histories::audit;
+use lawful_histories::Trace;
+use run_breaches::are_lawful_by_slot;
 use std::alloc::Global;
 use std::io::Write;
 use thiserror::Error;
@@ -62,6 +65,9 @@ pub fn audit_run<W: Write, E: Write>(alloc: Global, file: &[u8], w: &mut W, e: &
 /// Judges the recorded run that a file tells, as [`read_trace`] reads it, and writes `lawful` or `unlawful` and a
 /// newline to `w`, which is flushed. The result is whether it is lawful.
 ///
+/// It is judged slot by slot, by an index that holds a clone of each message: its time grows with the number of messages,
+/// and at most with the square of the number of one slot's messages.
+///
 /// On [`AuditFault::BadTrace`] and [`AuditFault::OutOfMemory`] nothing was written; on [`AuditFault::Io`] a write or
 /// the flush failed or was interrupted, and a beginning of the line of the file's own judgement has gone out, or all of
 /// it.
@@ -71,12 +77,22 @@ pub fn audit_file<W: Write>(alloc: Global, file: &[u8], w: &mut W) -> Result<boo
 {
     let trace = match read_trace(alloc, file) {
         Ok(trace) => trace,
-        Err(TraceFault::BadTrace) => return Err(AuditFault::BadTrace),
+        Err(TraceFault::BadTrace(_)) => return Err(AuditFault::BadTrace),
         Err(TraceFault::OutOfMemory) => return Err(AuditFault::OutOfMemory),
     };
-    let is_lawful = audit(&trace);
+    let is_lawful = is_lawful(alloc, &trace)?;
     tell(is_lawful, w)?;
     Ok(is_lawful)
+}
+
+fn is_lawful(alloc: Global, trace: &Trace) -> Result<bool, AuditFault>
+    ensures judged { IfOk result (λ lawful. IsTrue lawful ↔ IsLawful (members_of trace.now) (sent_of trace.now)) }
+    ensures memory { IfErr result (λ fault. fault ≡ OutOfMemory) }
+{
+    match are_lawful_by_slot(alloc, trace.members(), trace.sent()) {
+        Ok(is_lawful) => Ok(is_lawful),
+        Err(_) => Err(AuditFault::OutOfMemory),
+    }
 }
 
 fn line_of(is_lawful: bool) -> &'static [u8]
@@ -95,7 +111,17 @@ fn tell<W: Write>(is_lawful: bool, w: &mut W) -> Result<(), AuditFault>
         × Appends (W.contents w.old) (W.contents w.new) written) }
     ensures io { IfErr result (λ fault. fault ≡ Io) }
 {
-    if put(w, line_of(is_lawful)).is_err() {
+    write_flushed(line_of(is_lawful), w)
+}
+
+/// Writes all of the text and flushes the writer, or fails, and then a beginning of it has gone out, or all.
+pub(crate) fn write_flushed<W: Write>(text: &[u8], w: &mut W) -> Result<(), AuditFault>
+    ensures written { OnOk result (Appends (W.contents w.old) (W.contents w.new) text.now) }
+    ensures part { OnErr result ((written : List ℕ) × IsBeginning written text.now
+        × Appends (W.contents w.old) (W.contents w.new) written) }
+    ensures io { IfErr result (λ fault. fault ≡ Io) }
+{
+    if put(w, text).is_err() {
         return Err(AuditFault::Io);
     }
     if w.flush().is_err() {

@@ -1,5 +1,5 @@
 use Rattle.audit_command.proofs.TraceReading.{ReadSoFar}
 use Rattle.audit_command.proofs.trace_file.messages_of.Given as goal
 
-abbrev pub invariant-loop-item : goal.invariant-loop-item
-invariant-loop-item l = ReadSoFar l.items l.item-index l.sent.items
+abbrev pub invariant-loop-place : goal.invariant-loop-place
+invariant-loop-place l = ReadSoFar l.items l.place l.sent.items
