@@ -19,3 +19,7 @@ pub record IsFirstBreach (n : ℕ) (sent : List Message) (b : Breach) : Type 0 w
   pub slot : (d : Message) → b.slot ≡ (get_or sent b.place d).slot
   pub rules : (d : Message) → Breaks n (take b.place sent) (get_or sent b.place d) b.broken
   pub some : IsSomeBroken b.broken
+
+-- There is one at most.
+abbrev pub FirstBreachesAreOne : Type 0
+FirstBreachesAreOne = (n : ℕ) (sent : List Message) (x y : Breach) → IsFirstBreach n sent x → IsFirstBreach n sent y → x ≡ y
