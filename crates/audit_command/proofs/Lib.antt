@@ -1,2 +1,3 @@
 pub mod TraceReading
 pub mod Telling
+pub mod Verdicts

@@ -16,6 +16,10 @@ abbrev pub IsVerdict : ℕ → List Message → Bool → List ℕ → Type 0
 IsVerdict n sent true text = IsLawful n sent × (text ≡ judgement_line true)
 IsVerdict n sent false text = (breach : Breach) × IsFirstBreach n sent breach × (text ≡ judgement_line false ++ explanation_of sent breach)
 
+-- A run has one verdict at most, and one text.
+abbrev pub VerdictsAreOne : Type 0
+VerdictsAreOne = (n : ℕ) (sent : List Message) (x y : Bool) (s t : List ℕ) → IsVerdict n sent x s → IsVerdict n sent y t → (x ≡ y) × (s ≡ t)
+
 -- so a run is told to a writer
 abbrev pub RunTold : ℕ → List Message → Result Bool ExplainFault → Option (List ℕ) → Option (List ℕ) → Type 0
 RunTold n sent (Ok lawful) old new = (text : List ℕ) × IsVerdict n sent lawful text × Appends old new text
