@@ -1,8 +1,8 @@
 #!/usr/bin/env bash
-# Times `flightd audit` on lawful recorded runs of 1,000 to 8,000 messages over ten slots (bench/recorded_run.py). For
-# each it prints the best time of five, the instructions where valgrind is there, by what factors both grew as the
-# messages doubled, which is at most about 4, since each message is held against those before it, and the peak resident
-# size.
+# Times `flightd audit` on lawful recorded runs (bench/recorded_run.py): of 1,000 to 8,000 messages over ten slots, and of
+# 25,000 to 200,000 with ten of a slot. For each it prints the best time of five, the instructions where valgrind is
+# there, by what factors both grew as the messages doubled, and the peak resident size. The factor is at most about 4
+# over ten slots, since each message is held against those of its slot before it, and about 2 where slots grow in number.
 set -euo pipefail
 cd "$(dirname "${BASH_SOURCE[0]}")/.."
 work=$(mktemp -d)
@@ -24,22 +24,29 @@ peak() { # peak resident size in KiB of an audit that is over but for its line, 
   rm "$work/full"
 }
 
-runs="1000 2000 4000 8000"
-for messages in $runs; do
-  python3 bench/recorded_run.py "$messages" >"$work/$messages"
+runs() { # the slots of each run, and the messages of each
+  for messages in 1000 2000 4000 8000; do echo "10 $messages"; done
+  for messages in 25000 50000 100000 200000; do echo "$((messages / 10)) $messages"; done
+}
+
+runs | while read -r slots messages; do
+  python3 bench/recorded_run.py "$messages" "$slots" >"$work/$messages"
   [ "$("$flightd" audit "$work/$messages")" = lawful ]
   peak "$work/$messages" >"$work/$messages.peak"
 done
-PYTHONPATH=bench python3 -B - "$flightd" "$work" $runs <<'P'
+PYTHONPATH=bench python3 -B - "$flightd" "$work" $(runs | tr ' ' :) <<'P'
 import sys
 from timing import cost
 
 flightd, work, *runs = sys.argv[1:]
 before = None
-for messages in runs:
+for run in runs:
+    slots, messages = run.split(":")
+    if messages == "25000":
+        before = None
     now = cost([flightd, "audit", f"{work}/{messages}"])
     grown = [f", {after / half:.1f} times the half" for after, half in zip(now, before or ()) if after] or ["", ""]
-    line = f"{messages} messages: {now.seconds:.4f} s{grown[0]}"
+    line = f"{messages} messages over {slots} slots: {now.seconds:.4f} s{grown[0]}"
     if now.instructions:
         line += f"; instructions {now.instructions:,}{grown[1]}"
     with open(f"{work}/{messages}.peak") as peak:
