@@ -1,3 +1,4 @@
 pub mod TraceReading
 pub mod Telling
 pub mod Verdicts
+pub mod Flawed

@@ -7,6 +7,7 @@ use Rattle.lawful_histories.specs.Lawful.{IsLawful}
 use Rattle.run_breaches.specs.declared.breach.Breach.{Breach}
 use Rattle.run_breaches.specs.FirstBreach.{IsFirstBreach}
 use Rattle.breach_words.specs.Explanation.{explanation_of}
+use Rattle.audit_command.specs.Flaws.{IsFlaw}
 use Rattle.audit_command.specs.TraceFile.{MeansTrace, MeansNothing, judgement_line}
 use Rattle.audit_command.specs.declared.explaining.ExplainFault.{ExplainFault}
 use Rattle.audit_command.specs.declared.explaining.ExplainFault.TheVariants.{BadTrace, OutOfMemory, Io}
@@ -38,7 +39,7 @@ pub record FileTold (file : List ℕ) (outcome : Result Bool ExplainFault) (old 
 -- and so a file is explained
 abbrev pub ExplainedTo : List ℕ → Result Bool ExplainFault → Option (List ℕ) → Option (List ℕ) → Type 0
 ExplainedTo file (Ok lawful) old new = FileTold file (Ok lawful) old new
-ExplainedTo file (Err (BadTrace flaw)) old new = MeansNothing file × Keeps old new
+ExplainedTo file (Err (BadTrace flaw)) old new = MeansNothing file × IsFlaw flaw file × Keeps old new
 ExplainedTo file (Err OutOfMemory) old new = IsUtf8 file × Keeps old new
 ExplainedTo file (Err Io) old new = FileTold file (Err Io) old new
 

@@ -1,2 +1,3 @@
 pub mod TraceFile
+pub mod Flaws
 pub mod Explained

@@ -1,6 +1,6 @@
 //! A recorded run, read from the file that tells it.
 
-ghost use Rattle.std.specs.Prelude.{◌≡◌, ◌⊎◌, ◌↔◌, ℕ, List, map, Some, None, Ok, Err, IfOk, IfErr, MatchResult, option_map, IsUtf8};
+ghost use Rattle.std.specs.Prelude.{◌≡◌, ◌≢◌, ◌⊎◌, ◌↔◌, ℕ, List, map, Some, None, Ok, Err, IfOk, IfErr, MatchResult, option_map, IsUtf8};
 ghost use Rattle.std.specs.List.{AllZip};
 ghost use Rattle.serde_json.specs.Read.{read as read_text};
 ghost use Rattle.serde_json.specs.View.{view, items_view};
@@ -10,6 +10,8 @@ ghost use Rattle.ballots.specs.declared.fault.MessageFault.TheVariants as Messag
 ghost use Rattle.lawful_histories.specs.Recorded.{members_of, sent_of};
 ghost use Rattle.audit_command.specs.declared.trace_file.TraceFault.TheVariants.{BadTrace, OutOfMemory};
 ghost use Rattle.audit_command.specs.declared.trace_file.TraceFlaw.TheVariants as TraceFlaw;
+ghost use Rattle.audit_command.specs.declared.trace_file.MessageFlaw.TheVariants as MessageFlaw;
+ghost use Rattle.audit_command.specs.Flaws.{TellsFlaw, IsValueFault, IsItemsFault, IsItemFault, IsDigitsFault};
 ghost use Rattle.audit_command.specs.TraceFile.{MeansTrace, SpellsMessage, IsMessageHex, members_at, sent_at};
 
 use ballots::{MAX_MEMBERS, Members, Message, MessageFault};
@@ -83,6 +85,7 @@ pub fn read_trace(alloc: Global, file: &[u8]) -> Result<Trace, TraceFault>
     ensures only { (members : ℕ) (sent : List Meant) → MeansTrace file.now members sent
         → MatchResult result (λ trace. (members_of trace ≡ members) × (sent_of trace ≡ sent)) (λ fault. fault ≡ OutOfMemory) }
     ensures memory { result ≡ Err OutOfMemory → IsUtf8 file.now }
+    ensures flaw { IfErr result (λ fault. TellsFlaw fault file.now) }
 {
     let value = value_of(alloc, file)?;
     let members = members_of(&value)?;
@@ -97,6 +100,7 @@ fn value_of(alloc: Global, file: &[u8]) -> Result<Value, TraceFault>
     ensures read { IfOk result (λ value. IsUtf8 file.now × (read_text file.now ≡ Some (view value))) }
     ensures err { IfErr result (λ fault. (fault ≡ OutOfMemory) ⊎ (IsUtf8 file.now → read_text file.now ≡ None)) }
     ensures memory { result ≡ Err OutOfMemory → IsUtf8 file.now }
+    ensures flaw { IfErr result (λ fault. IsValueFault fault file.now) }
 {
     let Ok(text) = from_utf8(file) else {
         return Err(TraceFault::BadTrace(TraceFlaw::NotUtf8));
@@ -111,6 +115,7 @@ fn value_of(alloc: Global, file: &[u8]) -> Result<Value, TraceFault>
 fn members_of(value: &Value) -> Result<Members, TraceFault>
     ensures read { IfOk result (λ members. (members_at (view value.now) ≡ Some members) × IsMembers members) }
     ensures only { (members : ℕ) → members_at (view value.now) ≡ Some members → IsMembers members → result ≡ Ok members }
+    ensures flaw { IfErr result (λ fault. fault ≡ BadTrace TraceFlaw.Members) }
 {
     let Some(count) = value.get("members").and_then(Value::as_u64) else {
         return Err(TraceFault::BadTrace(TraceFlaw::Members));
@@ -134,6 +139,7 @@ fn messages_of(alloc: Global, items: &[Value]) -> Result<Vec<Message>, TraceFaul
     ensures read { IfOk result (λ sent. AllZip SpellsMessage (map view items.now) sent.items) }
     ensures only { (sent : List Meant) → AllZip SpellsMessage (map view items.now) sent
         → MatchResult result (λ read. read.items ≡ sent) (λ fault. fault ≡ OutOfMemory) }
+    ensures flaw { IfErr result (λ fault. IsItemsFault fault (map view items.now)) }
 {
     let mut sent = Vec::new(alloc);
     for place in 0..items.len() {
@@ -148,6 +154,7 @@ fn messages_of(alloc: Global, items: &[Value]) -> Result<Vec<Message>, TraceFaul
 fn message_of(alloc: Global, place: usize, item: &Value) -> Result<Message, TraceFault>
     ensures read { IfOk result (SpellsMessage (view item.now)) }
     ensures only { (m : Meant) → SpellsMessage (view item.now) m → (result ≡ Ok m) ⊎ (result ≡ Err OutOfMemory) }
+    ensures flaw { IfErr result (λ fault. IsItemFault fault place (view item.now)) }
 {
     match item.as_str() {
         Some(digits) => message_of_digits(alloc, place, digits),
@@ -155,13 +162,10 @@ fn message_of(alloc: Global, place: usize, item: &Value) -> Result<Message, Trac
     }
 }
 
-fn message_of_digits(
-    alloc: Global,
-    place: usize,
-    digits: &str,
-) -> Result<Message, TraceFault>
+fn message_of_digits(alloc: Global, place: usize, digits: &str) -> Result<Message, TraceFault>
     ensures read { IfOk result (IsMessageHex digits.now) }
     ensures only { (m : Meant) → IsMessageHex digits.now m → (result ≡ Ok m) ⊎ (result ≡ Err OutOfMemory) }
+    ensures flaw { IfErr result (λ fault. IsDigitsFault fault place digits.now) }
 {
     let bytes = match hex::decode(alloc, digits) {
         Ok(bytes) => bytes,
@@ -175,7 +179,9 @@ fn message_of_digits(
 }
 
 fn fault_of(place: usize, fault: MessageFault) -> TraceFault
-    ensures { (result ≡ OutOfMemory) ↔ (fault ≡ MessageFault.OutOfMemory) }
+    ensures memory { (result ≡ OutOfMemory) ↔ (fault ≡ MessageFault.OutOfMemory) }
+    ensures flaw { (result ≡ OutOfMemory) ⊎ ((fault ≢ MessageFault.OutOfMemory)
+        × (result ≡ BadTrace (TraceFlaw.Message place (MessageFlaw.NoMessage fault)))) }
 {
     match fault {
         MessageFault::OutOfMemory => TraceFault::OutOfMemory,

@@ -13,16 +13,29 @@ use run_breaches::{Breach, BrokenRules};
 use std::alloc::{AllocError, Global};
 
 // Each rule that is broken, in plain words.
-const PROMISES_BELOW: &str = "its sender had promised this ballot or a higher one, or accepted at one";
+const PROMISES_BELOW: &str =
+    "its sender had promised this ballot or a higher one, or accepted at one";
+
 const LEAVES_OUT_AN_ACCEPTANCE: &str =
     "its sender had accepted a value that it does not report, at a higher ballot than it reports or where it reports none";
-const REPORTS_NO_LOWER_BALLOT: &str = "what it reports was not accepted at a ballot below the promised one";
+
+const REPORTS_NO_LOWER_BALLOT: &str =
+    "what it reports was not accepted at a ballot below the promised one";
+
 const REPORTS_WHAT_NOBODY_PROPOSED: &str = "what it reports was not proposed before";
+
 const PROPOSES_A_SECOND_VALUE: &str = "another value was proposed at its ballot";
+
 const PROPOSES_WITHOUT_A_MAJORITY: &str = "no majority had promised its ballot";
-const PROPOSES_OVER_A_REPORT: &str = "its value is not that of the highest report among the promises of its ballot";
+
+const PROPOSES_OVER_A_REPORT: &str =
+    "its value is not that of the highest report among the promises of its ballot";
+
 const ACCEPTS_WHAT_NOBODY_PROPOSED: &str = "its value was not proposed at its ballot";
-const ACCEPTS_BELOW_ITS_PROMISE: &str = "its sender had promised a higher ballot, or accepted at one";
+
+const ACCEPTS_BELOW_ITS_PROMISE: &str =
+    "its sender had promised a higher ballot, or accepted at one";
+
 const DECIDES_WHAT_WAS_NOT_CHOSEN: &str = "no majority had accepted its value at one ballot";
 
 /// Why the message of the breach breaks the rules, in lines that each end with a newline: first its number, from 0, its
@@ -30,11 +43,7 @@ const DECIDES_WHAT_WAS_NOT_CHOSEN: &str = "no majority had accepted its value at
 /// first message that it goes against, where the rule speaks of one.
 ///
 /// The places are those of messages in `sent`; a place behind its end has an empty line.
-pub fn explanation(
-    alloc: Global,
-    sent: &[Message],
-    breach: &Breach,
-) -> Result<String, AllocError>
+pub fn explanation(alloc: Global, sent: &[Message], breach: &Breach) -> Result<String, AllocError>
     ensures { IfOk result (λ text. string_bytes text ≡ explanation_of sent.now breach.now) }
 {
     let place = breach.place;
@@ -55,11 +64,7 @@ fn line_of(alloc: Global, sent: &[Message], place: usize) -> Result<String, Allo
 }
 
 // A line for each rule that is broken.
-fn rules_of(
-    alloc: Global,
-    sent: &[Message],
-    broken: &BrokenRules,
-) -> Result<String, AllocError>
+fn rules_of(alloc: Global, sent: &[Message], broken: &BrokenRules) -> Result<String, AllocError>
     ensures { IfOk result (λ text. string_bytes text ≡ rules_text sent.now broken.now) }
 {
     match broken {

@@ -190,10 +190,12 @@ fn is_printed(alloc: Global, told: &Told) -> Result<bool, Fail> {
     let wanted = told.printed.as_bytes();
     let outcome = explained(alloc, file.as_bytes());
     let judged = audited(alloc, file.as_bytes());
-    Ok(outcome.output.as_slice() == wanted
-        && outcome.said.is_empty()
-        && outcome.status == judged.status
-        && wanted.starts_with(judged.output.as_slice()))
+    Ok(
+        outcome.output.as_slice() == wanted
+            && outcome.said.is_empty()
+            && outcome.status == judged.status
+            && wanted.starts_with(judged.output.as_slice()),
+    )
 }
 
 /// Whether the searches with and without an index find the same, and nothing exactly where the run is lawful.
@@ -202,9 +204,11 @@ fn is_found_alike(alloc: Global, told: &Told) -> Result<bool, Fail> {
     let found = first_breach(members, &told.sent);
     let by_slot = first_breach_by_slot(alloc, members, &told.sent)?;
     let is_lawful = are_lawful_by_slot(alloc, members, &told.sent)?;
-    Ok(found == by_slot
-        && found.is_none() == is_lawful
-        && is_lawful == (told.printed.as_str() == "lawful\n"))
+    Ok(
+        found == by_slot
+            && found.is_none() == is_lawful
+            && is_lawful == (told.printed.as_str() == "lawful\n"),
+    )
 }
 
 #[test]

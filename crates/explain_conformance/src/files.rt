@@ -38,11 +38,13 @@ fn is_said(alloc: Global, flaw: &str, file: &[u8]) -> Result<bool, Fail> {
     let outcome = explained(alloc, file);
     let judged = audited(alloc, file);
     let wanted = format!(in alloc; "flightd: BadTrace\nflightd: {flaw}\n")?;
-    Ok(outcome.status == 1
-        && judged.status == 1
-        && outcome.output.is_empty()
-        && outcome.said.as_slice() == wanted.as_bytes()
-        && judged.said.as_slice() == b"flightd: BadTrace\n".as_slice())
+    Ok(
+        outcome.status == 1
+            && judged.status == 1
+            && outcome.output.is_empty()
+            && outcome.said.as_slice() == wanted.as_bytes()
+            && judged.said.as_slice() == b"flightd: BadTrace\n".as_slice(),
+    )
 }
 
 #[test]

@@ -10,5 +10,5 @@ returns-in-Ok-decode-clause-only c = λ m h.
 
 pub returns-clause-only : goal.returns-clause-only
 returns-clause-only c = λ m h.
-    refused_as c.decode-2.result m c.in-Err-decode.fault c.fault_of.result c.in-Err-decode.is c.fault_of.ensures.1
+    refused_as c.decode-2.result m c.in-Err-decode.fault c.fault_of.result c.in-Err-decode.is c.fault_of.ensures.memory.1
     (c.decode-2.ensures.only m (subst (λ (b : List ℕ). IsMessageText b m) (sym c.deref.ensures.value) (hex_means _ _ m c.in-Ok.ensures.ok h)))

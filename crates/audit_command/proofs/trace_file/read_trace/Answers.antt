@@ -1,4 +1,4 @@
-use Rattle.std.proofs.Common.{ℕ, sym, subst, ◌∙◌, map, ◌≡◌, List, MatchResult, rules, arith}
+use Rattle.std.proofs.Common.{ℕ, sym, subst, ◌∙◌, map, ◌≡◌, List, IfErr, MatchResult, rules, arith}
 use Rattle.std.proofs.lemmas.Grind.{common_steps}
 use Rattle.std.proofs.lemmas.Option.{same_Some}
 use Rattle.std.specs.List.{AllZip}
@@ -8,6 +8,8 @@ use Rattle.lawful_histories.specs.Recorded.{members_of, sent_of}
 use Rattle.ballots.specs.declared.message.Message.{Message}
 use Rattle.audit_command.specs.TraceFile.{MeansTrace, SpellsMessage}
 use Rattle.audit_command.specs.declared.trace_file.TraceFault.TheVariants.{OutOfMemory}
+use Rattle.audit_command.specs.Flaws.{IsItemsFault, TellsFlaw}
+use Rattle.audit_command.proofs.Flawed.{file_fault}
 use Rattle.audit_command.proofs.TraceReading.{means_at, at_means, handed_on}
 use Rattle.audit_command.proofs.trace_file.read_trace.Goals as goal
 
@@ -17,6 +19,13 @@ returns-in_err-sent-clause-only c = λ members sent h.
     let fault = c.in_err-sent.field-0.0 in
     subst (λ r. MatchResult r (λ trace. (members_of trace ≡ members) × (sent_of trace ≡ sent)) (λ e. e ≡ OutOfMemory)) (sym (handed_on c.from_residual-in_err-sent.result fault c.from_residual-in_err-sent.ensures.1))
     (c.in_err-sent.ensures.only sent (subst (λ (vs : List Value). AllZip SpellsMessage (map view vs) sent) (sym c.deref.ensures.value) means.messages))
+
+pub returns-in_err-sent-clause-flaw : goal.returns-in_err-sent-clause-flaw
+returns-in_err-sent-clause-flaw c =
+    let fault = c.in_err-sent.field-0.0 in
+    subst (λ r. IfErr r (λ e. TellsFlaw e c.args.file.now)) (sym (handed_on c.from_residual-in_err-sent.result fault c.from_residual-in_err-sent.ensures.1))
+    (file_fault _ (view c.in_ok-value.value) (map view c.in-Some.items.now.items) fault c.in_ok-value.ensures.read.1 c.in-Some.ensures
+    (subst (λ (vs : List Value). IsItemsFault fault (map view vs)) c.deref.ensures.value c.in_err-sent.ensures.flaw))
 
 pub returns-clause-read : goal.returns-clause-read
 returns-clause-read c =

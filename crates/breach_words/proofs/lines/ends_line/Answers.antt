@@ -8,6 +8,6 @@ pub returns : goal.returns
 returns c =
     let bytes = c.args.upload.now in
     let same : string_bytes c.in_ok-front.front ++ (codes ".." ++ (string_bytes c.in_ok-end.end ++ (codes " (" ++ (decimal (length bytes) ++ codes " bytes)")))) ≡ ends_text bytes =
-        let front = c.in_ok-front.ensures in let end = c.in_ok-end.ensures in cc in
+    let front = c.in_ok-front.ensures in let end = c.in_ok-end.ensures in cc in
     IfOk-weaker c.format.result (λ line. string_bytes line ≡ string_bytes c.in_ok-front.front ++ (codes ".." ++ (string_bytes c.in_ok-end.end ++ (codes " (" ++ (decimal (length bytes) ++ codes " bytes)")))))
     _ (λ line told. told ∙ same) c.format.ensures.ok
