@@ -1,0 +1,4 @@
+pub mod Lines
+pub mod UploadValue
+pub mod ScheduleFile
+pub mod Replaying

@@ -1,0 +1,170 @@
+//! Events from the arrays that tell them: a word, the number of a node, and what stands behind it.
+
+ghost use Rattle.std.specs.Prelude.{◌≡◌, ◌<◌, ◌∷◌, ℕ, List, [], Some, IfOk, map, slice_get};
+ghost use Rattle.std.specs.String.{string_bytes};
+ghost use Rattle.std.specs.List.{AllZip};
+ghost use Rattle.serde_json.specs.Data.{string};
+ghost use Rattle.serde_json.specs.View.{view};
+ghost use Rattle.replay_command.specs.ScheduleFile.{Says, TellsEvent, whole};
+
+use crate::fault::ScheduleFault;
+use schedule_runner::{Event, TableText};
+use serde_json::Value;
+use std::alloc::Global;
+use tickets::Ticket;
+use uploads::Upload;
+
+/// How many slots a tick leaves to others: a number of eight bits.
+fn left_of(value: &Value) -> Result<u8, ScheduleFault>
+    ensures { IfOk result (λ left. view value.now ≡ whole left) }
+{
+    match value.as_u64() {
+        Some(left) if left <= 255 => Ok(left as u8),
+        _ => Err(ScheduleFault::BadSchedule),
+    }
+}
+
+fn whole_of(value: &Value) -> Result<u64, ScheduleFault>
+    ensures { IfOk result (λ number. view value.now ≡ whole number) }
+{
+    match value.as_u64() {
+        Some(number) => Ok(number),
+        None => Err(ScheduleFault::BadSchedule),
+    }
+}
+
+/// The upload of this place in the list.
+fn upload_at(uploads: &[Upload], value: &Value) -> Result<Upload, ScheduleFault>
+    ensures { IfOk result (λ upload. (place : ℕ) × (view value.now ≡ whole place)
+        × (slice_get uploads.now place ≡ Some upload)) }
+{
+    let place = whole_of(value)?;
+    match uploads.get(place as usize) {
+        Some(upload) => Ok(upload.clone()?),
+        None => Err(ScheduleFault::BadSchedule),
+    }
+}
+
+fn text_of(alloc: Global, value: &Value) -> Result<String, ScheduleFault>
+    ensures { IfOk result (λ text. view value.now ≡ string (string_bytes text)) }
+{
+    match value.as_str() {
+        Some(text) => Ok(String::from_str(alloc, text)?),
+        None => Err(ScheduleFault::BadSchedule),
+    }
+}
+
+/// The ticket for this version of this table.
+fn ticket_of(alloc: Global, table: &Value, version: &Value) -> Result<Ticket, ScheduleFault>
+    ensures table { IfOk result (λ ticket. view table.now ≡ string ticket.table) }
+    ensures version { IfOk result (λ ticket. view version.now ≡ whole ticket.version) }
+{
+    let version = whole_of(version)?;
+    let table = text_of(alloc, table)?;
+    match Ticket::new(table, version) {
+        Some(ticket) => Ok(ticket),
+        None => Err(ScheduleFault::BadSchedule),
+    }
+}
+
+fn event_of_node(word: &str, node: u64) -> Result<Event, ScheduleFault>
+    ensures { (uploads : List (List ℕ)) → IfOk result (Says uploads word.now node []) }
+{
+    match word {
+        "restart" => Ok(Event::Restart(node)),
+        _ => Err(ScheduleFault::BadSchedule),
+    }
+}
+
+/// The event of this word, of the node and one thing more.
+fn event_of_one(
+    alloc: Global,
+    uploads: &[Upload],
+    word: &str,
+    node: u64,
+    value: &Value,
+) -> Result<Event, ScheduleFault>
+    ensures { IfOk result (Says uploads.now word.now node (view value.now ∷ [])) }
+{
+    match word {
+        "put" => Ok(Event::Put(node, upload_at(uploads, value)?)),
+        "tick" => Ok(Event::Tick(node, left_of(value)?)),
+        "deliver" => Ok(Event::Deliver(node, whole_of(value)?)),
+        "tickcut" => Ok(Event::TickCut(node, left_of(value)?)),
+        "delivercut" => Ok(Event::DeliverCut(node, whole_of(value)?)),
+        "info" => Ok(Event::Info(node, TableText::new(text_of(alloc, value)?))),
+        "outcome" => Ok(Event::Outcome(node, upload_at(uploads, value)?)),
+        _ => Err(ScheduleFault::BadSchedule),
+    }
+}
+
+fn event_of_two(
+    alloc: Global,
+    word: &str,
+    node: u64,
+    table: &Value,
+    version: &Value,
+) -> Result<Event, ScheduleFault>
+    ensures { (uploads : List (List ℕ)) → IfOk result (Says uploads word.now node (view table.now ∷ view version.now ∷ [])) }
+{
+    match word {
+        "get" => Ok(Event::Get(node, ticket_of(alloc, table, version)?)),
+        _ => Err(ScheduleFault::BadSchedule),
+    }
+}
+
+/// The event of this word, of the node and with what stands behind it.
+fn event_of_parts(
+    alloc: Global,
+    uploads: &[Upload],
+    word: &str,
+    node: u64,
+    rest: &[Value],
+) -> Result<Event, ScheduleFault>
+    ensures { IfOk result (Says uploads.now word.now node (map view rest.now)) }
+{
+    match rest {
+        [] => event_of_node(word, node),
+        [value] => event_of_one(alloc, uploads, word, node, value),
+        [table, version] => event_of_two(alloc, word, node, table, version),
+        _ => Err(ScheduleFault::BadSchedule),
+    }
+}
+
+/// The event that an array tells.
+pub(crate) fn event_of(
+    alloc: Global,
+    uploads: &[Upload],
+    value: &Value,
+) -> Result<Event, ScheduleFault>
+    ensures { IfOk result (TellsEvent uploads.now (view value.now)) }
+{
+    let Some(items) = value.as_array() else {
+        return Err(ScheduleFault::BadSchedule);
+    };
+    let [word, node, rest @ ..] = items.as_slice() else {
+        return Err(ScheduleFault::BadSchedule);
+    };
+    let (Some(word), Some(node)) = (word.as_str(), node.as_u64()) else {
+        return Err(ScheduleFault::BadSchedule);
+    };
+    event_of_parts(alloc, uploads, word, node, rest)
+}
+
+/// The events that these values tell, in order.
+pub(crate) fn events_of(
+    alloc: Global,
+    uploads: &[Upload],
+    values: &[Value],
+) -> Result<Vec<Event>, ScheduleFault>
+    ensures { IfOk result (λ events. AllZip (TellsEvent uploads.now) (map view values.now) events.items) }
+{
+    let mut events = Vec::new(alloc);
+    for value in values {
+        let event = event_of(alloc, uploads, value)?;
+        if events.push(event).is_err() {
+            return Err(ScheduleFault::OutOfMemory);
+        }
+    }
+    Ok(events)
+}

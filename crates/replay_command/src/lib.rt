@@ -1,0 +1,20 @@
+//! `flightd replay FILE`, a function over any writers.
+//!
+//! `replay_run` lets the events of a schedule, told by a file's bytes, happen to nodes of its own, one after the other,
+//! and writes a line for each. It gives the exit status, and tells of a fault in a line. What it runs, `replay_file`,
+//! gives the fault itself, and `read_schedule` the schedule. A caller reads the file, hands over the real streams, and
+//! exits with the status.
+#![tactic(auto)]
+
+mod event_words;
+mod fault;
+mod lines;
+mod replaying;
+mod schedule_file;
+mod status;
+mod upload_values;
+
+pub use fault::{ReplayFault, ScheduleFault};
+pub use replaying::{replay_file, replay_run};
+pub use schedule_file::{Schedule, read_schedule};
+pub use status::{FAILURE, SUCCESS};

@@ -1,0 +1,123 @@
+//! `flightd replay FILE`, over any writers: a schedule is played, and a line is written for each event.
+
+ghost use Rattle.std.specs.Prelude.{◌≡◌, ◌⊎◌, ℕ, List, IfErr, OnOk, OnErr};
+ghost use Rattle.std.specs.Io.KnownBytes.{Appends, Keeps};
+ghost use Rattle.grpc_frames.specs.FrameFaults.{IsBeginning};
+ghost use Rattle.replay_command.specs.Lines.{line_of, lines_of};
+ghost use Rattle.replay_command.specs.Replaying.{Replays, ReplayFails, TellsAll, IsOfTelling};
+
+use crate::fault::{ReplayFault, ScheduleFault};
+use crate::lines::line_of;
+use crate::schedule_file::read_schedule;
+use crate::status::{FAILURE, SUCCESS};
+use grpc_frames::transfer::put;
+use schedule_runner::{RunFault, Step, Trace, run};
+use std::alloc::Global;
+use std::hash::RandomState;
+use std::io::Write;
+
+/// `flightd replay FILE`: lets the events of the schedule that the file's bytes tell (`read_schedule` says how) happen to
+/// nodes of its own, writes a line for each to `w`, and gives the exit status. docs/FORMATS.md has the lines. `hashing`
+/// has the random keys that keep look-ups fast whatever names the file chooses.
+///
+/// A fault's line goes to `e`: `flightd: BadSchedule` where the bytes tell no schedule, `flightd: OutOfMemory` where
+/// memory is refused, `flightd: Io` where `w` fails. Where that can't be written, the status alone tells.
+pub fn replay_run<W: Write, E: Write>(
+    alloc: Global,
+    hashing: RandomState,
+    file: &[u8],
+    w: &mut W,
+    e: &mut E,
+) -> u8
+    ensures status { (result ≡ 0) ⊎ (result ≡ 1) }
+    ensures told { result ≡ 0 → TellsAll file.now (W.contents w.old) (W.contents w.new) }
+    // Without a fault nothing is said.
+    ensures silent { result ≡ 0 → Keeps (E.contents e.old) (E.contents e.new) }
+    ensures failed { result ≡ 1 → ReplayFails file.now (W.contents w.old) (W.contents w.new) }
+{
+    match replay_file(alloc, hashing, file, w) {
+        Ok(()) => SUCCESS,
+        Err(fault) => {
+            // Where this fails too, the status alone tells.
+            let _ = writeln!(e, "flightd: {fault}");
+            let _ = e.flush();
+            FAILURE
+        }
+    }
+}
+
+/// Plays the schedule that a file tells, as [`read_schedule`] reads it, and writes a line for each of its events to `w`,
+/// which is flushed.
+///
+/// On [`ReplayFault::BadSchedule`] nothing was played and nothing written. On [`ReplayFault::OutOfMemory`] nothing was
+/// written, or a beginning of the lines; a node that wants memory refuses its event, and its line says so. On
+/// [`ReplayFault::Io`] a write or the flush failed or was interrupted, and a beginning of the lines has gone out, or all
+/// of them.
+pub fn replay_file<W: Write>(
+    alloc: Global,
+    hashing: RandomState,
+    file: &[u8],
+    w: &mut W,
+) -> Result<(), ReplayFault>
+    ensures { Replays file.now result (W.contents w.old) (W.contents w.new) }
+{
+    let schedule = match read_schedule(alloc, file) {
+        Ok(schedule) => schedule,
+        Err(ScheduleFault::BadSchedule) => return Err(ReplayFault::BadSchedule),
+        Err(ScheduleFault::OutOfMemory) => return Err(ReplayFault::OutOfMemory),
+    };
+    let trace = match run(alloc, hashing, schedule.config, &schedule.events) {
+        Ok(trace) => trace,
+        Err(RunFault::BadConfig) => return Err(ReplayFault::BadSchedule),
+        Err(RunFault::OutOfMemory) => return Err(ReplayFault::OutOfMemory),
+    };
+    tell(alloc, &trace, w)
+}
+
+/// Writes the lines of the trace's steps, and flushes the writer.
+fn tell<W: Write>(alloc: Global, trace: &Trace, w: &mut W) -> Result<(), ReplayFault>
+    ensures all { OnOk result (Appends (W.contents w.old) (W.contents w.new) (lines_of trace.now.steps)) }
+    ensures part { OnErr result ((written : List ℕ) × IsBeginning written (lines_of trace.now.steps)
+        × Appends (W.contents w.old) (W.contents w.new) written) }
+    ensures fault { IfErr result IsOfTelling }
+{
+    write_lines(alloc, trace.steps(), w)?;
+    if w.flush().is_err() {
+        return Err(ReplayFault::Io);
+    }
+    Ok(())
+}
+
+/// Writes the lines of the steps.
+fn write_lines<W: Write>(alloc: Global, steps: &[Step], w: &mut W) -> Result<(), ReplayFault>
+    ensures all { OnOk result (Appends (W.contents w.old) (W.contents w.new) (lines_of steps.now)) }
+    ensures part { OnErr result ((written : List ℕ) × IsBeginning written (lines_of steps.now)
+        × Appends (W.contents w.old) (W.contents w.new) written) }
+    ensures fault { IfErr result IsOfTelling }
+{
+    for number in 0..steps.len() {
+        write_line(alloc, number, &steps[number], w)?;
+    }
+    Ok(())
+}
+
+/// Writes the line of a step.
+fn write_line<W: Write>(
+    alloc: Global,
+    number: usize,
+    step: &Step,
+    w: &mut W,
+) -> Result<(), ReplayFault>
+    ensures all { OnOk result (Appends (W.contents w.old) (W.contents w.new) (line_of number step.now)) }
+    ensures part { OnErr result ((written : List ℕ) × IsBeginning written (line_of number step.now)
+        × Appends (W.contents w.old) (W.contents w.new) written) }
+    ensures fault { IfErr result IsOfTelling }
+{
+    let Ok(line) = line_of(alloc, number, step) else {
+        return Err(ReplayFault::OutOfMemory);
+    };
+    if put(w, line.as_bytes()).is_err() {
+        return Err(ReplayFault::Io);
+    }
+    Ok(())
+}

@@ -1,0 +1,96 @@
+//! A schedule, read from the file that tells it.
+
+ghost use Rattle.std.specs.Prelude.{◌≡◌, ◌≤◌, Some, Err, IfOk, IfSome, IsUtf8, codes};
+ghost use Rattle.serde_json.specs.Read.{read as read_text};
+ghost use Rattle.serde_json.specs.View.{view};
+ghost use Rattle.ballots.specs.Majority.{IsMembers};
+ghost use Rattle.schedule_runner.specs.Limits.{most_slots};
+ghost use Rattle.replay_command.specs.declared.fault.ScheduleFault.TheVariants.{OutOfMemory};
+ghost use Rattle.replay_command.specs.ScheduleFile.{MeansSchedule, TellsConfig, number_at};
+
+use crate::event_words::events_of;
+use crate::fault::ScheduleFault;
+use crate::upload_values::{array_at, uploads_of};
+use ballots::{MAX_MEMBERS, Members};
+use schedule_runner::{Config, Event, MAX_JOURNAL_ENTRIES, MAX_SLOTS};
+use serde_json::Value;
+use std::alloc::Global;
+use std::str::from_utf8;
+
+/// What is to happen to which nodes.
+#[derive(Debug, Drop)]
+pub struct Schedule {
+    /// What the nodes have in common.
+    pub config: Config,
+    /// What happens, in order.
+    pub events: Vec<Event>,
+}
+
+fn value_of(alloc: Global, file: &[u8]) -> Result<Value, ScheduleFault>
+    ensures read { IfOk result (λ value. IsUtf8 file.now × (read_text file.now ≡ Some (view value))) }
+    ensures memory { result ≡ Err OutOfMemory → IsUtf8 file.now }
+{
+    let Ok(text) = from_utf8(file) else {
+        return Err(ScheduleFault::BadSchedule);
+    };
+    match Value::from_str(alloc, text) {
+        Ok(value) => Ok(value),
+        Err(error) if error.is_memory() => Err(ScheduleFault::OutOfMemory),
+        Err(_) => Err(ScheduleFault::BadSchedule),
+    }
+}
+
+fn members_of(value: &Value) -> Option<Members>
+    ensures { IfSome result (λ members. (number_at (codes "members") (view value.now) ≡ Some members) × IsMembers members) }
+{
+    let count = value.get("members").and_then(Value::as_u64)?;
+    if count > u64::from(MAX_MEMBERS) {
+        return None;
+    }
+    Members::new(count as u8)
+}
+
+fn slot_limit_of(value: &Value) -> Option<u32>
+    ensures { IfSome result (λ slots. (number_at (codes "slot_limit") (view value.now) ≡ Some slots)
+        × (1 ≤ slots) × (slots ≤ most_slots)) }
+{
+    let count = value.get("slot_limit").and_then(Value::as_u64)?;
+    if count == 0 || count > u64::from(MAX_SLOTS) {
+        return None;
+    }
+    Some(count as u32)
+}
+
+/// What the nodes have in common. A journal takes as many entries as it can have.
+fn config_of(value: &Value) -> Option<Config>
+    ensures { IfSome result (TellsConfig (view value.now)) }
+{
+    Some(Config {
+        members: members_of(value)?,
+        slot_limit: slot_limit_of(value)?,
+        journal_limit: MAX_JOURNAL_ENTRIES,
+    })
+}
+
+/// The schedule that a file tells.
+///
+/// The file is a JSON object (RFC 8259) with a whole number `members`, 1 to [`MAX_MEMBERS`], a whole number `slot_limit`,
+/// 1 to [`MAX_SLOTS`], an array `uploads` and an array `events`. docs/FORMATS.md has what these arrays hold. Other members
+/// of the object, and of an upload's, are passed over, and of two members of one name the last one counts. Any other file
+/// is a [`ScheduleFault::BadSchedule`]. The only other fault is [`ScheduleFault::OutOfMemory`].
+pub fn read_schedule(alloc: Global, file: &[u8]) -> Result<Schedule, ScheduleFault>
+    ensures read { IfOk result (λ schedule. MeansSchedule file.now schedule.config schedule.events.items) }
+    ensures memory { result ≡ Err OutOfMemory → IsUtf8 file.now }
+{
+    let value = value_of(alloc, file)?;
+    let Some(config) = config_of(&value) else {
+        return Err(ScheduleFault::BadSchedule);
+    };
+    let (Some(uploads), Some(events)) = (array_at(&value, "uploads"), array_at(&value, "events"))
+    else {
+        return Err(ScheduleFault::BadSchedule);
+    };
+    let uploads = uploads_of(alloc, uploads)?;
+    let events = events_of(alloc, &uploads, events)?;
+    Ok(Schedule { config, events })
+}

@@ -1,0 +1,241 @@
+//! An upload from the value that tells it: one column of small numbers.
+
+ghost use Rattle.std.specs.Prelude.{◌≡◌, ◌∷◌, ℕ, List, [], Some, map, length, codes, option_map, option_and_then, IfOk, IfSome};
+ghost use Rattle.std.specs.List.{AllZip};
+ghost use Rattle.serde_json.specs.Find.{as_array, get};
+ghost use Rattle.serde_json.specs.View.{view, items_view};
+ghost use Rattle.hex.specs.Hex.{decode_of};
+ghost use Rattle.header_types.specs.Views.{schema_of};
+ghost use Rattle.batch_types.specs.Layouts.{bytes_layout};
+ghost use Rattle.batch_types.specs.Shapes.{shape, no_shape};
+ghost use Rattle.batch_columns.specs.Batches.{rows_of};
+ghost use Rattle.batch_columns.specs.Made.{bytes_or_null};
+ghost use Rattle.table_types.specs.Uploads.{upload_text};
+ghost use Rattle.table_types.specs.Valid.{IsUpload};
+ghost use Rattle.upload_writing.specs.Making.{upload_of as uploaded};
+ghost use Rattle.replay_command.specs.UploadValue.{IsByteOf, TellsCell, TellsRows, MeansUpload, byte_cell, column_rows, column_schema, name_told, text_at};
+
+use crate::fault::ScheduleFault;
+use batch_columns::{Batch, Column};
+use header_types::{BitWidth, Field, Schema, Ty};
+use hex::FromHex;
+use serde_json::Value;
+use std::alloc::{AllocError, Global};
+use uploads::{Upload, UploadFault};
+
+/// The name of the column where the value tells none.
+const COLUMN_NAME: &str = "a";
+
+/// The schema of one column of numbers of eight bits with a sign, which may be missing.
+fn schema_named(alloc: Global, name: &str) -> Result<Schema, AllocError>
+    ensures { IfOk result (λ schema. schema_of schema ≡ column_schema name.now) }
+{
+    let field = Field {
+        name: String::from_str(alloc, name)?,
+        nullable: true,
+        ty: Ty::Int {
+            bit_width: BitWidth::Eight,
+            is_signed: true,
+        },
+        children: Vec::new(alloc),
+        metadata: Vec::new(alloc),
+    };
+    let mut fields = Vec::new(alloc);
+    fields.push(field)?;
+    let metadata = Vec::new(alloc);
+    Ok(Schema { fields, metadata })
+}
+
+/// The byte of two's complement of a number from -128 to 127, or none.
+fn byte_of(number: i64) -> Option<u8>
+    ensures { IfSome result (λ byte. IsByteOf number byte) }
+{
+    if (0..128).contains(&number) {
+        Some(number as u8)
+    } else if (-128..0).contains(&number) {
+        Some((number + 256) as u8)
+    } else {
+        None
+    }
+}
+
+/// The byte of a number, and none of a null.
+fn cell_of(value: &Value) -> Result<Option<[u8; 1]>, ScheduleFault>
+    ensures { IfOk result (TellsCell (view value.now)) }
+{
+    if value.is_null() {
+        return Ok(None);
+    }
+    let Some(number) = value.as_i64() else {
+        return Err(ScheduleFault::BadSchedule);
+    };
+    match byte_of(number) {
+        Some(byte) => Ok(Some([byte])),
+        None => Err(ScheduleFault::BadSchedule),
+    }
+}
+
+fn cells_of(alloc: Global, values: &[Value]) -> Result<Vec<Option<[u8; 1]>>, ScheduleFault>
+    ensures { IfOk result (λ cells. AllZip TellsCell (map view values.now) cells.items) }
+{
+    let mut cells = Vec::new(alloc);
+    for value in values {
+        let cell = cell_of(value)?;
+        if cells.push(cell).is_err() {
+            return Err(ScheduleFault::OutOfMemory);
+        }
+    }
+    Ok(cells)
+}
+
+fn lent(cell: &Option<[u8; 1]>) -> Option<&[u8]>
+    ensures { bytes_or_null result ≡ byte_cell cell.now }
+{
+    match cell {
+        Some(byte) => Some(byte.as_slice()),
+        None => None,
+    }
+}
+
+fn all_lent(alloc: Global, cells: &[Option<[u8; 1]>]) -> Result<Vec<Option<&[u8]>>, AllocError>
+    ensures { IfOk result (λ all. map bytes_or_null all.items ≡ map byte_cell cells.now) }
+{
+    let mut all = Vec::new(alloc);
+    for cell in cells {
+        all.push(lent(cell))?;
+    }
+    Ok(all)
+}
+
+/// The column of these cells.
+fn column_of(alloc: Global, cells: &[Option<[u8; 1]>]) -> Result<Column, AllocError>
+    ensures { IfOk result (λ column. column.cells ≡ map byte_cell cells.now) }
+{
+    let all = all_lent(alloc, cells)?;
+    match Column::from_sized(alloc, 1, &all) {
+        Ok(column) => Ok(column),
+        Err(_) => Err(AllocError),
+    }
+}
+
+fn batch_of_cells(alloc: Global, cells: &[Option<[u8; 1]>]) -> Result<Batch, AllocError>
+    ensures { IfOk result (λ batch. rows_of batch ≡ column_rows (map byte_cell cells.now)) }
+{
+    let column = column_of(alloc, cells)?;
+    let mut columns = Vec::new(alloc);
+    columns.push(column)?;
+    Ok(Batch {
+        rows: cells.len() as u64,
+        columns,
+    })
+}
+
+/// The batch of an array of numbers and nulls.
+fn batch_of(alloc: Global, value: &Value) -> Result<Batch, ScheduleFault>
+    ensures { IfOk result (λ batch. TellsRows (view value.now) (rows_of batch)) }
+{
+    match value.as_array() {
+        Some(values) => {
+            let cells = cells_of(alloc, values)?;
+            Ok(batch_of_cells(alloc, &cells)?)
+        }
+        None => Err(ScheduleFault::BadSchedule),
+    }
+}
+
+fn batches_of(alloc: Global, values: &[Value]) -> Result<Vec<Batch>, ScheduleFault>
+    ensures { IfOk result (λ batches. AllZip TellsRows (map view values.now) (map rows_of batches.items)) }
+{
+    let mut batches = Vec::new(alloc);
+    for value in values {
+        let batch = batch_of(alloc, value)?;
+        if batches.push(batch).is_err() {
+            return Err(ScheduleFault::OutOfMemory);
+        }
+    }
+    Ok(batches)
+}
+
+fn text_at<'a>(value: &'a Value, name: &str) -> Option<&'a str>
+    ensures { option_map (λ text. text.now) result ≡ text_at name.now (view value.now) }
+{
+    value.get(name).and_then(Value::as_str)
+}
+
+/// The items of the array at a name of an object.
+pub(crate) fn array_at<'a>(value: &'a Value, name: &str) -> Option<&'a Vec<Value>>
+    ensures { option_map (λ items. items_view items.now.items) result
+        ≡ option_and_then as_array (get name.now (view value.now)) }
+{
+    value.get(name).and_then(Value::as_array)
+}
+
+/// The upload's own name, 32 hexadecimal digits of either case.
+fn id_of(digits: &str) -> Option<[u8; 16]>
+    ensures { IfSome result (λ id. decode_of digits.now ≡ Ok id) }
+{
+    <[u8; 16] as FromHex>::from_hex(digits).ok()
+}
+
+/// The name of its column: the text at `name`, or the usual one where there is no such member.
+fn name_of(value: &Value) -> Option<&str>
+    ensures { option_map (λ name. name.now) result ≡ name_told (get (codes "name") (view value.now)) }
+{
+    match value.get("name") {
+        Some(name) => name.as_str(),
+        None => Some(COLUMN_NAME),
+    }
+}
+
+/// The upload of these parts.
+fn made(
+    alloc: Global,
+    table: &str,
+    id: [u8; 16],
+    name: &str,
+    batches: &[Batch],
+) -> Result<Upload, ScheduleFault>
+    ensures valid { IfOk result (λ upload. IsUpload (uploaded table.now id (column_schema name.now) batches.now)) }
+    ensures encoded { IfOk result
+        (λ upload. upload ≡ upload_text (uploaded table.now id (column_schema name.now) batches.now)) }
+{
+    let schema = schema_named(alloc, name)?;
+    match Upload::new(alloc, table, id, &schema, batches) {
+        Ok(upload) => Ok(upload),
+        Err(UploadFault::OutOfMemory) => Err(ScheduleFault::OutOfMemory),
+        Err(_) => Err(ScheduleFault::BadSchedule),
+    }
+}
+
+/// The upload that an object tells: its table, its own name, its values, a batch for each array of them, and, where it
+/// has that member, the name of its column. What else the object has means nothing.
+pub(crate) fn upload_of(alloc: Global, value: &Value) -> Result<Upload, ScheduleFault>
+    ensures { IfOk result (MeansUpload (view value.now)) }
+{
+    let (Some(table), Some(digits), Some(name)) = (
+        text_at(value, "table"),
+        text_at(value, "id"),
+        name_of(value),
+    ) else {
+        return Err(ScheduleFault::BadSchedule);
+    };
+    let (Some(id), Some(values)) = (id_of(digits), array_at(value, "values")) else {
+        return Err(ScheduleFault::BadSchedule);
+    };
+    let batches = batches_of(alloc, values)?;
+    made(alloc, table, id, name, &batches)
+}
+
+/// The uploads that these values tell, in order.
+pub(crate) fn uploads_of(alloc: Global, values: &[Value]) -> Result<Vec<Upload>, ScheduleFault>
+    ensures { IfOk result (λ uploads. AllZip MeansUpload (map view values.now) uploads.items) }
+{
+    let mut uploads = Vec::new(alloc);
+    for value in values {
+        let upload = upload_of(alloc, value)?;
+        if uploads.push(upload).is_err() {
+            return Err(ScheduleFault::OutOfMemory);
+        }
+    }
+    Ok(uploads)
+}
