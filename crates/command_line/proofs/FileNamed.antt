@@ -8,7 +8,7 @@ use Rattle.clap.specs.declared.parser.matches.Found.{Found}
 use Rattle.clap.specs.Facts.{Entry}
 use Rattle.clap.specs.Walk.{row_of}
 use Rattle.clap.specs.Words.{Row, Text, first_of, first_value, rows_of, subcommand_name_of, subcommand_rows_of}
-use Rattle.command_line.specs.CommandLine.{audited_by, file_in}
+use Rattle.command_line.specs.CommandLine.{file_by, file_in}
 
 first_text : (vs : List (Bor Text)) → option_map (λ (s : Bor Text). s.now) (slice_get vs 0) ≡ slice_get (map (λ (s : Bor Text). s.now) vs) 0
 first_text [] = refl
@@ -46,11 +46,13 @@ name_is m = mapped_twice _ _ _
 some_is : {A : Type 0} (x y : A) → Some x ≡ Some y → x ≡ y
 some_is x y e = cc
 
-named : (f : Found) (o : Option (Text × List Row)) → option_map (λ p. p.0) o ≡ Some (codes "audit") → option_map (λ p. p.1) o ≡ Some (rows_of f) → first_value f (codes "FILE") ≡ option_and_then file_in o
-named f None name rows = absurd cc
-named f (Some p) name rows =
+named : (called : Text) → bytes_eq called called ≡ true → (f : Found) (o : Option (Text × List Row)) → option_map (λ p. p.0) o ≡ Some called → option_map (λ p. p.1) o ≡ Some (rows_of f) → first_value f (codes "FILE") ≡ option_and_then (file_in called) o
+named called same f None name rows = absurd cc
+named called same f (Some p) name rows =
     first_value_is f (codes "FILE") ∙ ap (first_of (codes "FILE")) (sym (some_is p.1 (rows_of f) rows))
-    ∙ sym (ap (λ (n : Text). if bytes_eq n (codes "audit") then first_of (codes "FILE") p.1 else None) (some_is p.0 (codes "audit") name))
+    ∙ sym (
+    ap (λ (n : Text). if bytes_eq n called then first_of (codes "FILE") p.1 else None) (some_is p.0 called name)
+    ∙ ap (λ (b : Bool). if b then first_of (codes "FILE") p.1 else None) same)
 
-pub file_is : (m : ArgMatches) (f : Found) → subcommand_name_of m ≡ Some (codes "audit") → option_map (λ (p : Text × List Row). p.1) (subcommand_rows_of m) ≡ Some (rows_of f) → first_value f (codes "FILE") ≡ audited_by m
-file_is m f name rows = named f (subcommand_rows_of m) (name_is m ∙ name) rows
+pub file_is : (called : Text) → bytes_eq called called ≡ true → (m : ArgMatches) (f : Found) → subcommand_name_of m ≡ Some called → option_map (λ (p : Text × List Row). p.1) (subcommand_rows_of m) ≡ Some (rows_of f) → first_value f (codes "FILE") ≡ file_by called m
+file_is called same m f name rows = named called same f (subcommand_rows_of m) (name_is m ∙ name) rows

@@ -1,10 +1,10 @@
 //! Laws of the definitions that the command line is proved against.
 
-ghost use Rattle.std.specs.Prelude.{◌≡◌, List, Option};
+ghost use Rattle.std.specs.Prelude.{◌≡◌, List};
 ghost use Rattle.clap.specs.Words.{Text};
-ghost use Rattle.command_line.specs.CommandLine.{IsCall, AsksFor};
+ghost use Rattle.command_line.specs.CommandLine.{Asked as AskedFor, IsCall, AsksFor};
 
 /// What a call asks for is determined by its words.
 pub fn calls_ask_for_one_thing()
-    ensures { (words : List Text) (a b : Option Text) → IsCall words → AsksFor words a → AsksFor words b → a ≡ b }
+    ensures { (words : List Text) (a b : AskedFor) → IsCall words → AsksFor words a → AsksFor words b → a ≡ b }
 {}

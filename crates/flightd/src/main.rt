@@ -1,14 +1,17 @@
 //! The program: what the proved crates do, over standard input and output.
 //!
 //! `flightd acceptor`, or no word at all, answers Paxos messages as node 0 of three, with nothing kept. `flightd audit
-//! FILE` says whether a recorded run of such messages is one that correct nodes may have sent. The words are read by
-//! `command_line`, and each command is one function over any reader and writers, with its contract, of a library of
-//! its own, `acceptor_command` and `audit_command`; `main` gives it the real ones.
+//! FILE` says whether a recorded run of such messages is one that correct nodes may have sent. `flightd replay FILE` plays
+//! a schedule, and prints a line for each of its events. The words are read by `command_line`, and each command is one
+//! function over any reader and writers, with its contract, of a library of its own, `acceptor_command`, `audit_command`
+//! and `replay_command`; `main` gives it the real ones.
 #![tactic(auto)]
 
 use acceptor_command::acceptor_run;
 use audit_command::{AuditFault, FAILURE, audit_run};
-use command_line::{audited_file, parse};
+use command_line::{Asked, asked_by, parse};
+use replay_command::replay_run;
+use std::hash::RandomState;
 use std::io::{BufReader, BufWriter};
 use std::process::ExitCode;
 use std::{fs, io};
@@ -34,9 +37,10 @@ fn start(rt: &HostRuntime) -> io::Result<u8> {
     let alloc = rt.alloc();
     let words: Vec<String> = std::env::args(rt)?.collect(alloc)?;
     match parse(alloc, &words) {
-        Ok(matches) => match audited_file(&matches) {
-            Some(file) => judge(rt, file),
-            None => answer(rt),
+        Ok(matches) => match asked_by(&matches) {
+            Asked::Acceptor => answer(rt),
+            Asked::Audit(file) => judge(rt, file),
+            Asked::Replay(file) => play(rt, file),
         },
         Err(error) => {
             error.print(rt)?;
@@ -55,4 +59,12 @@ fn answer(rt: &HostRuntime) -> io::Result<u8> {
 fn judge(rt: &HostRuntime, path: &str) -> io::Result<u8> {
     let file = fs::read(rt, path)?;
     Ok(audit_run(rt.alloc(), &file, &mut rt.stdout(), &mut rt.stderr()))
+}
+
+fn play(rt: &HostRuntime, path: &str) -> io::Result<u8> {
+    let alloc = rt.alloc();
+    let file = fs::read(rt, path)?;
+    let hashing = RandomState::new(rt)?;
+    let mut output = BufWriter::new(alloc, rt.stdout())?;
+    Ok(replay_run(alloc, hashing, &file, &mut output, &mut rt.stderr()))
 }

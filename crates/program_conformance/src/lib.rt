@@ -1,5 +1,5 @@
-//! Conformance tests of `acceptor_command`, `audit_command` and `command_line`, over their public calls, of what no
-//! clause says: bytes worked out by hand, the lines on standard error, streams that fail, long runs, and the words.
+//! Conformance tests of `acceptor_command`, `audit_command`, `replay_command` and `command_line`, over their public calls, of
+//! what no clause says: bytes worked out by hand, the lines on standard error, streams that fail, long runs, and the words.
 //!
 //! The crate has no code but tests, so that what is proved in the crates below is not proved again together with them.
 #![tactic(auto)]
@@ -12,6 +12,8 @@ mod conversations;
 mod left_behind;
 #[cfg(test)]
 mod long_runs;
+#[cfg(test)]
+mod replay;
 #[cfg(test)]
 mod streams;
 #[cfg(test)]

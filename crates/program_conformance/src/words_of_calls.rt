@@ -1,14 +1,14 @@
 //! The words of the command line.
 
 use clap::Error;
-use command_line::{audited_file, parse};
+use command_line::{Asked, asked_by, parse};
 use std::alloc::{AllocError, Global};
 use std::process::Abort;
 use std::test::Fail;
 
 /// Calls, each the program's name and then its words, parted by spaces, and what is asked for: the acceptor, the file
-/// that is to be audited, between brackets, or an end with this status, whose line is for standard error or for the
-/// output.
+/// that is to be audited, between brackets, or to be replayed, between braces, or an end with this status, whose line is
+/// for standard error or for the output.
 const CALLS: &str = "
 # No word, or a command.
 flightd|acceptor
@@ -21,6 +21,14 @@ flightd audit audit|[audit]
 flightd audit help|[help]
 flightd audit -|[-]
 flightd audit |[]
+# The file of a replay.
+flightd replay run.json|{run.json}
+flightd replay audit|{audit}
+flightd replay replay|{replay}
+flightd audit replay|[replay]
+flightd replay -|{-}
+flightd replay |{}
+flightd replay -- --help|{--help}
 # Other words.
 flightd audit|2 error
 flightd audit run.json run.json|2 error
@@ -31,6 +39,15 @@ flightd run.json|2 error
 flightd serve|2 error
 flightd acceptor acceptor|2 error
 flightd acceptor audit|2 error
+flightd acceptor replay|2 error
+flightd replay|2 error
+flightd replay a.json b.json|2 error
+flightd replay --slots a.json|2 error
+flightd replay -f|2 error
+flightd Replay a.json|2 error
+flightd repla a.json|2 error
+flightd audit --explain|2 error
+flightd replay --|2 error
 flightd Acceptor|2 error
 flightd accept|2 error
 flightd -|2 error
@@ -52,6 +69,8 @@ flightd help|0 output
 flightd --version|0 output
 flightd acceptor --help|0 output
 flightd audit --help|0 output
+flightd replay --help|0 output
+flightd help replay|0 output
 ";
 
 /// How the program is to end for this.
@@ -68,9 +87,10 @@ fn end_of(alloc: Global, error: &Error) -> Result<String, AllocError> {
 /// What the words ask for.
 fn asked(alloc: Global, words: &[String]) -> Result<String, AllocError> {
     match parse(alloc, words) {
-        Ok(matches) => match audited_file(&matches) {
-            Some(file) => format!(in alloc; "[{file}]"),
-            None => String::from_str(alloc, "acceptor"),
+        Ok(matches) => match asked_by(&matches) {
+            Asked::Audit(file) => format!(in alloc; "[{file}]"),
+            Asked::Replay(file) => format!(in alloc; "{{{file}}}"),
+            Asked::Acceptor => String::from_str(alloc, "acceptor"),
         },
         Err(error) => end_of(alloc, &error),
     }
@@ -95,6 +115,6 @@ fn takes_a_call_or_refuses_it(rt: HostRuntime) -> Result<(), Fail> {
             calls = calls.saturating_add(1);
         }
     }
-    assert!(rt; calls == 37);
+    assert!(rt; calls == 55);
     Ok(())
 }

@@ -7,9 +7,11 @@ use Rattle.command_line.proofs.words.command.Goals as goal
 
 pub returns : goal.returns
 returns c =
-    IfOk-weaker c.with_audit.result _ _
+    IfOk-weaker c.with_replay.result _ _
     (λ made is.
     is
+    ∙ ap (λ (a : App). with_subcommand a (with_rule (new_app (codes "replay")) file_rule).top)
+    (c.in_ok-with_audit.ensures
     ∙ ap (λ (a : App). with_subcommand a (with_rule (new_app (codes "audit")) file_rule).top)
-    (c.in_ok-with_acceptor.ensures ∙ ap (λ (a : App). with_subcommand a (new_app (codes "acceptor")).top) c.program.ensures))
-    c.with_audit.ensures
+    (c.in_ok-with_acceptor.ensures ∙ ap (λ (a : App). with_subcommand a (new_app (codes "acceptor")).top) c.program.ensures)))
+    c.with_replay.ensures

@@ -1,0 +1,12 @@
+use Rattle.std.proofs.Common.{ap, ap₂, ◌∙◌, rules}
+use Rattle.std.proofs.lemmas.Result.{IfOk-weaker}
+use Rattle.clap.specs.Words.{App, app_of, with_rule, with_subcommand}
+use Rattle.clap.specs.Simple.{app_of_fields}
+use Rattle.command_line.proofs.words.with_replay.Goals as goal
+
+pub returns : goal.returns
+returns c =
+    let replay_is = c.in_ok-replay.ensures.shape c.file_argument.ensures.local ∙ ap₂ with_rule (ap app_of_fields c.about.ensures ∙ c.new.ensures.app) c.file_argument.ensures.rule in
+    IfOk-weaker c.subcommand.result _ _
+    (λ made adds. adds.shape (search rules) ∙ ap (with_subcommand (app_of c.args.program)) (ap (λ (a : App). a.top) replay_is))
+    c.subcommand.ensures
