@@ -1,6 +1,7 @@
 #!/usr/bin/env python3
 """Makes the stories of runs in crates/run_stories/data: `examples.txt`, the schedules of examples/ that have their lines beside them,
-and `drawn.txt`, schedules that are drawn, with what the model in runs_model.py says of each event and each message.
+and `drawn.txt`, schedules that are drawn, with what the model in runs_model.py says of each event and each message. And puts the
+schedules of examples/ into crates/replay_stories, with what is to be printed of them: the lines beside them.
 
     tools/runs.py --write   makes them
     tools/runs.py --check   says which of them differ"""
@@ -12,7 +13,9 @@ from paxos_model import KINDS, MESSAGE, encoding
 from runs_model import drawn, is_lawful, lines_of, schedules
 from wire_model import put
 
-DATA = Path(__file__).resolve().parent.parent / "crates" / "run_stories" / "data"
+CRATES = Path(__file__).resolve().parent.parent / "crates"
+DATA = CRATES / "run_stories" / "data"
+REPLAYED = CRATES / "replay_stories"
 # how many runs are drawn for the stories
 DRAWN = 120
 # the letters for zero bytes: `g` is one, and each letter after it one more
@@ -98,8 +101,19 @@ def drawn_runs():
     return "\n".join(lines) + "\n"
 
 
+def replayed():
+    """The files of crates/replay_stories: the schedules, their names, and what is printed of them."""
+    files = [file for file, _ in schedules()]
+    told = {f"data/{it.name}": it.read_text() for it in files}
+    told["args"] = "".join(f"{it.name}\n" for it in files)
+    told["stdout"] = "".join(f"# {it.name}\n{it.with_suffix('.lines').read_text()}" for it in files)
+    return told
+
+
 def main():
-    return put(DATA, {"examples.txt": examples(), "drawn.txt": drawn_runs()}, "--write" not in sys.argv[1:])
+    checks = "--write" not in sys.argv[1:]
+    stories = put(DATA, {"examples.txt": examples(), "drawn.txt": drawn_runs()}, checks)
+    return put(REPLAYED, replayed(), checks) or stories
 
 
 if __name__ == "__main__":
