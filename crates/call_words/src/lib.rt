@@ -3,6 +3,7 @@
 #![tactic(auto)]
 
 mod back_fault;
+mod call_fault;
 pub mod laws;
 mod method;
 mod names;
@@ -10,6 +11,7 @@ mod refusal;
 mod status;
 
 pub use back_fault::BackFault;
+pub use call_fault::CallFault;
 pub use method::{Method, SERVICE};
 pub use names::{id_digits, id_in, table_in, upload_in};
 pub use refusal::Refusal;

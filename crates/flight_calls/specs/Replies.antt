@@ -3,10 +3,9 @@
 -- upload's name and the version that it made, is this service's own.
 use Rattle.std.specs.Prelude.{◌≡◌, ◌⊎◌, ℕ, ℤ, pos, negsuc, nat_lt, if◌then◌else◌, true, List, [], ◌∷◌, map, Some}
 use Rattle.std.specs.List.{AllByRecursion}
-use Rattle.proto_fields.specs.Scalar.{TypeBytes, TypeUint64}
-use Rattle.proto_messages.specs.Descriptor.{Descriptor as MessageType, NoMore, One, Values}
+use Rattle.proto_messages.specs.Descriptor.{Values}
 use Rattle.proto_messages.specs.Canonical.{canonical}
-use Rattle.proto_wire.specs.Flight.{info_descriptor, schema_result_descriptor, put_result_descriptor, endpoint_descriptor}
+use Rattle.proto_wire.specs.Flight.{info_descriptor, schema_result_descriptor, endpoint_descriptor}
 use Rattle.header_types.specs.Fields.{SchemaTree}
 use Rattle.header_writing.specs.Canonical.{encapsulated}
 use Rattle.table_types.specs.Uploads.{Upload, upload_text, schema_text}
@@ -19,6 +18,7 @@ use Rattle.call_words.specs.declared.refusal.Refusal.{Refusal}
 use Rattle.call_words.specs.declared.refusal.Refusal.TheVariants as refusals
 use Rattle.call_words.specs.Statuses.{refusal_trailer}
 use Rattle.call_words.specs.Names.{table_descriptor}
+use Rattle.call_words.specs.Results.{put_result}
 use Rattle.call_words.specs.Texts.{answer_text}
 use Rattle.call_reading.specs.Requests.{Request, describes, shows, lists, serves, puts}
 
@@ -64,14 +64,6 @@ info_message d = canonical info_descriptor (info_of d)
 
 abbrev pub schema_result : SchemaTree → List ℕ
 schema_result schema = canonical schema_result_descriptor (encapsulated (schema_text schema), tt)
-
--- id, version
-abbrev pub applied_descriptor : MessageType
-applied_descriptor = One 1 TypeBytes (One 2 TypeUint64 NoMore)
-
-abbrev pub put_result : List ℕ → ℕ → List ℕ
-put_result id version =
-    canonical put_result_descriptor (canonical applied_descriptor (id, (version, tt)), tt)
 
 -- ---- replies
 

@@ -4,10 +4,10 @@ use Rattle.std.specs.Prelude.{◌≡◌, ◌≢◌, ◌⊎◌, ℕ, List, [], �
 use Rattle.grpc_frames.specs.FrameFaults.{IsBeginning}
 use Rattle.grpc_frames.specs.declared.fault.FrameFault.TheVariants as frames
 use Rattle.call_words.specs.declared.back_fault.BackFault.{BackFault}
+use Rattle.call_words.specs.declared.call_fault.CallFault.{CallFault}
+use Rattle.call_words.specs.declared.call_fault.CallFault.TheVariants as faults
 use Rattle.call_words.specs.declared.refusal.Refusal.{Refusal}
 use Rattle.call_words.specs.declared.refusal.Refusal.TheVariants as refusals
-use Rattle.flight_calls.specs.declared.fault.CallFault.{CallFault}
-use Rattle.flight_calls.specs.declared.fault.CallFault.TheVariants as faults
 use Rattle.call_reading.specs.Requests.{Request, describes, shows, lists, serves, puts, IsCall}
 use Rattle.call_reading.specs.Faults.{RefusalStands}
 use Rattle.flight_calls.specs.Replies.{BackAnswer, failed, Reply, answers, refuses, reply_text, Replies}

@@ -7,8 +7,7 @@
 
 mod backend;
 mod described;
-mod fault;
 
 pub use backend::Backend;
+pub use call_words::CallFault;
 pub use described::Described;
-pub use fault::CallFault;
