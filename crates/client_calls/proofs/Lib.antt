@@ -1,0 +1,4 @@
+pub mod Sent
+pub mod Came
+pub mod OneMessage
+pub mod Called

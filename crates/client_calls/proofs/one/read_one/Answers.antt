@@ -1,0 +1,32 @@
+use Rattle.std.proofs.Common.{refl, arith}
+use Rattle.client_calls.specs.declared.one.Kept.TheVariants as kept
+use Rattle.client_calls.specs.Results.{GivesOne, HasOne}
+use Rattle.client_calls.specs.Parts.{IsKept}
+use Rattle.client_calls.proofs.Came.{none_came, more_came, fault_came, too_many_came}
+use Rattle.client_calls.proofs.OneMessage.{one_ends}
+use Rattle.client_calls.proofs.one.read_one.Goals as goal
+
+pub loop-count-init : goal.loop-count-init
+loop-count-init g c = none_came (IsKept kept.Nothing) (g.R.Read.remaining c.args.r.now) refl
+
+pub loop-count-preserved : goal.loop-count-preserved
+loop-count-preserved g c =
+    more_came (IsKept c.loop-count.kept) (IsKept c.with-kept.result) c.loop-count._count (g.R.Read.remaining c.args.r.now) (g.R.Read.remaining c.loop-count.r)
+    (g.R.Read.remaining c.next_part.new.r) c.in-Ok-Message.message c.loop-count.invariant (rw c.in-Ok-Message.field-0-is at c.in-Ok-Message.ensures) c.with-kept.ensures
+
+pub returns-in-Ok-End : goal.returns-in-Ok-End
+returns-in-Ok-End g c =
+    one_ends c.no_frame_begins_another.ensures c.loop-count.kept c.one.result c.loop-count._count (g.R.Read.remaining c.args.r.now) (g.R.Read.remaining c.loop-count.r)
+    (g.R.Read.remaining c.next_part.new.r) c.loop-count-test.true c.loop-count.invariant (rw c.in-Ok-End.field-0-is at c.in-Ok-End.ensures) c.one.ensures
+
+pub returns-in-Err : goal.returns-in-Err
+returns-in-Err g c =
+    fault_came c.no_frame_begins_another.ensures GivesOne HasOne (IsKept c.loop-count.kept) c.loop-count._count (g.R.Read.remaining c.args.r.now) (g.R.Read.remaining c.loop-count.r)
+    (g.R.Read.remaining c.next_part.new.r) c.in-Err.fault c.loop-count-test.true c.loop-count.invariant c.in-Err.ensures
+
+pub returns : goal.returns
+returns g c =
+    let most = c.loop-count.auto._count-end in
+    let least = c.loop-count-test.false in
+    too_many_came c.no_frame_begins_another.ensures GivesOne HasOne (IsKept c.loop-count.kept) c.loop-count._count (g.R.Read.remaining c.args.r.now) (g.R.Read.remaining c.loop-count.r)
+    (omega (arith, most, least)) c.loop-count.invariant

@@ -1,0 +1,5 @@
+pub mod Requests
+pub mod Answers
+pub mod Results
+pub mod Sending
+pub mod Parts

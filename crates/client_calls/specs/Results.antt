@@ -1,0 +1,41 @@
+-- What the messages of an answer say: Apache Arrow, "Flight.proto", `FlightInfo` and `PutResult`. What a PutResult has as its
+-- metadata is this service's own.
+use Rattle.std.specs.Prelude.{◌≡◌, ◌≤◌, ◌<◌, ◌^◌, ℕ, List, [], ◌∷◌, Vec}
+use Rattle.std.specs.declared.alloc.Global.{Global}
+use Rattle.proto_messages.specs.Descriptor.{Values, IsMessage}
+use Rattle.proto_wire.specs.Flight.{info_descriptor}
+use Rattle.proto_wire.specs.FlightValues.{info_values}
+use Rattle.proto_wire.specs.declared.flight.info.FlightInfo.{FlightInfo}
+use Rattle.call_words.specs.Results.{put_result}
+
+-- ---- one message
+
+abbrev pub GivesOne : List (List ℕ) → Vec ℕ Global → Type 0
+GivesOne messages message = messages ≡ message.items ∷ []
+
+abbrev pub HasOne : List (List ℕ) → Type 0
+HasOne messages = (message : List ℕ) × (messages ≡ message ∷ [])
+
+-- ---- what is told of a table
+
+-- there is one message, which means this, in whatever encoding
+abbrev pub MeansInfo : List (List ℕ) → Values info_descriptor → Type 0
+MeansInfo messages values = (message : List ℕ) × (messages ≡ message ∷ []) × IsMessage info_descriptor message values
+
+abbrev pub GivesInfo : List (List ℕ) → FlightInfo → Type 0
+GivesInfo messages info = MeansInfo messages (info_values info)
+
+abbrev pub HasInfo : List (List ℕ) → Type 0
+HasInfo messages = (values : Values info_descriptor) × MeansInfo messages values
+
+-- ---- what is told of an upload
+
+-- There is one message: the one encoding of the result of an upload of this name, which made this version. Versions are numbered
+-- from 1 on, in 64 bits.
+pub record GivesVersion (id : List ℕ) (messages : List (List ℕ)) (version : ℕ) : Type 0 where
+  pub only : messages ≡ put_result id version ∷ []
+  pub numbered : 1 ≤ version
+  pub fits : version < 2 ^ 64
+
+abbrev pub HasVersion : List ℕ → List (List ℕ) → Type 0
+HasVersion id messages = (version : ℕ) × GivesVersion id messages version

@@ -1,0 +1,91 @@
+//! The requests of the calls.
+
+ghost use Rattle.std.specs.Prelude.{◌≡◌, ◌∷◌, [], IfOk};
+ghost use Rattle.grpc_frames.specs.FrameFaults.{WhereKnown};
+ghost use Rattle.proto_wire.specs.FlightValues.{descriptor_values};
+ghost use Rattle.call_words.specs.Methods.{path_text};
+ghost use Rattle.call_words.specs.Names.{table_descriptor};
+ghost use Rattle.call_words.specs.Texts.{call_text};
+ghost use Rattle.client_calls.specs.Requests.{table_message, info_request};
+ghost use Rattle.client_calls.specs.Sending.{Sends, IsText};
+
+use crate::sending::{path_of, send_end, send_message};
+use call_words::{CallFault, Method};
+use proto_messages::ProtoMessage;
+use proto_wire::{DescriptorType, FlightDescriptor};
+use std::alloc::{AllocError, Global};
+use std::io::Write;
+
+/// Writes a request of one message.
+fn send_one<W: Write>(w: &mut W, path: &[u8], message: &[u8]) -> Result<(), CallFault>
+    ensures { WhereKnown (W.contents w.old) (W.contents w.new)
+        (Sends result (call_text path.now (message.now ∷ []))) }
+{
+    if let Err(fault) = send_message(w, path) {
+        return Err(fault);
+    }
+    if let Err(fault) = send_message(w, message) {
+        return Err(fault);
+    }
+    send_end(w)
+}
+
+/// The descriptor of a table.
+fn descriptor_of(alloc: Global, table: &str) -> Result<FlightDescriptor, AllocError>
+    ensures { IfOk result (λ descriptor. descriptor_values descriptor ≡ table_descriptor table.now) }
+{
+    let name = String::from_str(alloc, table)?;
+    let mut path = Vec::new(alloc);
+    path.push(name)?;
+    Ok(FlightDescriptor {
+        descriptor_type: DescriptorType::PATH,
+        cmd: Vec::new(alloc),
+        path,
+    })
+}
+
+/// The message that asks what is told of a table.
+fn table_message(alloc: Global, table: &str) -> Result<Vec<u8>, CallFault>
+    ensures { IsText (table_message table.now) result }
+{
+    let Ok(descriptor) = descriptor_of(alloc, table) else {
+        return Err(CallFault::OutOfMemory);
+    };
+    let mut message = Vec::new(alloc);
+    match descriptor.encode(&mut message) {
+        Ok(()) => Ok(message),
+        Err(_) => Err(CallFault::OutOfMemory),
+    }
+}
+
+/// Writes the request of a method that has one message.
+fn send_request<W: Write>(
+    alloc: Global,
+    w: &mut W,
+    method: Method,
+    message: &[u8],
+) -> Result<(), CallFault>
+    ensures { WhereKnown (W.contents w.old) (W.contents w.new)
+        (Sends result (call_text (path_text method) (message.now ∷ []))) }
+{
+    let path = match path_of(alloc, method) {
+        Ok(path) => path,
+        Err(fault) => return Err(fault),
+    };
+    send_one(w, &path, message)
+}
+
+/// Writes the request for what is told of a table.
+pub(crate) fn send_info_request<W: Write>(
+    alloc: Global,
+    w: &mut W,
+    table: &str,
+) -> Result<(), CallFault>
+    ensures { WhereKnown (W.contents w.old) (W.contents w.new) (Sends result (info_request table.now)) }
+{
+    let message = match table_message(alloc, table) {
+        Ok(message) => message,
+        Err(fault) => return Err(fault),
+    };
+    send_request(alloc, w, Method::GetFlightInfo, &message)
+}
