@@ -2,3 +2,5 @@ pub mod Sent
 pub mod Came
 pub mod OneMessage
 pub mod Called
+pub mod Batches
+pub mod Told

@@ -1,7 +1,9 @@
 -- Answers of one message.
 use Rattle.std.proofs.Common.{◌≡◌, ◌<◌, ℕ, List, [], ◌∷◌, length, Vec, Option, Some, None, Result, Ok, Err, sym, ap, subst, ◌∙◌, arith}
 use Rattle.std.specs.declared.alloc.Global.{Global}
+use Rattle.std.specs.List.{AllByRecursion}
 use Rattle.std.specs.Prelude.{get_or}
+use Rattle.table_types.specs.Valid.{FitsFrame}
 use Rattle.proto_fields.specs.declared.fault.WireFault.{WireFault}
 use Rattle.proto_fields.specs.declared.fault.WireFault.TheVariants as wires
 use Rattle.proto_fields.specs.Field.{IsUnlessRefused}
@@ -56,12 +58,16 @@ module _ {T : Type 0} (law : NoFrameBeginsAnother) (Gives : List (List ℕ) → 
   says here after message (Err (faults.Call calls.Read)) messages a is h = absurd h
   says here after message (Err (faults.Call calls.Write)) messages a is h = absurd h
 
+  fits_one : (here after : List ℕ) (message : Vec ℕ Global) (messages : List (List ℕ)) → IsAnswer here messages after → messages ≡ message.items ∷ [] → FitsFrame message.items
+  fits_one here after message messages a is =
+      (let fit : AllByRecursion FitsFrame (message.items ∷ []) = subst (λ (ms : List (List ℕ)). AllByRecursion FitsFrame ms) is a.fit in fit).0
+
   -- the one message that came says this
   pub one_says : (here after : Option (List ℕ)) (message : Vec ℕ Global) (r : Result T ClientFault) → WhereKnown here after (Receives GivesOne HasOne (Ok message))
-      → MessageSays Gives IsResult message.items r → WhereKnown here after (Receives Gives IsResult r)
+      → (FitsFrame message.items → MessageSays Gives IsResult message.items r) → WhereKnown here after (Receives Gives IsResult r)
   one_says None after message r came h = tt
   one_says (Some here) None message r came h = absurd came
-  one_says (Some here) (Some after) message r came h = says here after message r came.0 came.1 came.2 h
+  one_says (Some here) (Some after) message r came h = says here after message r came.0 came.1 came.2 (h (fits_one here after message came.0 came.1 came.2))
 
   -- there was no such
   pub one_fails : (here after : Option (List ℕ)) (fault : ClientFault) → WhereKnown here after (Receives GivesOne HasOne (Err fault))

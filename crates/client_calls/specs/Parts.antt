@@ -1,5 +1,5 @@
 -- What the parts of reading an answer give: tools of the contracts of private functions.
-use Rattle.std.specs.Prelude.{◌≡◌, ◌≢◌, ◌⊎◌, ℕ, List, [], ◌∷◌, ◌++◌, length, IsUtf8, string_bytes, Vec, Result, Ok, Err}
+use Rattle.std.specs.Prelude.{◌≡◌, ◌≢◌, ◌⊎◌, ◌<◌, ◌^◌, ℕ, List, [], ◌∷◌, ◌++◌, length, IsUtf8, string_bytes, Vec, Result, Ok, Err}
 use Rattle.std.specs.declared.alloc.Global.{Global}
 use Rattle.std.specs.List.{AllByRecursion}
 use Rattle.grpc_frames.specs.Frame.{Frame, frame_text, IsFrame}
@@ -7,6 +7,7 @@ use Rattle.proto_fields.specs.declared.fault.WireFault.{WireFault}
 use Rattle.proto_fields.specs.declared.fault.WireFault.TheVariants as wires
 use Rattle.table_types.specs.Served.{in_frame}
 use Rattle.table_types.specs.Valid.{FitsFrame}
+use Rattle.call_words.specs.Results.{applied_text, put_result}
 use Rattle.call_words.specs.Statuses.{trailer_text, ok_trailer}
 use Rattle.call_words.specs.Texts.{messages_text}
 use Rattle.call_words.specs.declared.call_fault.CallFault.TheVariants as calls
@@ -110,3 +111,15 @@ MessageSays Gives IsResult message (Err (faults.Status code words)) = ⊥
 MessageSays Gives IsResult message (Err (faults.Call calls.OutOfMemory)) = Unit {0}
 MessageSays Gives IsResult message (Err (faults.Call calls.Read)) = ⊥
 MessageSays Gives IsResult message (Err (faults.Call calls.Write)) = ⊥
+
+-- the message is the result of an upload of this name, which made this version
+pub record IsResultOf (id : List ℕ) (version : ℕ) (message : List ℕ) : Type 0 where
+  pub is : message ≡ put_result id version
+  pub fits : FitsFrame message
+  pub version_fits : version < 2 ^ 64
+
+-- the bytes are its metadata
+pub record IsMetadataOf (id : List ℕ) (version : ℕ) (metadata : List ℕ) : Type 0 where
+  pub is : metadata ≡ applied_text id version
+  pub fits : FitsFrame metadata
+  pub version_fits : version < 2 ^ 64

@@ -10,9 +10,13 @@ mod info;
 pub mod laws;
 mod one;
 mod parts;
+mod putting;
 mod requesting;
 mod sending;
+mod uploading;
+mod versions;
 
 pub use client_fault::ClientFault;
 pub use info::call_info;
 pub use parts::MAX_ANSWER_FRAMES;
+pub use putting::call_put;

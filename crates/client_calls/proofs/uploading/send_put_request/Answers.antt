@@ -1,0 +1,32 @@
+use Rattle.std.proofs.Common.{Ok, Err, ◌++◌}
+use Rattle.table_types.specs.Served.{in_frame}
+use Rattle.call_words.specs.declared.method.Method.TheVariants as methods
+use Rattle.call_words.specs.Methods.{path_text}
+use Rattle.call_words.specs.Texts.{messages_text, end_text}
+use Rattle.client_calls.specs.Requests.{put_messages}
+use Rattle.client_calls.proofs.Sent.{send_fails, send_follows}
+use Rattle.client_calls.proofs.uploading.send_put_request.Goals as goal
+
+pub returns-in-Err : goal.returns-in-Err
+returns-in-Err g c = λ u is same.
+    send_fails c.in-Err.fault (in_frame (path_text methods.DoPut) ++ messages_text (put_messages u)) end_text
+    (g.W.Write.contents c.args.w.now) (g.W.Write.contents c.send_path.new.w)
+    (send_fails c.in-Err.fault (in_frame (path_text methods.DoPut)) (messages_text (put_messages u))
+    (g.W.Write.contents c.args.w.now) (g.W.Write.contents c.send_path.new.w) c.in-Err.ensures)
+
+pub returns-in-Err-send_upload : goal.returns-in-Err-send_upload
+returns-in-Err-send_upload g c = λ u is same.
+    send_fails c.in-Err-send_upload.fault (in_frame (path_text methods.DoPut) ++ messages_text (put_messages u)) end_text
+    (g.W.Write.contents c.args.w.now) (g.W.Write.contents c.send_upload.new.w)
+    (send_follows (Err c.in-Err-send_upload.fault) (in_frame (path_text methods.DoPut)) (messages_text (put_messages u))
+    (g.W.Write.contents c.args.w.now) (g.W.Write.contents c.send_path.new.w) (g.W.Write.contents c.send_upload.new.w)
+    c.in_default.ensures (c.in-Err-send_upload.ensures u is same))
+
+pub returns : goal.returns
+returns g c = λ u is same.
+    send_follows c.send_end.result (in_frame (path_text methods.DoPut) ++ messages_text (put_messages u)) end_text
+    (g.W.Write.contents c.args.w.now) (g.W.Write.contents c.send_upload.new.w) (g.W.Write.contents c.send_end.new.w)
+    (send_follows (Ok tt) (in_frame (path_text methods.DoPut)) (messages_text (put_messages u))
+    (g.W.Write.contents c.args.w.now) (g.W.Write.contents c.send_path.new.w) (g.W.Write.contents c.send_upload.new.w)
+    c.in_default.ensures (c.in_default-send_upload.ensures u is same))
+    c.send_end.ensures

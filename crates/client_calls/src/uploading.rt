@@ -1,0 +1,183 @@
+//! The request with an upload.
+
+ghost use Rattle.std.specs.Prelude.{◌≡◌, [], map, IfOk};
+ghost use Rattle.std.specs.Option.{option_map};
+ghost use Rattle.grpc_frames.specs.FrameFaults.{WhereKnown};
+ghost use Rattle.proto_messages.specs.Canonical.{canonical};
+ghost use Rattle.proto_wire.specs.Flight.{data_descriptor};
+ghost use Rattle.proto_wire.specs.FlightValues.{descriptor_values};
+ghost use Rattle.table_types.specs.Served.{in_frame, data_text};
+ghost use Rattle.table_types.specs.Uploads.{Upload as Uploaded, upload_text};
+ghost use Rattle.table_types.specs.Valid.{IsUpload};
+ghost use Rattle.call_words.specs.declared.method.Method.TheVariants.{DoPut};
+ghost use Rattle.call_words.specs.Methods.{path_text};
+ghost use Rattle.call_words.specs.Names.{upload_descriptor};
+ghost use Rattle.call_words.specs.Texts.{messages_text};
+ghost use Rattle.client_calls.specs.Requests.{opening_message, further_message, put_messages, put_request};
+ghost use Rattle.client_calls.specs.Sending.{Sends, IsText};
+
+use crate::sending::{path_of, send_end, send_message};
+use call_words::{CallFault, Method};
+use proto_messages::{append_bytes, append_one};
+use proto_wire::{DescriptorType, FlightDescriptor};
+use std::alloc::{AllocError, Global};
+use std::io::Write;
+use table_types::laws::uploads_have_one_encoding;
+use uploads::Upload;
+
+/// The number of the field with the descriptor.
+const DESCRIPTOR: u32 = 1;
+
+/// The number of the field with the header.
+const HEADER: u32 = 2;
+
+/// The number of the field with the body.
+const BODY: u32 = 1_000;
+
+/// The most bytes that the keys and lengths of a header and a body have.
+const MAX_KEY_BYTES: usize = 20;
+
+/// The message with this descriptor and this header.
+#[tactic(auto, using(proto_messages::proofs::CallerLemmas::chains))]
+fn described_message(
+    alloc: Global,
+    descriptor: &Option<FlightDescriptor>,
+    header: &[u8],
+) -> Result<Vec<u8>, AllocError>
+    ensures { IfOk result (λ message. message.items
+        ≡ canonical data_descriptor (option_map descriptor_values descriptor.now, (header.now, ([], ([], tt))))) }
+{
+    let mut message = Vec::new(alloc);
+    append_one(&mut message, DESCRIPTOR, descriptor)?;
+    append_bytes(&mut message, HEADER, header)?;
+    Ok(message)
+}
+
+/// The message with this header and this body.
+#[tactic(auto, using(proto_messages::proofs::CallerLemmas::chains))]
+fn batch_message(alloc: Global, header: &[u8], body: &[u8]) -> Result<Vec<u8>, AllocError>
+    ensures { IfOk result (λ message. message.items ≡ data_text header.now [] body.now) }
+{
+    let room = header
+        .len()
+        .saturating_add(body.len())
+        .saturating_add(MAX_KEY_BYTES);
+    let mut message = Vec::with_capacity(alloc, room)?;
+    append_bytes(&mut message, HEADER, header)?;
+    append_bytes(&mut message, BODY, body)?;
+    Ok(message)
+}
+
+/// The descriptor of an upload.
+fn descriptor_of(alloc: Global, upload: &Upload) -> Result<FlightDescriptor, AllocError>
+    ensures { (u : Uploaded) → IsUpload u → upload_text u ≡ upload.now
+        → IfOk result (λ descriptor. descriptor_values descriptor ≡ upload_descriptor u.table u.id) }
+{
+    let table = String::from_str(alloc, upload.table())?;
+    let id = hex::encode(alloc, upload.id())?;
+    let mut path = Vec::new(alloc);
+    path.push(table)?;
+    path.push(id)?;
+    Ok(FlightDescriptor {
+        descriptor_type: DescriptorType::PATH,
+        cmd: Vec::new(alloc),
+        path,
+    })
+}
+
+/// The first message of an upload.
+fn opening_of(alloc: Global, upload: &Upload) -> Result<Vec<u8>, CallFault>
+    ensures { (u : Uploaded) → IsUpload u → upload_text u ≡ upload.now → IsText (opening_message u) result }
+{
+    let Ok(descriptor) = descriptor_of(alloc, upload) else {
+        return Err(CallFault::OutOfMemory);
+    };
+    match described_message(alloc, &Some(descriptor), upload.schema_bytes()) {
+        Ok(message) => Ok(message),
+        Err(_) => Err(CallFault::OutOfMemory),
+    }
+}
+
+/// Writes the first message of an upload.
+fn send_opening<W: Write>(alloc: Global, w: &mut W, upload: &Upload) -> Result<(), CallFault>
+    ensures { (u : Uploaded) → IsUpload u → upload_text u ≡ upload.now
+        → WhereKnown (W.contents w.old) (W.contents w.new) (Sends result (in_frame (opening_message u))) }
+{
+    let message = match opening_of(alloc, upload) {
+        Ok(message) => message,
+        Err(fault) => return Err(fault),
+    };
+    send_message(w, &message)
+}
+
+/// Writes the message of a batch.
+fn send_batch<W: Write>(
+    alloc: Global,
+    w: &mut W,
+    header: &[u8],
+    body: &[u8],
+) -> Result<(), CallFault>
+    ensures { WhereKnown (W.contents w.old) (W.contents w.new)
+        (Sends result (in_frame (data_text header.now [] body.now))) }
+{
+    let Ok(message) = batch_message(alloc, header, body) else {
+        return Err(CallFault::OutOfMemory);
+    };
+    send_message(w, &message)
+}
+
+/// Writes the messages of an upload's batches.
+fn send_batches<W: Write>(alloc: Global, w: &mut W, upload: &Upload) -> Result<(), CallFault>
+    ensures { (u : Uploaded) → IsUpload u → upload_text u ≡ upload.now
+        → WhereKnown (W.contents w.old) (W.contents w.new)
+        (Sends result (messages_text (map (further_message u.schema) u.batches))) }
+{
+    uploads_have_one_encoding();
+    let mut batches = upload.encoded_batches();
+    while let Some((header, body)) = batches.next() {
+        if let Err(fault) = send_batch(alloc, w, header, body) {
+            return Err(fault);
+        }
+    }
+    Ok(())
+}
+
+/// Writes the messages of an upload.
+fn send_upload<W: Write>(alloc: Global, w: &mut W, upload: &Upload) -> Result<(), CallFault>
+    ensures { (u : Uploaded) → IsUpload u → upload_text u ≡ upload.now
+        → WhereKnown (W.contents w.old) (W.contents w.new) (Sends result (messages_text (put_messages u))) }
+{
+    if let Err(fault) = send_opening(alloc, w, upload) {
+        return Err(fault);
+    }
+    send_batches(alloc, w, upload)
+}
+
+/// Writes the request's path.
+fn send_path<W: Write>(alloc: Global, w: &mut W) -> Result<(), CallFault>
+    ensures { WhereKnown (W.contents w.old) (W.contents w.new) (Sends result (in_frame (path_text DoPut))) }
+{
+    let path = match path_of(alloc, Method::DoPut) {
+        Ok(path) => path,
+        Err(fault) => return Err(fault),
+    };
+    send_message(w, &path)
+}
+
+/// Writes the request with an upload, message by message.
+pub(crate) fn send_put_request<W: Write>(
+    alloc: Global,
+    w: &mut W,
+    upload: &Upload,
+) -> Result<(), CallFault>
+    ensures { (u : Uploaded) → IsUpload u → upload_text u ≡ upload.now
+        → WhereKnown (W.contents w.old) (W.contents w.new) (Sends result (put_request u)) }
+{
+    if let Err(fault) = send_path(alloc, w) {
+        return Err(fault);
+    }
+    if let Err(fault) = send_upload(alloc, w, upload) {
+        return Err(fault);
+    }
+    send_end(w)
+}
