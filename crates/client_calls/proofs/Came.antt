@@ -29,7 +29,7 @@ trailer_frame payload = record { flag = 128; payload = payload }
 is_message_frame : (message : List ℕ) → FitsFrame message → IsFrame (message_frame message)
 is_message_frame message fits = record { flag = inl refl; payload = fits }
 
-is_trailer_frame : (payload : List ℕ) → FitsFrame payload → IsFrame (trailer_frame payload)
+pub is_trailer_frame : (payload : List ℕ) → FitsFrame payload → IsFrame (trailer_frame payload)
 is_trailer_frame payload fits = record { flag = inr refl; payload = fits }
 
 -- no message stands where a trailer does
@@ -88,7 +88,7 @@ front_is_part [] payload trailer = inr (refl, trailer)
 front_is_part (x ∷ more) payload trailer = inl refl
 
 -- a trailer that stands behind no message is the one that stands there
-end_alone : NoFrameBeginsAnother → (more : List (List ℕ)) (payload other rest after : List ℕ) → FitsFrame payload → FitsFrame other
+pub end_alone : NoFrameBeginsAnother → (more : List (List ℕ)) (payload other rest after : List ℕ) → FitsFrame payload → FitsFrame other
     → frame_text (trailer_frame payload) ++ rest ≡ messages_text more ++ (frame_text (trailer_frame other) ++ after) → (more ≡ []) × (payload ≡ other)
 end_alone law [] payload other rest after fits other_fits same =
     let one = law (trailer_frame payload) (trailer_frame other) rest after (is_trailer_frame payload fits) (is_trailer_frame other other_fits) same in

@@ -4,3 +4,4 @@ pub mod OneMessage
 pub mod Called
 pub mod Batches
 pub mod Told
+pub mod Apart
