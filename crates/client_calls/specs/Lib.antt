@@ -3,3 +3,4 @@ pub mod Answers
 pub mod Results
 pub mod Sending
 pub mod Parts
+pub mod Downloads
