@@ -4,13 +4,14 @@ use Rattle.std.specs.Prelude.{◌≡◌, ◌≢◌, ◌⊎◌, ℕ, List, [], �
 use Rattle.grpc_frames.specs.FrameFaults.{IsBeginning}
 use Rattle.grpc_frames.specs.declared.fault.FrameFault.TheVariants as frames
 use Rattle.call_words.specs.declared.back_fault.BackFault.{BackFault}
-use Rattle.call_words.specs.declared.call_fault.CallFault.{CallFault}
-use Rattle.call_words.specs.declared.call_fault.CallFault.TheVariants as faults
+use Rattle.call_words.specs.declared.back_fault.BackFault.TheVariants as backs
 use Rattle.call_words.specs.declared.refusal.Refusal.{Refusal}
 use Rattle.call_words.specs.declared.refusal.Refusal.TheVariants as refusals
+use Rattle.call_words.specs.declared.call_fault.CallFault.{CallFault}
+use Rattle.call_words.specs.declared.call_fault.CallFault.TheVariants as faults
 use Rattle.call_reading.specs.Requests.{Request, describes, shows, lists, serves, puts, IsCall}
 use Rattle.call_reading.specs.Faults.{RefusalStands}
-use Rattle.flight_calls.specs.Replies.{BackAnswer, failed, Reply, answers, refuses, reply_text, Replies}
+use Rattle.flight_calls.specs.Replies.{BackAnswer, failed, Reply, refuses, reply_text, Replies}
 
 -- What a backend may answer to a request, which uploads it was handed, and what a put may leave.
 abbrev pub MayAnswer : Type 0 → Type 1
@@ -39,11 +40,17 @@ PutsThenAsks {B} may leaves text old reply =
     ((fault : BackFault) × may old (puts text) (failed fault) × (reply ≡ refuses (refusals.Back fault)))
     ⊎ ((mid : B) × leaves old text mid × ((answer : BackAnswer) × may mid (puts text) answer × RepliesUnlessRefused (puts text) answer reply))
 
+-- the upload was handed over, and no other; where memory was refused it may not have been
+abbrev pub Hands : {B : Type 0} → Handed B → List ℕ → B → B → Reply → Type 0
+Hands handed text old new reply =
+    (handed new ≡ handed old ++ text ∷ [])
+    ⊎ ((reply ≡ refuses (refusals.Back backs.OutOfMemory)) × (handed new ≡ handed old))
+
 -- the backend was handed this upload, and no other
 pub record Puts {B : Type 0} (may : MayAnswer B) (handed : Handed B) (leaves : Leaves B) (text : List ℕ) (old new : B) (reply : Reply)
     : Type 0 where
   pub replies : PutsThenAsks may leaves text old reply
-  pub hands : handed new ≡ handed old ++ text ∷ []
+  pub hands : Hands handed text old new reply
 
 abbrev pub Responds : {B : Type 0} → MayAnswer B → Handed B → Leaves B → Request → B → B → Reply → Type 0
 Responds may handed leaves (describes table) old new reply = Asks may handed (describes table) old new reply

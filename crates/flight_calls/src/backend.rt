@@ -1,6 +1,6 @@
 //! What stands behind the calls of one connection.
 
-ghost use Rattle.std.specs.Prelude.{◌≡◌, ◌++◌, ◌∷◌, [], ℕ, List, IfOk, IfErr, OnOk};
+ghost use Rattle.std.specs.Prelude.{◌≡◌, ◌⊎◌, ◌++◌, Err, ◌∷◌, [], ℕ, List, IfOk, IfErr, OnOk};
 ghost use Rattle.header_types.specs.Fields.{SchemaTree};
 ghost use Rattle.table_types.specs.Uploads.{schema_text};
 ghost use Rattle.table_types.specs.Valid.{FitsFrame};
@@ -8,8 +8,10 @@ ghost use Rattle.table_types.specs.Tables.{Version};
 ghost use Rattle.table_types.specs.Answers.{answer_of};
 ghost use Rattle.table_versions.specs.Outcomes.{told};
 ghost use Rattle.call_reading.specs.Requests.{Request, describes, shows, lists, serves, puts};
-ghost use Rattle.flight_calls.specs.Replies.{BackAnswer, Description, described, shown, listed, served, decided, failed};
+ghost use Rattle.flight_calls.specs.Replies.{BackAnswer, Description};
+ghost use Rattle.flight_calls.specs.Replies.{described, shown, listed, served, decided, failed};
 ghost use Rattle.flight_calls.specs.Backing.{Describes, DescribeAll};
+ghost use Rattle.call_words.specs.declared.back_fault.BackFault.TheVariants.{OutOfMemory};
 
 use crate::described::Described;
 use call_words::BackFault;
@@ -18,8 +20,8 @@ use table_versions::Outcome;
 use tickets::Ticket;
 use uploads::Upload;
 
-/// What stands behind the calls of one connection: it takes uploads, and tells of tables. It names which answers each call
-/// may give, so that whoever serves a call over it can say what goes out.
+/// What stands behind the calls of one connection: it takes uploads, and tells of tables. It names which answers each
+/// call may give, so that whoever serves a call over it can say what goes out.
 pub trait Backend {
     /// What it may answer to a request, as it is when it is asked.
     ghost may_answer: { Self → Request → BackAnswer → Type 0 };
@@ -30,9 +32,10 @@ pub trait Backend {
     /// What it may be after an upload was put that it took.
     ghost leaves: { Self → List ℕ → Self → Type 0 };
 
-    /// Hands over an upload. After a fault it was handed over too.
+    /// Hands over an upload. After a fault it was handed over too, but where memory was refused it may not have been.
     fn put(&mut self, upload: &Upload) -> Result<(), BackFault>
-        ensures hands { handed self.new ≡ handed self.old ++ upload.now ∷ [] }
+        ensures hands { (handed self.new ≡ handed self.old ++ upload.now ∷ [])
+            ⊎ ((result ≡ Err OutOfMemory) × (handed self.new ≡ handed self.old)) }
         ensures leaves { OnOk result (leaves self.old upload.now self.new) }
         ensures fault { IfErr result (λ fault. may_answer self.old (puts upload.now) (failed fault)) };
 

@@ -1,13 +1,20 @@
 //! One call of Arrow Flight over any reader, writer and backend (Apache Arrow, "Arrow Flight RPC").
 //!
-//! What a text of frames asks for as a call, and what is wrong with it, is defined in `call_reading`; `specs/Replies` has what
-//! goes out for each answer of a backend, and `Serving` what serving one call gives. [`Backend`] is what stands behind the
-//! calls of one connection, and names the answers that each of them may give.
+//! What a text of frames asks for as a call, and what is wrong with it, is defined in `call_reading`; `specs/Replies` has
+//! what goes out for each answer of a backend, and `Serving` what serving one call gives. [`Backend`] is what stands behind
+//! the calls of one connection, and names the answers that each of them may give; [`serve_call`] serves one call.
 #![tactic(auto)]
 
 mod backend;
 mod described;
+mod describing;
+mod framing;
+pub mod laws;
+mod responding;
+mod sending;
+mod serving;
 
 pub use backend::Backend;
 pub use call_words::CallFault;
 pub use described::Described;
+pub use serving::serve_call;

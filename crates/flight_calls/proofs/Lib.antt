@@ -1,0 +1,5 @@
+pub mod Frames
+pub mod Sizes
+pub mod Replying
+pub mod Calls
+pub mod OneReply

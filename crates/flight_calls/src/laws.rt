@@ -1,0 +1,52 @@
+//! Laws of what a call is, of what serving one gives, and of what is replied.
+
+ghost use Rattle.std.specs.Prelude.{◌≡◌, ◌≢◌, ◌⊎◌, ◌<◌, ◌^◌, ◌++◌, ◌∷◌, [], ℕ, List};
+ghost use Rattle.proto_messages.specs.Descriptor.{IsMessage};
+ghost use Rattle.proto_wire.specs.Flight.{put_result_descriptor};
+ghost use Rattle.table_types.specs.Valid.{IsId};
+ghost use Rattle.call_words.specs.Texts.{end_text};
+ghost use Rattle.call_words.specs.declared.refusal.Refusal.{Refusal as Refused};
+ghost use Rattle.call_reading.specs.Requests.{Request, puts, IsCall};
+ghost use Rattle.flight_calls.specs.Replies.{BackAnswer, Reply, Replies, answers, refuses, reply_text};
+ghost use Rattle.call_words.specs.Results.{applied_descriptor, put_result};
+ghost use Rattle.flight_calls.specs.Serving.{IsDue};
+
+use crate::backend::Backend;
+use call_words::laws::refusals_are_told;
+use proto_messages::laws::canonical_messages_are_messages;
+use table_types::laws::uploads_have_one_encoding;
+
+/// A call has an end, and nothing behind the end is part of it.
+pub fn calls_have_an_end()
+    ensures { (text rest : List ℕ) (request : Request) → IsCall text request rest
+        → (before : List ℕ) × (text ≡ before ++ (end_text ++ rest)) }
+{}
+
+/// A backend is handed an upload only by a call that asks for it, which has come with its end, and then that upload
+/// alone.
+pub fn uploads_are_handed_behind_an_end<B: Backend>()
+    ensures { (text rest : List ℕ) (old new : B) (reply : Reply)
+        → IsDue B.may_answer B.handed B.leaves text rest old new reply
+        → (B.handed new ≡ B.handed old) ⊎ ((upload : List ℕ) × IsCall text (puts upload) rest
+        × (B.handed new ≡ B.handed old ++ upload ∷ [])) }
+{}
+
+/// What a backend answers to a request has one reply, and an answer's bytes are those of no refusal.
+pub fn replies_are_one()
+    ensures one { (request : Request) (answer : BackAnswer) (x y : Reply)
+        → Replies request answer x → Replies request answer y → x ≡ y }
+    ensures apart { (messages : List (List ℕ)) (refusal : Refused)
+        → reply_text (answers messages) ≢ reply_text (refuses refusal) }
+{
+    uploads_have_one_encoding();
+    refusals_are_told();
+}
+
+/// The answer to an upload that counts is read as its name and the version that it made.
+pub fn put_results_are_read()
+    ensures { (id : List ℕ) (version : ℕ) → IsId id → version < 2 ^ 64
+        → (text : List ℕ) × IsMessage put_result_descriptor (put_result id version) (text, tt)
+        × IsMessage applied_descriptor text (id, (version, tt)) }
+{
+    canonical_messages_are_messages();
+}

@@ -1,0 +1,113 @@
+//! What goes out for a call.
+
+ghost use Rattle.std.specs.Prelude.{◌≡◌, ◌++◌, ◌∷◌, ◌+◌, ◌<◌, ◌↔◌, IsTrue, IfErr, length, take};
+ghost use Rattle.grpc_frames.specs.FrameFaults.{WhereKnown};
+ghost use Rattle.grpc_frames.specs.declared.fault.FrameFault.TheVariants.{Io};
+ghost use Rattle.call_words.specs.declared.refusal.Refusal.TheVariants.{Frame};
+ghost use Rattle.call_words.specs.Statuses.{code_of, trailer_text, ok_trailer, refusal_trailer};
+ghost use Rattle.call_words.specs.declared.call_fault.CallFault.TheVariants.{Read};
+ghost use Rattle.flight_calls.specs.Replies.{Reply, refuses};
+ghost use Rattle.flight_calls.specs.Responding.{AnswersIn};
+ghost use Rattle.flight_calls.specs.Sending.{Sends, SendsReply};
+
+use call_words::laws::refusals_are_told;
+use call_words::{CallFault, Refusal, Status};
+use grpc_frames::transfer::put;
+use grpc_frames::{END_FLAG, FrameFault, write_frame};
+use std::io::Write;
+
+/// The most bytes of a trailer's payload that are written here: a status, and a text of at most 15 bytes.
+const TRAILER_BYTES: usize = 16;
+
+/// A status and the text behind it, in front of zeros.
+fn trailer_payload(status: Status, text: &str) -> [u8; TRAILER_BYTES]
+    requires { length text.now < 16 }
+    ensures { take (1 + length text.now) result ≡ code_of status ∷ text.now }
+{
+    let mut payload = [0; TRAILER_BYTES];
+    payload[0] = status.code();
+    payload[1..1 + text.len()].copy_from_slice(text.as_bytes());
+    payload
+}
+
+/// Writes a trailer, and flushes what was written. It takes no memory.
+fn send_trailer<W: Write>(w: &mut W, status: Status, text: &str) -> Result<(), CallFault>
+    requires { length text.now < 16 }
+    ensures { WhereKnown (W.contents w.old) (W.contents w.new) (Sends result (trailer_text (code_of status) text.now)) }
+{
+    let payload = trailer_payload(status, text);
+    if write_frame(w, END_FLAG, &payload[..1 + text.len()]).is_err() {
+        return Err(CallFault::Write);
+    }
+    if w.flush().is_err() {
+        return Err(CallFault::Write);
+    }
+    Ok(())
+}
+
+/// Writes the frames of an answer and the trailer behind them.
+fn send_frames<W: Write>(w: &mut W, frames: &[u8]) -> Result<(), CallFault>
+    ensures { WhereKnown (W.contents w.old) (W.contents w.new) (Sends result (frames.now ++ ok_trailer)) }
+{
+    if put(w, frames).is_err() {
+        return Err(CallFault::Write);
+    }
+    send_trailer(w, Status::Ok, "")
+}
+
+/// Whether a read failed.
+fn is_failed_read(refusal: Refusal) -> bool
+    ensures { IsTrue result ↔ (refusal ≡ Frame Io) }
+{
+    match refusal {
+        Refusal::Frame(fault) => fault == FrameFault::Io,
+        _ => false,
+    }
+}
+
+/// Writes the trailer of a refusal.
+fn send_trailer_of<W: Write>(w: &mut W, refusal: Refusal) -> Result<(), CallFault>
+    ensures { WhereKnown (W.contents w.old) (W.contents w.new) (Sends result (refusal_trailer refusal)) }
+{
+    refusals_are_told();
+    send_trailer(w, refusal.status(), refusal.name())
+}
+
+/// What a caller is told where the trailer of a refusal was written.
+fn told_to_caller(refusal: Refusal) -> Result<(), CallFault>
+    ensures read { result ≡ Err Read ↔ (refusal ≡ Frame Io) }
+    ensures only { IfErr result (λ fault. fault ≡ Read) }
+{
+    if is_failed_read(refusal) {
+        Err(CallFault::Read)
+    } else {
+        Ok(())
+    }
+}
+
+/// Writes the trailer of a refusal, and tells where it is that a read failed.
+fn send_refusal<W: Write>(w: &mut W, refusal: Refusal) -> Result<(), CallFault>
+    ensures { WhereKnown (W.contents w.old) (W.contents w.new) (SendsReply result (refuses refusal)) }
+{
+    match send_trailer_of(w, refusal) {
+        Ok(()) => told_to_caller(refusal),
+        Err(fault) => Err(fault),
+    }
+}
+
+/// Writes an answer's frames and the trailer behind them, or the trailer that tells why there is none.
+///
+/// [`CallFault::Read`] says that the trailer of a failed read was written, and [`CallFault::Write`] that a write
+/// failed, and that a beginning of what was to be written has gone out.
+pub(crate) fn send_answer<W: Write>(
+    w: &mut W,
+    answer: Result<Vec<u8>, Refusal>,
+) -> Result<(), CallFault>
+    ensures { (reply : Reply) → AnswersIn answer reply
+        → WhereKnown (W.contents w.old) (W.contents w.new) (SendsReply result reply) }
+{
+    match answer {
+        Ok(frames) => send_frames(w, &frames),
+        Err(refusal) => send_refusal(w, refusal),
+    }
+}
