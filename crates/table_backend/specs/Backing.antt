@@ -1,0 +1,86 @@
+-- What a backend of tables may answer, by the uploads that its tables have taken: `table_types` has what tables these make,
+-- and which versions and outcomes.
+use Rattle.std.specs.Prelude.{◌≡◌, ◌⊎◌, ◌++◌, ℕ, List, [], ◌∷◌, length, None, Some, map, string_bytes}
+use Rattle.std.specs.List.{AllZip}
+use Rattle.ballots.specs.declared.value.Value.{Value}
+use Rattle.ballots.specs.declared.value.Value.TheVariants as agreed
+use Rattle.table_types.specs.Uploads.{Upload, upload_text}
+use Rattle.table_types.specs.Valid.{IsUpload}
+use Rattle.table_types.specs.Answers.{answer_of}
+use Rattle.table_types.specs.Tables.{effective, version_of, outcome_of}
+use Rattle.table_versions.specs.Values.{AreUploadsIn}
+use Rattle.table_versions.specs.State.{TablesState, HasTaken}
+use Rattle.table_versions.specs.Ledger.{table_names, records_of}
+use Rattle.call_words.specs.declared.back_fault.BackFault.{BackFault}
+use Rattle.call_words.specs.declared.back_fault.BackFault.TheVariants as faults
+use Rattle.call_reading.specs.Requests.{Request, describes, shows, lists, serves, puts}
+use Rattle.table_versions.specs.Info.{IsInfoOf}
+use Rattle.flight_calls.specs.declared.described.Described.{Described}
+use Rattle.flight_calls.specs.Replies.{BackAnswer, Description, described, shown, listed, served, decided, failed}
+
+-- tables, where they are served, how many uploads they take, and the uploads that were handed over
+pub record Shelf : Type 0 where
+  pub tables : TablesState
+  pub locations : List (List ℕ)
+  pub slots : ℕ
+  pub handed : List (List ℕ)
+
+-- what is told of a table of which these uploads count
+abbrev pub DescribesTable : List (List ℕ) → List ℕ → List Upload → Description → Type 0
+DescribesTable locations table [] d = ⊥
+DescribesTable locations table (first ∷ rest) d =
+    d ≡ record {
+      version = record { table = table; version = length (first ∷ rest) };
+      records = records_of (first ∷ rest);
+      total_bytes = length (answer_of (record { schema = first.schema; uploads = first ∷ rest }));
+      schema = first.schema;
+      locations = locations;
+    }
+
+-- the same, as a value: the table of this name with these effective uploads, and where it is served
+abbrev pub TellsLatest : List (List ℕ) → List ℕ → List Upload → Described → Type 0
+TellsLatest locations table [] found = ⊥
+TellsLatest locations table (first ∷ rest) found =
+    IsInfoOf found.info table first (first ∷ rest) × (map string_bytes found.locations.items ≡ locations)
+
+-- no upload to the table counts; or memory was refused
+abbrev pub TableFault : List Upload → BackFault → Type 0
+TableFault counted fault = ((counted ≡ []) × (fault ≡ faults.NoTable)) ⊎ (fault ≡ faults.OutOfMemory)
+
+-- there is no room for another upload; or memory was refused
+abbrev pub PutFault : BackFault → Type 0
+PutFault fault = (fault ≡ faults.SlotsSpent) ⊎ (fault ≡ faults.OutOfMemory)
+
+-- By these uploads, this is an answer to the request.
+abbrev pub Answers : List (List ℕ) → List Upload → Request → BackAnswer → Type 0
+Answers locations uploads (describes table) (described d) = DescribesTable locations table (effective table uploads) d
+Answers locations uploads (describes table) (failed fault) = TableFault (effective table uploads) fault
+Answers locations uploads (shows table) (shown schema) =
+    (first : Upload) × (rest : List Upload) × (effective table uploads ≡ first ∷ rest) × (schema ≡ first.schema)
+Answers locations uploads (shows table) (failed fault) = TableFault (effective table uploads) fault
+Answers locations uploads lists (listed all) =
+    AllZip (λ name d. DescribesTable locations name (effective name uploads) d) (table_names uploads) all
+Answers locations uploads lists (failed fault) = fault ≡ faults.OutOfMemory
+Answers locations uploads (serves asked) (served version) = version_of asked.table asked.version uploads ≡ Some version
+Answers locations uploads (serves asked) (failed fault) =
+    ((version_of asked.table asked.version uploads ≡ None) × (fault ≡ faults.Unavailable)) ⊎ (fault ≡ faults.OutOfMemory)
+Answers locations uploads (puts text) (decided outcome) =
+    (upload : Upload) → IsUpload upload → upload_text upload ≡ text → outcome ≡ outcome_of uploads upload
+Answers locations uploads (puts text) (failed fault) = PutFault fault
+Answers locations uploads request other = ⊥
+
+-- the tables have taken values of uploads of which this holds
+abbrev pub Stands : Shelf → (List Upload → Type 0) → Type 0
+Stands shelf P =
+    (values : List Value) × (uploads : List Upload) × HasTaken shelf.tables values × AreUploadsIn values uploads × P uploads
+
+-- an answer by uploads that the tables have taken
+abbrev pub MayAnswer : Shelf → Request → BackAnswer → Type 0
+MayAnswer shelf request answer =
+    Stands shelf (λ uploads. Answers shelf.locations uploads request answer)
+
+-- an upload that was put has been taken behind the values before it, or something was known of it
+abbrev pub Leaves : Shelf → List ℕ → Shelf → Type 0
+Leaves old text new =
+    (values : List Value) × HasTaken old.tables values
+    × (HasTaken new.tables values ⊎ HasTaken new.tables (values ++ agreed.Upload text ∷ []))

@@ -1,0 +1,192 @@
+//! A backend of tables.
+
+ghost use Rattle.std.specs.Prelude.{◌≡◌, ◌++◌, ◌∷◌, [], map, string_bytes, IfOk, IfErr, OnOk, OnErr};
+ghost use Rattle.table_versions.specs.State.{HasTaken};
+ghost use Rattle.call_words.specs.declared.back_fault.BackFault.TheVariants.{OutOfMemory};
+ghost use Rattle.table_backend.specs.Backing.{MayAnswer, Leaves, Stands, PutFault};
+
+use crate::parts::{all_described, described, schema_in, value_of};
+use call_words::BackFault;
+use flight_calls::{Backend, Described};
+use std::alloc::Global;
+use std::hash::RandomState;
+use std::marker::Model;
+use table_types::laws::tables_have_one_shape;
+use table_versions::laws::{same_tables_hold_the_same, values_hold_one_list_of_uploads};
+use table_versions::{Outcome, Tables};
+use tickets::Ticket;
+use uploads::Upload;
+
+/// The most values that tables take.
+const MAX_VALUES: u64 = 1_000_000;
+
+/// Tables of the uploads that were put, and where they are served.
+#[derive(Debug, Drop)]
+pub struct TableBackend {
+    tables: Tables,
+    locations: Vec<String>,
+    slots: u64,
+    handed: Vec<Upload>,
+}
+
+impl Model for TableBackend {
+    ghost use Rattle.table_backend.specs.Backing.{Shelf};
+
+    ghost Value = { Shelf };
+
+    ghost use Rattle.table_versions.specs.contracts.tables.Tables as tables_part;
+    ghost use Rattle.std.specs.Coded.{codes};
+
+    ghost coded = { Prim.hlevel (codes, tables_part.the_row.coded) };
+
+    ghost use Rattle.std.specs.Prelude.{List, map, string_bytes};
+    ghost use Rattle.ballots.specs.declared.value.Value.{Value as Agreed};
+    ghost use Rattle.table_versions.specs.State.{HasTaken};
+
+    ghost view = { λ b. record {
+      tables = b.tables;
+      locations = map string_bytes b.locations.items;
+      slots = b.slots;
+      handed = b.handed.items;
+    } };
+
+    ghost invariant = { λ b. (values : List Agreed) × HasTaken b.tables values };
+}
+
+impl TableBackend {
+    /// A backend that has taken no upload, and takes so many, but no more than 1,000,000: a further one is refused as
+    /// [`BackFault::SlotsSpent`]. It is served at these locations, of which clients are told in this order. Clients choose
+    /// the names of tables and of uploads: `hashing` has the random keys that keep look-ups fast whatever they choose.
+    pub fn new(
+        alloc: Global,
+        hashing: RandomState,
+        slots: u64,
+        locations: Vec<String>,
+    ) -> TableBackend
+        ensures tables { HasTaken result.tables [] }
+        ensures locations { result.locations ≡ map string_bytes locations.items }
+        ensures slots { result.slots ≡ slots }
+        ensures handed { result.handed ≡ [] }
+    {
+        TableBackend {
+            tables: Tables::new(alloc, hashing),
+            locations,
+            slots,
+            handed: Vec::new(alloc),
+        }
+    }
+
+    /// The uploads that were handed over, in order.
+    pub fn handed(&self) -> &[Upload]
+        ensures { result.now ≡ self.now.handed }
+    {
+        &self.handed
+    }
+
+    /// The tables of the uploads that were taken.
+    pub fn tables(&self) -> &Tables
+        ensures { result.now ≡ self.now.tables }
+    {
+        &self.tables
+    }
+
+    /// Takes an upload, where there is room for one more.
+    fn take(&mut self, upload: &Upload) -> Result<(), BackFault>
+        ensures leaves { OnOk result (Leaves self.old upload.now self.new) }
+        ensures same { self.new.handed ≡ self.old.handed }
+        ensures fault { IfErr result (λ fault. Stands self.old (λ uploads. PutFault fault)) }
+    {
+        same_tables_hold_the_same();
+        if self.tables.taken() >= self.slots.min(MAX_VALUES) {
+            return Err(BackFault::SlotsSpent);
+        }
+        let Ok(value) = value_of(upload) else {
+            return Err(BackFault::OutOfMemory);
+        };
+        match self.tables.ready(&[value]) {
+            Ok(ready) => {
+                self.tables.apply(ready);
+                Ok(())
+            }
+            Err(_) => Err(BackFault::OutOfMemory),
+        }
+    }
+
+    /// Notes an upload that is handed over.
+    fn hand(&mut self, upload: &Upload) -> Result<(), BackFault>
+        ensures handed { OnOk result (self.new.handed ≡ self.old.handed ++ upload.now ∷ []) }
+        ensures same { self.new.tables ≡ self.old.tables }
+        ensures refused { OnErr result (self.new.handed ≡ self.old.handed) }
+        ensures fault { IfErr result (λ fault. fault ≡ OutOfMemory) }
+    {
+        let Ok(copy) = upload.clone() else {
+            return Err(BackFault::OutOfMemory);
+        };
+        match self.handed.push(copy) {
+            Ok(()) => Ok(()),
+            Err(_) => Err(BackFault::OutOfMemory),
+        }
+    }
+}
+
+impl Backend for TableBackend {
+    ghost may_answer = { MayAnswer };
+
+    ghost handed = { λ b. b.handed };
+
+    ghost leaves = { Leaves };
+
+    fn put(&mut self, upload: &Upload) -> Result<(), BackFault> {
+        let outcome = self.tables.outcome(upload);
+        match self.hand(upload) {
+            Ok(()) => match outcome {
+                Outcome::Unknown => self.take(upload),
+                _ => Ok(()),
+            },
+            Err(fault) => Err(fault),
+        }
+    }
+
+    fn outcome(&mut self, upload: &Upload) -> Result<Outcome, BackFault> {
+        Ok(self.tables.outcome(upload))
+    }
+
+    fn get(&mut self, _alloc: Global, ticket: &Ticket) -> Result<Vec<u8>, BackFault> {
+        match self.tables.answer(ticket) {
+            Ok(Some(bytes)) => Ok(bytes),
+            Ok(None) => Err(BackFault::Unavailable),
+            Err(_) => Err(BackFault::OutOfMemory),
+        }
+    }
+
+    fn info(&mut self, alloc: Global, table: &str) -> Result<Described, BackFault> {
+        tables_have_one_shape();
+        values_hold_one_list_of_uploads();
+        let info = match self.tables.latest(table) {
+            Ok(Some(info)) => info,
+            Ok(None) => return Err(BackFault::NoTable),
+            Err(_) => return Err(BackFault::OutOfMemory),
+        };
+        described(alloc, info, &self.locations)
+    }
+
+    fn schema(&mut self, _alloc: Global, table: &str) -> Result<Vec<u8>, BackFault> {
+        values_hold_one_list_of_uploads();
+        let info = match self.tables.latest(table) {
+            Ok(Some(info)) => info,
+            Ok(None) => return Err(BackFault::NoTable),
+            Err(_) => return Err(BackFault::OutOfMemory),
+        };
+        Ok(schema_in(info))
+    }
+
+    fn list(&mut self, alloc: Global) -> Result<Vec<Described>, BackFault> {
+        tables_have_one_shape();
+        values_hold_one_list_of_uploads();
+        let names = match self.tables.tables() {
+            Ok(names) => names,
+            Err(_) => return Err(BackFault::OutOfMemory),
+        };
+        all_described(alloc, &self.tables, &names, &self.locations)
+    }
+}
