@@ -1,0 +1,267 @@
+"""A model of Flight calls: what is answered to bytes that come in, by a service that holds the tables of all uploads that it took. It
+is written from gRPC, "gRPC over HTTP2", from Arrow Flight ("Flight.proto", "Arrow Flight RPC") and from docs/FORMATS.md, and not
+from the code. Uploads, tables and tickets are those of tables_model.py, and messages those of wire_model.py.
+
+A header is judged as far as it is one of a schema, of a batch, or none at all; which fault stands in one that is none is not judged
+here, nor which is told of a message with several."""
+from batch_model import meaning
+from tables_model import MOST_BATCHES, Refused, Upload, answer, batch_at, effective, head_at, is_table_name, latest, outcome
+from tables_model import NoUpload, schema_at, table_names, ticket_of, ticket_text, type_in
+from wire_model import DATA_MESSAGE, DESCRIPTOR, INFO, MAX_FRAME_PAYLOAD, TICKET, Faults, bytes_field, encoding, meant_inside, number_field
+
+SERVICE = b"/arrow.flight.protocol.FlightService/"
+METHODS = (b"GetFlightInfo", b"GetSchema", b"ListFlights", b"DoGet", b"DoPut")
+CRITERIA = [(1, "expression", "bytes")]
+UNKNOWN, PATH, CMD = 0, 1, 2
+# The most frames of a call before its end.
+MOST_FRAMES = 65_536
+STATUSES = {
+    3: "Truncated BadFlag TooLong BadVarint BadKey BadWireType CutShort NotUtf8 OutOfBounds Version Endianness TooDeep TooManyFields "
+    "BadHeader TooManyRows NodeCount BufferCount BufferRange NullCount OffsetsFall ChildShort BadPath BadDescriptor BadTicket NoSchema "
+    "NoEnd MessageCount",
+    5: "NoTable", 6: "Conflict", 8: "SlotsSpent TooLarge TooManyBatches", 9: "SchemaMismatch",
+    12: "Compressed CmdDescriptor Criteria NoCall", 14: "Unavailable",
+}
+STATUS_OF = {name: status for status, names in STATUSES.items() for name in names.split()}
+
+
+class Refusal(Exception):
+    """A call is refused by this name, and this is left of the text."""
+
+    def __init__(self, name, left):
+        super().__init__(name)
+        self.name, self.left = name, left
+
+
+class Unjudged(Exception):
+    """This model does not say what such a call is answered."""
+
+
+# ---- frames, and messages
+
+
+def frame_at(text):
+    """The flag and the payload of the frame at the front, and what stands behind it."""
+    if not text:
+        raise Refusal("NoEnd", b"")
+    if len(text) < 5:
+        raise Refusal("Truncated", b"")
+    flag, length, rest = text[0], int.from_bytes(text[1:5], "big"), text[5:]
+    if flag not in (0, 0x80):
+        raise Refusal("Compressed" if flag == 1 else "BadFlag", rest)
+    if length > MAX_FRAME_PAYLOAD:
+        raise Refusal("TooLong", rest)
+    if len(rest) < length:
+        raise Refusal("Truncated", b"")
+    if flag and length:
+        raise Refusal("BadFlag", rest[length:])
+    return bool(flag), rest[:length], rest[length:]
+
+
+def meant(text, table, left):
+    faults = set()
+    message = meant_inside([text], table, faults)
+    if len(faults) > 1:
+        raise Unjudged(text)
+    if faults:
+        raise Refusal(faults.pop(), left)
+    return message
+
+
+# ---- what is asked
+
+
+def path_in(descriptor, left):
+    if descriptor[0] == CMD:
+        raise Refusal("CmdDescriptor", left)
+    if descriptor[0] != PATH:
+        raise Refusal("BadDescriptor", left)
+    return [it.encode() for it in descriptor[2]]
+
+
+def table_asked(text, left):
+    path = path_in(meant(text, DESCRIPTOR, left), left)
+    if len(path) != 1 or not is_table_name(path[0]):
+        raise Refusal("BadDescriptor", left)
+    return path[0]
+
+
+def all_asked(text, left):
+    if meant(text, CRITERIA, left)[0]:
+        raise Refusal("Criteria", left)
+
+
+def version_asked(text, left):
+    asked = ticket_of(meant(text, TICKET, left)[0])
+    if asked is None:
+        raise Refusal("BadTicket", left)
+    return asked
+
+
+ASKED = {b"GetFlightInfo": table_asked, b"GetSchema": table_asked, b"ListFlights": all_asked, b"DoGet": version_asked}
+
+
+def one_message(method, text):
+    """What the one message of a method asks for, and what stands behind its end."""
+    is_end, message, text = frame_at(text)
+    if is_end:
+        raise Refusal("MessageCount", text)
+    asked = ASKED[method](message, text)
+    is_end, _, text = frame_at(text)
+    if not is_end:
+        raise Refusal("MessageCount", text)
+    return asked, text
+
+
+# ---- uploads
+
+
+def header_of(text):
+    """The schema or the head that the bytes show: a pair of its kind and of itself."""
+    for kind, read in (("schema", schema_at), ("batch", head_at)):
+        try:
+            shown = read(text)
+        except (NoUpload, Refused, LookupError, TypeError, ValueError, OverflowError):
+            continue
+        if kind == header_kind(text):
+            return kind, shown
+    raise Unjudged(text)
+
+
+def header_kind(text):
+    """What the message's table says that its header is: 1 a schema, 3 a batch."""
+    table = int.from_bytes(text[:4], "little")
+    vtable = table - int.from_bytes(text[table : table + 4], "little", signed=True)
+    place = table + int.from_bytes(text[vtable + 6 : vtable + 8], "little")
+    return {1: "schema", 3: "batch"}.get(text[place])
+
+
+def is_id(text):
+    return len(text) == 32 and all(it in b"0123456789abcdef" for it in text)
+
+
+def opening(text, left):
+    """The table, the name and the schema of the first message."""
+    descriptor, header, _, _ = meant(text, DATA_MESSAGE, left)
+    if descriptor is None:
+        raise Refusal("BadDescriptor", left)
+    path = path_in(descriptor, left)
+    if len(path) != 2 or not is_table_name(path[0]) or not is_id(path[1]):
+        raise Refusal("BadDescriptor", left)
+    kind, schema = header_of(header) if header else ("batch", None)
+    if kind == "batch":
+        raise Refusal("NoSchema", left)
+    return path[0], bytes.fromhex(path[1].decode()), schema
+
+
+def addition(schema, batches, text, left):
+    """What a further message adds to the batches."""
+    _, header, _, body = meant(text, DATA_MESSAGE, left)
+    if not header and not body:
+        return []
+    if not header:
+        raise Refusal("OutOfBounds", left)
+    kind, head = header_of(header)
+    if kind == "schema":
+        raise Refusal("BadHeader", left)
+    columns = meaning([type_in(it) for it in schema["fields"]], head, body)
+    if len(batches) == MOST_BATCHES:
+        raise Refusal("TooManyBatches", left)
+    if isinstance(columns, str):
+        raise Refusal(columns, left)
+    return [(head.length, columns)]
+
+
+def upload_asked(text):
+    """The upload of the messages, and what stands behind their end."""
+    is_end, message, text = frame_at(text)
+    if is_end:
+        raise Refusal("NoSchema", text)
+    table, name, schema = opening(message, text)
+    batches = []
+    for count in range(2, MOST_FRAMES + 2):
+        is_end, message, text = frame_at(text)
+        if is_end:
+            upload = Upload(table, name, schema, batches)
+            if not upload.is_taken():
+                raise Refusal("TooLarge", text)
+            return upload, text
+        if count == MOST_FRAMES:
+            raise Refusal("MessageCount", text)
+        batches += addition(schema, batches, message, text)
+    raise AssertionError
+
+
+def call_asked(text):
+    """The method, what it asks for, and what stands behind the call."""
+    is_end, path, text = frame_at(text)
+    if is_end or not path.startswith(SERVICE):
+        raise Refusal("BadPath", text)
+    method = path.removeprefix(SERVICE)
+    if method not in METHODS:
+        raise Refusal("NoCall", text)
+    return method, *(upload_asked(text) if method == b"DoPut" else one_message(method, text))
+
+
+# ---- a service, and its answers
+
+
+def encapsulated(text):
+    return b"\xff\xff\xff\xff" + len(text).to_bytes(4, "little") + text
+
+
+class Service:
+    """All uploads that were taken, in order; how many it takes; where it is; and the names of those that were handed over."""
+
+    def __init__(self, slots, locations):
+        self.slots, self.locations, self.uploads, self.handed = slots, locations, [], []
+
+    def info(self, table, left):
+        known = latest(self.uploads, table)
+        if known is None:
+            raise Refusal("NoTable", left)
+        version, rows, size, schema = known
+        endpoint = [[ticket_text(table, version)], [[it] for it in self.locations]]
+        descriptor = [PATH, b"", [table.decode()]]
+        return encoding([encapsulated(schema), descriptor, [endpoint], rows, size, True], INFO)
+
+    def schema(self, table, left):
+        known = latest(self.uploads, table)
+        if known is None:
+            raise Refusal("NoTable", left)
+        return bytes_field(1, encapsulated(known[3]))
+
+    def get(self, asked, left):
+        frames = answer(self.uploads, *asked)
+        if frames is None:
+            raise Refusal("Unavailable", left)
+        return [it[5:] for it in frames]
+
+    def put(self, upload, left):
+        self.handed.append(upload.id)
+        if outcome(self.uploads, upload) == "Unknown":
+            if len(self.uploads) >= self.slots:
+                raise Refusal("SlotsSpent", left)
+            self.uploads.append(upload)
+        told = outcome(self.uploads, upload)
+        if not told.startswith("Applied"):
+            raise Refusal(told, left)
+        version = 1 + [it.id for it in effective(self.uploads, upload.table)].index(upload.id)
+        return bytes_field(1, bytes_field(1, upload.id) + number_field(2, version))
+
+    def messages(self, method, asked, left):
+        if method == b"GetFlightInfo":
+            return [self.info(asked, left)]
+        if method == b"GetSchema":
+            return [self.schema(asked, left)]
+        if method == b"ListFlights":
+            return [self.info(it, left) for it in table_names(self.uploads)]
+        return self.get(asked, left) if method == b"DoGet" else [self.put(asked, left)]
+
+    def serve(self, text):
+        """The messages of the answer, its status and text, and what is left."""
+        try:
+            method, asked, left = call_asked(text)
+            return self.messages(method, asked, left), 0, "", left
+        except Refusal as it:
+            return [], STATUS_OF[it.name], it.name, it.left
