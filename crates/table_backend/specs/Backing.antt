@@ -1,6 +1,6 @@
 -- What a backend of tables may answer, by the uploads that its tables have taken: `table_types` has what tables these make,
 -- and which versions and outcomes.
-use Rattle.std.specs.Prelude.{◌≡◌, ◌⊎◌, ◌++◌, ℕ, List, [], ◌∷◌, length, None, Some, map, string_bytes}
+use Rattle.std.specs.Prelude.{◌≡◌, ◌⊎◌, ◌≤◌, ◌++◌, ℕ, List, [], ◌∷◌, length, None, Some, map, string_bytes}
 use Rattle.std.specs.List.{AllZip}
 use Rattle.ballots.specs.declared.value.Value.{Value}
 use Rattle.ballots.specs.declared.value.Value.TheVariants as agreed
@@ -9,7 +9,7 @@ use Rattle.table_types.specs.Valid.{IsUpload}
 use Rattle.table_types.specs.Answers.{answer_of}
 use Rattle.table_types.specs.Tables.{effective, version_of, outcome_of}
 use Rattle.table_versions.specs.Values.{AreUploadsIn}
-use Rattle.table_versions.specs.State.{TablesState, HasTaken}
+use Rattle.table_versions.specs.State.{values_limit, TablesState, HasTaken}
 use Rattle.table_versions.specs.Ledger.{table_names, records_of}
 use Rattle.call_words.specs.declared.back_fault.BackFault.{BackFault}
 use Rattle.call_words.specs.declared.back_fault.BackFault.TheVariants as faults
@@ -47,27 +47,29 @@ TellsLatest locations table (first ∷ rest) found =
 abbrev pub TableFault : List Upload → BackFault → Type 0
 TableFault counted fault = ((counted ≡ []) × (fault ≡ faults.NoTable)) ⊎ (fault ≡ faults.OutOfMemory)
 
--- there is no room for another upload; or memory was refused
-abbrev pub PutFault : BackFault → Type 0
-PutFault fault = (fault ≡ faults.SlotsSpent) ⊎ (fault ≡ faults.OutOfMemory)
+-- as many values were taken as may be; or memory was refused
+abbrev pub PutFault : Shelf → BackFault → Type 0
+PutFault shelf fault =
+    (((shelf.slots ≤ shelf.tables.taken) ⊎ (values_limit ≤ shelf.tables.taken)) × (fault ≡ faults.SlotsSpent))
+    ⊎ (fault ≡ faults.OutOfMemory)
 
 -- By these uploads, this is an answer to the request.
-abbrev pub Answers : List (List ℕ) → List Upload → Request → BackAnswer → Type 0
-Answers locations uploads (describes table) (described d) = DescribesTable locations table (effective table uploads) d
-Answers locations uploads (describes table) (failed fault) = TableFault (effective table uploads) fault
-Answers locations uploads (shows table) (shown schema) =
+abbrev pub Answers : Shelf → List Upload → Request → BackAnswer → Type 0
+Answers shelf uploads (describes table) (described d) = DescribesTable shelf.locations table (effective table uploads) d
+Answers shelf uploads (describes table) (failed fault) = TableFault (effective table uploads) fault
+Answers shelf uploads (shows table) (shown schema) =
     (first : Upload) × (rest : List Upload) × (effective table uploads ≡ first ∷ rest) × (schema ≡ first.schema)
-Answers locations uploads (shows table) (failed fault) = TableFault (effective table uploads) fault
-Answers locations uploads lists (listed all) =
-    AllZip (λ name d. DescribesTable locations name (effective name uploads) d) (table_names uploads) all
-Answers locations uploads lists (failed fault) = fault ≡ faults.OutOfMemory
-Answers locations uploads (serves asked) (served version) = version_of asked.table asked.version uploads ≡ Some version
-Answers locations uploads (serves asked) (failed fault) =
+Answers shelf uploads (shows table) (failed fault) = TableFault (effective table uploads) fault
+Answers shelf uploads lists (listed all) =
+    AllZip (λ name d. DescribesTable shelf.locations name (effective name uploads) d) (table_names uploads) all
+Answers shelf uploads lists (failed fault) = fault ≡ faults.OutOfMemory
+Answers shelf uploads (serves asked) (served version) = version_of asked.table asked.version uploads ≡ Some version
+Answers shelf uploads (serves asked) (failed fault) =
     ((version_of asked.table asked.version uploads ≡ None) × (fault ≡ faults.Unavailable)) ⊎ (fault ≡ faults.OutOfMemory)
-Answers locations uploads (puts text) (decided outcome) =
+Answers shelf uploads (puts text) (decided outcome) =
     (upload : Upload) → IsUpload upload → upload_text upload ≡ text → outcome ≡ outcome_of uploads upload
-Answers locations uploads (puts text) (failed fault) = PutFault fault
-Answers locations uploads request other = ⊥
+Answers shelf uploads (puts text) (failed fault) = PutFault shelf fault
+Answers shelf uploads request other = ⊥
 
 -- the tables have taken values of uploads of which this holds
 abbrev pub Stands : Shelf → (List Upload → Type 0) → Type 0
@@ -77,7 +79,7 @@ Stands shelf P =
 -- an answer by uploads that the tables have taken
 abbrev pub MayAnswer : Shelf → Request → BackAnswer → Type 0
 MayAnswer shelf request answer =
-    Stands shelf (λ uploads. Answers shelf.locations uploads request answer)
+    Stands shelf (λ uploads. Answers shelf uploads request answer)
 
 -- an upload that was put has been taken behind the values before it, or something was known of it
 abbrev pub Leaves : Shelf → List ℕ → Shelf → Type 0

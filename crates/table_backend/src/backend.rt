@@ -94,10 +94,11 @@ impl TableBackend {
     fn take(&mut self, upload: &Upload) -> Result<(), BackFault>
         ensures leaves { OnOk result (Leaves self.old upload.now self.new) }
         ensures same { self.new.handed ≡ self.old.handed }
-        ensures fault { IfErr result (λ fault. Stands self.old (λ uploads. PutFault fault)) }
+        ensures fault { IfErr result (λ fault. Stands self.old (λ uploads. PutFault self.old fault)) }
     {
         same_tables_hold_the_same();
-        if self.tables.taken() >= self.slots.min(MAX_VALUES) {
+        let taken = self.tables.taken();
+        if taken >= self.slots || taken >= MAX_VALUES {
             return Err(BackFault::SlotsSpent);
         }
         let Ok(value) = value_of(upload) else {
@@ -115,7 +116,7 @@ impl TableBackend {
     /// Notes an upload that is handed over.
     fn hand(&mut self, upload: &Upload) -> Result<(), BackFault>
         ensures handed { OnOk result (self.new.handed ≡ self.old.handed ++ upload.now ∷ []) }
-        ensures same { self.new.tables ≡ self.old.tables }
+        ensures same { (self.new.tables ≡ self.old.tables) × (self.new.slots ≡ self.old.slots) }
         ensures refused { OnErr result (self.new.handed ≡ self.old.handed) }
         ensures fault { IfErr result (λ fault. fault ≡ OutOfMemory) }
     {
