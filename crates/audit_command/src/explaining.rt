@@ -1,4 +1,4 @@
-//! `flightd audit --explain FILE`, over any writers: the judgement of a recorded run, and why it is unlawful.
+//! An audit that is explained, over any writers: the judgement of a recorded run, and why it is unlawful.
 
 ghost use Rattle.std.specs.Prelude.{◌≡◌, ◌⊎◌, ◌++◌, true, false, IfOk, IfErr, string_bytes};
 ghost use Rattle.std.specs.Io.KnownBytes.{Appends, Keeps};
@@ -51,7 +51,7 @@ struct Verdict {
     text: String,
 }
 
-/// `flightd audit --explain FILE`: what [`audit_run`](crate::audit_run) does, and behind the line `unlawful` it writes
+/// An audit that is explained: what [`audit_run`](crate::audit_run) does, and behind the line `unlawful` it writes
 /// why: the first message that breaks the rules, by its number, from 0, with its slot and its line, and each rule that
 /// it breaks, with the earlier message that it goes against.
 ///

@@ -1,4 +1,4 @@
-//! `flightd audit FILE`, and with `--explain`, each a function over any writers.
+//! `flightd audit FILE`, and an audit that is explained, each a function over any writers.
 //!
 //! `audit_run` says whether a recorded run of Paxos messages, told by a file's bytes, is one that correct nodes may
 //! have sent. It gives the exit status, and tells of a fault in a line. What it runs, `audit_file`, gives the

@@ -1,13 +1,10 @@
 -- What serving a call gives, of what its parts give.
-use Rattle.std.proofs.Common.{◌≡◌, ◌⊎◌, ℕ, List, [], ◌∷◌, ◌++◌, Option, Some, None, Vec, Result, Ok, Err, refl, ap, subst, inl, inr, ◌∙◌, append_assoc}
+use Rattle.std.proofs.Common.{◌≡◌, ◌⊎◌, ℕ, List, [], ◌∷◌, ◌++◌, Option, Some, None, Vec, Result, Ok, Err, refl, ap, subst, inl, inr, ◌∙◌}
 use Rattle.std.specs.declared.alloc.Global.{Global}
 use Rattle.grpc_frames.specs.FrameFaults.{WhereKnown}
-use Rattle.table_types.specs.Served.{in_frame}
-use Rattle.call_words.specs.Methods.{path_text}
-use Rattle.call_words.specs.Texts.{messages_text, end_text}
 use Rattle.call_words.specs.declared.refusal.Refusal.{Refusal}
 use Rattle.call_reading.specs.declared.request.FlightRequest.{FlightRequest}
-use Rattle.call_reading.specs.Requests.{Request, describes, shows, lists, serves, puts, method_of, IsCall}
+use Rattle.call_reading.specs.Requests.{Request, describes, shows, lists, serves, puts, IsCall}
 use Rattle.call_reading.specs.Reading.{request_of, ReadsCall}
 use Rattle.call_words.specs.declared.call_fault.CallFault.{CallFault}
 use Rattle.call_words.specs.declared.call_fault.CallFault.TheVariants as faults
@@ -57,11 +54,6 @@ served may handed leaves old new answer r (Some x) (Some y) before after due sen
     serves_where_known may handed leaves old new due.0 r x y before after due.1 (sends due.0 due.2)
 
 -- ---- what a backend hears of a call
-
-pub has_end : (text rest : List ℕ) (request : Request) → IsCall text request rest → (before : List ℕ) × (text ≡ before ++ (end_text ++ rest))
-has_end text rest request h =
-    let before = in_frame (path_text (method_of request)) ++ messages_text h.messages in
-    (before, h.parts ∙ append_assoc before end_text rest)
 
 -- what was handed over for a request
 abbrev Hands : {B : Type 0} → Handed B → Request → B → B → Type 0

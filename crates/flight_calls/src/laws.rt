@@ -1,10 +1,9 @@
-//! Laws of what a call is, of what serving one gives, and of what is replied.
+//! Laws of what serving a call gives, and of what is replied.
 
 ghost use Rattle.std.specs.Prelude.{◌≡◌, ◌≢◌, ◌⊎◌, ◌<◌, ◌^◌, ◌++◌, ◌∷◌, [], ℕ, List};
 ghost use Rattle.proto_messages.specs.Descriptor.{IsMessage};
 ghost use Rattle.proto_wire.specs.Flight.{put_result_descriptor};
 ghost use Rattle.table_types.specs.Valid.{IsId};
-ghost use Rattle.call_words.specs.Texts.{end_text};
 ghost use Rattle.call_words.specs.declared.refusal.Refusal.{Refusal as Refused};
 ghost use Rattle.call_reading.specs.Requests.{Request, puts, IsCall};
 ghost use Rattle.flight_calls.specs.Replies.{BackAnswer, Reply, Replies, answers, refuses, reply_text};
@@ -15,12 +14,6 @@ use crate::backend::Backend;
 use call_words::laws::refusals_are_told;
 use proto_messages::laws::canonical_messages_are_messages;
 use table_types::laws::uploads_have_one_encoding;
-
-/// A call has an end, and nothing behind the end is part of it.
-pub fn calls_have_an_end()
-    ensures { (text rest : List ℕ) (request : Request) → IsCall text request rest
-        → (before : List ℕ) × (text ≡ before ++ (end_text ++ rest)) }
-{}
 
 /// A backend is handed an upload only by a call that asks for it, which has come with its end, and then that upload
 /// alone.
