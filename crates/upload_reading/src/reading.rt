@@ -83,8 +83,11 @@ fn is_schema_text(alloc: Global, schema: &Schema, bytes: &[u8]) -> Result<bool, 
     Ok(written.as_slice() == bytes)
 }
 
-/// The schema of which these bytes are what is written.
-pub(crate) fn read_schema(alloc: Global, bytes: &[u8]) -> Result<Schema, DecodeFault>
+/// The schema of which these bytes are what is written: one that can be written and read back ([`Schema::in_profile`]), in
+/// the one encoding of a message with it (Apache Arrow, "Arrow Columnar Format", "Encapsulated message format").
+///
+/// [`DecodeFault::NotAnUpload`] says that they are that of none, and [`DecodeFault::OutOfMemory`] that memory was refused.
+pub fn read_schema(alloc: Global, bytes: &[u8]) -> Result<Schema, DecodeFault>
     ensures read { IfOk result (λ schema. IsSchemaText bytes.now (schema_of schema)) }
     ensures fault { IfErr result (λ fault. fault ≡ NotAnUpload
         → (schema : SchemaTree) → ¬ IsSchemaText bytes.now schema) }
@@ -159,8 +162,11 @@ fn is_written_so(
     is_head_text(alloc, &head, header)
 }
 
-/// The batch of which a header and a body are what is written.
-fn read_rows(
+/// The batch of this schema of which a header and a body of at most 16,777,216 bytes are what is written, each in its one
+/// encoding (Apache Arrow, "Arrow Columnar Format", "Encapsulated message format").
+///
+/// [`DecodeFault::NotAnUpload`] says that they are that of none, and [`DecodeFault::OutOfMemory`] that memory was refused.
+pub fn read_rows(
     alloc: Global,
     schema: &Schema,
     header: &[u8],
@@ -170,8 +176,11 @@ fn read_rows(
     requires short { length body.now ≤ upload_limit }
     ensures read { IfOk result
         (λ batch. AreRowsText (schema_of schema.now) (header.now, body.now) (rows_of batch)) }
+    ensures of_schema { IfOk result (λ batch. IsBatchOf (schema_of schema.now) batch) }
     ensures fault { IfErr result (λ fault. fault ≡ NotAnUpload
         → (rows : Rows) → ¬ AreRowsText (schema_of schema.now) (header.now, body.now) rows) }
+    ensures only { IfOk result (λ batch. (other : Rows)
+        → AreRowsText (schema_of schema.now) (header.now, body.now) other → rows_of batch ≡ other) }
 {
     batches_are_one();
     written_rows_are_laid_out();
