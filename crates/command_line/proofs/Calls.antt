@@ -1,16 +1,17 @@
 -- The calls of the program are taken, and ask for what their words say.
 use Rattle.std.proofs.Common.{refl, ap, ap₂, codes, true, false, Bool, if◌then◌else◌, Option, Some, None, option_and_then, ◌==◌, ◌≢◌, ◌&&◌, ◌||◌, ℕ, List, [], ◌∷◌, ◌≡◌, ◌∙◌, inl, inr}
 use Rattle.std.proofs.lemmas.Bool.{ne_eqb}
+use Rattle.std.specs.Prelude.{fold}
 use Rattle.std.specs.List.{list_all}
 use Rattle.std.specs.Option.{option_map_or}
 use Rattle.std.specs.Str.{bytes_eq}
 use Rattle.clap.specs.Lexer.{long_of, long_of_rest, short_of, short_of_rest, strip_byte}
 use Rattle.clap.specs.Words.{Row, Shape, Text, built, is_simple, is_simple_and_free, new_app, subcommand_of, subcommand_rows_of, takes}
 use Rattle.clap.specs.declared.parser.matches.ArgMatches.{ArgMatches}
-use Rattle.clap.specs.Walk.{Held, Step, after_step, finished, idle, long_or_other, nothing_held, short_or_plain, trailing, value, walk_from, word_met}
-use Rattle.clap.specs.Takes.{bundle_passes, default_passes, flag_word_passes, is_valid, settle_passes, step_passes, word_passes}
+use Rattle.clap.specs.Walk.{Held, Step, after_step, finished, idle, long_or_other, nothing_held, short_or_plain, trailing, value, walk_from, walked, word_met}
+use Rattle.clap.specs.Takes.{bundle_passes, default_passes, flag_word_passes, is_valid, settle_passes, step_passes, walk_passes, word_passes}
 use Rattle.clap.proofs.OnLiterals.{clap_on_literals}
-use Rattle.command_line.specs.CommandLine.{Asked, acceptor, audit, replay, AsksFor, IsCall, IsOperand, asked_by, asked_for, command_line, file_in}
+use Rattle.command_line.specs.CommandLine.{Asked, acceptor, audit, explain, replay, AsksFor, IsCall, IsExplained, IsOperand, asked_by, asked_for, command_line, value_in}
 
 alone_is_taken : (name : List ℕ) → takes command_line (name ∷ []) ≡ true
 unfolding clap_on_literals
@@ -60,37 +61,85 @@ second_of other = (new_app []).top
 audit_shape : Shape
 audit_shape = second_of (built command_line).subs
 
-word_is : (word : List ℕ) → IsOperand word → word_met audit_shape.rules [] false idle 1 word nothing_held ≡ (nothing_held, value)
-word_is word operand =
-    ap (λ (b : Bool). if b then (nothing_held, trailing 1) else long_or_other audit_shape.rules idle word (long_of word) nothing_held) (no_mark word operand)
-    ∙ ap (λ l. long_or_other audit_shape.rules idle word l nothing_held) (no_long word operand)
-    ∙ ap (λ s. short_or_plain audit_shape.rules idle word s nothing_held) (no_short word operand)
+word_is : (h : Held) (word : List ℕ) → IsOperand word → word_met audit_shape.rules [] false idle 1 word h ≡ (h, value)
+word_is h word operand =
+    ap (λ (b : Bool). if b then (h, trailing 1) else long_or_other audit_shape.rules idle word (long_of word) h) (no_mark word operand)
+    ∙ ap (λ l. long_or_other audit_shape.rules idle word l h) (no_long word operand)
+    ∙ ap (λ s. short_or_plain audit_shape.rules idle word s h) (no_short word operand)
 
-flag_word_is : (word : List ℕ) → IsOperand word → word_passes audit_shape [] false idle word nothing_held ≡ true
-flag_word_is word operand =
-    ap (λ (b : Bool). b || flag_word_passes audit_shape.rules audit_shape.args_override_self (long_of word) word nothing_held) (no_mark word operand)
-    ∙ ap (λ l. flag_word_passes audit_shape.rules audit_shape.args_override_self l word nothing_held) (no_long word operand)
-    ∙ ap (λ s. option_map_or (λ flags. bundle_passes audit_shape.rules audit_shape.args_override_self flags nothing_held) s true) (no_short word operand)
+flag_word_is : (h : Held) (word : List ℕ) → IsOperand word → word_passes audit_shape [] false idle word h ≡ true
+flag_word_is h word operand =
+    ap (λ (b : Bool). b || flag_word_passes audit_shape.rules audit_shape.args_override_self (long_of word) word h) (no_mark word operand)
+    ∙ ap (λ l. flag_word_passes audit_shape.rules audit_shape.args_override_self l word h) (no_long word operand)
+    ∙ ap (λ s. option_map_or (λ flags. bundle_passes audit_shape.rules audit_shape.args_override_self flags h) s true) (no_short word operand)
 
--- what the audit's command makes of one word, by what the word is and whether it passes
-passes_with : Text → Held × Step → Bool → Bool
-passes_with word met passes =
-    let end = (after_step audit_shape.rules word (walk_from nothing_held) met.0 met.1).held in
-    ((passes && step_passes audit_shape 1 met.0 met.1) && true)
+-- the audit's option, and what is held behind it
+option_word : Text
+option_word = codes "--explain"
+
+behind_option : Held
+behind_option = (walked audit_shape.rules [] (walk_from nothing_held) option_word).held
+
+-- where the walk over the audit's words stands behind one word and the rest, by what the word is
+end_with : Held → List Text → Text → Held × Step → Held
+end_with h rest word met = (fold (walked audit_shape.rules []) (after_step audit_shape.rules word (walk_from h) met.0 met.1) rest).held
+
+-- what the audit's command makes of one word and the rest, by what the word is and whether it passes
+passes_with : Held → List Text → Text → Held × Step → Bool → Bool
+passes_with h rest word met passes =
+    let end = end_with h rest word met in
+    ((passes && step_passes audit_shape 1 met.0 met.1) && walk_passes audit_shape [] (after_step audit_shape.rules word (walk_from h) met.0 met.1) rest)
     && (settle_passes audit_shape.rules audit_shape.args_override_self end && (list_all default_passes audit_shape.rules && is_valid audit_shape (finished audit_shape.rules end) false))
 
-audit_goes_by : (name word : List ℕ) → takes command_line (name ∷ codes "audit" ∷ word ∷ []) ≡ (passes_with word (word_met audit_shape.rules [] false idle 1 word nothing_held) (word_passes audit_shape [] false idle word nothing_held) && true)
-unfolding clap_on_literals audit_shape second_of passes_with
+-- the same, with what the word is looked up
+passes_by : Held → List Text → Text → Bool
+passes_by h rest word = passes_with h rest word (word_met audit_shape.rules [] false idle 1 word h) (word_passes audit_shape [] false idle word h)
+
+passes_is : (h : Held) (rest : List Text) (word : Text) → IsOperand word → passes_by h rest word ≡ passes_with h rest word (h, value) true
+unfolding passes_by
+passes_is h rest word operand = ap₂ (λ met passes. passes_with h rest word met passes) (word_is h word operand) (flag_word_is h word operand)
+
+audit_goes_by : (name word : List ℕ) → takes command_line (name ∷ codes "audit" ∷ word ∷ []) ≡ (passes_by nothing_held [] word && true)
+unfolding clap_on_literals audit_shape second_of passes_by passes_with end_with
 audit_goes_by name word = refl
 
-operand_passes : (word : List ℕ) → (passes_with word (nothing_held, value) true && true) ≡ true
-unfolding clap_on_literals audit_shape second_of passes_with
+operand_passes : (word : List ℕ) → (passes_with nothing_held [] word (nothing_held, value) true && true) ≡ true
+unfolding clap_on_literals audit_shape second_of passes_with end_with
 operand_passes word = refl
 
 audit_is_taken : (name word : List ℕ) → IsOperand word → takes command_line (name ∷ codes "audit" ∷ word ∷ []) ≡ true
 audit_is_taken name word operand =
-    audit_goes_by name word ∙ ap₂ (λ met passes. passes_with word met passes && true) (word_is word operand) (flag_word_is word operand)
-    ∙ operand_passes word
+    audit_goes_by name word ∙ ap (λ (b : Bool). b && true) (passes_is nothing_held [] word operand) ∙ operand_passes word
+
+-- its option before the file
+before_goes_by : (name word : List ℕ) → takes command_line (name ∷ codes "audit" ∷ codes "--explain" ∷ word ∷ []) ≡ (passes_by behind_option [] word && true)
+unfolding clap_on_literals audit_shape second_of passes_by passes_with end_with behind_option option_word
+before_goes_by name word = refl
+
+before_passes : (word : List ℕ) → (passes_with behind_option [] word (behind_option, value) true && true) ≡ true
+unfolding clap_on_literals audit_shape second_of passes_with end_with behind_option option_word
+before_passes word = refl
+
+before_is_taken : (name word : List ℕ) → IsOperand word → takes command_line (name ∷ codes "audit" ∷ codes "--explain" ∷ word ∷ []) ≡ true
+before_is_taken name word operand =
+    before_goes_by name word ∙ ap (λ (b : Bool). b && true) (passes_is behind_option [] word operand) ∙ before_passes word
+
+-- and behind it
+behind_goes_by : (name word : List ℕ) → takes command_line (name ∷ codes "audit" ∷ word ∷ codes "--explain" ∷ []) ≡ (passes_by nothing_held (option_word ∷ []) word && true)
+unfolding clap_on_literals audit_shape second_of passes_by passes_with end_with option_word
+behind_goes_by name word = refl
+
+behind_passes : (word : List ℕ) → (passes_with nothing_held (option_word ∷ []) word (nothing_held, value) true && true) ≡ true
+unfolding clap_on_literals audit_shape second_of passes_with end_with option_word
+behind_passes word = refl
+
+behind_is_taken : (name word : List ℕ) → IsOperand word → takes command_line (name ∷ codes "audit" ∷ word ∷ codes "--explain" ∷ []) ≡ true
+behind_is_taken name word operand =
+    behind_goes_by name word ∙ ap (λ (b : Bool). b && true) (passes_is nothing_held (option_word ∷ []) word operand) ∙ behind_passes word
+
+explained_is_taken : (name file : Text) (words : List Text) → IsOperand file → IsExplained words name file → takes command_line words ≡ true
+explained_is_taken name file words operand (inl e) = ap (takes command_line) e ∙ before_is_taken name file operand
+explained_is_taken name file words operand (inr e) = ap (takes command_line) e ∙ behind_is_taken name file operand
 
 -- the replay's command, once it is built
 third_of : List Shape → Shape
@@ -134,9 +183,11 @@ replay_is_taken name word operand =
 
 -- ---- what a call's matches name
 
--- the files that a command names, for the audit and for the replay
+-- what the values of a command ask for
 named_by : Option (Text × List Row) → Asked
-named_by command = asked_for (option_and_then (file_in (codes "audit")) command) (option_and_then (file_in (codes "replay")) command)
+named_by command =
+    asked_for (option_and_then (value_in (codes "audit") (codes "FILE")) command) (option_and_then (value_in (codes "audit") (codes "explain")) command)
+    (option_and_then (value_in (codes "replay") (codes "FILE")) command)
 
 alone_names : (name : Text) → named_by (subcommand_of command_line (name ∷ [])) ≡ acceptor
 unfolding clap_on_literals named_by
@@ -146,21 +197,55 @@ acceptor_names : (name : Text) → named_by (subcommand_of command_line (name �
 unfolding clap_on_literals named_by
 acceptor_names name = refl
 
--- the rows of the audit's command after one word, by what the word is
-rows_with : Text → Held × Step → List Row
-rows_with word met = finished audit_shape.rules (after_step audit_shape.rules word (walk_from nothing_held) met.0 met.1).held
+-- the rows of the audit's command behind one word and the rest, by what the word is
+rows_with : Held → List Text → Text → Held × Step → List Row
+rows_with h rest word met = finished audit_shape.rules (end_with h rest word met)
 
-audit_rows : (name word : Text) → subcommand_of command_line (name ∷ codes "audit" ∷ word ∷ []) ≡ Some (codes "audit", rows_with word (word_met audit_shape.rules [] false idle 1 word nothing_held))
-unfolding clap_on_literals audit_shape second_of rows_with
+-- what these rows ask for
+names_with : Held → List Text → Text → Held × Step → Asked
+names_with h rest word met = named_by (Some (codes "audit", rows_with h rest word met))
+
+-- the same, with what the word is looked up
+names_by : Held → List Text → Text → Asked
+names_by h rest word = names_with h rest word (word_met audit_shape.rules [] false idle 1 word h)
+
+names_is : (h : Held) (rest : List Text) (word : Text) → IsOperand word → names_by h rest word ≡ names_with h rest word (h, value)
+unfolding names_by
+names_is h rest word operand = ap (names_with h rest word) (word_is h word operand)
+
+audit_rows : (name word : Text) → named_by (subcommand_of command_line (name ∷ codes "audit" ∷ word ∷ [])) ≡ names_by nothing_held [] word
+unfolding clap_on_literals audit_shape second_of names_by names_with rows_with end_with
 audit_rows name word = refl
 
-operand_rows : (word : Text) → named_by (Some (codes "audit", rows_with word (nothing_held, value))) ≡ audit word
-unfolding clap_on_literals audit_shape second_of rows_with named_by
+operand_rows : (word : Text) → names_with nothing_held [] word (nothing_held, value) ≡ audit word
+unfolding clap_on_literals audit_shape second_of names_with rows_with end_with named_by
 operand_rows word = refl
 
 audit_names : (name word : Text) → IsOperand word → named_by (subcommand_of command_line (name ∷ codes "audit" ∷ word ∷ [])) ≡ audit word
-audit_names name word operand =
-    ap named_by (audit_rows name word) ∙ ap (λ met. named_by (Some (codes "audit", rows_with word met))) (word_is word operand) ∙ operand_rows word
+audit_names name word operand = audit_rows name word ∙ names_is nothing_held [] word operand ∙ operand_rows word
+
+before_rows : (name word : Text) → named_by (subcommand_of command_line (name ∷ codes "audit" ∷ codes "--explain" ∷ word ∷ [])) ≡ names_by behind_option [] word
+unfolding clap_on_literals audit_shape second_of names_by names_with rows_with end_with behind_option option_word
+before_rows name word = refl
+
+before_asks : (word : Text) → names_with behind_option [] word (behind_option, value) ≡ explain word
+unfolding clap_on_literals audit_shape second_of names_with rows_with end_with named_by behind_option option_word
+before_asks word = refl
+
+behind_rows : (name word : Text) → named_by (subcommand_of command_line (name ∷ codes "audit" ∷ word ∷ codes "--explain" ∷ [])) ≡ names_by nothing_held (option_word ∷ []) word
+unfolding clap_on_literals audit_shape second_of names_by names_with rows_with end_with option_word
+behind_rows name word = refl
+
+behind_asks : (word : Text) → names_with nothing_held (option_word ∷ []) word (nothing_held, value) ≡ explain word
+unfolding clap_on_literals audit_shape second_of names_with rows_with end_with named_by option_word
+behind_asks word = refl
+
+explained_names : (name word : Text) (words : List Text) → IsOperand word → IsExplained words name word → named_by (subcommand_of command_line words) ≡ explain word
+explained_names name word words operand (inl e) =
+    ap (λ (l : List Text). named_by (subcommand_of command_line l)) e ∙ before_rows name word ∙ names_is behind_option [] word operand ∙ before_asks word
+explained_names name word words operand (inr e) =
+    ap (λ (l : List Text). named_by (subcommand_of command_line l)) e ∙ behind_rows name word ∙ names_is nothing_held (option_word ∷ []) word operand
+    ∙ behind_asks word
 
 -- and those of the replay's
 replay_rows_with : Text → Held × Step → List Row
@@ -195,6 +280,7 @@ asks_for words m h =
       alone = λ name e. at (name ∷ []) e ∙ alone_names name;
       acceptor_named = λ name e. at (name ∷ codes "acceptor" ∷ []) e ∙ acceptor_names name;
       audit_named = λ name operand is e. at (name ∷ codes "audit" ∷ operand ∷ []) e ∙ audit_names name operand is;
+      explain_named = λ name operand is e. names ∙ explained_names name operand words is e;
       replay_named = λ name operand is e. at (name ∷ codes "replay" ∷ operand ∷ []) e ∙ replay_names name operand is;
     }
 
@@ -206,4 +292,5 @@ pub call_is_taken : (words : List (List ℕ)) → IsCall words → takes command
 call_is_taken words (name, inl e) = ap (takes command_line) e ∙ alone_is_taken name
 call_is_taken words (name, inr (inl e)) = ap (takes command_line) e ∙ command_is_taken name
 call_is_taken words (name, inr (inr (inl audited))) = ap (takes command_line) audited.2 ∙ audit_is_taken name audited.0 audited.1
-call_is_taken words (name, inr (inr (inr replayed))) = ap (takes command_line) replayed.2 ∙ replay_is_taken name replayed.0 replayed.1
+call_is_taken words (name, inr (inr (inr (inl explained)))) = explained_is_taken name explained.0 words explained.1 explained.2
+call_is_taken words (name, inr (inr (inr (inr replayed)))) = ap (takes command_line) replayed.2 ∙ replay_is_taken name replayed.0 replayed.1

@@ -1,2 +1,2 @@
-pub mod FileNamed
+pub mod ValueNamed
 pub mod Calls

@@ -1,14 +1,14 @@
 //! The program: what the proved crates do, over standard input and output.
 //!
 //! `flightd acceptor`, or no word at all, answers Paxos messages as node 0 of three, with nothing kept. `flightd audit
-//! FILE` says whether a recorded run of such messages is one that correct nodes may have sent. `flightd replay FILE` plays
-//! a schedule, and prints a line for each of its events. The words are read by `command_line`, and each command is one
-//! function over any reader and writers, with its contract, of a library of its own, `acceptor_command`, `audit_command`
-//! and `replay_command`; `main` gives it the real ones.
+//! FILE` says whether a recorded run of such messages is one that correct nodes may have sent, and `flightd audit --explain
+//! FILE` also why it is not. `flightd replay FILE` plays a schedule, and prints a line for each of its events. The words are
+//! read by `command_line`, and each command is one function over any reader and writers, with its contract, of a library of
+//! its own, `acceptor_command`, `audit_command` and `replay_command`; `main` gives it the real ones.
 #![tactic(auto)]
 
 use acceptor_command::acceptor_run;
-use audit_command::{AuditFault, FAILURE, audit_run};
+use audit_command::{AuditFault, FAILURE, audit_run, explain_run};
 use command_line::{Asked, asked_by, parse};
 use replay_command::replay_run;
 use std::hash::RandomState;
@@ -40,6 +40,7 @@ fn start(rt: &HostRuntime) -> io::Result<u8> {
         Ok(matches) => match asked_by(&matches) {
             Asked::Acceptor => answer(rt),
             Asked::Audit(file) => judge(rt, file),
+            Asked::Explain(file) => explain(rt, file),
             Asked::Replay(file) => play(rt, file),
         },
         Err(error) => {
@@ -59,6 +60,11 @@ fn answer(rt: &HostRuntime) -> io::Result<u8> {
 fn judge(rt: &HostRuntime, path: &str) -> io::Result<u8> {
     let file = fs::read(rt, path)?;
     Ok(audit_run(rt.alloc(), &file, &mut rt.stdout(), &mut rt.stderr()))
+}
+
+fn explain(rt: &HostRuntime, path: &str) -> io::Result<u8> {
+    let file = fs::read(rt, path)?;
+    Ok(explain_run(rt.alloc(), &file, &mut rt.stdout(), &mut rt.stderr()))
 }
 
 fn play(rt: &HostRuntime, path: &str) -> io::Result<u8> {

@@ -7,8 +7,8 @@ use std::process::Abort;
 use std::test::Fail;
 
 /// Calls, each the program's name and then its words, parted by spaces, and what is asked for: the acceptor, the file
-/// that is to be audited, between brackets, or to be replayed, between braces, or an end with this status, whose line is
-/// for standard error or for the output.
+/// that is to be audited, between brackets, to be explained, between parentheses, or to be replayed, between braces, or
+/// an end with this status, whose line is for standard error or for the output.
 const CALLS: &str = "
 # No word, or a command.
 flightd|acceptor
@@ -21,6 +21,36 @@ flightd audit audit|[audit]
 flightd audit help|[help]
 flightd audit -|[-]
 flightd audit |[]
+# The option of an audit, before its file or behind it.
+flightd audit --explain run.json|(run.json)
+flightd audit run.json --explain|(run.json)
+flightd audit --explain -|(-)
+flightd audit - --explain|(-)
+flightd audit --explain audit|(audit)
+flightd audit --explain |()
+flightd audit --explain -- run.json|(run.json)
+flightd audit --explain -- --explain|(--explain)
+flightd audit -- --explain|[--explain]
+flightd audit --explain|2 error
+flightd audit --explain --|2 error
+flightd audit --explain a.json b.json|2 error
+flightd audit a.json --explain b.json|2 error
+flightd audit --explain --explain run.json|2 error
+flightd audit --explain run.json --explain|2 error
+flightd audit run.json -- --explain|2 error
+flightd audit --explain=x run.json|2 error
+flightd audit --explain=true run.json|2 error
+flightd audit --explain= run.json|2 error
+flightd audit --explai run.json|2 error
+flightd audit --explained run.json|2 error
+flightd audit --Explain run.json|2 error
+flightd audit -explain run.json|2 error
+flightd audit -e run.json|2 error
+flightd audit explain run.json|2 error
+flightd --explain audit run.json|2 error
+flightd --explain|2 error
+flightd acceptor --explain|2 error
+flightd replay --explain a.json|2 error
 # The file of a replay.
 flightd replay run.json|{run.json}
 flightd replay audit|{audit}
@@ -46,7 +76,6 @@ flightd replay --slots a.json|2 error
 flightd replay -f|2 error
 flightd Replay a.json|2 error
 flightd repla a.json|2 error
-flightd audit --explain|2 error
 flightd replay --|2 error
 flightd Acceptor|2 error
 flightd accept|2 error
@@ -89,6 +118,7 @@ fn asked(alloc: Global, words: &[String]) -> Result<String, AllocError> {
     match parse(alloc, words) {
         Ok(matches) => match asked_by(&matches) {
             Asked::Audit(file) => format!(in alloc; "[{file}]"),
+            Asked::Explain(file) => format!(in alloc; "({file})"),
             Asked::Replay(file) => format!(in alloc; "{{{file}}}"),
             Asked::Acceptor => String::from_str(alloc, "acceptor"),
         },
@@ -115,6 +145,6 @@ fn takes_a_call_or_refuses_it(rt: HostRuntime) -> Result<(), Fail> {
             calls = calls.saturating_add(1);
         }
     }
-    assert!(rt; calls == 55);
+    assert!(rt; calls == 83);
     Ok(())
 }

@@ -9,5 +9,5 @@ returns c =
     IfOk-weaker c.subcommand.result _ _
     (λ made adds.
     adds.shape (search rules)
-    ∙ ap (with_subcommand (app_of c.args.program)) (ap shape_of_fields c.about-acceptor.ensures ∙ ap (λ (a : App). a.top) c.new.ensures.app))
+    ∙ ap (with_subcommand (app_of c.args.program)) (ap shape_of_fields c.after_help-acceptor.ensures ∙ ap shape_of_fields c.about.ensures ∙ ap (λ (a : App). a.top) c.new.ensures.app))
     c.subcommand.ensures

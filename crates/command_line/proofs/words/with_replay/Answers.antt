@@ -6,7 +6,7 @@ use Rattle.command_line.proofs.words.with_replay.Goals as goal
 
 pub returns : goal.returns
 returns c =
-    let replay_is = c.in_ok-replay.ensures.shape c.file_argument.ensures.local ∙ ap₂ with_rule (ap app_of_fields c.about.ensures ∙ c.new.ensures.app) c.file_argument.ensures.rule in
+    let replay_is = c.in_ok-replay.ensures.shape c.file_argument.ensures.local ∙ ap₂ with_rule (ap app_of_fields c.after_help.ensures ∙ ap app_of_fields c.about.ensures ∙ c.new.ensures.app) c.file_argument.ensures.rule in
     IfOk-weaker c.subcommand.result _ _
     (λ made adds. adds.shape (search rules) ∙ ap (with_subcommand (app_of c.args.program)) (ap (λ (a : App). a.top) replay_is))
     c.subcommand.ensures
