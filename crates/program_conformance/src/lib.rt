@@ -1,5 +1,5 @@
 //! Conformance tests of `acceptor_command`, `audit_command`, `replay_command` and `command_line`, over their public calls, of
-//! what no clause says: bytes worked out by hand, the lines on standard error, streams that fail, long runs, and the words.
+//! what no clause says: bytes worked out by hand, the lines on standard error, streams that fail, long runs, the words, and the help.
 //!
 //! The crate has no code but tests, so that what is proved in the crates below is not proved again together with them.
 #![tactic(auto)]
@@ -8,6 +8,8 @@
 mod audit;
 #[cfg(test)]
 mod conversations;
+#[cfg(test)]
+mod help_texts;
 #[cfg(test)]
 mod left_behind;
 #[cfg(test)]

@@ -126,11 +126,17 @@ fn asked(alloc: Global, words: &[String]) -> Result<String, AllocError> {
     }
 }
 
-fn expect(rt: &impl Abort, alloc: Global, call: &str, wanted: &str) -> Result<(), Fail> {
+/// A call's words.
+pub(crate) fn words_in(alloc: Global, call: &str) -> Result<Vec<String>, AllocError> {
     let mut words = Vec::new(alloc);
     for word in call.split(' ') {
         words.push(String::from_str(alloc, word)?)?;
     }
+    Ok(words)
+}
+
+fn expect(rt: &impl Abort, alloc: Global, call: &str, wanted: &str) -> Result<(), Fail> {
+    let words = words_in(alloc, call)?;
     let found = asked(alloc, &words)?;
     assert!(rt; found.as_str() == wanted, "{found} at {call}");
     Ok(())
