@@ -22,25 +22,25 @@ use Rattle.call_reading.specs.Requests.{Request, describes, shows, lists, serves
 
 -- ---- frames
 
-abbrev message_frame : List ℕ → Frame
+abbrev pub message_frame : List ℕ → Frame
 message_frame payload = record { flag = 0; payload = payload }
 
-abbrev end_frame : Frame
+abbrev pub end_frame : Frame
 end_frame = record { flag = 128; payload = [] }
 
-is_message : (payload : List ℕ) → FitsFrame payload → IsFrame (message_frame payload)
+pub is_message : (payload : List ℕ) → FitsFrame payload → IsFrame (message_frame payload)
 is_message payload fits = record { flag = inl refl; payload = fits }
 
-is_end : IsFrame end_frame
+pub is_end : IsFrame end_frame
 is_end = record { flag = inr refl; payload = omega arith }
 
 module _ (law : NoFrameBeginsAnother) where
-  front_message : (x y : List ℕ) (a b : List ℕ) → FitsFrame x → FitsFrame y → in_frame x ++ a ≡ in_frame y ++ b → (x ≡ y) × (a ≡ b)
+  pub front_message : (x y : List ℕ) (a b : List ℕ) → FitsFrame x → FitsFrame y → in_frame x ++ a ≡ in_frame y ++ b → (x ≡ y) × (a ≡ b)
   front_message x y a b fits_x fits_y same =
       let h = law (message_frame x) (message_frame y) a b (is_message x fits_x) (is_message y fits_y) same in
       (ap (λ f. f.payload) h.0, h.1)
 
-  no_end_here : (x a b : List ℕ) → FitsFrame x → in_frame x ++ a ≡ end_text ++ b → ⊥
+  pub no_end_here : (x a b : List ℕ) → FitsFrame x → in_frame x ++ a ≡ end_text ++ b → ⊥
   no_end_here x a b fits same =
       let h = law (message_frame x) end_frame a b (is_message x fits) is_end same in
       absurd (omega (arith, ap (λ f. f.flag) h.0))
@@ -58,14 +58,14 @@ module _ (law : NoFrameBeginsAnother) where
       let behind = same_messages xs ys a b fit.1 other.1 front.1 in
       (ap (λ m. m ∷ xs) front.0 ∙ ap (λ l. y ∷ l) behind.0, behind.1)
 
-path_fits : (method : Method) → FitsFrame (path_text method)
+pub path_fits : (method : Method) → FitsFrame (path_text method)
 path_fits methods.GetFlightInfo = omega arith
 path_fits methods.GetSchema = omega arith
 path_fits methods.ListFlights = omega arith
 path_fits methods.DoGet = omega arith
 path_fits methods.DoPut = omega arith
 
-call_parts : (path : List ℕ) (messages : List (List ℕ)) (rest : List ℕ) → call_text path messages ++ rest ≡ in_frame path ++ (messages_text messages ++ (end_text ++ rest))
+pub call_parts : (path : List ℕ) (messages : List (List ℕ)) (rest : List ℕ) → call_text path messages ++ rest ≡ in_frame path ++ (messages_text messages ++ (end_text ++ rest))
 call_parts path messages rest =
     append_assoc (in_frame path ++ messages_text messages) end_text rest
     ∙ append_assoc (in_frame path) (messages_text messages) (end_text ++ rest)
@@ -95,13 +95,17 @@ not_empty : (before bytes after : List ℕ) → 1 ≤ length bytes → [] ≡ be
 not_empty before bytes after some none =
     absurd (omega (arith, some, ap length none, length-append (before ++ bytes) after, length-append before bytes))
 
-same_schema : (x y : SchemaTree) → schema_header x ≡ schema_header y → x ≡ y
+pub nothing_shown : (x : Header) → ShowsHeader [] x → ⊥
+nothing_shown (schema_header schema) shown = not_empty shown.2.root.shown.held.before _ shown.2.root.shown.held.after (omega arith) shown.2.root.shown.held.parts
+nothing_shown (batch_header head) shown = not_empty shown.2.root.shown.held.before _ shown.2.root.shown.held.after (omega arith) shown.2.root.shown.held.parts
+
+pub same_schema : (x y : SchemaTree) → schema_header x ≡ schema_header y → x ≡ y
 same_schema x y same = cc
 
-same_head : (x y : Head) → batch_header x ≡ batch_header y → x ≡ y
+pub same_head : (x y : Head) → batch_header x ≡ batch_header y → x ≡ y
 same_head x y same = cc
 
-same_first : (x y : List ℕ) (xs ys : List (List ℕ)) → x ∷ xs ≡ y ∷ ys → (x ≡ y) × (xs ≡ ys)
+pub same_first : (x y : List ℕ) (xs ys : List (List ℕ)) → x ∷ xs ≡ y ∷ ys → (x ≡ y) × (xs ≡ ys)
 same_first x y xs ys same = (cc, cc)
 
 module _ (messages_one : MessagesAreOne) (headers_one : HeadersAreOne) (batches_one : BatchesAreOne) (tables_one : TablesAreOne) (names_one : NamesAreOne) (tickets_one : TicketsAreOne) where
@@ -122,7 +126,7 @@ module _ (messages_one : MessagesAreOne) (headers_one : HeadersAreOne) (batches_
       some_same : (d e : Descriptor) → Some d ≡ Some e → d ≡ e
       some_same d e same = cc
 
-  one_opening : (message t u i j : List ℕ) (r s : SchemaTree) → Opens message t i r → Opens message u j s → (t ≡ u) × (i ≡ j) × (r ≡ s)
+  pub one_opening : (message t u i j : List ℕ) (r s : SchemaTree) → Opens message t i r → Opens message u j s → (t ≡ u) × (i ≡ j) × (r ≡ s)
   one_opening message t u i j r s a b =
       let values = messages_one data_descriptor message a.values b.values a.means b.means in
       let descriptor = same_descriptor message a.values b.values a.descriptor b.descriptor a.means b.means a.descriptor_is b.descriptor_is in
@@ -137,10 +141,6 @@ module _ (messages_one : MessagesAreOne) (headers_one : HeadersAreOne) (batches_
 
   no_blank_batch : (schema : SchemaTree) (header body : List ℕ) (rows : Rows) → HasBatch schema header body rows → header ≡ [] → ⊥
   no_blank_batch schema header body rows a none = nothing_shown (batch_header a.head) (subst (λ h. ShowsHeader h (batch_header a.head)) none a.shows_head)
-    where
-      nothing_shown : (x : Header) → ShowsHeader [] x → ⊥
-      nothing_shown (schema_header schema) shown = not_empty shown.2.root.shown.held.before _ shown.2.root.shown.held.after (omega arith) shown.2.root.shown.held.parts
-      nothing_shown (batch_header head) shown = not_empty shown.2.root.shown.held.before _ shown.2.root.shown.held.after (omega arith) shown.2.root.shown.held.parts
 
   one_addition : (schema : SchemaTree) (message : List ℕ) (x y : List Rows) → Adds schema message x → Adds schema message y → x ≡ y
   one_addition schema message x y a b =
@@ -161,7 +161,7 @@ module _ (messages_one : MessagesAreOne) (headers_one : HeadersAreOne) (batches_
             ]
       ]
 
-  one_list : (schema : SchemaTree) (messages : List (List ℕ)) (x y : List Rows) → AddAll schema messages x → AddAll schema messages y → x ≡ y
+  pub one_list : (schema : SchemaTree) (messages : List (List ℕ)) (x y : List Rows) → AddAll schema messages x → AddAll schema messages y → x ≡ y
   one_list schema [] x y a b = a ∙ sym b
   one_list schema (message ∷ messages) x y a b =
       a.4 ∙ ap (λ l. l ++ a.1) (one_addition schema message a.0 b.0 a.2 b.2)
@@ -176,7 +176,7 @@ module _ (messages_one : MessagesAreOne) (headers_one : HeadersAreOne) (batches_
       ap (λ t. of_parts t x.id x.schema x.batches) table ∙ ap (λ i. of_parts y.table i x.schema x.batches) id
       ∙ ap (λ s. of_parts y.table y.id s x.batches) schema ∙ ap (λ b. of_parts y.table y.id y.schema b) batches
 
-  one_upload : (messages : List (List ℕ)) (x y : Upload) → Brings messages x → Brings messages y → x ≡ y
+  pub one_upload : (messages : List (List ℕ)) (x y : Upload) → Brings messages x → Brings messages y → x ≡ y
   one_upload messages x y a b =
       let fronts = same_first a.first b.first a.others b.others (sym a.messages_are ∙ b.messages_are) in
       let opened = one_opening b.first x.table y.table x.id y.id x.schema y.schema (subst (λ m. Opens m x.table x.id x.schema) fronts.0 a.opens) b.opens in

@@ -4,3 +4,4 @@ pub mod Batches
 pub mod Uploads
 pub mod Calls
 pub mod Apart
+pub mod NotRefused

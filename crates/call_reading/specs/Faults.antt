@@ -5,6 +5,7 @@ use Rattle.std.specs.List.{AllByRecursion}
 use Rattle.grpc_frames.specs.Frame.{frame_text}
 use Rattle.grpc_frames.specs.FrameFaults.{FrameFaultStands, LeavesAfter}
 use Rattle.grpc_frames.specs.declared.fault.FrameFault.{FrameFault}
+use Rattle.grpc_frames.specs.declared.fault.FrameFault.TheVariants as frames
 use Rattle.proto_fields.specs.declared.fault.WireFault.{WireFault}
 use Rattle.proto_fields.specs.declared.fault.WireFault.TheVariants as wires
 use Rattle.proto_messages.specs.Descriptor.{Descriptor as MessageType, Values, IsMessage, IsMessageFault, IsFaultless}
@@ -15,12 +16,14 @@ use Rattle.header_types.specs.declared.fault.MetaFault.{MetaFault}
 use Rattle.header_types.specs.declared.fault.MetaFault.TheVariants as metas
 use Rattle.header_reading.specs.Faults.{HeaderFault}
 use Rattle.batch_types.specs.declared.fault.BatchFault.{BatchFault}
+use Rattle.batch_types.specs.declared.fault.BatchFault.TheVariants as batches
 use Rattle.record_batches.specs.Reading.{IsToldOf}
 use Rattle.table_types.specs.Uploads.{Upload}
 use Rattle.table_types.specs.Served.{in_frame}
 use Rattle.table_types.specs.Valid.{FitsFrame, batches_limit}
 use Rattle.tickets.specs.Ticket.{TableVersion, IsTicket}
 use Rattle.upload_writing.specs.Making.{IsSmall}
+use Rattle.call_words.specs.declared.back_fault.BackFault.TheVariants as backs
 use Rattle.call_words.specs.declared.method.Method.{Method}
 use Rattle.call_words.specs.declared.method.Method.TheVariants as methods
 use Rattle.call_words.specs.declared.refusal.Refusal.{Refusal}
@@ -193,3 +196,34 @@ RefusalStands refusal text after =
     FrameBreaks text after refusal
     ⊎ PathBreaks text after refusal
     ⊎ ((method : Method) × (here : List ℕ) × (text ≡ in_frame (path_text method) ++ here) × BreaksMessages method here after refusal)
+
+-- ---- what the text is not to blame for
+
+-- memory was refused
+abbrev pub IsOfMemory : Refusal → Type 0
+IsOfMemory (refusals.Frame fault) = fault ≡ frames.OutOfMemory
+IsOfMemory (refusals.Wire fault) = fault ≡ wires.OutOfMemory
+IsOfMemory (refusals.Meta fault) = fault ≡ metas.OutOfMemory
+IsOfMemory (refusals.Batch fault) = fault ≡ batches.OutOfMemory
+IsOfMemory (refusals.Back fault) = fault ≡ backs.OutOfMemory
+IsOfMemory refusals.OutOfMemory = Unit {0}
+IsOfMemory refusals.EndPayload = ⊥
+IsOfMemory refusals.NoEnd = ⊥
+IsOfMemory refusals.BadPath = ⊥
+IsOfMemory refusals.NoCall = ⊥
+IsOfMemory refusals.MessageCount = ⊥
+IsOfMemory refusals.BadDescriptor = ⊥
+IsOfMemory refusals.CmdDescriptor = ⊥
+IsOfMemory refusals.Criteria = ⊥
+IsOfMemory refusals.BadTicket = ⊥
+IsOfMemory refusals.NoSchema = ⊥
+IsOfMemory refusals.SecondSchema = ⊥
+IsOfMemory refusals.TooManyBatches = ⊥
+IsOfMemory refusals.TooLarge = ⊥
+IsOfMemory refusals.SchemaMismatch = ⊥
+IsOfMemory refusals.Conflict = ⊥
+IsOfMemory refusals.Undecided = ⊥
+
+-- memory was refused, or a read failed
+abbrev pub IsOfTheMachine : Refusal → Type 0
+IsOfTheMachine refusal = IsOfMemory refusal ⊎ (refusal ≡ refusals.Frame frames.Io)

@@ -2,13 +2,16 @@
 
 ghost use Rattle.std.specs.Prelude.{◌≡◌, ◌++◌, ℕ, List};
 ghost use Rattle.call_words.specs.Texts.{end_text};
+ghost use Rattle.call_words.specs.declared.refusal.Refusal.{Refusal as Refused};
 ghost use Rattle.call_reading.specs.Requests.{Request, IsCall};
+ghost use Rattle.call_reading.specs.Faults.{RefusalStands, IsOfTheMachine};
 
 use batch_types::laws::batches_are_one;
 use call_words::laws::{descriptors_name_one, paths_are_one};
 use grpc_frames::laws::no_frame_begins_another;
 use header_types::laws::headers_are_one;
 use proto_messages::laws::messages_are_one;
+use record_batches::laws::refusals_are_right;
 use tickets::laws::tickets_have_one_encoding;
 
 /// A call has an end, and nothing behind the end is part of it.
@@ -28,4 +31,23 @@ pub fn calls_ask_for_one_thing()
     messages_are_one();
     headers_are_one();
     batches_are_one();
+}
+
+/// Where a text begins with a call, no fault of the text stands in it: it is refused where a read fails or memory is
+/// refused, and for nothing else.
+pub fn calls_are_not_refused()
+    ensures { (text rest after : List ℕ) (request : Request) (refusal : Refused) → IsCall text request rest
+        → RefusalStands refusal text after → IsOfTheMachine refusal }
+{
+    no_frame_begins_another();
+    grpc_frames::laws::faults_stand_apart();
+    paths_are_one();
+    descriptors_name_one();
+    tickets_have_one_encoding();
+    messages_are_one();
+    proto_messages::laws::faults_stand_apart();
+    headers_are_one();
+    header_reading::laws::faults_stand_apart();
+    batches_are_one();
+    refusals_are_right();
 }
