@@ -1,5 +1,6 @@
 #!/usr/bin/env python3
-"""Makes the stories of Flight calls in crates/call_stories/data, from the model in calls_model.py.
+"""Makes the stories of Flight calls in crates/call_stories/data, and what crates/call_server is asked and answers, from the model
+in calls_model.py.
 
     tools/calls.py --write   makes them
     tools/calls.py --check   says which of them differ"""
@@ -14,7 +15,9 @@ from tables import A, POOL, ROW, TAGGED, TEXTS, id_of, numbers, schema
 from tables_model import Upload, schema_text, ticket_text, upload_of
 from wire_model import bytes_field, encoding, number_field
 
-DATA = Path(__file__).resolve().parent.parent / "crates" / "call_stories" / "data"
+CRATES = Path(__file__).resolve().parent.parent / "crates"
+DATA = CRATES / "call_stories" / "data"
+SERVER = CRATES / "call_server"
 MOST_TOLD = 400
 LOCATIONS = [f"plain+tcp://127.0.0.1:{port}" for port in (42000, 42001, 42002)]
 DRAWN = 200
@@ -258,18 +261,46 @@ def call(draw, whole, tables):
     return " ".join(parts)
 
 
+# ---- calls one behind the other
+
+
+def asked_over_pipes():
+    """The bytes of calls of which each is read to its end: puts, gets and questions."""
+    story = Story()
+    for commands, _ in (put(it, name) for it, name in ((U, "u"), (C, "c"), (X, "x"), (Z, "z"))):
+        for command in commands:
+            story.tell(command)
+    for name, text in (("t", descriptor("t")), ("none", descriptor("none")), *((f"t{it}", bytes_field(1, ticket_text(b"t", it))) for it in (1, 2, 3))):
+        story.tell(f"bytes {name} {spelled(text)}")
+    puts = {name: put(it, name)[1] for it, name in ((U, "u"), (C, "c"), (X, "x"), (Z, "z"))}
+    calls = ["/GetFlightInfo t end", "/ListFlights empty end", puts["u"], "/DoGet t1 end", "/GetSchema t end", puts["u"], puts["c"], puts["z"]]
+    calls += ["/DoGet t2 end", puts["x"], "/DoGet t2 end", "/GetFlightInfo t end", "/GetSchema none end", "/ListFlights empty end", "/DoGet t3 end"]
+    return b"".join(map(story.text, calls))
+
+
+def answered_over_pipes(text):
+    """The frames of the answers to these calls."""
+    service, out = Service(1_000_000, LOCATIONS), b""
+    while text:
+        messages, status, name, text = service.serve(text)
+        out += b"".join(framed(0, it) for it in messages) + framed(0x80, bytes([status]) + name.encode())
+    return out
+
+
 def main():
     is_check, status = "--check" in sys.argv[1:], 0
-    made = {"rows.txt": rows(), "faults.txt": faults(), "large.txt": large(), "cuts.txt": cuts(), "drawn.txt": drawn()}
-    for name, lines in made.items():
-        file, text = DATA / name, told(lines)
-        if file.exists() and file.read_text(encoding="utf-8") == text:
+    stories = {"rows.txt": rows(), "faults.txt": faults(), "large.txt": large(), "cuts.txt": cuts(), "drawn.txt": drawn()}
+    made = {DATA / name: told(lines).encode() for name, lines in stories.items()}
+    asked = asked_over_pipes()
+    made |= {SERVER / "stdin": asked, SERVER / "stdout": answered_over_pipes(asked)}
+    for file, text in made.items():
+        if file.exists() and file.read_bytes() == text:
             continue
         if is_check:
-            print(f"calls: {name} is told otherwise")
+            print(f"calls: {file.relative_to(CRATES)} is told otherwise")
             status = 1
         else:
-            file.write_text(text, encoding="utf-8")
+            file.write_bytes(text)
     return status
 
 
