@@ -5,4 +5,3 @@ pub mod Called
 pub mod Batches
 pub mod Told
 pub mod Apart
-pub mod OneShape

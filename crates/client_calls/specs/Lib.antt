@@ -3,4 +3,3 @@ pub mod Answers
 pub mod Results
 pub mod Sending
 pub mod Parts
-pub mod Downloads

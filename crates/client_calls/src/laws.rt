@@ -1,9 +1,6 @@
 //! Laws of the definitions that the calls are proved against.
 
 ghost use Rattle.std.specs.Prelude.{◌≡◌, ℕ, List};
-ghost use Rattle.table_types.specs.Tables.{Version};
-ghost use Rattle.table_types.specs.Answers.{answer_messages};
-ghost use Rattle.client_calls.specs.Downloads.{IsServedVersion, IsDownload, downloaded_of};
 ghost use Rattle.client_calls.specs.Answers.{frames_limit, IsAnswer, IsRefused};
 
 use crate::parts::MAX_ANSWER_FRAMES;
@@ -26,9 +23,3 @@ pub fn answers_are_one()
 {
     no_frame_begins_another();
 }
-
-/// What a node answers to a ticket says what it serves: the schema of the version, and of each upload its own name and its
-/// batches, cell for cell. The uploads have the shape of the version's schema, which may have other metadata than theirs.
-pub fn versions_are_downloads()
-    ensures { (version : Version) → IsServedVersion version → IsDownload (answer_messages version) (downloaded_of version) }
-{}

@@ -17,7 +17,7 @@ use Rattle.table_types.specs.Served.{data_text, batch_message, messages_of, uplo
 use Rattle.table_types.specs.Tables.{Version}
 use Rattle.table_types.specs.Answers.{answer_messages}
 use Rattle.table_types.specs.Valid.{IsUpload}
-use Rattle.client_calls.specs.Downloads.{as_upload, served_messages, served_of, downloaded_of, IsServed, IsOfVersion, IsServedVersion, IsDownload}
+use Rattle.downloads.specs.Downloads.{as_upload, served_messages, served_of, downloaded_of, IsServed, IsOfVersion, IsServedVersion, IsDownload}
 
 mutual
   tree_shape : (t : Tree) → shape_of (bare_tree t) ≡ shape_of t

@@ -1,0 +1,2 @@
+pub mod OneShape
+pub mod Grouping

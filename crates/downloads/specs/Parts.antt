@@ -1,0 +1,33 @@
+-- The messages behind the schema's, each by what it says: the name of an upload, and a batch of it or none.
+use Rattle.std.specs.Prelude.{ℕ, List, [], ◌∷◌, Option, Some, None, map}
+use Rattle.header_types.specs.Fields.{SchemaTree}
+use Rattle.batch_types.specs.Cells.{Rows}
+use Rattle.batch_types.specs.Canonical.{canonical_body}
+use Rattle.table_types.specs.Uploads.{head_text}
+use Rattle.table_types.specs.Served.{data_text}
+use Rattle.downloads.specs.Downloads.{ServedUpload}
+
+-- what one message says
+pub record Part : Type 0 where
+  pub id : List ℕ
+  pub batch : Option Rows
+
+-- a batch of an upload of this name
+abbrev pub batch_part : List ℕ → Rows → Part
+batch_part id rows = record { id = id; batch = Some rows }
+
+-- what is said of an upload: each of its batches; without batches its name alone
+abbrev pub parts_from : List ℕ → List Rows → List Part
+parts_from id [] = record { id = id; batch = None } ∷ []
+parts_from id (rows ∷ batches) = map (batch_part id) (rows ∷ batches)
+
+abbrev pub parts_of : ServedUpload → List Part
+parts_of served = parts_from served.id served.batches
+
+-- the message that says it
+abbrev pub text_with : SchemaTree → List ℕ → Option Rows → List ℕ
+text_with schema id None = data_text [] id []
+text_with schema id (Some rows) = data_text (head_text schema rows) id (canonical_body schema rows)
+
+abbrev pub part_text : SchemaTree → Part → List ℕ
+part_text schema part = text_with schema part.id part.batch

@@ -1,0 +1,24 @@
+//! Laws of what is served.
+
+ghost use Rattle.std.specs.Prelude.{◌≡◌, List, map};
+ghost use Rattle.std.specs.List.{flat_map};
+ghost use Rattle.header_types.specs.Fields.{SchemaTree};
+ghost use Rattle.table_types.specs.Tables.{Version};
+ghost use Rattle.table_types.specs.Answers.{answer_messages};
+ghost use Rattle.downloads.specs.Downloads.{ServedUpload, IsServedVersion, IsDownload, NamesChange, downloaded_of, served_messages};
+ghost use Rattle.downloads.specs.Parts.{parts_of, part_text};
+
+/// What a node answers to a ticket says what it serves: the schema of the version, and of each upload its own name and its
+/// batches, cell for cell. The uploads have the shape of the version's schema, which may have other metadata than theirs.
+pub fn versions_are_downloads()
+    ensures { (version : Version) → IsServedVersion version → IsDownload (answer_messages version) (downloaded_of version) }
+{}
+
+/// The messages of uploads are those of their parts, one behind the other; and the parts are of one list of uploads at most,
+/// where no two that stand side by side have one name.
+pub fn parts_are_of_one_list_of_uploads()
+    ensures texts { (schema : SchemaTree) (uploads : List ServedUpload)
+        → flat_map (served_messages schema) uploads ≡ map (part_text schema) (flat_map parts_of uploads) }
+    ensures one { (uploads others : List ServedUpload) → NamesChange uploads → NamesChange others
+        → flat_map parts_of uploads ≡ flat_map parts_of others → uploads ≡ others }
+{}
