@@ -1,2 +1,3 @@
 pub mod OneShape
 pub mod Grouping
+pub mod OneDownload
