@@ -9,6 +9,7 @@ use Rattle.batch_types.specs.Cells.{Rows}
 use Rattle.batch_types.specs.Written.{CanBeWritten}
 use Rattle.table_types.specs.Served.{schema_message}
 use Rattle.table_types.specs.Valid.{IsId, FitsFrame}
+use Rattle.served_reading.specs.Messages.{CanBeServed, IsSchemaMessage, IsUploadMessage}
 use Rattle.downloads.specs.Downloads.{ServedUpload, Downloaded, IsServed, IsDownload, served_messages}
 use Rattle.downloads.specs.Parts.{Part, batch_part, parts_from, parts_of, part_text}
 use Rattle.downloads.proofs.Grouping.{grouped_once, all_texts}
@@ -20,9 +21,8 @@ further (message ∷ messages) = messages
 abbrev downloaded : SchemaTree → List ServedUpload → Downloaded
 downloaded schema uploads = record { schema = schema; uploads = uploads }
 
-abbrev pub CanBeServed : SchemaTree → Option Rows → Type 0
-CanBeServed schema None = Unit {0}
-CanBeServed schema (Some rows) = CanBeWritten schema rows
+abbrev part_with : List ℕ → Option Rows → Part
+part_with id batch = record { id = id; batch = batch }
 
 -- the name is such, and the batch is of the schema
 abbrev pub IsPart : SchemaTree → Part → Type 0
@@ -90,3 +90,19 @@ module _ (schemas : SchemasAreOne) (parts : PartsAreOne) where
       let rest = subst (λ (s : SchemaTree). flat_map (served_messages x.schema) x.uploads ≡ flat_map (served_messages s) y.uploads) (sym schema) (ap (λ (l : List (List ℕ)). further l) same) in
       let uploads = grouped_once x.uploads y.uploads h.names_change g.names_change (uploads_are_one x.schema h.profile h.schema_fits x.uploads y.uploads h.each each short.1 rest) in
       ap₂ (λ (s : SchemaTree) (us : List ServedUpload). downloaded s us) schema uploads
+
+-- ---- what one message says
+
+-- no two schemas have one message, and no two parts do
+pub one_download : ((message : List ℕ) (x y : SchemaTree) → FitsFrame message → IsSchemaMessage message x → IsSchemaMessage message y → x ≡ y)
+    → ((schema : SchemaTree) (message id name : List ℕ) (rows others : Option Rows) → InProfile schema → FitsFrame message → IsUploadMessage schema message id rows
+    → IsUploadMessage schema message name others → (id ≡ name) × (rows ≡ others))
+    → (messages : List (List ℕ)) (x y : Downloaded) → AllByRecursion FitsFrame messages → IsDownload messages x → IsDownload messages y → x ≡ y
+one_download schemas uploads =
+    download_is_one
+    (λ x y profile fits other_profile other_fits fit same. schemas (schema_message x) x y fit (record { is = refl; profile = profile; fits = fits })
+    (record { is = same; profile = other_profile; fits = other_fits }))
+    (λ schema profile fits p q h g fit same.
+        let one = uploads schema (part_text schema p) p.id q.id p.batch q.batch profile fit (record { is = refl; named = h.0; served = h.1 })
+        (record { is = same; named = g.0; served = g.1 }) in
+        ap₂ (λ (id : List ℕ) (batch : Option Rows). part_with id batch) one.0 one.1)

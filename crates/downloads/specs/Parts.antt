@@ -2,9 +2,7 @@
 use Rattle.std.specs.Prelude.{ℕ, List, [], ◌∷◌, Option, Some, None, map}
 use Rattle.header_types.specs.Fields.{SchemaTree}
 use Rattle.batch_types.specs.Cells.{Rows}
-use Rattle.batch_types.specs.Canonical.{canonical_body}
-use Rattle.table_types.specs.Uploads.{head_text}
-use Rattle.table_types.specs.Served.{data_text}
+use Rattle.served_reading.specs.Messages.{message_text}
 use Rattle.downloads.specs.Downloads.{ServedUpload}
 
 -- what one message says
@@ -25,9 +23,5 @@ abbrev pub parts_of : ServedUpload → List Part
 parts_of served = parts_from served.id served.batches
 
 -- the message that says it
-abbrev pub text_with : SchemaTree → List ℕ → Option Rows → List ℕ
-text_with schema id None = data_text [] id []
-text_with schema id (Some rows) = data_text (head_text schema rows) id (canonical_body schema rows)
-
 abbrev pub part_text : SchemaTree → Part → List ℕ
-part_text schema part = text_with schema part.id part.batch
+part_text schema part = message_text schema part.id part.batch

@@ -1,12 +1,15 @@
 //! Laws of what is served.
 
-ghost use Rattle.std.specs.Prelude.{◌≡◌, List, map};
-ghost use Rattle.std.specs.List.{flat_map};
+ghost use Rattle.std.specs.Prelude.{◌≡◌, ℕ, List, map};
+ghost use Rattle.std.specs.List.{AllByRecursion, flat_map};
 ghost use Rattle.header_types.specs.Fields.{SchemaTree};
 ghost use Rattle.table_types.specs.Tables.{Version};
 ghost use Rattle.table_types.specs.Answers.{answer_messages};
-ghost use Rattle.downloads.specs.Downloads.{ServedUpload, IsServedVersion, IsDownload, NamesChange, downloaded_of, served_messages};
+ghost use Rattle.table_types.specs.Valid.{FitsFrame};
+ghost use Rattle.downloads.specs.Downloads.{ServedUpload, Downloaded, IsServedVersion, IsDownload, NamesChange, downloaded_of, served_messages};
 ghost use Rattle.downloads.specs.Parts.{parts_of, part_text};
+
+use served_reading::laws::messages_are_one;
 
 /// What a node answers to a ticket says what it serves: the schema of the version, and of each upload its own name and its
 /// batches, cell for cell. The uploads have the shape of the version's schema, which may have other metadata than theirs.
@@ -22,3 +25,12 @@ pub fn parts_are_of_one_list_of_uploads()
     ensures one { (uploads others : List ServedUpload) → NamesChange uploads → NamesChange others
         → flat_map parts_of uploads ≡ flat_map parts_of others → uploads ≡ others }
 {}
+
+/// Messages that frames have room for are those of one download at most: they say the schema, each upload's own name and its
+/// batches in one way.
+pub fn downloads_are_one()
+    ensures { (messages : List (List ℕ)) (one other : Downloaded) → AllByRecursion FitsFrame messages → IsDownload messages one
+        → IsDownload messages other → one ≡ other }
+{
+    messages_are_one();
+}
