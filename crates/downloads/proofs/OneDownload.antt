@@ -103,6 +103,6 @@ one_download schemas uploads =
     (λ x y profile fits other_profile other_fits fit same. schemas (schema_message x) x y fit (record { is = refl; profile = profile; fits = fits })
     (record { is = same; profile = other_profile; fits = other_fits }))
     (λ schema profile fits p q h g fit same.
-        let one = uploads schema (part_text schema p) p.id q.id p.batch q.batch profile fit (record { is = refl; named = h.0; served = h.1 })
-        (record { is = same; named = g.0; served = g.1 }) in
-        ap₂ (λ (id : List ℕ) (batch : Option Rows). part_with id batch) one.0 one.1)
+    let one = uploads schema (part_text schema p) p.id q.id p.batch q.batch profile fit (record { is = refl; named = h.0; served = h.1 })
+    (record { is = same; named = g.0; served = g.1 }) in
+    ap₂ (λ (id : List ℕ) (batch : Option Rows). part_with id batch) one.0 one.1)
