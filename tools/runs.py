@@ -3,8 +3,9 @@
 and `drawn.txt`, schedules that are drawn, with what the model in runs_model.py says of each event and each message. And puts the
 schedules of examples/ into crates/replay_stories, with what is to be printed of them: the lines beside them.
 
-    tools/runs.py --write   makes them
-    tools/runs.py --check   says which of them differ"""
+    tools/runs.py --write               makes them
+    tools/runs.py --check               says which of them differ
+    tools/runs.py --tell FIRST LAST     prints the drawn runs from one seed up to another, as `run_stories` prints them again"""
 import hashlib
 import sys
 from pathlib import Path
@@ -92,9 +93,9 @@ def examples():
     return "\n".join(lines) + "\n"
 
 
-def drawn_runs():
+def drawn_runs(seeds):
     lines = ["# Drawn runs, in which messages are lost, late and repeated, and nodes go down and start again. tools/runs.py makes this", "# file."]
-    for seed in range(DRAWN):
+    for seed in seeds:
         run = drawn(seed)
         told = [f"{place} {' '.join(str(it) for it in gave)}" for place, (_, gave) in enumerate(run.steps)]
         lines += ["", *begun(run), *happened(event for event, _ in run.steps), *played(told), *digest(run)]
@@ -111,8 +112,11 @@ def replayed():
 
 
 def main():
+    if "--tell" in sys.argv[1:]:
+        first, last = map(int, sys.argv[2:])
+        return sys.stdout.write(drawn_runs(range(first, last))) and 0
     checks = "--write" not in sys.argv[1:]
-    stories = put(DATA, {"examples.txt": examples(), "drawn.txt": drawn_runs()}, checks)
+    stories = put(DATA, {"examples.txt": examples(), "drawn.txt": drawn_runs(range(DRAWN))}, checks)
     return put(REPLAYED, replayed(), checks) or stories
 
 
