@@ -1,12 +1,13 @@
 #!/usr/bin/env python3
 """Tries the must-fail edits of a crate one after the other, as the gate does, on a copy of the crate and of what it stands on, and
-says of each how many processor seconds it took and which goals refused it. A goal whose search had no bound is marked with a star:
-an answer with a bound in `proofs/` makes such an edit cheaper.
+says of each how many processor seconds it took and which goals refused it. A goal that has no answer in `proofs/` is marked with a
+star: there an answer with a bound makes such an edit cheaper.
 
-    tools/edits.py [--answer] CRATE [EDIT ..]
+    tools/edits.py [--answer] [--more] CRATE [EDIT ..]
 
-With --answer an answer with a bound is written for each goal with a star, where the crate is proved with it; the others are named.
-An edit that the prover takes is told as TAKEN, and the status is then 1."""
+With --more the edits of the crate's folder `more-edits/` are tried, which the gate leaves out. With --answer an answer with a bound
+is written for each goal with a star, where the crate is proved with it; the others are named. An edit that the prover takes is told as
+TAKEN, and the status is then 1."""
 import itertools
 import re
 import resource
@@ -17,8 +18,8 @@ import tempfile
 from pathlib import Path
 
 TOP = Path(__file__).resolve().parent.parent
-OPEN = re.compile(r"^note: \S+: it is not proved .*\(`([^`]+)`\)(.*)$")
-FUNCTION = re.compile(r"^fn (\S+): not proved")
+OPEN = re.compile(r"^note: \S+: it is not proved .*\(`([^`]+)`\)")
+FUNCTION = re.compile(r"^fn (\S+): (?:not proved|no proof: expected answers)")
 ANSWER = re.compile(r"^note: `([^`]+)` of proofs/(\S+)/Answers\.antt must prove")
 FORMS = ("search rules steps 300000", "grind (arith, common_steps) steps 600000")
 
@@ -71,16 +72,16 @@ def check(folder):
 
 
 def refusals(printed):
-    """The goals that are not proved: each function's name, the goal's, and whether its search gave up without a bound."""
+    """The goals that are not proved, each with its function's name."""
     goals, open_goals = [], []
     for line in printed.splitlines():
         if found := OPEN.match(line):
-            open_goals.append((found[1], "gave up" in found[2]))
+            open_goals.append(found[1])
         elif found := FUNCTION.match(line):
-            goals += [(found[1], goal, gave_up) for goal, gave_up in open_goals]
+            goals += [(found[1], goal) for goal in open_goals]
             open_goals = []
         elif found := ANSWER.match(line):
-            goals.append(("::".join(["", *found[2].split("/")]), found[1], False))
+            goals.append(("::".join(["", *found[2].split("/")]), found[1]))
     return goals
 
 
@@ -157,29 +158,36 @@ def write_answers(crate, folder, goals):
             print(f"{function} {goal}: no answer of these forms", flush=True)
 
 
+def edits_of(folder, words):
+    """The edits that are asked for, in the order of their names."""
+    names = [word for word in words if not word.startswith("--")][1:]
+    found = sorted((folder / ("more-edits" if "--more" in words else "must-fail")).glob("*.edit"))
+    return [edit for edit in found if not names or edit.stem in names]
+
+
 def main():
-    words = [word for word in sys.argv[1:] if word != "--answer"]
-    if not words:
+    words = sys.argv[1:]
+    crate = next((word for word in words if not word.startswith("--")), None)
+    if crate is None:
         sys.exit(__doc__)
-    crate, names = words[0], set(words[1:])
     with tempfile.TemporaryDirectory() as scratch:
         folder = copy_of(crate, Path(scratch))
         proved, taken, printed = check(folder)
         if not proved:
             sys.exit(f"{printed}\n{crate} is not proved as it stands")
         print(f"{taken:6.1f} s  the crate as it stands", flush=True)
-        status, total, unbound, edits = 0, 0.0, set(), sorted((folder / "must-fail").glob("*.edit"))
-        for edit in [it for it in edits if not names or it.stem in names]:
+        status, total, unbound = 0, 0.0, set()
+        for edit in edits_of(folder, words):
             proved, taken, printed = try_edit(folder, edit)
             goals, total = refusals(printed), total + taken
-            loose = {(function, goal) for function, goal, gave_up in goals if gave_up and not has_answer(folder, function, goal)}
+            loose = {goal for goal in goals if not has_answer(folder, *goal)}
             unbound |= loose
-            shown = [f"{function.partition('::')[2]} {goal}{'*' * ((function, goal) in loose)}" for function, goal, _ in goals]
+            shown = [f"{goal[0].partition('::')[2]} {goal[1]}{'*' * (goal in loose)}" for goal in goals]
             shown = shown or re.findall(r"^fn [^:]+::(\S+): not proved", printed, re.M) or printed.strip().splitlines()[-1:]
             print(f"{taken:6.1f} s  {edit.stem}: {'TAKEN' if proved else ', '.join(shown)}", flush=True)
             status |= proved
         print(f"{total:6.1f} s  in all", flush=True)
-        if "--answer" in sys.argv[1:]:
+        if "--answer" in words:
             write_answers(crate, folder, unbound)
     return status
 
