@@ -10,7 +10,8 @@ PAGE = TOP / "docs" / "DEFINITIONS.md"
 HEAD = """# Definitions
 
 The index of all `specs/`, made by `tools/definitions.py` from the comments there. Contracts cite these names; nothing in them is
-taken from the code's loops. What tests alone tie to a public standard is in [TESTS.md](TESTS.md).
+taken from the code's loops. Names in brackets stand beside the one before them, and no words are theirs alone. What tests alone tie
+to a public standard is in [TESTS.md](TESTS.md).
 
 ## The promise, phrase by phrase
 
@@ -34,45 +35,68 @@ OWN_LINE = re.compile(r"^(?:(?:abbrev|unfoldable) )?pub |^(?:abbrev )?mutual$")
 
 
 def names_of(lines, at):
-    """The names that the line at this place defines: one, or those inside a `mutual`."""
+    """What the line at this place defines: one name, or those inside a `mutual`, each with the comment above it there."""
     if not lines[at].rstrip().endswith("mutual"):
         found = DEFINED.match(lines[at])
-        return [found.group(1)] if found else []
-    names = []
+        return [(found.group(1), "")] if found else []
+    names, comment = [], []
     for line in lines[at + 1 :]:
         if line and not line.startswith(" "):
             break
         found = re.match(r"^  (?:abbrev |unfoldable )?pub (?:record |data )?([^\s:(]+)", line)
         if found:
-            names.append(found.group(1))
+            names.append((found.group(1), " ".join(comment)))
+        comment = [*comment, line.strip().removeprefix("--").strip()] if line.startswith("  --") else []
     return names
 
 
+def put_rows(rows, names, said, title):
+    """Puts rows of names: those that the words are of, those beside them, of which nothing is said, and the words. Names that
+    have no words of their own share the title of their section where no others stand before them in it."""
+    if said:
+        rows.append([[name for name, _ in names], [], said])
+        return
+    for name, own in names:
+        if own:
+            rows.append([[name], [], own])
+        elif title and rows and rows[-1][2] == title:
+            rows[-1][0].append(name)
+        elif title or not rows:
+            rows.append([[name], [], title])
+        else:
+            rows[-1][1 if rows[-1][2] else 0].append(name)
+        title = title if not own else ""
+
+
 def module(path):
-    """What the head of a module says, and its rows: names, and the comment that stands above them."""
+    """What the head of a module says, and its rows."""
     lines = path.read_text(encoding="utf-8").splitlines()
     head, at = [], 0
     while at < len(lines) and lines[at].startswith("--"):
         head.append(lines[at].removeprefix("--").strip())
         at += 1
-    rows, comment = [], []
+    rows, comment, title, goes_on = [], [], "", False
     while at < len(lines):
         line = lines[at]
-        if line.startswith("-- ----"):
-            comment = []
+        in_title, goes_on = goes_on, False
+        if line.startswith("-- ----") or (in_title and line.startswith("--")):
+            words = line.removeprefix("-- ----").removeprefix("--").strip()
+            title, comment, goes_on = f"{title} {words}" if in_title else words, [], True
         elif line.startswith("--"):
             comment.append(line.removeprefix("--").strip())
         elif OWN_LINE.match(line):
             names = names_of(lines, at)
-            if comment or not rows:
-                rows.append([names, " ".join(comment)])
-            else:
-                rows[-1][0].extend(names)
+            put_rows(rows, names, " ".join(comment), title)
+            title = "" if comment or any(own for _, own in names) else title
             comment = []
         elif not line.strip():
             comment = comment if at + 1 < len(lines) and OWN_LINE.match(lines[at + 1]) else []
         at += 1
     return " ".join(head), [row for row in rows if row[0]]
+
+
+def listed(names):
+    return ", ".join(f"`{name}`" for name in names)
 
 
 def page():
@@ -90,9 +114,9 @@ def page():
                 continue
             head, rows = module(path)
             parts.append(f"\n**`{name}`**: {head}\n")
-            for names, said in rows:
-                listed = ", ".join(f"`{word}`" for word in names)
-                parts.append(f"- {listed}{': ' + said if said else ''}\n")
+            for names, beside, said in rows:
+                more = f" (beside it {listed(beside)})" if beside else ""
+                parts.append(f"- {listed(names)}{more}{': ' + said if said else ''}\n")
     return "".join(parts)
 
 
