@@ -200,7 +200,7 @@ def deep(wrap, leaf, cell, depth):
 def nested():
     story = Story("Columns with others inside (Apache Arrow Columnar Format, \"Variable-size List Layout\", "
                   "\"Fixed-Size List Layout\", \"Struct Layout\"), with nulls at each level. Each is laid out as it "
-                  "would be written, and then freely.")
+                  "would be written, and then freely; then no rows, and nulls alone.")
     for number, word in enumerate(NESTED):
         story.say(f"{word}.")
         story.schema(word)
@@ -209,6 +209,8 @@ def nested():
         story.lay_out(6, [cells])
         story.lay_out(6, [cells], FREELY, number)
         story.lay_out(0, [[]])
+        story.lay_out(5, [[None] * 5])
+        story.lay_out(5, [[None] * 5], FREELY, number)
     forms = {"Lists": "List(%s)", "Structs": "Struct(%s)", "FixedSizeLists": "FixedSizeList(1,%s)"}
     wraps = {name: form.__mod__ for name, form in forms.items()}
     leaves = (("Int(8,true)", b"\7"), ("Bool", True), ("Utf8", b"joe"))
