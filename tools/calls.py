@@ -21,6 +21,17 @@ SERVER = CRATES / "call_server"
 MOST_TOLD = 400
 LOCATIONS = [f"plain+tcp://127.0.0.1:{port}" for port in (42000, 42001, 42002)]
 DRAWN = 200
+NOTATION = """\
+# `new SLOTS LOCATION ..` begins with a service that holds nothing, takes so many uploads and serves at these locations.
+# `bytes NAME BYTES` names bytes. They are hexadecimal, a letter from `g` to `z` stands for one to twenty zero bytes, and
+# behind `| COUNT` stand bytes that come so often behind the others.
+#
+# `call PART ..` serves one call, put together of these parts: `/METHOD` is the frame with the path of a method, a name the
+# frame with the message of that name, `empty` one with no bytes, `3*NAME` three such frames, `end` the frame of the end, and
+# `+NAME` the bytes of that name in no frame. Under it stand the messages of the answer, the status and the text of its
+# trailer, how many bytes were left unread, and the name of an upload that was handed over. `cuts PART ..` tells the trailer
+# of every beginning of such a call.""".splitlines()
+ELSEWHERE = "The notation is that of rows.txt. Made by tools/calls.py, and not by hand."
 
 
 # ---- stories, told as the program tells them
@@ -139,7 +150,9 @@ def rows():
     """Puts, gets and questions, one after the other."""
     names = {"u": U, "c": C, "x": X, "y": Y, "w": W, "z": Z}
     made = {name: put(upload, name) for name, upload in names.items()}
-    lines = ["# The messages of six uploads: u, c and x to the table t, of which c has the name of u and another batch; y, which comes when",
+    lines = ["# Puts, gets and questions, one after the other (Apache Arrow, \"Flight.proto\"; docs/FORMATS.md, \"Flight calls\").", "#", *NOTATION,
+             "#", "# Made by tools/calls.py, and not by hand.", "",
+             "# The messages of six uploads: u, c and x to the table t, of which c has the name of u and another batch; y, which comes when",
              "# there is no room any more; w to another table; and z, whose schema has another shape."]
     lines += [line for commands, _ in made.values() for line in commands]
     asked = {
@@ -180,9 +193,9 @@ def faults():
         "upper": data(U.schema_text, said=descriptor("t", U.id.hex().upper())), "opencmd": data(U.schema_text, said=descriptor(kind=2)),
         "unnamed": data(header, body[:-8]), "bare": data(b"", body), "again": data(U.schema_text), "pass": data(metadata=b"mine"),
         "spoken": data(header, body, said=descriptor(*names), metadata=b"mine"), "later": data(header, body) + bytes_field(77, b"new"),
-        "more": 1003 * b"\0",
     }
-    lines = ["# Messages of calls that are refused, and of some that are not.", *commands]
+    lines = ["# Each refusal of a call at least once, with what is left unread behind it, and what clients do beyond what is asked.",
+             f"# {ELSEWHERE}", "", "# Messages of calls that are refused, and of some that are not.", *commands]
     lines += [f"bytes {name} {spelled(text)}".rstrip() for name, text in bad.items()]
     raw = {"flag1": b"\1\0\0\0\0", "flag2": b"\2\0\0\0\0", "toolong": b"\0\0\x40\0\1", "endfull": b"\x80\0\0\0\1x", "front": b"\0\0", "path": framed(0, b"/x.Y/DoGet")}
     lines += [f"bytes {name} {spelled(text)}" for name, text in raw.items()]
@@ -216,7 +229,8 @@ def large():
     message = data(*half.parts[0])
     front = message.removesuffix(bytes(4_000_000))
     commands.append(f"bytes many {spelled(front)} | 4000000 00")
-    return ["# Batches of 4 MB each: four are an upload, five are too large, and so are twenty of them, of which none is kept.", *commands,
+    return ["# Batches of 4 MB each: four are an upload, five are too large, and so are twenty of them, of which none is kept.",
+            f"# {ELSEWHERE}", "", *commands,
             f"new 5 {LOCATIONS[0]}", "call /DoPut opens 4*many end", "call /DoPut opens 5*many end", "call /DoPut opens 20*many end"]
 
 
@@ -224,7 +238,7 @@ def cuts():
     """Every beginning of a put, of a get and of a question."""
     commands, whole = put(W, "w")
     asked = {"t": descriptor("t"), "t1": bytes_field(1, ticket_text(b"t", 1))}
-    lines = ["# Every beginning of a call is refused, and nothing is put.", *commands]
+    lines = ["# Every beginning of a call is refused, and nothing is put.", f"# {ELSEWHERE}", "", *commands]
     lines += [f"bytes {name} {spelled(text)}" for name, text in asked.items()]
     return lines + [f"new 5 {LOCATIONS[0]}", f"cuts {whole}", "cuts /DoGet t1 end", "cuts /GetFlightInfo t end", "cuts /ListFlights empty end"]
 
@@ -233,7 +247,7 @@ def drawn():
     """Drawn calls to drawn services, many of which are refused."""
     draw = random.Random(20261125)
     known = {name: upload_of(text) for name, text in POOL.items()}
-    lines, whole = ["# Drawn calls, in which messages are left out, said twice, changed over and cut."], {}
+    lines, whole = ["# Drawn calls, in which messages are left out, said twice, swapped and cut.", f"# {ELSEWHERE}", ""], {}
     for name, upload in known.items():
         commands, whole[name] = put(upload, name)
         lines += commands

@@ -19,6 +19,16 @@ DATA = CRATES / "run_stories" / "data"
 REPLAYED = CRATES / "replay_stories"
 # how many runs are drawn for the stories
 DRAWN = 120
+NOTATION = """\
+# `nodes COUNT SLOTS` begins with so many nodes, which agree on values for so many slots, and `upload BYTES` numbers an
+# upload, from 0 on: its bytes are hexadecimal, and a letter from `g` to `z` stands for one to twenty zero bytes. The events
+# that follow have the words of schedules (docs/FORMATS.md): `put NODE UPLOAD` hands an upload in, `tick NODE LEFT` lets time
+# go by, `deliver NODE NUMBER` brings the message of this number, `tickcut` and `delivercut` cut the node off before it sends,
+# `restart NODE` starts it again; `get NODE TABLE VERSION`, `info NODE TABLE` and `outcome NODE UPLOAD` ask.
+#
+# `play` lets the events happen, and tells by their numbers what they gave, of an answer its length and its digest (MD5,
+# RFC 1321). `messages` tells the bytes of each message that was sent, and `digest` how many there were and the digest of all
+# of them; both tell whether they are lawful.""".splitlines()
 # the letters for zero bytes: `g` is one, and each letter after it one more
 MOST_ZEROS = 20
 
@@ -85,7 +95,7 @@ def digest(run):
 
 
 def examples():
-    lines = ["# The schedules of examples/, with each message that is sent. tools/runs.py makes this file."]
+    lines = ["# The schedules of examples/, with each message that is sent. Made by tools/runs.py, and not by hand.", "#", *NOTATION]
     for file, schedule in schedules():
         run, told = lines_of(schedule)
         lines += ["", *(f"# {it}" for it in schedule.get("note", [file.stem]))]
@@ -94,7 +104,8 @@ def examples():
 
 
 def drawn_runs(seeds):
-    lines = ["# Drawn runs, in which messages are lost, late and repeated, and nodes go down and start again. tools/runs.py makes this", "# file."]
+    lines = ["# Drawn runs, in which messages are lost, late and repeated, and nodes go down and start again. The notation is that of",
+             "# examples.txt. Made by tools/runs.py, and not by hand."]
     for seed in seeds:
         run = drawn(seed)
         told = [f"{place} {' '.join(str(it) for it in gave)}" for place, (_, gave) in enumerate(run.steps)]

@@ -247,7 +247,8 @@ def list_commands(draw):
 def lists():
     draw = random.Random(6)
     lines = ["# Uploads, bytes that are none, and drawn lists of them that tables take: what is told of each upload then, which tables",
-             "# there are, and how long the frames of versions are. tools/tables.py makes this file.", "", *named({**POOL, **JUNK})]
+             "# there are, and how long the frames of versions are. The notation is that of examples.txt. Made by tools/tables.py, and",
+             "# not by hand.", "", *named({**POOL, **JUNK})]
     for _ in range(DRAWN):
         lines += list_commands(draw)
     return lines
@@ -259,7 +260,7 @@ def lists():
 def cuts():
     u, d = POOL["u"], POOL["d"]
     lines = ["# The beginnings of the upload u, of one batch, and of d, of three batches, and u with one bit changed, each in turn: few of",
-             "# these are uploads too. tools/tables.py makes this file.", "", *named({"u": u, "d": d})]
+             "# these are uploads too. The notation is that of examples.txt. Made by tools/tables.py, and not by hand.", "", *named({"u": u, "d": d})]
     lines += [f"cut u {size}" for size in range(len(u) + 1)] + [f"cut d {size}" for size in range(len(d) + 1)]
     return lines + [f"change u {place} {byte ^ 1 << bit}" for place, byte in enumerate(u) for bit in range(8)]
 
@@ -271,7 +272,8 @@ def long_varint(number):
 
 
 def tickets():
-    lines = ["# Tickets that are written, and bytes near theirs, of which few are tickets. tools/tables.py makes this file.", ""]
+    lines = ["# Tickets that are written, and bytes near theirs, of which few are tickets. The notation is that of examples.txt. Made by",
+             "# tools/tables.py, and not by hand.", ""]
     names = ["t", "sales", "a.b-c_D9", "x" * 64, "x" * 65, "", "a/b", "a b", "\u00e9"]
     versions = [0, 1, 3, 127, 128, 16384, 2**32, 2**63, 2**64 - 1]
     lines += [f"ticket {version} {name}".rstrip() if name else f"ticket {version}" for name in names for version in versions]

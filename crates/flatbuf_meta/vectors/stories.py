@@ -18,12 +18,14 @@ from make import HERE, is_written, kind, shown
 STORIES = HERE.parent.parent / "header_stories/data"
 COMPILED = """\
 # What the FlatBuffers compiler made of the JSON files in flatbuf_meta/vectors, each by its name there, and what is to
-# be read of it; ".full" is with numbers that are their defaults too. Made by stories.py there, and not by hand.
+# be read of it; ".full" is with numbers that are their defaults too. Bytes are hexadecimal, and a letter from `g` to `z`
+# stands for one to twenty zero bytes. Made by stories.py there, and not by hand.
 """
 CANONICAL = """\
-# The one text of each header in flatbuf_meta/vectors that can be written: what is read of it is written as it stands.
-# Of a schema without metadata and inner fields, it is also written from the words of its fields. Made by stories.py
-# there, and not by hand.
+# The one text of each header in flatbuf_meta/vectors that can be written: `respelled` reads it, and what is read is
+# written as the same bytes. Of a schema without metadata and inner fields, `written` makes it from how many entries of
+# metadata there are and the words of its fields, as in limits.txt. Bytes are hexadecimal, and a letter from `g` to `z`
+# stands for one to twenty zero bytes. Made by stories.py there, and not by hand.
 """
 BEHIND = """
 # A message behind its marker and its length, which are written behind a byte that stands there already.
