@@ -77,7 +77,7 @@ WAYS = {  # What a layout may do that the canonical one does not.
     "validity": "validity bitmaps are there where nothing is null",
     "first offset": "offsets do not begin at 0",
     "null spans": "the spans of nulls are not empty",
-    "children": "each column has items behind the last one that is asked for",
+    "children": "each column has values behind the last one that is asked for",
     "null counts": "the null count of a Null column says nothing",
     "no offsets": "without items there are no offsets",
 }
