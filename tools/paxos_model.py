@@ -8,6 +8,7 @@ every short run of a few telling calls, with what they give. It is written from 
 It writes `crates/paxos_stories/data/every_*.txt`. With --check it changes nothing, and says whether each of them is what it makes.
 A ballot is a pair of its round and its node, and a value its bytes, none for a no-op."""
 import itertools
+import random
 import sys
 from pathlib import Path
 
@@ -139,14 +140,15 @@ def beginnings(kinds, rounds):
     return texts + [b"".join(number_field(*it) for it in fields) for fields in rounds]
 
 
-MESSAGE_ROUNDS = [[(1, kind), (5, 1)] for kind in range(1, 6)] + [[(1, kind), (5, 1), (7, 1)] for kind in (2, 3)]
+MESSAGE_ROUNDS = [[(1, 2), (5, 1)], [(1, 3), (5, 1)]]
+MESSAGE_ROUNDS += [[(1, 1), (5, 1)], [(1, 2), (5, 1), (7, 1)], [(1, 3), (5, 1), (7, 1)], [(1, 4), (5, 1)], [(1, 5), (5, 1)]]
 RECORD_ROUNDS = [[(1, kind), (3, 1)] for kind in range(1, 4)]
 
 
-def decoded(command, call, begun, fields):
-    """Each field behind each beginning, and each pair of fields behind the last beginning of each kind."""
+def decoded(command, call, begun, fields, whole):
+    """Each field behind each beginning, and each pair of fields behind the last ones, in which nothing is missing."""
     texts = [begin + field for begin in begun for field in (b"", *fields)]
-    texts += [begun[-1] + one + other for one, other in itertools.product(fields, fields)]
+    texts += [begin + one + other for begin in begun[-whole:] for one, other in itertools.product(fields, fields)]
     return rows(command, call, dict.fromkeys(texts))
 
 
@@ -372,8 +374,8 @@ def may_follow(members, before, said):
     return what != "Decided" or is_chosen(members, before, value)
 
 
-def said(sender, what, ballot=None, value=b"", report=None):
-    return {"sender": sender, "what": what, "ballot": ballot, "value": value, "report": report}
+def said(sender, what, ballot=None, value=b"", report=None, slot=0):
+    return {"sender": sender, "what": what, "ballot": ballot, "value": value, "report": report, "slot": slot}
 
 
 FEW = [
@@ -397,7 +399,7 @@ PROPOSED = [FEW[0], FEW[1], FEW[5]]
 
 
 def history_line(it):
-    words = [f"node {it['sender']} slot 0 {it['what']}"]
+    words = [f"node {it['sender']} slot {it['slot']} {it['what']}"]
     words += [shown_ballot(it["ballot"])] if it["ballot"] else []
     words += [f"accepted {shown_ballot(it['report'][0])} {shown_value(it['report'][1])}"] if it["report"] else []
     words += [shown_value(it["value"])] if it["value"] else []
@@ -423,16 +425,47 @@ def histories(members, most, start=()):
     return lines
 
 
+def drawn_message(draw, members):
+    """Some message of a member or of the node behind the last one, mostly about slot 0."""
+    what = draw.choice(("Promise", "Promise", "Promise", "Accept", "Accepted", "Accepted", "Decided", "Prepare"))
+    sender, ballot, slot = draw.randrange(members + 1), draw.choice(BALLOTS), int(draw.randrange(8) == 0)
+    value = bytes([draw.choice((1, 2))])
+    if what == "Promise":
+        report = (draw.choice(BALLOTS), value) if draw.randrange(2) else None
+        return said(sender, what, ballot, report=report, slot=slot)
+    if what == "Prepare":
+        return said(sender, what, ballot, slot=slot)
+    return said(sender, what, None if what == "Decided" else ballot, value, slot=slot)
+
+
+def walks(count, steps):
+    """Drawn histories of one to four members: a message that may follow is said, and another one is only asked about."""
+    draw, lines = random.Random(11), []
+    for members in (1, 2, 3, 4) * count:
+        lines.append(f"new history {members}")
+        before = {0: [], 1: []}
+        for _ in range(steps):
+            it = drawn_message(draw, members)
+            is_lawful = may_follow(members, before[it["slot"]], it)
+            lines += [f"{'say' if is_lawful else 'if'} {history_line(it)}", f"  {'lawful' if is_lawful else 'unlawful'}"]
+            if is_lawful:
+                before[it["slot"]].append(it)
+    return lines
+
+
 def stories():
     made = "What every short run of a few telling calls gives, as tools/paxos_model.py says."
-    texts = "What bytes mean, and how they are written, as tools/paxos_model.py says."
+    texts = (
+        "What bytes mean, and how they are written, as tools/paxos_model.py says. Where several faults stand, a reader may\n"
+        "# tell any of them: `one-of` names them, before the command."
+    )
     meanings = file_of(
         texts,
         ("Messages of each kind, with numbers at the edges of what they may be.", encoded()),
-        ("Fields behind beginnings of a message.", decoded("decode", told_message, beginnings(range(1, 8), MESSAGE_ROUNDS), IN_MESSAGES)),
+        ("Fields behind beginnings of a message.", decoded("decode", told_message, beginnings(range(1, 8), MESSAGE_ROUNDS), IN_MESSAGES, 5)),
         ("Each beginning of a Promise with a report.", cuts("decode", told_message, bytes.fromhex("08021003180528033002380240014a03616263"))),
         ("Records of each kind, likewise.", kept()),
-        ("Fields behind beginnings of a record.", decoded("decode-record", told_record, beginnings(range(1, 4), RECORD_ROUNDS), IN_RECORDS)),
+        ("Fields behind beginnings of a record.", decoded("decode-record", told_record, beginnings(range(1, 4), RECORD_ROUNDS), IN_RECORDS, 3)),
         ("Each beginning of an Accepted.", cuts("decode-record", told_record, bytes.fromhex("08031005180320022a03616263"))),
     )
     calls = file_of(
@@ -441,14 +474,18 @@ def stories():
         ("Three records that an acceptor has back.", restored()),
         ("Three promises to a proposer.", attempts()),
         ("Three calls of a learner of three members, of whom node 3 is none.", votes(3)),
+        ("The same of a single member.", votes(1)),
+        ("Of two members.", votes(2)),
+        ("Of four, of whom node 3 is one: two are no majority.", votes(4)),
         ("Four inserts into a log.", inserts()),
     )
     judged = file_of(
-        "Every short lawful history of a few messages, and which of them may follow it, as tools/paxos_model.py says.",
+        "Every short lawful history of a few messages, and drawn longer ones, and which messages may follow, as tools/paxos_model.py says.",
         ("Of one member: node 1 is none.", histories(1, 3)),
         ("Of two members.", histories(2, 2)),
         ("Of two members, behind two promises and a proposal.", histories(2, 3, PROPOSED)),
-        ("Of four members, behind the same: two are no majority.", histories(4, 1, FEW[:2])),
+        ("Of four members, behind the two promises: two are no majority.", histories(4, 1, FEW[:2])),
+        ("Drawn histories of one to four members, about two slots, also with a node that is no member.", walks(8, 100)),
     )
     return {"every_meaning.txt": meanings, "every_call.txt": calls, "every_history.txt": judged}
 

@@ -6,7 +6,7 @@ telling pieces, with what stands there. It is written from the standards (Protoc
     tools/wire_model.py [--check]
 
 It writes `crates/wire_stories/data/every_*.txt`. With --check it changes nothing, and says whether each of them is what it makes.
-Where more than one fault stands in a text, a reader may tell any of them, so such texts are left out."""
+Where more than one fault stands in a text, a reader may tell any of them: the command then begins with `one-of` and names them."""
 import itertools
 import sys
 from pathlib import Path
@@ -103,12 +103,15 @@ def fields_of(text):
     return fields
 
 
-def told(call, text):
-    """The lines that the call gives of the text, or the one fault that stands there; nothing where there are several."""
+def told(command, call, text):
+    """The command with the text, and the lines that the call gives of it; or the fault that stands there, or that one of them is told
+    where there are several."""
+    line = f"{command} {text.hex()}".rstrip()
     try:
-        return call(text)
+        return [line, *(f"  {it}" for it in call(text))]
     except Faults as found:
-        return sorted(found.names) if len(found.names) == 1 else None
+        names = sorted(found.names)
+        return [line, f"  {names[0]}"] if len(names) == 1 else [f"one-of {' '.join(names)}: {line}", "  one of them"]
 
 
 KINDS = {0: "varint", 1: "eight bytes", 2: "bytes", 5: "four bytes"}
@@ -306,6 +309,8 @@ def texts_of(pieces, most):
 
 # Keys of field 1 of most wire types and of field 0, a short length, and bytes that go on.
 BYTES = "00|01|02|08|0a|0b|0d|80|ff"
+# Keys of fields 1 and 2, a key of field 0 that is a length too, and a byte that goes on.
+FEW_BYTES = "01|02|08|0a|80"
 # Keys before runs of three, four and seven bytes, so that fields of four and eight bytes come whole and cut.
 PIECES = "09|0d|0a07|8d8000|0e|00|010203|80818201|11121314151617"
 # What stands before a long number, what it begins with, goes on with and ends with, and what stands behind it.
@@ -316,6 +321,9 @@ HIGHEST, ENDS = "|01|02|7f", "|0161"
 FLAGS = "00|80|01|02|ff"
 LENGTHS = "00000000|00000001|00000002|00000100|00010000|00400000|00400001|01000000"
 PAYLOADS = "|07|0708|070809"
+# Keys of the fields of a descriptor, short lengths, and bytes that go on or are no UTF-8; keys of the fields of an endpoint, and lengths.
+BYTES_IN_DESCRIPTORS = "00|01|02|08|0a|12|1a|80|ff"
+BYTES_IN_ENDPOINTS = "00|01|02|0a|12"
 # Fields of a message, fields of another, and no fields: the last ones end early, where nothing stands behind them.
 IN_DESCRIPTORS = "0801|088280808010|08ffffffffffffffffff01|120161|1200|1a0161|1a00|1a02c3a9|1a01ff|0a0162|1000|3801|3d01020304|0b|1a0361"
 IN_ENDPOINTS = "0a00|0a030a0161|0a020a00|0a0438010a00|0a020801|0a010a|1200|12030a0162|12060a01620a0163|12030a01ff|1000|3a01ff|0f|0a05"
@@ -337,13 +345,15 @@ def frame_texts():
 
 
 def rows(command, call, texts):
-    """The command with each text, and what it gives."""
-    lines = []
-    for text in texts:
-        given = told(call, text)
-        if given is not None:
-            lines += [f"{command} {text.hex()}".rstrip(), *(f"  {it}" for it in given)]
-    return lines
+    """The command with each text, and what it gives. A text whose meaning has a character that is no print is left out."""
+    every = (told(command, call, text) for text in texts)
+    return [line for lines in every if all(it.isprintable() for it in lines) for line in lines]
+
+
+def written():
+    """Each number of 64 bits about a power of two, written as a field."""
+    numbers = sorted({2**place + step for place in range(65) for step in (-1, 0, 1)})
+    return [line for it in numbers if it < 2**64 for line in (f"varint 1 {it}", f"  {hexadecimal(number_field(1, it))}")]
 
 
 def file_of(made, *parts):
@@ -353,12 +363,17 @@ def file_of(made, *parts):
 
 def stories():
     made = "What stands in every short text of a few telling pieces, as tools/wire_model.py says."
+    several = f"{made} Where several faults stand, a\n# reader may tell any of them: `one-of` names them, before the command."
     fields = file_of(
-        made,
+        several,
         ("At most three bytes: keys, short lengths, and bytes that go on.", rows("fields", told_fields, texts_of(BYTES, 3))),
+        ("At most five bytes of a few.", rows("fields", told_fields, texts_of(FEW_BYTES, 5))),
         ("At most two pieces: fields of four and of eight bytes come whole and cut.", rows("fields", told_fields, texts_of(PIECES, 2))),
         ("Long numbers, as a key, behind a key, and as a length.", rows("fields", told_fields, long_numbers())),
         ("The field at the front alone, and what stands behind it.", rows("front", told_front, texts_of(PIECES, 2))),
+        ("The same of at most two bytes.", rows("front", told_front, texts_of(BYTES, 2))),
+        ("The same of long numbers.", rows("front", told_front, long_numbers())),
+        ("A number is written in as few bytes as hold it: here is each about a power of two.", written()),
     )
     behind = [bytes.fromhex("000000000107") + it for it in texts_of("00|01|80", 3)]
     frames = file_of(
@@ -367,11 +382,13 @@ def stories():
         ("At most three bytes, behind the frame of one byte.", rows("frames", told_frames, behind)),
     )
     messages = file_of(
-        made,
+        several,
         ("Descriptors.", rows("descriptor", told_as(DESCRIPTOR), texts_of(IN_DESCRIPTORS, 2))),
         ("Endpoints.", rows("endpoint", told_as(ENDPOINT), texts_of(IN_ENDPOINTS, 2))),
         ("Infos.", rows("info", told_as(INFO), texts_of(IN_INFOS, 2))),
         ("Data.", rows("data", told_as(DATA_MESSAGE), texts_of(IN_DATA, 2))),
+        ("Descriptors of at most three bytes.", rows("descriptor", told_as(DESCRIPTOR), texts_of(BYTES_IN_DESCRIPTORS, 3))),
+        ("Endpoints of at most four bytes.", rows("endpoint", told_as(ENDPOINT), texts_of(BYTES_IN_ENDPOINTS, 4))),
     )
     return {"every_field.txt": fields, "every_frame.txt": frames, "every_message.txt": messages}
 

@@ -20,6 +20,7 @@ mod learners;
 mod lines;
 mod logs;
 mod proposers;
+mod several;
 mod story;
 mod words;
 

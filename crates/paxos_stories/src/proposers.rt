@@ -62,6 +62,8 @@ fn nack<W: Write>(
     };
     let slot = words::slot(slot)?;
     let ballot = words::ballot(ballot)?;
+    // Foretold there is nothing.
+    proposer.see_on_nack(slot, ballot);
     proposer.on_nack(slot, ballot);
     print_attempt(proposer, output)
 }

@@ -2,7 +2,9 @@
 
 use crate::fault::StoryFault;
 use crate::histories::History;
-use crate::{acceptors, encodings, histories, kept, learners, lines, logs, proposers, words};
+use crate::{
+    acceptors, encodings, histories, kept, learners, lines, logs, proposers, several, words,
+};
 use acceptor::Acceptor;
 use ballots::{Members, NodeId};
 use decided_log::DecidedLog;
@@ -75,6 +77,7 @@ fn tell_command<W: Write>(
         "encode" => encodings::encode(parts.alloc, rest, output),
         "decode" => encodings::decode(parts.alloc, rest, output),
         "decode-record" => kept::decode(parts.alloc, rest, output),
+        "one-of" => several::tell(parts.alloc, rest, output),
         "say" => histories::say(&mut parts.history, rest, output),
         "if" => histories::suppose(&mut parts.history, rest, output),
         _ => {

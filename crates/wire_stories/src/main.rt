@@ -13,6 +13,7 @@ mod fields;
 mod frames;
 mod hexadecimal;
 mod messages;
+mod several;
 mod shown;
 mod story;
 

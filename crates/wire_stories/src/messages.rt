@@ -73,7 +73,8 @@ fn is_each(alloc: Global, bytes: &[u8], told: &str) -> Result<bool, StoryFault> 
     Ok(true)
 }
 
-fn outcome(alloc: Global, name: &str, bytes: &[u8]) -> Result<String, StoryFault> {
+/// The fault that stands in the bytes as the message of this name, or their encoding.
+pub(crate) fn outcome(alloc: Global, name: &str, bytes: &[u8]) -> Result<String, StoryFault> {
     match name {
         "descriptor" => outcome_as::<FlightDescriptor>(alloc, bytes),
         "ticket" => outcome_as::<Ticket>(alloc, bytes),
@@ -83,7 +84,8 @@ fn outcome(alloc: Global, name: &str, bytes: &[u8]) -> Result<String, StoryFault
         "schema" => outcome_as::<SchemaResult>(alloc, bytes),
         "criteria" => outcome_as::<Criteria>(alloc, bytes),
         "data" => outcome_as::<FlightData>(alloc, bytes),
-        _ => outcome_as::<PutResult>(alloc, bytes),
+        "put-result" => outcome_as::<PutResult>(alloc, bytes),
+        _ => Err(StoryFault::NoCommand),
     }
 }
 

@@ -2,7 +2,7 @@
 
 use crate::fault::StoryFault;
 use crate::hexadecimal::bytes_of;
-use crate::{fields, frames, messages};
+use crate::{fields, frames, messages, several};
 use std::alloc::Global;
 use std::io::Write;
 
@@ -35,6 +35,7 @@ fn answer<W: Write>(
 ) -> Result<(), StoryFault> {
     match command {
         "frame" => frames::write(alloc, rest, output),
+        "one-of" => several::tell(alloc, rest, output),
         "varint" | "nonzero-varint" | "bytes" | "nonempty-bytes" => {
             fields::write(alloc, command, rest, output)
         }
