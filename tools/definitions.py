@@ -32,6 +32,7 @@ history, of the events that were handed in, is the contract of `run` in `schedul
 """
 DEFINED = re.compile(r"^\s*(?:(?:abbrev|unfoldable)\s+)?pub (?:record |data )?([^\s:(]+)")
 OWN_LINE = re.compile(r"^(?:(?:abbrev|unfoldable) )?pub |^(?:abbrev )?mutual$")
+PASSED_ON = re.compile(r"^pub use Rattle\.(\w+)\.specs\.[\w.]+\.\{([^}]*)\}")
 
 
 def names_of(lines, at):
@@ -69,21 +70,25 @@ def put_rows(rows, names, said, title):
 
 
 def module(path):
-    """What the head of a module says, and its rows."""
+    """What the head of a module says, and its rows: first the names that it passes on from other crates."""
     lines = path.read_text(encoding="utf-8").splitlines()
     head, at = [], 0
     while at < len(lines) and lines[at].startswith("--"):
         head.append(lines[at].removeprefix("--").strip())
         at += 1
-    rows, comment, title, goes_on = [], [], "", False
+    passed, rows, comment, title, goes_on = [], [], [], "", False
     while at < len(lines):
         line = lines[at]
         in_title, goes_on = goes_on, False
+        passed_on = PASSED_ON.match(line)
         if line.startswith("-- ----") or (in_title and line.startswith("--")):
             words = line.removeprefix("-- ----").removeprefix("--").strip()
             title, comment, goes_on = f"{title} {words}" if in_title else words, [], True
         elif line.startswith("--"):
             comment.append(line.removeprefix("--").strip())
+        elif passed_on:
+            passed.append([re.split(", *", passed_on.group(2)), [], f"of `{passed_on.group(1)}`"])
+            comment = []
         elif OWN_LINE.match(line):
             names = names_of(lines, at)
             put_rows(rows, names, " ".join(comment), title)
@@ -92,7 +97,7 @@ def module(path):
         elif not line.strip():
             comment = comment if at + 1 < len(lines) and OWN_LINE.match(lines[at + 1]) else []
         at += 1
-    return " ".join(head), [row for row in rows if row[0]]
+    return " ".join(head), [row for row in [*passed, *rows] if row[0]]
 
 
 def listed(names):
