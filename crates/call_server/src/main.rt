@@ -13,7 +13,7 @@
 use flight_calls::serve_call;
 use std::alloc::{AllocError, Global};
 use std::hash::RandomState;
-use std::io::{self, BufRead, BufReader, BufWriter};
+use std::io::{self, BufRead, BufReader, BufWriter, Write};
 use std::process::ExitCode;
 use table_backend::TableBackend;
 
@@ -52,15 +52,31 @@ fn locations(alloc: Global) -> Result<Vec<String>, AllocError> {
 fn start(rt: &HostRuntime) -> io::Result<bool> {
     let alloc = rt.alloc();
     let hashing = RandomState::new(rt)?;
-    let locations = locations(alloc)?;
-    let mut backend = TableBackend::new(alloc, hashing, SLOTS, locations);
+    let mut backend = empty_tables(alloc, hashing)?;
     let mut input = BufReader::new(alloc, rt.stdin())?;
     let mut output = BufWriter::new(alloc, rt.stdout())?;
+    serve_all(alloc, &mut input, &mut output, &mut backend)
+}
+
+// Tables of no upload.
+fn empty_tables(alloc: Global, hashing: RandomState) -> Result<Box<TableBackend>, AllocError> {
+    let locations = locations(alloc)?;
+    let boxed = Box::new(alloc, TableBackend::new(alloc, hashing, SLOTS, locations))?;
+    Ok(boxed)
+}
+
+// Serves calls to the end of the input, and says whether all of them were served.
+fn serve_all<R: BufRead, W: Write>(
+    alloc: Global,
+    input: &mut R,
+    output: &mut W,
+    backend: &mut TableBackend,
+) -> io::Result<bool> {
     for _ in 0..MAX_CALLS {
         if input.fill_buf()?.is_empty() {
             return Ok(true);
         }
-        if serve_call(alloc, &mut input, &mut output, &mut backend).is_err() {
+        if serve_call(alloc, input, output, backend).is_err() {
             return Ok(false);
         }
     }
