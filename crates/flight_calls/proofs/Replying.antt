@@ -15,7 +15,7 @@ use Rattle.flight_calls.specs.declared.described.Described.{Described}
 use Rattle.flight_calls.specs.Replies.{Description, described, shown, listed, served, Reply, answers, refuses, RepliesBy, info_message, schema_result}
 use Rattle.call_words.specs.Results.{put_result}
 use Rattle.flight_calls.specs.Backing.{Describes, DescribeAll}
-use Rattle.flight_calls.specs.Serving.{MayAnswer, Handed, Leaves}
+use Rattle.flight_calls.specs.Serving.{MayAnswer, Handed, Leaves, Stays}
 use Rattle.flight_calls.specs.Describing.{version_in, locations_in, CanBeTold, message_told, message_of, schema_told}
 use Rattle.flight_calls.specs.Framing.{Frames}
 use Rattle.flight_calls.specs.Responding.{AnswersIn, TellsOutcome, RespondsBy}
@@ -88,34 +88,34 @@ applied_told text version upload (Err refusal) valid is h = (
 
 -- ---- a request, and what the backend answered
 
-module _ {B : Type 0} (may : MayAnswer B) (handed : Handed B) (leaves : Leaves B) (old new : B) (same : handed new ≡ handed old) where
+module _ {B : Type 0} (may : MayAnswer B) (handed : Handed B) (leaves : Leaves B) (stays : Stays B) (old new : B) (same : handed new ≡ handed old) (took_nothing : stays old new) where
   pub described_by : (table : List ℕ) (found : Described) (r : Result (Vec ℕ Global) Refusal)
       → (description : Description) × may old (describes table) (described description) × Describes found description
-      → Frames (message_of found ∷ []) r → RespondsBy may handed leaves (describes table) old new r
+      → Frames (message_of found ∷ []) r → RespondsBy may handed leaves stays (describes table) old new r
   described_by table found r told frames =
       let is = message_is found told.0 told.2 in
       let k = framed_reply (info_message told.0 ∷ []) r (subst (λ (m : List ℕ). Frames (m ∷ []) r) is frames) in
-      (k.0, record { answer = described told.0; may_answer = told.1; replies = k.1; hands_nothing = same }, k.2)
+      (k.0, record { answer = described told.0; may_answer = told.1; replies = k.1; hands_nothing = same; takes_nothing = took_nothing }, k.2)
 
   pub shown_by : (table schema : List ℕ) (r : Result (Vec ℕ Global) Refusal)
       → (tree : SchemaTree) × may old (shows table) (shown tree) × (schema ≡ schema_text tree) × FitsFrame schema
-      → Frames (schema_told schema ∷ []) r → RespondsBy may handed leaves (shows table) old new r
+      → Frames (schema_told schema ∷ []) r → RespondsBy may handed leaves stays (shows table) old new r
   shown_by table schema r told frames =
       let k = framed_reply (schema_result told.0 ∷ []) r (subst (λ (s : List ℕ). Frames (schema_told s ∷ []) r) told.2 frames) in
-      (k.0, record { answer = shown told.0; may_answer = told.1; replies = k.1; hands_nothing = same }, k.2)
+      (k.0, record { answer = shown told.0; may_answer = told.1; replies = k.1; hands_nothing = same; takes_nothing = took_nothing }, k.2)
 
   pub listed_by : (all : List Described) (r : Result (Vec ℕ Global) Refusal)
       → (descriptions : List Description) × may old lists (listed descriptions) × DescribeAll all descriptions
-      → Frames (map message_of all) r → RespondsBy may handed leaves lists old new r
+      → Frames (map message_of all) r → RespondsBy may handed leaves stays lists old new r
   listed_by all r told frames =
       let is = messages_are all told.0 told.2 in
       let k = framed_reply (map info_message told.0) r (subst (λ (ms : List (List ℕ)). Frames ms r) is frames) in
-      (k.0, record { answer = listed told.0; may_answer = told.1; replies = k.1; hands_nothing = same }, k.2)
+      (k.0, record { answer = listed told.0; may_answer = told.1; replies = k.1; hands_nothing = same; takes_nothing = took_nothing }, k.2)
 
   pub served_by : (asked : TableVersion) (frames : Vec ℕ Global) → (version : Version) × may old (serves asked) (served version) × (frames.items ≡ answer_of version)
-      → RespondsBy may handed leaves (serves asked) old new (Ok frames)
+      → RespondsBy may handed leaves stays (serves asked) old new (Ok frames)
   served_by asked frames told = (
     answers (answer_messages told.0),
-    record { answer = served told.0; may_answer = told.1; replies = inl refl; hands_nothing = same },
+    record { answer = served told.0; may_answer = told.1; replies = inl refl; hands_nothing = same; takes_nothing = took_nothing },
     (answer_messages told.0, refl, told.2),
   )

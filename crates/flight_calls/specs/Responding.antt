@@ -7,7 +7,7 @@ use Rattle.call_words.specs.declared.refusal.Refusal.TheVariants as refusals
 use Rattle.call_words.specs.Texts.{messages_text}
 use Rattle.call_reading.specs.Requests.{Request, puts}
 use Rattle.flight_calls.specs.Replies.{BackAnswer, Reply, answers, refuses, RepliesOutcome}
-use Rattle.flight_calls.specs.Serving.{MayAnswer, Handed, Leaves, Responds, RepliesUnlessRefused, IsDue}
+use Rattle.flight_calls.specs.Serving.{MayAnswer, Handed, Leaves, Stays, Responds, RepliesUnlessRefused, IsDue}
 
 -- the frames are those of the reply's messages, or it is refused so
 abbrev pub AnswersIn : Result (Vec ℕ Global) Refusal → Reply → Type 0
@@ -26,11 +26,11 @@ DecidesBy may text old result =
     × AnswersIn result reply
 
 -- the reply that is due to the request is in these frames, or is this refusal
-abbrev pub RespondsBy : {B : Type 0} → MayAnswer B → Handed B → Leaves B → Request → B → B → Result (Vec ℕ Global) Refusal → Type 0
-RespondsBy may handed leaves request old new result =
-    (reply : Reply) × Responds may handed leaves request old new reply × AnswersIn result reply
+abbrev pub RespondsBy : {B : Type 0} → MayAnswer B → Handed B → Leaves B → Stays B → Request → B → B → Result (Vec ℕ Global) Refusal → Type 0
+RespondsBy may handed leaves stays request old new result =
+    (reply : Reply) × Responds may handed leaves stays request old new reply × AnswersIn result reply
 
 -- the reply that is due to a text that begins so is in these frames, or is this refusal
-abbrev pub AnswersText : {B : Type 0} → MayAnswer B → Handed B → Leaves B → B → B → Result (Vec ℕ Global) Refusal → List ℕ → List ℕ → Type 0
-AnswersText may handed leaves old new result text rest =
-    (reply : Reply) × IsDue may handed leaves text rest old new reply × AnswersIn result reply
+abbrev pub AnswersText : {B : Type 0} → MayAnswer B → Handed B → Leaves B → Stays B → B → B → Result (Vec ℕ Global) Refusal → List ℕ → List ℕ → Type 0
+AnswersText may handed leaves stays old new result text rest =
+    (reply : Reply) × IsDue may handed leaves stays text rest old new reply × AnswersIn result reply

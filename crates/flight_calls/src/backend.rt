@@ -1,6 +1,6 @@
 //! What stands behind the calls of one connection.
 
-ghost use Rattle.std.specs.Prelude.{◌≡◌, ◌⊎◌, ◌++◌, Err, ◌∷◌, [], ℕ, List, IfOk, IfErr, OnOk};
+ghost use Rattle.std.specs.Prelude.{◌≡◌, ◌⊎◌, ◌++◌, Err, ◌∷◌, [], ℕ, List, IfOk, IfErr, OnOk, OnErr};
 ghost use Rattle.header_types.specs.Fields.{SchemaTree};
 ghost use Rattle.table_types.specs.Uploads.{schema_text};
 ghost use Rattle.table_types.specs.Valid.{FitsFrame};
@@ -32,11 +32,15 @@ pub trait Backend {
     /// What it may be after an upload was put that it took.
     ghost leaves: { Self → List ℕ → Self → Type 0 };
 
+    /// What it may be after a call by which it takes nothing: after it was asked something, and after a put that failed.
+    ghost stays: { Self → Self → Type 0 };
+
     /// Hands over an upload. After a fault it was handed over too, but where memory was refused it may not have been.
     fn put(&mut self, upload: &Upload) -> Result<(), BackFault>
         ensures hands { (handed self.new ≡ handed self.old ++ upload.now ∷ [])
             ⊎ ((result ≡ Err OutOfMemory) × (handed self.new ≡ handed self.old)) }
         ensures leaves { OnOk result (leaves self.old upload.now self.new) }
+        ensures stays { OnErr result (stays self.old self.new) }
         ensures fault { IfErr result (λ fault. may_answer self.old (puts upload.now) (failed fault)) };
 
     /// What has become of an upload that was put; it may wait until that is known.
@@ -44,21 +48,24 @@ pub trait Backend {
         ensures decided { IfOk result
             (λ outcome. may_answer self.old (puts upload.now) (decided (told outcome))) }
         ensures fault { IfErr result (λ fault. may_answer self.old (puts upload.now) (failed fault)) }
-        ensures same { handed self.new ≡ handed self.old };
+        ensures same { handed self.new ≡ handed self.old }
+        ensures stays { stays self.old self.new };
 
     /// The bytes that answer a ticket: the frames of the version that it asks for.
     fn get(&mut self, alloc: Global, ticket: &Ticket) -> Result<Vec<u8>, BackFault>
         ensures served { IfOk result (λ bytes. (version : Version)
             × may_answer self.old (serves ticket.now) (served version) × (bytes.items ≡ answer_of version)) }
         ensures fault { IfErr result (λ fault. may_answer self.old (serves ticket.now) (failed fault)) }
-        ensures same { handed self.new ≡ handed self.old };
+        ensures same { handed self.new ≡ handed self.old }
+        ensures stays { stays self.old self.new };
 
     /// What is told of the latest version of a table, and where it is served.
     fn info(&mut self, alloc: Global, table: &str) -> Result<Described, BackFault>
         ensures described { IfOk result (λ found. (description : Description)
             × may_answer self.old (describes table.now) (described description) × Describes found description) }
         ensures fault { IfErr result (λ fault. may_answer self.old (describes table.now) (failed fault)) }
-        ensures same { handed self.new ≡ handed self.old };
+        ensures same { handed self.new ≡ handed self.old }
+        ensures stays { stays self.old self.new };
 
     /// The message with the schema of a table (Apache Arrow, "Schema.fbs"), as it is written, no longer than a frame's
     /// payload.
@@ -67,12 +74,14 @@ pub trait Backend {
             × may_answer self.old (shows table.now) (shown schema) × (bytes.items ≡ schema_text schema)
             × FitsFrame bytes.items) }
         ensures fault { IfErr result (λ fault. may_answer self.old (shows table.now) (failed fault)) }
-        ensures same { handed self.new ≡ handed self.old };
+        ensures same { handed self.new ≡ handed self.old }
+        ensures stays { stays self.old self.new };
 
     /// What is told of the latest version of each table.
     fn list(&mut self, alloc: Global) -> Result<Vec<Described>, BackFault>
         ensures listed { IfOk result (λ all. (descriptions : List Description)
             × may_answer self.old lists (listed descriptions) × DescribeAll all.items descriptions) }
         ensures fault { IfErr result (λ fault. may_answer self.old lists (failed fault)) }
-        ensures same { handed self.new ≡ handed self.old };
+        ensures same { handed self.new ≡ handed self.old }
+        ensures stays { stays self.old self.new };
 }

@@ -19,9 +19,18 @@ use table_types::laws::uploads_have_one_encoding;
 /// alone.
 pub fn uploads_are_handed_behind_an_end<B: Backend>()
     ensures { (text rest : List ℕ) (old new : B) (reply : Reply)
-        → IsDue B.may_answer B.handed B.leaves text rest old new reply
+        → IsDue B.may_answer B.handed B.leaves B.stays text rest old new reply
         → (B.handed new ≡ B.handed old) ⊎ ((upload : List ℕ) × IsCall text (puts upload) rest
         × (B.handed new ≡ B.handed old ++ upload ∷ [])) }
+{}
+
+/// A backend takes an upload only by a call that asks for it, which has come with its end, and no other; by all other calls
+/// it takes nothing.
+pub fn uploads_are_taken_behind_an_end<B: Backend>()
+    ensures { (text rest : List ℕ) (old new : B) (reply : Reply)
+        → IsDue B.may_answer B.handed B.leaves B.stays text rest old new reply
+        → (new ≡ old) ⊎ B.stays old new ⊎ ((upload : List ℕ) × (mid : B) × IsCall text (puts upload) rest
+        × B.leaves old upload mid × B.stays mid new) }
 {}
 
 /// What a backend answers to a request has one reply, and an answer's bytes are those of no refusal.

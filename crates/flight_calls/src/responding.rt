@@ -23,7 +23,7 @@ use uploads::Upload;
 
 /// The frame of what is told of a table.
 fn describe<B: Backend>(alloc: Global, b: &mut B, table: &str) -> Result<Vec<u8>, Refusal>
-    ensures { RespondsBy B.may_answer B.handed B.leaves (describes table.now) b.old b.new result }
+    ensures { RespondsBy B.may_answer B.handed B.leaves B.stays (describes table.now) b.old b.new result }
 {
     match b.info(alloc, table) {
         Ok(described) => info_frame(alloc, &described),
@@ -33,7 +33,7 @@ fn describe<B: Backend>(alloc: Global, b: &mut B, table: &str) -> Result<Vec<u8>
 
 /// The frame of a table's schema.
 fn show<B: Backend>(alloc: Global, b: &mut B, table: &str) -> Result<Vec<u8>, Refusal>
-    ensures { RespondsBy B.may_answer B.handed B.leaves (shows table.now) b.old b.new result }
+    ensures { RespondsBy B.may_answer B.handed B.leaves B.stays (shows table.now) b.old b.new result }
 {
     match b.schema(alloc, table) {
         Ok(schema) => schema_frame(alloc, &schema),
@@ -43,7 +43,7 @@ fn show<B: Backend>(alloc: Global, b: &mut B, table: &str) -> Result<Vec<u8>, Re
 
 /// The frames of what is told of each table.
 fn list<B: Backend>(alloc: Global, b: &mut B) -> Result<Vec<u8>, Refusal>
-    ensures { RespondsBy B.may_answer B.handed B.leaves lists b.old b.new result }
+    ensures { RespondsBy B.may_answer B.handed B.leaves B.stays lists b.old b.new result }
 {
     match b.list(alloc) {
         Ok(all) => info_frames(alloc, &all),
@@ -53,7 +53,7 @@ fn list<B: Backend>(alloc: Global, b: &mut B) -> Result<Vec<u8>, Refusal>
 
 /// The frames of a version.
 fn serve<B: Backend>(alloc: Global, b: &mut B, ticket: &Ticket) -> Result<Vec<u8>, Refusal>
-    ensures { RespondsBy B.may_answer B.handed B.leaves (serves ticket.now) b.old b.new result }
+    ensures { RespondsBy B.may_answer B.handed B.leaves B.stays (serves ticket.now) b.old b.new result }
 {
     match b.get(alloc, ticket) {
         Ok(frames) => Ok(frames),
@@ -90,6 +90,7 @@ fn tell(alloc: Global, upload: &Upload, outcome: Outcome) -> Result<Vec<u8>, Ref
 fn decide<B: Backend>(alloc: Global, b: &mut B, upload: &Upload) -> Result<Vec<u8>, Refusal>
     ensures decided { DecidesBy B.may_answer upload.now b.old result }
     ensures same { B.handed b.new ≡ B.handed b.old }
+    ensures stays { B.stays b.old b.new }
 {
     match b.outcome(upload) {
         Ok(outcome) => tell(alloc, upload, outcome),
@@ -99,7 +100,7 @@ fn decide<B: Backend>(alloc: Global, b: &mut B, upload: &Upload) -> Result<Vec<u
 
 /// Hands an upload over, and gives the frame of what has become of it.
 fn put<B: Backend>(alloc: Global, b: &mut B, upload: &Upload) -> Result<Vec<u8>, Refusal>
-    ensures { RespondsBy B.may_answer B.handed B.leaves (puts upload.now) b.old b.new result }
+    ensures { RespondsBy B.may_answer B.handed B.leaves B.stays (puts upload.now) b.old b.new result }
 {
     match b.put(upload) {
         Ok(()) => decide(alloc, b, upload),
@@ -113,7 +114,7 @@ pub(crate) fn respond<B: Backend>(
     b: &mut B,
     asked: &FlightRequest,
 ) -> Result<Vec<u8>, Refusal>
-    ensures { RespondsBy B.may_answer B.handed B.leaves (request_of asked.now) b.old b.new result }
+    ensures { RespondsBy B.may_answer B.handed B.leaves B.stays (request_of asked.now) b.old b.new result }
 {
     match asked {
         FlightRequest::GetFlightInfo(table) => describe(alloc, b, table),

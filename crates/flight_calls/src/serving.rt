@@ -16,7 +16,7 @@ use std::io::{Read, Write};
 /// Reads a call to its end, or to the first fault that stands in it, and asks the backend once the end was read.
 fn answer<R: Read, B: Backend>(alloc: Global, r: &mut R, b: &mut B) -> Result<Vec<u8>, Refusal>
     ensures { WhereKnown (R.remaining r.old) (R.remaining r.new)
-        (AnswersText B.may_answer B.handed B.leaves b.old b.new result) }
+        (AnswersText B.may_answer B.handed B.leaves B.stays b.old b.new result) }
 {
     match read_call(alloc, r) {
         Ok(asked) => respond(alloc, b, &asked),
@@ -38,7 +38,7 @@ pub fn serve_call<R: Read, W: Write, B: Backend>(
 ) -> Result<(), CallFault>
     ensures { WhereKnown (R.remaining r.old) (R.remaining r.new)
         (λ text rest. WhereKnown (W.contents w.old) (W.contents w.new)
-        (Serves B.may_answer B.handed B.leaves result b.old b.new text rest)) }
+        (Serves B.may_answer B.handed B.leaves B.stays result b.old b.new text rest)) }
 {
     let answered = answer(alloc, r, b);
     send_answer(w, answered)

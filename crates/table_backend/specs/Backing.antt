@@ -7,9 +7,9 @@ use Rattle.ballots.specs.declared.value.Value.TheVariants as agreed
 use Rattle.table_types.specs.Uploads.{Upload, upload_text}
 use Rattle.table_types.specs.Valid.{IsUpload}
 use Rattle.table_types.specs.Answers.{answer_of}
-use Rattle.table_types.specs.Tables.{effective, version_of, outcome_of}
+use Rattle.table_types.specs.Tables.{effective, version_of, Outcome, applied, mismatched, conflicting, unknown, outcome_of}
 use Rattle.table_versions.specs.Values.{AreUploadsIn}
-use Rattle.table_versions.specs.State.{values_limit, TablesState, HasTaken}
+use Rattle.table_versions.specs.State.{values_limit, TablesState, HasTaken, IsSame}
 use Rattle.table_versions.specs.Ledger.{table_names, records_of}
 use Rattle.call_words.specs.declared.back_fault.BackFault.{BackFault}
 use Rattle.call_words.specs.declared.back_fault.BackFault.TheVariants as faults
@@ -81,8 +81,24 @@ abbrev pub MayAnswer : Shelf → Request → BackAnswer → Type 0
 MayAnswer shelf request answer =
     Stands shelf (λ uploads. Answers shelf uploads request answer)
 
--- an upload that was put has been taken behind the values before it, or something was known of it
-abbrev pub Leaves : Shelf → List ℕ → Shelf → Type 0
-Leaves old text new =
-    (values : List Value) × HasTaken old.tables values
-    × (HasTaken new.tables values ⊎ HasTaken new.tables (values ++ agreed.Upload text ∷ []))
+-- the same is held, at the same locations, and as many uploads are taken
+pub record HoldsTheSame (old new : Shelf) : Type 0 where
+  pub tables : IsSame old.tables new.tables
+  pub locations : new.locations ≡ old.locations
+  pub slots : new.slots ≡ old.slots
+
+-- What tables are after a put of an upload of which this was told before: where nothing of its name had come, they have taken one
+-- value more, which is that upload, behind the others; else they hold the same.
+abbrev pub Takes : Outcome → List ℕ → TablesState → TablesState → Type 0
+Takes unknown text old new = (values : List Value) → HasTaken old values → HasTaken new (values ++ agreed.Upload text ∷ [])
+Takes (applied version) text old new = IsSame old new
+Takes mismatched text old new = IsSame old new
+Takes conflicting text old new = IsSame old new
+
+-- what a put leaves that did not fail
+pub record Leaves (old : Shelf) (text : List ℕ) (new : Shelf) : Type 0 where
+  pub tables : (values : List Value) (uploads : List Upload) (upload : Upload) → HasTaken old.tables values
+      → AreUploadsIn values uploads → IsUpload upload → upload_text upload ≡ text
+      → Takes (outcome_of uploads upload) text old.tables new.tables
+  pub locations : new.locations ≡ old.locations
+  pub slots : new.slots ≡ old.slots

@@ -1,9 +1,11 @@
 //! A backend of tables.
 
-ghost use Rattle.std.specs.Prelude.{◌≡◌, ◌++◌, ◌∷◌, [], map, string_bytes, IfOk, IfErr, OnOk, OnErr};
-ghost use Rattle.table_versions.specs.State.{HasTaken};
+ghost use Rattle.std.specs.Prelude.{◌≡◌, ◌++◌, ◌∷◌, List, [], map, string_bytes, IfOk, IfErr, OnOk, OnErr};
+ghost use Rattle.ballots.specs.declared.value.Value.{Value as Agreed};
+ghost use Rattle.ballots.specs.declared.value.Value.TheVariants as agreed;
+ghost use Rattle.table_versions.specs.State.{HasTaken, IsSame};
 ghost use Rattle.call_words.specs.declared.back_fault.BackFault.TheVariants.{OutOfMemory};
-ghost use Rattle.table_backend.specs.Backing.{MayAnswer, Leaves, Stands, PutFault};
+ghost use Rattle.table_backend.specs.Backing.{MayAnswer, Leaves, HoldsTheSame, Stands, PutFault};
 
 use crate::parts::{all_described, described, schema_in, value_of};
 use call_words::BackFault;
@@ -92,8 +94,11 @@ impl TableBackend {
 
     /// Takes an upload, where there is room for one more.
     fn take(&mut self, upload: &Upload) -> Result<(), BackFault>
-        ensures leaves { OnOk result (Leaves self.old upload.now self.new) }
-        ensures same { self.new.handed ≡ self.old.handed }
+        ensures takes { OnOk result ((values : List Agreed) → HasTaken self.old.tables values
+            → HasTaken self.new.tables (values ++ agreed.Upload upload.now ∷ [])) }
+        ensures same { (self.new.handed ≡ self.old.handed) × (self.new.locations ≡ self.old.locations)
+            × (self.new.slots ≡ self.old.slots) }
+        ensures refused { OnErr result (IsSame self.old.tables self.new.tables) }
         ensures fault { IfErr result (λ fault. Stands self.old (λ uploads. PutFault self.old fault)) }
     {
         same_tables_hold_the_same();
@@ -116,7 +121,8 @@ impl TableBackend {
     /// Notes an upload that is handed over.
     fn hand(&mut self, upload: &Upload) -> Result<(), BackFault>
         ensures handed { OnOk result (self.new.handed ≡ self.old.handed ++ upload.now ∷ []) }
-        ensures same { (self.new.tables ≡ self.old.tables) × (self.new.slots ≡ self.old.slots) }
+        ensures same { (self.new.tables ≡ self.old.tables) × (self.new.locations ≡ self.old.locations)
+            × (self.new.slots ≡ self.old.slots) }
         ensures refused { OnErr result (self.new.handed ≡ self.old.handed) }
         ensures fault { IfErr result (λ fault. fault ≡ OutOfMemory) }
     {
@@ -137,12 +143,14 @@ impl Backend for TableBackend {
 
     ghost leaves = { Leaves };
 
+    ghost stays = { HoldsTheSame };
+
     fn put(&mut self, upload: &Upload) -> Result<(), BackFault> {
         let outcome = self.tables.outcome(upload);
         match self.hand(upload) {
             Ok(()) => match outcome {
                 Outcome::Unknown => self.take(upload),
-                _ => Ok(()),
+                Outcome::Applied(_) | Outcome::SchemaMismatch | Outcome::Conflict => Ok(()),
             },
             Err(fault) => Err(fault),
         }

@@ -3,4 +3,4 @@ use Rattle.flight_calls.proofs.laws.uploads_are_handed_behind_an_end.Goals as go
 
 pub returns : goal.returns
 returns g c text rest old new reply due =
-    handed_behind_an_end g.B.Backend.may_answer g.B.Backend.handed g.B.Backend.leaves text rest old new reply due
+    handed_behind_an_end g.B.Backend.may_answer g.B.Backend.handed g.B.Backend.leaves g.B.Backend.stays text rest old new reply due

@@ -14,5 +14,5 @@ info_frames-requires g c =
 pub returns-in-Ok : goal.returns-in-Ok
 returns-in-Ok g c =
     let b = g.B.Backend in
-    listed_by b.may_answer b.handed b.leaves c.args.b.now c.list.new.self c.list.ensures.same c.in-Ok.all.items c.info_frames.result c.in-Ok.ensures.listed
+    listed_by b.may_answer b.handed b.leaves b.stays c.args.b.now c.list.new.self c.list.ensures.same c.list.ensures.stays c.in-Ok.all.items c.info_frames.result c.in-Ok.ensures.listed
     (subst (λ (all : List Described). Frames (map message_of all) c.info_frames.result) c.deref.ensures.value c.info_frames.ensures)

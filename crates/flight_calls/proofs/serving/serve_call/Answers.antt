@@ -4,6 +4,6 @@ use Rattle.flight_calls.proofs.serving.serve_call.Goals as goal
 pub returns : goal.returns
 returns g c =
     let b = g.B.Backend in
-    served b.may_answer b.handed b.leaves c.args.b.now c.answer-answered.new.b c.answer-answered.result c.send_answer.result
+    served b.may_answer b.handed b.leaves b.stays c.args.b.now c.answer-answered.new.b c.answer-answered.result c.send_answer.result
     (g.R.Read.remaining c.args.r.now) (g.R.Read.remaining c.answer-answered.new.r) (g.W.Write.contents c.args.w.now) _
     c.answer-answered.ensures c.send_answer.ensures

@@ -1,4 +1,4 @@
-use Rattle.std.proofs.Common.{subst, ◌++◌, ◌∷◌, [], inr}
+use Rattle.std.proofs.Common.{sym, subst, ◌++◌, ◌∷◌, []}
 use Rattle.table_versions.specs.State.{HasTaken}
 use Rattle.table_backend.proofs.backend.TableBackend.take.Goals as goal
 
@@ -11,13 +11,10 @@ invariant_of-self c =
           c.in-Ok-ready.ensures.ready,
     )
 
-pub returns-in-Ok-ready-clause-leaves : goal.returns-in-Ok-ready-clause-leaves
-returns-in-Ok-ready-clause-leaves c =
-    let values = c.self.invariant.0 in (
-      values,
-      subst (λ b. HasTaken b.tables values) c.self.view_is c.self.invariant.1,
-      inr (subst (λ v. HasTaken c.apply.new.self (values ++ v ∷ [])) c.in-Ok.ensures
-          (c.apply.ensures.takes values (c.in-Ok.value ∷ [])
-          (c.same_tables_hold_the_same.ensures c.self.inside.tables c.ready.new.self values c.in-Ok-ready.ensures.same c.self.invariant.1)
-          c.in-Ok-ready.ensures.ready)),
-    )
+pub returns-in-Ok-ready-clause-takes : goal.returns-in-Ok-ready-clause-takes
+returns-in-Ok-ready-clause-takes c = λ values taken.
+    let held = subst (λ b. HasTaken b.tables values) (sym c.self.view_is) taken in
+    subst (λ v. HasTaken c.apply.new.self (values ++ v ∷ [])) c.in-Ok.ensures
+    (c.apply.ensures.takes values (c.in-Ok.value ∷ [])
+    (c.same_tables_hold_the_same.ensures c.self.inside.tables c.ready.new.self values c.in-Ok-ready.ensures.same held)
+    c.in-Ok-ready.ensures.ready)
