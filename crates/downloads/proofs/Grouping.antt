@@ -38,7 +38,7 @@ abbrev served : List ℕ → List Rows → ServedUpload
 served id batches = record { id = id; batches = batches }
 
 -- no part of this name stands first
-abbrev IsOther : List ℕ → List Part → Type 0
+abbrev pub IsOther : List ℕ → List Part → Type 0
 IsOther id [] = Unit {0}
 IsOther id (part ∷ parts) = id ≢ part.id
 
@@ -83,11 +83,11 @@ other_begins : (id next : List ℕ) (xs : List Rows) (a : List Part) → id ≢ 
 other_begins id next [] a apart = apart
 other_begins id next (x ∷ xs) a apart = apart
 
-others_follow : (one : ServedUpload) (uploads : List ServedUpload) → NamesChange (one ∷ uploads) → IsOther one.id (all_parts uploads)
+pub others_follow : (one : ServedUpload) (uploads : List ServedUpload) → NamesChange (one ∷ uploads) → IsOther one.id (all_parts uploads)
 others_follow one [] change = tt
 others_follow one (next ∷ uploads) change = other_begins one.id next.id next.batches (all_parts uploads) change.0
 
-names_rest : (one : ServedUpload) (uploads : List ServedUpload) → NamesChange (one ∷ uploads) → NamesChange uploads
+pub names_rest : (one : ServedUpload) (uploads : List ServedUpload) → NamesChange (one ∷ uploads) → NamesChange uploads
 names_rest one [] change = tt
 names_rest one (next ∷ uploads) change = change.1
 

@@ -1,3 +1,6 @@
 pub mod OneShape
 pub mod Grouping
 pub mod OneDownload
+pub mod OneMore
+pub mod Taking
+pub mod Come

@@ -1,5 +1,5 @@
 -- Messages are those of one download, where each of them says one thing.
-use Rattle.std.proofs.Common.{◌≡◌, ap, ap₂, subst, sym, ◌∙◌, ℕ, List, [], ◌∷◌, ◌++◌, map, Option, Some, None, refl, arith}
+use Rattle.std.proofs.Common.{◌≡◌, ap, ap₂, subst, sym, ◌∙◌, ℕ, List, [], ◌∷◌, ◌++◌, map, Option, refl, arith}
 use Rattle.std.specs.Prelude.{get_or}
 use Rattle.std.specs.List.{AllByRecursion, flat_map}
 use Rattle.header_types.specs.Fields.{SchemaTree}
@@ -14,7 +14,7 @@ use Rattle.downloads.specs.Downloads.{ServedUpload, Downloaded, IsServed, IsDown
 use Rattle.downloads.specs.Parts.{Part, batch_part, parts_from, parts_of, part_text}
 use Rattle.downloads.proofs.Grouping.{grouped_once, all_texts}
 
-abbrev further : List (List ℕ) → List (List ℕ)
+abbrev pub further : List (List ℕ) → List (List ℕ)
 further [] = []
 further (message ∷ messages) = messages
 
@@ -42,7 +42,7 @@ are_parts : (schema : SchemaTree) (id : List ℕ) (batches : List Rows) → IsId
 are_parts schema id [] named h = ((named, tt), tt)
 are_parts schema id (rows ∷ batches) named h = batches_are_parts schema id (rows ∷ batches) named h
 
-all_are_parts : (schema : SchemaTree) (uploads : List ServedUpload) → AllByRecursion (IsServed schema) uploads → AllByRecursion (IsPart schema) (flat_map parts_of uploads)
+pub all_are_parts : (schema : SchemaTree) (uploads : List ServedUpload) → AllByRecursion (IsServed schema) uploads → AllByRecursion (IsPart schema) (flat_map parts_of uploads)
 all_are_parts schema [] h = tt
 all_are_parts schema (one ∷ uploads) h =
     all_append schema (parts_of one) (flat_map parts_of uploads) (are_parts schema one.id one.batches h.0.named h.0.batches_written) (all_are_parts schema uploads h.1)
@@ -93,16 +93,25 @@ module _ (schemas : SchemasAreOne) (parts : PartsAreOne) where
 
 -- ---- what one message says
 
--- no two schemas have one message, and no two parts do
-pub one_download : ((message : List ℕ) (x y : SchemaTree) → FitsFrame message → IsSchemaMessage message x → IsSchemaMessage message y → x ≡ y)
-    → ((schema : SchemaTree) (message id name : List ℕ) (rows others : Option Rows) → InProfile schema → FitsFrame message → IsUploadMessage schema message id rows
-    → IsUploadMessage schema message name others → (id ≡ name) × (rows ≡ others))
-    → (messages : List (List ℕ)) (x y : Downloaded) → AllByRecursion FitsFrame messages → IsDownload messages x → IsDownload messages y → x ≡ y
-one_download schemas uploads =
-    download_is_one
-    (λ x y profile fits other_profile other_fits fit same. schemas (schema_message x) x y fit (record { is = refl; profile = profile; fits = fits })
-    (record { is = same; profile = other_profile; fits = other_fits }))
-    (λ schema profile fits p q h g fit same.
+abbrev pub SchemaIsOne : Type 0
+SchemaIsOne = (message : List ℕ) (x y : SchemaTree) → FitsFrame message → IsSchemaMessage message x → IsSchemaMessage message y → x ≡ y
+
+abbrev pub UploadIsOne : Type 0
+UploadIsOne = (schema : SchemaTree) (message id name : List ℕ) (rows others : Option Rows) → InProfile schema → FitsFrame message → IsUploadMessage schema message id rows
+    → IsUploadMessage schema message name others → (id ≡ name) × (rows ≡ others)
+
+-- no two schemas have one message
+pub schemas_are_one : SchemaIsOne → SchemasAreOne
+schemas_are_one schemas x y profile fits other_profile other_fits fit same =
+    schemas (schema_message x) x y fit (record { is = refl; profile = profile; fits = fits }) (record { is = same; profile = other_profile; fits = other_fits })
+
+-- and no two parts do
+pub parts_are_one : UploadIsOne → PartsAreOne
+parts_are_one uploads schema profile fits p q h g fit same =
     let one = uploads schema (part_text schema p) p.id q.id p.batch q.batch profile fit (record { is = refl; named = h.0; served = h.1 })
     (record { is = same; named = g.0; served = g.1 }) in
-    ap₂ (λ (id : List ℕ) (batch : Option Rows). part_with id batch) one.0 one.1)
+    ap₂ (λ (id : List ℕ) (batch : Option Rows). part_with id batch) one.0 one.1
+
+pub one_download : SchemaIsOne → UploadIsOne
+    → (messages : List (List ℕ)) (x y : Downloaded) → AllByRecursion FitsFrame messages → IsDownload messages x → IsDownload messages y → x ≡ y
+one_download schemas uploads = download_is_one (schemas_are_one schemas) (parts_are_one uploads)

@@ -1,2 +1,4 @@
 pub mod Downloads
 pub mod Parts
+pub mod Taken
+pub mod Added

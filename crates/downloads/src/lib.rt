@@ -3,6 +3,22 @@
 //! `specs/Downloads` defines which messages are those of an answer to a ticket, and `specs/Parts` what each of them says: the
 //! name of an upload, and a batch of it or none. The laws say that a node's answers are such, and that the messages of uploads,
 //! of which no two that stand side by side have one name, group into them in one way.
+//!
+//! A [`Downloading`] takes the messages of an answer one by one, and gives the [`Download`] that they are:
+//!
+//! ```text
+//! let mut downloading = Downloading::Begun;
+//! for message in messages {
+//!     downloading = downloading.take(alloc, message)?;
+//! }
+//! downloading.finish()
+//! ```
 #![tactic(auto)]
 
+mod adding;
+mod download;
+mod downloading;
 pub mod laws;
+
+pub use download::{Download, ServedUpload};
+pub use downloading::Downloading;

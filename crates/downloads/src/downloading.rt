@@ -1,0 +1,92 @@
+//! The messages of an answer, one after the other.
+
+ghost use Rattle.std.specs.Prelude.{◌≡◌, ◌++◌, ◌∷◌, [], ℕ, List, IfOk};
+ghost use Rattle.header_types.specs.Profile.{InProfile};
+ghost use Rattle.header_types.specs.Views.{schema_of};
+ghost use Rattle.table_types.specs.Valid.{FitsFrame};
+ghost use Rattle.downloads.specs.declared.downloading.Downloading.TheVariants.{Reached};
+ghost use Rattle.downloads.specs.Taken.{IsReady, HasTaken, TellsDownload};
+
+use crate::adding::add;
+use crate::download::Download;
+use served_reading::laws::messages_are_one;
+use served_reading::{schema_in, upload_in};
+use std::alloc::{AllocError, Global};
+
+/// What the messages are that came so far.
+#[derive(Debug, Drop)]
+pub enum Downloading {
+    /// None came.
+    Begun,
+    /// They are those of this download.
+    Reached(Download),
+    /// They are those of no download, whatever follows them.
+    Spoiled,
+}
+
+impl Downloading {
+    /// With one message more, of no more than 4,194,304 bytes. A message of an upload says its name and one of its batches, or
+    /// its name alone: the batches of one name that follow one another are of one upload, and a name alone is of an upload
+    /// without batches.
+    ///
+    /// [`AllocError`]: memory was refused, and what came is let go.
+    pub fn take(self, alloc: Global, message: &[u8]) -> Result<Downloading, AllocError>
+        // The schema is one that uploads can be read of.
+        requires ready { IsReady self }
+        ensures ready { IfOk result IsReady }
+        ensures taken { (messages : List (List ℕ)) → HasTaken self messages → FitsFrame message.now
+            → IfOk result (λ next. HasTaken next (messages ++ message.now ∷ [])) }
+    {
+        match self {
+            Downloading::Begun => begin(alloc, message),
+            Downloading::Reached(download) => go_on(alloc, download, message),
+            Downloading::Spoiled => Ok(Downloading::Spoiled),
+        }
+    }
+
+    /// The download whose messages came, and no others; `None` where they are those of none.
+    pub fn finish(self) -> Option<Download>
+        ensures { (messages : List (List ℕ)) → HasTaken self messages → TellsDownload messages result }
+    {
+        match self {
+            Downloading::Reached(download) => Some(download),
+            Downloading::Begun | Downloading::Spoiled => None,
+        }
+    }
+}
+
+/// With the first message, which says the schema.
+fn begin(alloc: Global, message: &[u8]) -> Result<Downloading, AllocError>
+    ensures ready { IfOk result IsReady }
+    ensures taken { FitsFrame message.now → IfOk result (λ next. HasTaken next (message.now ∷ [])) }
+{
+    match schema_in(alloc, message) {
+        Ok(Some(schema)) => Ok(Downloading::Reached(Download {
+            schema,
+            uploads: Vec::new(alloc),
+        })),
+        Ok(None) => Ok(Downloading::Spoiled),
+        Err(refused) => Err(refused),
+    }
+}
+
+/// With a message behind those of a download.
+fn go_on(alloc: Global, download: Download, message: &[u8]) -> Result<Downloading, AllocError>
+    requires profile { InProfile (schema_of download.schema) }
+    ensures ready { IfOk result IsReady }
+    ensures taken { (messages : List (List ℕ)) → HasTaken (Reached download) messages → FitsFrame message.now
+        → IfOk result (λ next. HasTaken next (messages ++ message.now ∷ [])) }
+{
+    messages_are_one();
+    let said = match upload_in(alloc, &download.schema, message) {
+        Ok(Some(said)) => said,
+        Ok(None) => return Ok(Downloading::Spoiled),
+        Err(refused) => return Err(refused),
+    };
+    let Download { schema, uploads } = download;
+    match add(alloc, uploads, said) {
+        Ok(Some(uploads)) => Ok(Downloading::Reached(Download { schema, uploads })),
+        Ok(None) => Ok(Downloading::Spoiled),
+        Err(refused) => Err(refused),
+    }
+}
