@@ -196,7 +196,7 @@ all_push P [] x all h = (h, tt)
 all_push P (y ∷ ys) x all h = (all.0, all_push P ys x all.1 h)
 
 one_more : (Holds Further : List (List ℕ) → Type 0) (count : ℕ) (here now after message : List ℕ) → HasRead Holds count here now → FitsFrame message → now ≡ in_frame message ++ after
-    → ((messages : List (List ℕ)) → Holds messages → Further (messages ++ message ∷ [])) → HasRead Further (count + 1) here after
+    → ((messages : List (List ℕ)) → Holds messages → FitsFrame message → Further (messages ++ message ∷ [])) → HasRead Further (count + 1) here after
 one_more Holds Further count here now after message h fits front holds = record {
   messages = h.messages ++ message ∷ [];
   parts =
@@ -205,17 +205,24 @@ one_more Holds Further count here now after message h fits front holds = record 
       ∙ ap (λ (l : List ℕ). l ++ after) (flat_map_more in_frame [] h.messages message);
   fit = all_push FitsFrame h.messages message h.fit fits;
   count_is = length_push h.messages message ∙ ap (λ (k : ℕ). k + 1) h.count_is;
-  holds = holds h.messages h.holds;
+  holds = holds h.messages h.holds fits;
 }
+
+-- a message that a frame had room for
+pub short_came : (Holds Further : List (List ℕ) → Type 0) (count : ℕ) (here now after : Option (List ℕ)) (message : Vec ℕ Global) → WhereKnown here now (HasRead Holds count)
+    → WhereKnown now after (ReadsPart (Ok (parts.Message message))) → ((messages : List (List ℕ)) → Holds messages → FitsFrame message.items → Further (messages ++ message.items ∷ []))
+    → WhereKnown here after (HasRead Further (count + 1))
+short_came Holds Further count None now after message h part holds = tt
+short_came Holds Further count (Some here) None after message h part holds = absurd h
+short_came Holds Further count (Some here) (Some now) None message h part holds = absurd part
+short_came Holds Further count (Some here) (Some now) (Some after) message h part holds =
+    one_more Holds Further count here now after message.items h part.0 part.1 holds
 
 pub more_came : (Holds Further : List (List ℕ) → Type 0) (count : ℕ) (here now after : Option (List ℕ)) (message : Vec ℕ Global) → WhereKnown here now (HasRead Holds count)
     → WhereKnown now after (ReadsPart (Ok (parts.Message message))) → ((messages : List (List ℕ)) → Holds messages → Further (messages ++ message.items ∷ []))
     → WhereKnown here after (HasRead Further (count + 1))
-more_came Holds Further count None now after message h part holds = tt
-more_came Holds Further count (Some here) None after message h part holds = absurd h
-more_came Holds Further count (Some here) (Some now) None message h part holds = absurd part
-more_came Holds Further count (Some here) (Some now) (Some after) message h part holds =
-    one_more Holds Further count here now after message.items h part.0 part.1 holds
+more_came Holds Further count here now after message h part holds =
+    short_came Holds Further count here now after message h part (λ messages held fits. holds messages held)
 
 module _ {T : Type 0} (law : NoFrameBeginsAnother) (Gives : List (List ℕ) → T → Type 0) (IsResult Holds : List (List ℕ) → Type 0) (count : ℕ) where
   pub value_came : (here now after : Option (List ℕ)) (value : T) → count < frames_limit → WhereKnown here now (HasRead Holds count)

@@ -5,3 +5,4 @@ pub mod Called
 pub mod Batches
 pub mod Told
 pub mod Apart
+pub mod Served

@@ -1,12 +1,18 @@
 -- What the messages of an answer say: Apache Arrow, "Flight.proto", `FlightInfo` and `PutResult`. What a PutResult has as its
 -- metadata is this service's own.
-use Rattle.std.specs.Prelude.{◌≡◌, ◌≤◌, ◌<◌, ◌^◌, ℕ, List, [], ◌∷◌, Vec}
+use Rattle.std.specs.Prelude.{◌≡◌, ◌≤◌, ◌<◌, ◌^◌, ℕ, List, [], ◌∷◌, Vec, Result, Ok, Err}
 use Rattle.std.specs.declared.alloc.Global.{Global}
 use Rattle.proto_messages.specs.Descriptor.{Values, IsMessage}
 use Rattle.proto_wire.specs.Flight.{info_descriptor}
 use Rattle.proto_wire.specs.FlightValues.{info_values}
 use Rattle.proto_wire.specs.declared.flight.info.FlightInfo.{FlightInfo}
+use Rattle.table_types.specs.Tables.{Version}
 use Rattle.call_words.specs.Results.{put_result}
+use Rattle.downloads.specs.declared.download.Download.{Download}
+use Rattle.downloads.specs.Downloads.{downloaded_of}
+use Rattle.downloads.specs.Taken.{downloaded_in}
+use Rattle.client_calls.specs.declared.client_fault.ClientFault.{ClientFault}
+use Rattle.client_calls.specs.declared.client_fault.ClientFault.TheVariants as faults
 
 -- ---- one message
 
@@ -39,3 +45,13 @@ pub record GivesVersion (id : List ℕ) (messages : List (List ℕ)) (version : 
 
 abbrev pub HasVersion : List ℕ → List (List ℕ) → Type 0
 HasVersion id messages = (version : ℕ) × GivesVersion id messages version
+
+-- ---- the batches of a version
+
+-- What a call gives of the answer that is of this version, with this behind it: what is served of the version, and then the same
+-- is left. Where a read failed or memory was refused nothing is said; and nothing else is told.
+abbrev pub GivesServed : Version → List ℕ → Result Download ClientFault → List ℕ → Type 0
+GivesServed version rest (Ok download) left = (downloaded_in download ≡ downloaded_of version) × (left ≡ rest)
+GivesServed version rest (Err (faults.Status code words)) left = ⊥
+GivesServed version rest (Err faults.BadAnswer) left = ⊥
+GivesServed version rest (Err (faults.Call fault)) left = Unit {0}

@@ -6,6 +6,7 @@
 #![tactic(auto)]
 
 mod client_fault;
+mod getting;
 mod info;
 pub mod laws;
 mod one;
@@ -17,6 +18,8 @@ mod uploading;
 mod versions;
 
 pub use client_fault::ClientFault;
+pub use downloads::{Download, ServedUpload};
+pub use getting::call_get;
 pub use info::call_info;
 pub use parts::MAX_ANSWER_FRAMES;
 pub use putting::call_put;

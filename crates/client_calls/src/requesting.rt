@@ -6,15 +6,16 @@ ghost use Rattle.proto_wire.specs.FlightValues.{descriptor_values};
 ghost use Rattle.call_words.specs.Methods.{path_text};
 ghost use Rattle.call_words.specs.Names.{table_descriptor};
 ghost use Rattle.call_words.specs.Texts.{call_text};
-ghost use Rattle.client_calls.specs.Requests.{table_message, info_request};
+ghost use Rattle.client_calls.specs.Requests.{table_message, info_request, ticket_message, get_request};
 ghost use Rattle.client_calls.specs.Sending.{Sends, IsText};
 
 use crate::sending::{path_of, send_end, send_message};
 use call_words::{CallFault, Method};
 use proto_messages::ProtoMessage;
-use proto_wire::{DescriptorType, FlightDescriptor};
+use proto_wire::{DescriptorType, FlightDescriptor, Ticket as TicketMessage};
 use std::alloc::{AllocError, Global};
 use std::io::Write;
+use tickets::Ticket;
 
 /// Writes a request of one message.
 fn send_one<W: Write>(w: &mut W, path: &[u8], message: &[u8]) -> Result<(), CallFault>
@@ -88,4 +89,33 @@ pub(crate) fn send_info_request<W: Write>(
         Err(fault) => return Err(fault),
     };
     send_request(alloc, w, Method::GetFlightInfo, &message)
+}
+
+/// The message that asks for a version of a table.
+fn ticket_message(alloc: Global, ticket: &Ticket) -> Result<Vec<u8>, CallFault>
+    ensures { IsText (ticket_message ticket.now) result }
+{
+    let Ok(bytes) = ticket.encode(alloc) else {
+        return Err(CallFault::OutOfMemory);
+    };
+    let mut message = Vec::new(alloc);
+    match (TicketMessage { ticket: bytes }).encode(&mut message) {
+        Ok(()) => Ok(message),
+        Err(_) => Err(CallFault::OutOfMemory),
+    }
+}
+
+/// Writes the request for a version of a table.
+pub(crate) fn send_get_request<W: Write>(
+    alloc: Global,
+    w: &mut W,
+    ticket: &Ticket,
+) -> Result<(), CallFault>
+    ensures { WhereKnown (W.contents w.old) (W.contents w.new) (Sends result (get_request ticket.now)) }
+{
+    let message = match ticket_message(alloc, ticket) {
+        Ok(message) => message,
+        Err(fault) => return Err(fault),
+    };
+    send_request(alloc, w, Method::DoGet, &message)
 }
