@@ -9,6 +9,10 @@
 #[cfg(test)]
 mod asked;
 #[cfg(test)]
+mod gotten;
+#[cfg(test)]
+mod samples;
+#[cfg(test)]
 mod served;
 #[cfg(test)]
 mod support;

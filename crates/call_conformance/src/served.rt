@@ -14,7 +14,11 @@ use uploads::Upload;
 const CALLS: u64 = 2_000;
 
 /// The answer to a request.
-fn answer(alloc: Global, backend: &mut TableBackend, request: &[u8]) -> Result<Vec<u8>, Fail> {
+pub(crate) fn answer(
+    alloc: Global,
+    backend: &mut TableBackend,
+    request: &[u8],
+) -> Result<Vec<u8>, Fail> {
     let mut reader = request;
     let mut writer = Vec::new(alloc);
     match serve_call(alloc, &mut reader, &mut writer, backend) {
@@ -44,7 +48,7 @@ fn info_request(alloc: Global, table: &str) -> Result<Vec<u8>, Fail> {
 }
 
 /// The version that the backend makes of an upload, as its client is told.
-fn put(alloc: Global, backend: &mut TableBackend, upload: &Upload) -> Result<u64, Fail> {
+pub(crate) fn put(alloc: Global, backend: &mut TableBackend, upload: &Upload) -> Result<u64, Fail> {
     let request = put_request(alloc, upload)?;
     let answer = answer(alloc, backend, request.as_slice())?;
     let mut reader = answer.as_slice();
@@ -119,7 +123,7 @@ fn fails(rt: &HostRuntime, room: usize) -> Result<bool, Fail> {
     let mut backend = backend(rt)?;
     let request = put_request(rt.alloc(), &upload(rt.alloc())?)?;
     let mut reader = request.as_slice();
-    let served = serve_call(rt.alloc(), &mut reader, &mut Narrow { room }, &mut backend);
+    let served = serve_call(rt.alloc(), &mut reader, &mut Narrow { room }, &mut *backend);
     Ok(served == Err(CallFault::Write) && backend.tables().taken() == 1)
 }
 

@@ -38,10 +38,12 @@ pub(crate) fn upload(alloc: Global) -> Result<Upload, Fail> {
     }
 }
 
-/// A backend that has taken nothing, at one location.
-pub(crate) fn backend(rt: &HostRuntime) -> Result<TableBackend, Fail> {
+/// A backend that has taken nothing, at one location. It is in a box, since a test that held it as it is would be proved long.
+pub(crate) fn backend(rt: &HostRuntime) -> Result<Box<TableBackend>, Fail> {
     let mut locations = Vec::new(rt.alloc());
     locations.push(String::from_str(rt.alloc(), "plain+tcp://127.0.0.1:42000")?)?;
     let hashing = RandomState::new(rt)?;
-    Ok(TableBackend::new(rt.alloc(), hashing, 100_000, locations))
+    let backend = TableBackend::new(rt.alloc(), hashing, 100_000, locations);
+    let boxed = Box::new(rt.alloc(), backend)?;
+    Ok(boxed)
 }
