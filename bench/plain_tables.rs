@@ -20,7 +20,7 @@ const MAX_FRAME: usize = 4_194_304;
 
 // ---- fields
 
-fn put_varint(out: &mut Vec<u8>, mut number: u64) {
+pub(crate) fn put_varint(out: &mut Vec<u8>, mut number: u64) {
     while number >= 128 {
         out.push(number as u8 | 128);
         number >>= 7;
@@ -45,7 +45,7 @@ fn field_length(number: u64, count: usize) -> usize {
 }
 
 /// A number in its shortest encoding.
-fn take_varint(bytes: &mut &[u8]) -> Option<u64> {
+pub(crate) fn take_varint(bytes: &mut &[u8]) -> Option<u64> {
     let mut number = 0;
     for place in 0..10 {
         let (&byte, rest) = bytes.split_first()?;
@@ -71,7 +71,7 @@ pub(crate) fn take_bytes<'a>(bytes: &mut &'a [u8], number: u64) -> Option<&'a [u
 
 // ---- uploads
 
-fn is_table_name(name: &[u8]) -> bool {
+pub(crate) fn is_table_name(name: &[u8]) -> bool {
     let is_name_byte = |byte: &u8| byte.is_ascii_alphanumeric() || matches!(byte, b'_' | b'.' | b'-');
     name.len() <= MAX_NAME_BYTES && name.iter().all(is_name_byte)
 }
@@ -105,7 +105,7 @@ fn parts(mut text: &[u8]) -> Option<Parts<'_>> {
     is_served.then_some(Parts { table: std::str::from_utf8(table).ok()?, id, schema, batches })
 }
 
-fn head_of(bytes: &[u8]) -> Option<BatchHead> {
+pub(crate) fn head_of(bytes: &[u8]) -> Option<BatchHead> {
     match plain_headers::read(bytes) {
         Ok(Header::Batch(head)) => Some(head),
         _ => None,
@@ -131,7 +131,7 @@ struct Upload {
     frames: Vec<u8>,
 }
 
-fn put_frame(out: &mut Vec<u8>, header: &[u8], metadata: &[u8], body: &[u8]) {
+pub(crate) fn put_frame(out: &mut Vec<u8>, header: &[u8], metadata: &[u8], body: &[u8]) {
     let length = field_length(2, header.len()) + field_length(3, metadata.len()) + field_length(1_000, body.len());
     out.push(0);
     out.extend_from_slice(&(length as u32).to_be_bytes());
@@ -185,10 +185,10 @@ pub(crate) enum Outcome {
 
 pub(crate) struct Table {
     schema: Schema,
-    schema_frame: Vec<u8>,
+    pub(crate) schema_frame: Vec<u8>,
     pub(crate) frames: Vec<Vec<u8>>,
-    records: u64,
-    total_bytes: u64,
+    pub(crate) records: u64,
+    pub(crate) total_bytes: u64,
 }
 
 #[derive(Default)]
@@ -270,7 +270,7 @@ impl Tables {
 
 // ---- uploads to be taken
 
-fn int8() -> Schema {
+pub(crate) fn int8() -> Schema {
     let field = Field {
         name: "a".to_owned(),
         nullable: true,
@@ -281,7 +281,7 @@ fn int8() -> Schema {
     Schema { fields: Vec::from([field]), metadata: Vec::new() }
 }
 
-fn batch_of(rows: usize) -> Vec<u8> {
+pub(crate) fn batch_of(rows: usize) -> Vec<u8> {
     let mut body: Vec<u8> = (0..rows).map(|place| (place % 251) as u8).collect();
     body.resize(rows.next_multiple_of(8), 0);
     let head = BatchHead {

@@ -1,0 +1,132 @@
+#!/usr/bin/env bash
+# Times Flight calls that `call_server` serves over two pipes, beside the same calls in plain Rust (bench/plain_calls.rs,
+# rustc -O): DoGet of a version of 64 uploads of one batch of 1 MiB, beside a raw copy of the answer's bytes too; DoPut of
+# 15 batches of 1 MiB; and GetFlightInfo of one table. First it shows that both programs answer with the same bytes. Then
+# it times `flightd replay` of 500 uploads that a leader of three members has decided, 10,000 events, beside `run` itself
+# of the same events by `flight_bench`. Each line gives the processor time of one call, the least of five runs of each
+# program in turn, less that of a run without these calls; and how many bytes the server held at most.
+#
+# Seen on four processors that three other tasks shared:
+#
+#                              ours   plain Rust  ratio
+#   DoGet of 64 MiB         78.5 ms      17.9 ms   4.39   816 MiB/s, 0.27 of a raw copy's speed (20.9 ms)
+#   DoPut of 15 MiB         65.7 ms      53.5 ms   1.23   228 MiB/s; 248 MiB held for 120 MiB in plain Rust and here
+#   GetFlightInfo            5.5 us       6.3 us   0.88
+#
+# What costs in DoGet: an answer is made whole, one copy of all its frames, and then written through the writer's own
+# buffer, where plain Rust writes the frames where they stand. Of replay nothing was measured yet.
+set -euo pipefail
+cd "$(dirname "${BASH_SOURCE[0]}")/.."
+work=$(mktemp -d)
+trap 'rm -rf "$work"' EXIT
+rustc -O --edition 2021 -o "$work/calls" bench/plain_calls.rs
+rustc -O --edition 2021 -o "$work/runs" bench/plain_runs.rs
+for program in "call_server" "flightd replay examples/no_loss.json" "flight_bench --version"; do
+  name=${program%% *}
+  words=${program#"$name"}
+  words=${words/ examples/ $PWD/examples}
+  # shellcheck disable=SC2086
+  if ! (cd "crates/$name" && rt run -- $words) </dev/null >"$work/log" 2>&1; then
+    cat "$work/log" >&2
+    exit 1
+  fi
+done
+
+PYTHONPATH=bench python3 -B - "$PWD/crates" "$work" <<'P'
+import json
+import os
+import subprocess
+import sys
+
+crates, work = sys.argv[1:]
+SERVER, PLAIN, MIB = f"{crates}/call_server/out/call_server", f"{work}/calls", 2**20
+UPLOADS, EVENTS = 500, 20
+
+
+def generated(path, *calls):
+    """A file of these calls."""
+    with open(path, "wb") as out:
+        for words in calls:
+            out.write(subprocess.run([PLAIN, "generate", *map(str, words)], stdout=subprocess.PIPE, check=True).stdout)
+    return path
+
+
+def served(words, path, keep=None):
+    """The processor time of a run whose input is this file and whose output goes through a pipe, and the most that it held."""
+    with open(path, "rb") as source, open(keep or os.devnull, "wb") as sink:
+        child = subprocess.Popen(words, stdin=source, stdout=subprocess.PIPE)
+        drain = subprocess.Popen(["cat"], stdin=child.stdout, stdout=sink)
+        child.stdout.close()
+        _, status, usage = os.wait4(child.pid, 0)
+        drain.wait()
+    if status:
+        sys.exit(f"calls.sh: {words} ended with {status} over {path}")
+    return usage.ru_utime + usage.ru_stime, usage.ru_maxrss * 1024
+
+
+def least(programs, path):
+    """For each program the least processor time of five runs in turn, and the most that it held."""
+    runs = [[served(words, path) for words in programs] for _ in range(5)]
+    return [(min(it[0] for it in of_one), max(it[1] for it in of_one)) for of_one in zip(*runs)]
+
+
+def timed(name, count, path, without, size=0):
+    """Prints what one call costs both programs; the seconds of ours."""
+    programs = ([SERVER], [PLAIN])
+    costs = []
+    for (whole, held), (empty, _) in zip(least(programs, path), least(programs, without)):
+        costs.append((max(whole - empty, 1e-9) / count, held))
+    (ours, held), (plain, plain_held) = costs
+    each = [f"{cost * 1e6:,.1f} us ({size / MIB / cost:,.0f} MiB/s)" if size else f"{cost * 1e6:,.1f} us" for cost in (ours, plain)]
+    print(f"{name}: call_server {each[0]}, plain Rust {each[1]}, ratio {ours / plain:.2f}; held {held / MIB:.1f} MiB and {plain_held / MIB:.1f} MiB")
+    return ours
+
+
+puts = [("put", name, 1, MIB) for name in range(1, 65)]
+small = generated(f"{work}/small", ("put", 1, 1, 3))
+files = {
+    "nothing": generated(f"{work}/nothing"),
+    "put": generated(f"{work}/put", *puts),
+    "get": generated(f"{work}/get", *puts, *[("get", 64)] * 8),
+    "large": generated(f"{work}/large", *[("put", name, 15, MIB) for name in range(1, 9)]),
+    "info": generated(f"{work}/info", ("put", 1, 1, 3), ("info", 10_000)),
+}
+for path in (*files.values(), small):
+    served([SERVER], path, f"{work}/ours"), served([PLAIN], path, f"{work}/theirs")
+    if subprocess.run(["cmp", f"{work}/ours", f"{work}/theirs"]).returncode:
+        sys.exit(f"calls.sh: the programs answer {path} otherwise")
+print("all answers agree")
+
+answer = f"{work}/answer"
+served([PLAIN], files["get"], answer)
+of_gets = os.path.getsize(answer)
+served([PLAIN], files["put"], f"{work}/ours")
+size = (of_gets - os.path.getsize(f"{work}/ours")) // 8
+got = timed("DoGet of 64 MiB", 8, files["get"], files["put"], size)
+with open(answer, "rb") as whole, open(f"{work}/one", "wb") as one:
+    whole.seek(of_gets - size)
+    one.write(whole.read())
+copied = min(served([PLAIN, "copy", "8", f"{work}/one"], os.devnull)[0] for _ in range(5)) / 8
+print(f"a raw copy of that answer: {copied * 1e6:,.1f} us ({size / MIB / copied:,.0f} MiB/s), DoGet at {copied / got:.2f} of its speed")
+timed("DoPut of 15 MiB", 8, files["large"], files["nothing"], 15 * MIB)
+timed("GetFlightInfo", 10_000, files["info"], small)
+
+everyone, events, prepare = range(3), [], 0
+for upload in range(UPLOADS):
+    events += [["put", 0, upload], ["tick", 0, 0]]
+    events += [["deliver", node, prepare] for node in everyone]
+    events += [["deliver", 0, prepare + 1 + node] for node in everyone]
+    events += [["deliver", node, prepare + 4] for node in everyone]
+    events += [["deliver", node, prepare + 5 + sender] for sender in everyone for node in everyone]
+    prepare += 8
+uploads = [{"table": "table_000", "id": f"{it:032x}", "values": [[it % 100, 1, 2]]} for it in range(UPLOADS)]
+with open(f"{work}/schedule.json", "w") as out:
+    json.dump({"members": 3, "slot_limit": UPLOADS, "uploads": uploads, "events": events}, out)
+with open(f"{work}/events", "wb") as out:
+    out.write(subprocess.run([f"{work}/runs", "generate", "3", str(UPLOADS), "1", "3"], stdout=subprocess.PIPE, check=True).stdout)
+replay, bench = f"{crates}/flightd/out/flightd", f"{crates}/flight_bench/out/flight_bench"
+least_of = lambda words: min(served(words, os.devnull)[0] for _ in range(9))
+replayed = least_of([replay, "replay", f"{work}/schedule.json"])
+ran = (least_of([bench, "run-events", "11", f"{work}/events"]) - least_of([bench, "run-events", "1", f"{work}/events"])) / 10
+print(f"replay of {UPLOADS * EVENTS:,} events: {replayed * 1e3:,.1f} ms, run itself {ran * 1e3:,.1f} ms, ratio {replayed / ran:.2f}")
+P
