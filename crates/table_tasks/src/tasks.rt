@@ -25,13 +25,19 @@ fn take(tables: &mut Tables, value: &Value) -> Result<(), TableTaskFault> {
     Ok(())
 }
 
+/// Tables that took nothing.
+fn no_tables(alloc: Global, hashing: RandomState) -> Result<Box<Tables>, AllocError> {
+    let tables = Box::new(alloc, Tables::new(alloc, hashing))?;
+    Ok(tables)
+}
+
 /// The tables that the values make, which were taken one by one.
 fn tables_of(
     alloc: Global,
     hashing: RandomState,
     values: &[Value],
-) -> Result<Tables, TableTaskFault> {
-    let mut tables = Tables::new(alloc, hashing);
+) -> Result<Box<Tables>, TableTaskFault> {
+    let mut tables = no_tables(alloc, hashing)?;
     for value in values {
         take(&mut tables, value)?;
     }
