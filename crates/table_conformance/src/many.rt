@@ -1,8 +1,7 @@
 //! Thousands of uploads, and copies of one.
 
-use crate::support::{small, value_of};
+use crate::support::{no_tables, small, value_of};
 use std::alloc::{AllocError, Global};
-use std::hash::RandomState;
 use std::test::Fail;
 use table_versions::{Outcome, Tables};
 use tickets::Ticket;
@@ -32,8 +31,8 @@ fn table_of(number: u64) -> &'static str {
 }
 
 /// Tables that took all uploads, one by one.
-fn filled(rt: &HostRuntime) -> Result<Tables, Fail> {
-    let mut tables = Tables::new(rt.alloc(), RandomState::new(rt)?);
+fn filled(rt: &HostRuntime) -> Result<Box<Tables>, Fail> {
+    let mut tables = no_tables(rt)?;
     for number in 0..UPLOADS {
         let upload = small(rt.alloc(), table_of(number), number)?;
         take(&mut tables, &upload)?;

@@ -1,13 +1,12 @@
 //! Calls that are refused memory, and then are asked again: a refusal changes nothing, and takes no other fault's place.
 //! Run with every allocation refused in turn, each test ends as before or for want of memory.
 
-use crate::support::{batches, id, schema, small, value_of};
+use crate::support::{batches, id, no_tables, schema, small, value_of};
 use ballots::Value;
 use batch_columns::Batch;
 use bytes::Bytes;
 use header_types::Schema;
 use std::alloc::{AllocError, Global};
-use std::hash::RandomState;
 use std::test::Fail;
 use table_versions::{Outcome, TableInfo, Tables};
 use tickets::{Ticket, TicketFault};
@@ -171,11 +170,11 @@ fn three(alloc: Global) -> Result<Vec<Value>, Fail> {
 }
 
 /// Tables that took one upload, and then three.
-fn taken(rt: &HostRuntime) -> Result<Tables, Fail> {
+fn taken(rt: &HostRuntime) -> Result<Box<Tables>, Fail> {
     let alloc = rt.alloc();
     let first = value_of(&small(alloc, "r", 0)?)?;
     let three = three(alloc)?;
-    let mut tables = Tables::new(alloc, RandomState::new(rt)?);
+    let mut tables = no_tables(rt)?;
     take(&mut tables, std::slice::from_ref(&first))?;
     take(&mut tables, three.as_slice())?;
     Ok(tables)

@@ -5,7 +5,9 @@ use batch_columns::{Batch, Column};
 use bytes::Bytes;
 use header_types::{Field, Schema, Ty};
 use std::alloc::{AllocError, Global};
+use std::hash::RandomState;
 use std::test::Fail;
+use table_versions::Tables;
 use uploads::{Upload, UploadFault};
 
 /// A schema of one column of Binary.
@@ -77,4 +79,11 @@ fn value_in(bytes: Bytes) -> Result<Value, Fail> {
 /// The value that nodes agree on of an upload.
 pub(crate) fn value_of(upload: &Upload) -> Result<Value, Fail> {
     value_in(upload.encode()?)
+}
+
+/// Tables that took nothing, in a box: a test that held them as they are would be proved long.
+pub(crate) fn no_tables(rt: &HostRuntime) -> Result<Box<Tables>, Fail> {
+    let hashing = RandomState::new(rt)?;
+    let tables = Box::new(rt.alloc(), Tables::new(rt.alloc(), hashing))?;
+    Ok(tables)
 }
