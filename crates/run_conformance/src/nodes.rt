@@ -11,16 +11,22 @@ use std::test::Fail;
 /// How many slots there are.
 const SLOTS: u32 = 4;
 
+// The node in a box: a test that held it as it is would be proved long.
+fn boxed(alloc: Global, node: Node) -> Result<Box<Node>, Fail> {
+    let node = Box::new(alloc, node)?;
+    Ok(node)
+}
+
 /// Node 0, 1 or 2 of three, as these records left it.
 pub(crate) fn node(
     alloc: Global,
     hashing: RandomState,
     number: u8,
     records: &[Record],
-) -> Result<Node, Fail> {
+) -> Result<Box<Node>, Fail> {
     let me = NodeId::new(number).ok_or("no node")?;
     match Node::open(alloc, me, members(3)?, SLOTS, hashing, records) {
-        Ok(node) => Ok(node),
+        Ok(node) => boxed(alloc, node),
         Err(Refusal::OutOfMemory) => Err(Fail::from("OutOfMemory")),
         Err(_) => Err(Fail::from("no node is opened")),
     }
@@ -64,7 +70,7 @@ pub(crate) fn take(
 /// A node, and what it kept.
 #[derive(Drop)]
 pub(crate) struct Member {
-    node: Node,
+    node: Box<Node>,
     kept: Vec<Record>,
 }
 
@@ -80,7 +86,7 @@ impl Member {
         Ok(())
     }
 
-    fn set_node(&mut self, node: Node) {
+    fn set_node(&mut self, node: Box<Node>) {
         self.node = node;
     }
 }
