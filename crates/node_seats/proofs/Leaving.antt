@@ -146,6 +146,13 @@ done_by old mid new views input planned records kept before after count is has c
   counted = counted ∙ ap (λ (ms : List Message). length ms) (sym is.sends);
 }
 
+-- an input for which something is planned may want memory
+pub may_want_memory : (node : NodeState) (views : Views) (input : Input) (planned : Planned) → IsPlanned node views input planned
+    → IsRefused node views input refusal.OutOfMemory
+may_want_memory node views (due.Put text) planned is = (is.plan, is.due)
+may_want_memory node views (due.Tick left) planned is = (is.plan, is.due)
+may_want_memory node views (due.Deliver message) planned is = is.due.0
+
 -- ---- a seat that takes an input
 
 -- what is told of how many messages went out, or of a refusal

@@ -21,6 +21,7 @@ use stable_records::MemoryStable;
 use std::alloc::{AllocError, Global};
 use std::hash::RandomState;
 use std::marker::Model;
+use std::mem;
 use tickets::Ticket;
 use uploads::Upload;
 
@@ -176,7 +177,7 @@ impl Seat {
         ensures config { self.new.config ≡ self.old.config }
         ensures records { self.new.records ≡ self.old.records }
     {
-        self.node = node;
+        drop(mem::replace(&mut self.node, node));
     }
 
     // A client hands in an upload.
@@ -199,6 +200,7 @@ impl Seat {
     {
         let first = sent.len() as u64;
         let Some(node) = &mut self.node else {
+            drop(input);
             return Gave::Refused(Reason::Down);
         };
         match take(self.alloc, node, &mut self.store, sent, input) {
@@ -239,6 +241,7 @@ impl Seat {
         ensures config { self.new.config ≡ self.old.config }
     {
         let Some(node) = &mut self.node else {
+            drop(input);
             return;
         };
         keep_alone(node, &mut self.store, input);
