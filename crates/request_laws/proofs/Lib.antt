@@ -1,0 +1,4 @@
+pub mod Names
+pub mod Sizes
+pub mod Messages
+pub mod Calls

@@ -1,0 +1,8 @@
+//! What a client writes for a call is the call that it means, as a service reads it (Apache Arrow, "Arrow Flight RPC",
+//! "RPC Methods and Request Patterns").
+//!
+//! What a client writes is defined in `client_calls`, and what a text asks for as a call in `call_reading`, apart from
+//! each other. Here the two are held together: there is no code, but the laws.
+#![tactic(auto)]
+
+pub mod laws;
