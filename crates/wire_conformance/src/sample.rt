@@ -13,7 +13,7 @@ use proto_messages::{
 use std::alloc::{AllocError, Global};
 
 /// A field of each kind of number.
-#[derive(Debug, PartialEq, Eq, Drop)]
+#[derive(Drop)]
 pub struct Numbers {
     /// An enumeration, field 1.
     pub kind: i32,
@@ -26,7 +26,7 @@ pub struct Numbers {
 }
 
 /// A field of each kind of bytes.
-#[derive(Debug, PartialEq, Eq, Drop)]
+#[derive(Drop)]
 pub struct Words {
     /// Bytes, field 1.
     pub payload: Vec<u8>,

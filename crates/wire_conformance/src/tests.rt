@@ -1,6 +1,7 @@
 //! The calls of `proto_fields`, `proto_messages` and `grpc_frames` of which rows cannot tell: readers and writers that
 //! fail, long inputs, a message of our own, and bytes that are shared.
 
+mod appended;
 mod frame_streams;
 mod frames;
 mod one_encoding;

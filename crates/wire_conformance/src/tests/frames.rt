@@ -1,6 +1,6 @@
 //! Frames of which rows cannot tell: the longest payload, a writer that takes no byte, and the names of all faults.
 
-use super::texts::{is_told, spelled};
+use super::texts::are_equal;
 use grpc_frames::{
     END_FLAG, Frame, FrameFault, MAX_FRAME_PAYLOAD, MESSAGE_FLAG, read_frame, write_frame,
 };
@@ -34,47 +34,46 @@ pub fn read<R: Read>(alloc: Global, reader: &mut R) -> Result<Option<Frame>, Fra
     read_frame(alloc, reader)
 }
 
-/// `write_frame`, where such a frame may be written.
-pub fn write<W: Write>(
-    writer: &mut W,
-    flag: u8,
-    payload: &[u8],
-) -> Result<Result<(), FrameFault>, Fail> {
+/// `write_frame`, where such a frame may be written; else why such a frame would be refused.
+pub fn write<W: Write>(writer: &mut W, flag: u8, payload: &[u8]) -> Result<(), FrameFault> {
     if flag != MESSAGE_FLAG && flag != END_FLAG {
-        return Err(Fail::from("no flag"));
+        return Err(FrameFault::BadFlag);
     }
     if payload.len() > MAX_FRAME_PAYLOAD {
-        return Err(Fail::from("too long a payload"));
+        return Err(FrameFault::TooLong);
     }
-    Ok(write_frame(writer, flag, payload))
+    write_frame(writer, flag, payload)
 }
 
-/// The faults' names as they are printed.
+/// All faults.
+const FAULTS: [FrameFault; 6] = [
+    FrameFault::Truncated,
+    FrameFault::BadFlag,
+    FrameFault::Compressed,
+    FrameFault::TooLong,
+    FrameFault::Io,
+    FrameFault::OutOfMemory,
+];
+
+/// The faults' names as they are printed, each with a space behind it.
 fn names(alloc: Global) -> Result<String, AllocError> {
-    let text = (
-        FrameFault::Truncated,
-        FrameFault::BadFlag,
-        FrameFault::Compressed,
-        FrameFault::TooLong,
-    );
-    let other = (FrameFault::Io, FrameFault::OutOfMemory);
-    format!(in alloc;
-        "{} {} {} {} {} {}",
-        text.0, text.1, text.2, text.3, other.0, other.1
-    )
+    let mut names = String::new(alloc);
+    for fault in FAULTS {
+        write!(names, "{fault} ")?;
+    }
+    Ok(names)
 }
 
 #[test]
 fn faults_print_their_names(rt: HostRuntime) -> Result<(), Fail> {
     let names = names(rt.alloc())?;
-    let want = "Truncated BadFlag Compressed TooLong Io OutOfMemory";
-    assert!(rt; is_told(names.as_str(), want));
+    assert!(rt; names.as_str() == "Truncated BadFlag Compressed TooLong Io OutOfMemory ");
     Ok(())
 }
 
 /// The text of a frame with the longest payload.
-fn longest_frame(alloc: Global) -> Result<Vec<u8>, Fail> {
-    let mut bytes = spelled(alloc, "80 00400000")?;
+fn longest_frame(alloc: Global) -> Result<Vec<u8>, AllocError> {
+    let mut bytes = Vec::from_slice(alloc, b"\x80\x00\x40\x00\x00")?;
     bytes.resize(4_194_309, 7)?;
     Ok(bytes)
 }
@@ -86,23 +85,39 @@ fn is_longest(frame: &Frame) -> bool {
     frame.flag == END_FLAG && len == 4_194_304 && len == MAX_FRAME_PAYLOAD && are_sevens
 }
 
-#[test]
-fn reads_the_longest_payload(rt: HostRuntime) -> Result<(), Fail> {
-    let bytes = longest_frame(rt.alloc())?;
-    let mut rest = bytes.as_slice();
-    let frame = read(rt.alloc(), &mut rest)?.ok_or("a frame stands there")?;
-    assert!(rt; is_longest(&frame) && rest.is_empty());
-    Ok(())
+/// Whether the longest one was read.
+fn is_longest_read(read: &Result<Option<Frame>, FrameFault>) -> bool {
+    match read {
+        Ok(Some(frame)) => is_longest(frame),
+        _ => false,
+    }
+}
+
+/// Whether the text is the longest frame and nothing more.
+fn is_longest_alone(alloc: Global, text: &[u8]) -> bool {
+    let mut rest = text;
+    is_longest_read(&read(alloc, &mut rest)) && rest.is_empty()
 }
 
 #[test]
-fn a_writer_that_takes_no_byte_fails(rt: HostRuntime) -> Result<(), Fail> {
+fn reads_the_longest_payload(rt: HostRuntime) -> Result<(), Fail> {
+    let bytes = longest_frame(rt.alloc())?;
+    assert!(rt; is_longest_alone(rt.alloc(), bytes.as_slice()));
+    Ok(())
+}
+
+/// Whether a frame of nine bytes fails in a writer that takes seven of them.
+fn fails_when_full(alloc: Global) -> bool {
     let mut writer = Full {
-        written: Vec::new(rt.alloc()),
+        written: Vec::new(alloc),
         room: 7,
     };
-    let ending = write(&mut writer, MESSAGE_FLAG, b"\x08\x01\x28\x01")?;
-    assert!(rt; matches!(ending, Err(FrameFault::Io)));
-    assert!(rt; writer.written.as_slice() == b"\x00\x00\x00\x00\x04\x08\x01".as_slice());
-    Ok(())
+    let ending = write(&mut writer, MESSAGE_FLAG, b"\x08\x01\x28\x01");
+    let is_told = ending == Err(FrameFault::Io);
+    is_told && are_equal(writer.written.as_slice(), b"\x00\x00\x00\x00\x04\x08\x01")
+}
+
+#[test]
+fn a_writer_that_takes_no_byte_fails(rt: HostRuntime) {
+    assert!(rt; fails_when_full(rt.alloc()));
 }

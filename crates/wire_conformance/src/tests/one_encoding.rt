@@ -1,7 +1,9 @@
 //! Which bytes are told to be the one encoding of a message (Protocol Buffers, "Encoding" and "Default Field Values").
 
-use super::texts::{is_told, spelled, two_cells};
+use super::samples::words_of;
+use super::texts::{expect_of, expect_row, spelled, two_cells};
 use crate::sample::{Numbers, Words};
+use proto_fields::WireFault;
 use proto_messages::{CanonicalMessage, ProtoMessage};
 use std::alloc::{AllocError, Global};
 use std::process::Abort;
@@ -35,13 +37,24 @@ const WORDS: &str = "\
 /// The most tags of the long words.
 const MAX_TAGS: usize = 8;
 
-/// Whether the digits are told to be the one encoding of the message that they mean.
-fn is_one<M: CanonicalMessage + Drop>(alloc: Global, digits: &str) -> Result<bool, Fail> {
-    let bytes = spelled(alloc, digits)?;
-    match M::decode(alloc, bytes.as_slice()) {
-        Ok(message) => Ok(message.is_encoded_as(bytes.as_slice())),
-        Err(_) => Err(Fail::from("no message")),
+/// Whether the bytes are told to be the one encoding of what was read of them, where that is a message.
+fn is_encoding<M: CanonicalMessage>(read: &Result<M, WireFault>, bytes: &[u8]) -> Option<bool> {
+    match read {
+        Ok(message) => Some(message.is_encoded_as(bytes)),
+        Err(_) => None,
     }
+}
+
+/// Whether they are told to be the one encoding of the message that they mean.
+fn is_one<M: CanonicalMessage + Drop>(alloc: Global, bytes: &[u8]) -> Option<bool> {
+    is_encoding(&M::decode(alloc, bytes), bytes)
+}
+
+/// Whether the row is right.
+fn is_told<M: CanonicalMessage + Drop>(alloc: Global, row: &str) -> Result<bool, Fail> {
+    let (digits, want) = two_cells(row)?;
+    let bytes = spelled(alloc, digits)?;
+    Ok(is_one::<M>(alloc, bytes.as_slice()) == Some(want == "one"))
 }
 
 fn expect_rows<M: CanonicalMessage + Drop>(
@@ -50,9 +63,7 @@ fn expect_rows<M: CanonicalMessage + Drop>(
     rows: &str,
 ) -> Result<(), Fail> {
     for row in rows.lines() {
-        let (digits, want) = two_cells(row)?;
-        let is_one = is_one::<M>(alloc, digits)?;
-        assert!(rt; is_one == is_told(want, "one"), "{row}");
+        expect_row(rt, is_told::<M>(alloc, row)?, row);
     }
     Ok(())
 }
@@ -67,26 +78,19 @@ fn tells_the_one_encoding_of_words(rt: HostRuntime) -> Result<(), Fail> {
     expect_rows::<Words>(&rt, rt.alloc(), WORDS)
 }
 
-/// So many tags of a byte.
-fn tags(alloc: Global, count: usize) -> Result<Vec<String>, AllocError> {
-    let mut tags = Vec::new(alloc);
+/// Puts so many tags of a byte.
+fn push_tags(alloc: Global, tags: &mut Vec<String>, count: usize) -> Result<(), AllocError> {
     for _ in 0..count {
-        let tag = String::from_str(alloc, "a")?;
-        tags.push(tag)?;
+        tags.push(String::from_str(alloc, "a")?)?;
     }
-    Ok(tags)
+    Ok(())
 }
 
 /// Words with a payload of so many bytes, and as many tags up to [`MAX_TAGS`].
 fn long_words(alloc: Global, len: usize) -> Result<Words, AllocError> {
-    let payload = Vec::from_elem(alloc, 7, len)?;
-    let tags = tags(alloc, len.min(MAX_TAGS))?;
-    let name = String::new(alloc);
-    Ok(Words {
-        payload,
-        name,
-        tags,
-    })
+    let mut words = words_of(alloc, len)?;
+    push_tags(alloc, &mut words.tags, len.min(MAX_TAGS))?;
+    Ok(words)
 }
 
 /// How many texts that end within this one are told to be the encoding of the words.
@@ -120,26 +124,36 @@ fn changes_told(words: &Words, text: &mut [u8]) -> usize {
     told
 }
 
-/// Whether the encoding of words is told, and no cut, change or addition of it is.
-fn stands_alone(alloc: Global, len: usize) -> Result<bool, AllocError> {
-    let words = long_words(alloc, len)?;
-    let mut text = Vec::new(alloc);
-    if words.encode(&mut text).is_err() {
-        return Err(AllocError);
-    }
-    let is_own = words.is_encoded_as(text.as_slice());
-    let cuts = cuts_told(&words, text.as_slice());
-    let changes = changes_told(&words, text.as_mut_slice());
+/// Whether the words' encoding is told, and no cut and no change of it is.
+fn is_told_alone(words: &Words, text: &mut [u8]) -> bool {
+    let is_own = words.is_encoded_as(text);
+    is_own && cuts_told(words, text) == 0 && changes_told(words, text) == 0
+}
+
+/// And no addition to it.
+fn is_alone(words: &Words, text: &mut Vec<u8>) -> Result<bool, AllocError> {
+    let is_alone = is_told_alone(words, text.as_mut_slice());
     text.push(0)?;
-    let is_longer = words.is_encoded_as(text.as_slice());
-    Ok(is_own && cuts == 0 && changes == 0 && !is_longer)
+    Ok(is_alone && !words.is_encoded_as(text.as_slice()))
+}
+
+/// Whether the encoding of these words stands alone.
+fn has_one_encoding(alloc: Global, words: &Words) -> Result<bool, Fail> {
+    let mut text = Vec::new(alloc);
+    words.encode(&mut text)?;
+    Ok(is_alone(words, &mut text)?)
+}
+
+/// Whether that of words with a payload of so many bytes does.
+fn stands_alone(alloc: Global, len: usize) -> Result<bool, Fail> {
+    let words = long_words(alloc, len)?;
+    has_one_encoding(alloc, &words)
 }
 
 #[test]
 fn a_long_encoding_stands_alone(rt: HostRuntime) -> Result<(), Fail> {
     for len in [0, 1, 31, 128, 1_000] {
-        let is_alone = stands_alone(rt.alloc(), len)?;
-        assert!(rt; is_alone, "length {len}");
+        expect_of(&rt, stands_alone(rt.alloc(), len)?, len);
     }
     Ok(())
 }

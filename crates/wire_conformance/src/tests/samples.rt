@@ -1,10 +1,10 @@
 //! Messages with a field of every kind against bytes worked out by hand (Protocol Buffers, "Encoding").
 
-use super::texts::{are_equal, is_told, name_of, spelled, two_cells};
+use super::texts::{are_equal, expect_row, spelled, two_cells};
 use crate::sample::{Numbers, Words};
+use proto_fields::WireFault;
 use proto_messages::ProtoMessage;
 use std::alloc::{AllocError, Global};
-use std::process::Abort;
 use std::test::Fail;
 
 /// Each number at its edge: -1, -2, 2^64 - 1 and true.
@@ -30,6 +30,16 @@ const NUMBERS: &str = "\
 00|BadKey
 08ffffffffffffffffff02|BadVarint";
 
+/// Words with a payload of so many bytes, and nothing else.
+pub fn words_of(alloc: Global, len: usize) -> Result<Words, AllocError> {
+    let payload = Vec::from_elem(alloc, 7, len)?;
+    Ok(Words {
+        payload,
+        name: String::new(alloc),
+        tags: Vec::new(alloc),
+    })
+}
+
 /// The numbers as words.
 fn numbers_told(alloc: Global, numbers: &Numbers) -> Result<String, AllocError> {
     let (kind, change) = (numbers.kind, numbers.change);
@@ -37,60 +47,95 @@ fn numbers_told(alloc: Global, numbers: &Numbers) -> Result<String, AllocError> 
     format!(in alloc; "{kind} {change} {count} {is_last}")
 }
 
-/// What the digits mean as numbers, or the name of the fault.
-fn told(alloc: Global, digits: &str) -> Result<String, Fail> {
-    let bytes = spelled(alloc, digits)?;
-    match Numbers::decode(alloc, bytes.as_slice()) {
-        Ok(numbers) => Ok(numbers_told(alloc, &numbers)?),
-        Err(fault) => Ok(String::from_str(alloc, name_of(fault))?),
+/// The numbers that were read, or the name of the fault.
+fn told(alloc: Global, read: &Result<Numbers, WireFault>) -> Result<String, AllocError> {
+    match read {
+        Ok(numbers) => numbers_told(alloc, numbers),
+        Err(fault) => format!(in alloc; "{fault}"),
     }
 }
 
-fn expect_numbers(rt: &impl Abort, alloc: Global, row: &str) -> Result<(), Fail> {
+/// Whether this is what the bytes mean.
+fn is_told(alloc: Global, bytes: &[u8], want: &str) -> Result<bool, AllocError> {
+    let told = told(alloc, &Numbers::decode(alloc, bytes))?;
+    Ok(told.as_str() == want)
+}
+
+/// Whether the row is right.
+fn is_right(alloc: Global, row: &str) -> Result<bool, Fail> {
     let (digits, want) = two_cells(row)?;
-    let told = told(alloc, digits)?;
-    assert!(rt; is_told(told.as_str(), want), "{row}");
-    Ok(())
+    let bytes = spelled(alloc, digits)?;
+    Ok(is_told(alloc, bytes.as_slice(), want)?)
 }
 
 #[test]
 fn reads_numbers(rt: HostRuntime) -> Result<(), Fail> {
     for row in NUMBERS.lines() {
-        expect_numbers(&rt, rt.alloc(), row)?;
+        expect_row(&rt, is_right(rt.alloc(), row)?, row);
     }
     Ok(())
 }
 
+/// Whether the tags are an empty one and the letter a.
+fn are_tags(tags: &[String]) -> bool {
+    match tags {
+        [empty, letter] => empty.is_empty() && letter.as_str() == "a",
+        _ => false,
+    }
+}
+
 /// Whether the words hold those of [`WORDS`].
 fn are_words(words: &Words) -> bool {
-    let [empty, letter] = words.tags.as_slice() else {
-        return false;
-    };
-    let are_named = words.name.as_str() == "é" && empty.is_empty() && letter.as_str() == "a";
-    are_named && are_equal(words.payload.as_slice(), &[0, 255])
+    let is_named = words.name.as_str() == "é" && are_tags(words.tags.as_slice());
+    is_named && are_equal(words.payload.as_slice(), &[0, 255])
+}
+
+/// Whether they were read.
+fn are_words_read(read: &Result<Words, WireFault>) -> bool {
+    match read {
+        Ok(words) => are_words(words),
+        Err(_) => false,
+    }
 }
 
 #[test]
 fn reads_words(rt: HostRuntime) -> Result<(), Fail> {
     let bytes = spelled(rt.alloc(), WORDS)?;
-    let words = Words::decode(rt.alloc(), bytes.as_slice())?;
-    assert!(rt; are_words(&words));
+    assert!(rt; are_words_read(&Words::decode(rt.alloc(), bytes.as_slice())));
     Ok(())
 }
 
-/// Whether the message that the digits mean is written as them.
-fn is_written<M: ProtoMessage + Drop>(alloc: Global, digits: &str) -> Result<bool, Fail> {
-    let bytes = spelled(alloc, digits)?;
-    let message = M::decode(alloc, bytes.as_slice())?;
+/// Whether the message is written as these bytes.
+pub fn is_written_as<M: ProtoMessage>(
+    alloc: Global,
+    message: &M,
+    bytes: &[u8],
+) -> Result<bool, Fail> {
     let mut out = Vec::new(alloc);
     message.encode(&mut out)?;
-    Ok(are_equal(out.as_slice(), bytes.as_slice()))
+    Ok(are_equal(out.as_slice(), bytes))
+}
+
+/// Whether the message that the bytes mean is written as them.
+fn is_written<M: ProtoMessage + Drop>(alloc: Global, bytes: &[u8]) -> Result<bool, Fail> {
+    let message = M::decode(alloc, bytes)?;
+    is_written_as(alloc, &message, bytes)
+}
+
+/// Whether the digits spell a message that is written so.
+fn comes_back<M: ProtoMessage + Drop>(alloc: Global, digits: &str) -> Result<bool, Fail> {
+    let bytes = spelled(alloc, digits)?;
+    is_written::<M>(alloc, bytes.as_slice())
 }
 
 #[test]
-fn writes_a_field_of_every_kind(rt: HostRuntime) -> Result<(), Fail> {
-    let are_numbers = is_written::<Numbers>(rt.alloc(), EDGES)?;
-    let are_words = is_written::<Words>(rt.alloc(), WORDS)?;
-    assert!(rt; are_numbers && are_words);
+fn writes_numbers(rt: HostRuntime) -> Result<(), Fail> {
+    assert!(rt; comes_back::<Numbers>(rt.alloc(), EDGES)?);
+    Ok(())
+}
+
+#[test]
+fn writes_words(rt: HostRuntime) -> Result<(), Fail> {
+    assert!(rt; comes_back::<Words>(rt.alloc(), WORDS)?);
     Ok(())
 }

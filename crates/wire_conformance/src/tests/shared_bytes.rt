@@ -8,16 +8,18 @@ use std::test::Fail;
 /// The bytes of a large text's field: 1 MiB.
 const LARGE: usize = 1_048_576;
 
-/// A text of field 1 with many bytes, and field 2 with one behind it.
-fn large_text(alloc: Global) -> Result<Bytes, AllocError> {
+/// Writes field 1 with many bytes.
+fn write_large(alloc: Global, text: &mut Vec<u8>) -> Result<(), AllocError> {
     let content = Vec::from_elem(alloc, 0x61, LARGE)?;
+    write_bytes(text, 1, content.as_slice())
+}
+
+/// A text of that field, and field 2 with one byte behind it.
+fn large_text(alloc: Global) -> Result<Vec<u8>, AllocError> {
     let mut text = Vec::new(alloc);
-    write_bytes(&mut text, 1, content.as_slice())?;
+    write_large(alloc, &mut text)?;
     write_bytes(&mut text, 2, b"b")?;
-    match Bytes::from_vec(text) {
-        Ok(owned) => Ok(owned),
-        Err(_) => Err(AllocError),
-    }
+    Ok(text)
 }
 
 /// The bytes of field 1, where they have the text's owner.
@@ -32,10 +34,14 @@ fn shared_of(text: &Bytes) -> Option<usize> {
     Some(shared.len())
 }
 
+/// Whether the field shares the text's bytes as long as it is there.
+fn is_shared(text: &Bytes) -> bool {
+    shared_of(text) == Some(LARGE) && text.is_unique()
+}
+
 #[test]
 fn shares_a_large_field(rt: HostRuntime) -> Result<(), Fail> {
-    let text = large_text(rt.alloc())?;
-    assert!(rt; shared_of(&text) == Some(LARGE));
-    assert!(rt; text.is_unique());
+    let text = Bytes::from_vec(large_text(rt.alloc())?)?;
+    assert!(rt; is_shared(&text));
     Ok(())
 }

@@ -1,37 +1,21 @@
-//! Rows of tables, which tests read as texts.
+//! Rows of tables, which tests read as texts, and what they expect of each.
 
-use proto_fields::WireFault;
-use std::alloc::{AllocError, Global};
+use std::alloc::Global;
+use std::process::Abort;
 use std::test::Fail;
 
-/// The value of a hexadecimal digit.
-fn value_of(digit: char) -> Result<u8, Fail> {
-    match digit.to_digit(16) {
-        Some(value) => Ok((value % 16) as u8),
-        None => Err(Fail::from("no hexadecimal digit")),
-    }
-}
-
-/// Appends the byte of two digits, where the first one was met before. Gives the digit that still waits for a second
-/// one.
-fn push_digit(bytes: &mut Vec<u8>, first: Option<u8>, value: u8) -> Result<Option<u8>, AllocError> {
-    let Some(high) = first else {
-        return Ok(Some(value));
-    };
-    bytes.push((high << 4) | value)?;
-    Ok(None)
-}
-
-/// The bytes that hexadecimal digits spell, spaces passed over.
+/// The bytes that hexadecimal digits spell, in parts with a space between them.
 pub fn spelled(alloc: Global, digits: &str) -> Result<Vec<u8>, Fail> {
     let mut bytes = Vec::new(alloc);
-    let mut first = None;
-    for digit in digits.chars() {
-        if digit != ' ' {
-            first = push_digit(&mut bytes, first, value_of(digit)?)?;
-        }
+    for part in digits.split(' ') {
+        push_part(alloc, &mut bytes, part)?;
     }
     Ok(bytes)
+}
+
+fn push_part(alloc: Global, bytes: &mut Vec<u8>, digits: &str) -> Result<(), Fail> {
+    let part = hex::decode(alloc, digits)?;
+    Ok(bytes.extend_from_slice(part.as_slice())?)
 }
 
 /// The two cells of a row of a table, with a bar between them.
@@ -47,19 +31,12 @@ pub fn are_equal(left: &[u8], right: &[u8]) -> bool {
     left == right
 }
 
-/// Whether what is told is what is wanted.
-pub fn is_told(told: &str, want: &str) -> bool {
-    told == want
+/// Ends the test where this is not so, and says of which row.
+pub fn expect_row(rt: &impl Abort, is_so: bool, row: &str) {
+    assert!(rt; is_so, "{row}");
 }
 
-/// The name of the fault, as it stands in the tables.
-pub fn name_of(fault: WireFault) -> &'static str {
-    match fault {
-        WireFault::BadVarint => "BadVarint",
-        WireFault::BadKey => "BadKey",
-        WireFault::BadWireType => "BadWireType",
-        WireFault::CutShort => "CutShort",
-        WireFault::NotUtf8 => "NotUtf8",
-        WireFault::OutOfMemory => "OutOfMemory",
-    }
+/// Likewise of a number.
+pub fn expect_of(rt: &impl Abort, is_so: bool, number: usize) {
+    assert!(rt; is_so, "{number}");
 }

@@ -1,0 +1,184 @@
+//! What is written stands behind the bytes that were there, embedded messages in fields whose keys take two bytes, and
+//! fields whose lengths take two, three and four bytes (Protocol Buffers, "Encoding", "Message Structure").
+
+use super::samples::words_of;
+use super::texts::{are_equal, expect_of};
+use crate::sample::{Numbers, Words};
+use proto_fields::{ContentRef, split_field, write_bytes};
+use proto_messages::{ProtoMessage, append_one, merge_one};
+use std::alloc::{AllocError, Global};
+use std::test::Fail;
+
+/// Numbers of kind 5, whose count is 300.
+fn numbers() -> Numbers {
+    Numbers {
+        kind: 5,
+        change: 0,
+        count: 300,
+        is_last: false,
+    }
+}
+
+/// Whether these are those numbers.
+fn are_numbers(read: &Option<Numbers>) -> bool {
+    match read {
+        Some(read) => { read.kind == 5 && read.change == 0 && read.count == 300 && !read.is_last }
+        None => false,
+    }
+}
+
+/// Writes words with a payload of one byte.
+fn write_words(alloc: Global, out: &mut Vec<u8>) -> Result<(), Fail> {
+    let words = words_of(alloc, 1)?;
+    Ok(words.encode(out)?)
+}
+
+/// Two messages, one behind the other, and both behind two bytes.
+#[test]
+fn a_message_is_appended(rt: HostRuntime) -> Result<(), Fail> {
+    let mut out = Vec::from_slice(rt.alloc(), b"\x0a\x01")?;
+    numbers().encode(&mut out)?;
+    write_words(rt.alloc(), &mut out)?;
+    assert!(rt; are_equal(out.as_slice(), b"\x0a\x01\x08\x05\x18\xac\x02\x0a\x01\x07"));
+    Ok(())
+}
+
+/// The embedded numbers that a field holds.
+fn numbers_in(alloc: Global, content: ContentRef<'_>) -> Result<Option<Numbers>, Fail> {
+    let mut read: Option<Numbers> = None;
+    merge_one(alloc, &mut read, content)?;
+    Ok(read)
+}
+
+/// Whether the text is field 2047 with those numbers.
+fn is_field_of_numbers(alloc: Global, text: &[u8]) -> Result<bool, Fail> {
+    let (number, content, rest) = split_field(text)?;
+    let is_alone = number == 2047 && rest.is_empty();
+    Ok(is_alone && are_numbers(&numbers_in(alloc, content)?))
+}
+
+/// Field 2047 with those numbers, behind a byte.
+fn field_of_numbers(alloc: Global) -> Result<Vec<u8>, Fail> {
+    let mut out = Vec::from_slice(alloc, b"\xee")?;
+    append_one(&mut out, 2047, &Some(numbers()))?;
+    Ok(out)
+}
+
+/// Its key is 16,378, of two bytes.
+#[test]
+fn an_embedded_message_has_a_long_key(rt: HostRuntime) -> Result<(), Fail> {
+    let out = field_of_numbers(rt.alloc())?;
+    assert!(rt; are_equal(out.as_slice(), b"\xee\xfa\x7f\x05\x08\x05\x18\xac\x02"));
+    Ok(())
+}
+
+#[test]
+fn an_embedded_message_is_read_behind_a_long_key(rt: HostRuntime) -> Result<(), Fail> {
+    let out = field_of_numbers(rt.alloc())?;
+    let text = out.get(1..).ok_or("no field")?;
+    assert!(rt; is_field_of_numbers(rt.alloc(), text)?);
+    Ok(())
+}
+
+/// Lengths at the edges of two, three and four bytes, and how a field 2 of so many bytes begins.
+const LENGTHS: [(usize, &[u8]); 4] = [
+    (16_383, b"\x12\xff\x7f"),
+    (16_384, b"\x12\x80\x80\x01"),
+    (2_097_151, b"\x12\xff\xff\x7f"),
+    (2_097_152, b"\x12\x80\x80\x80\x01"),
+];
+
+/// Whether these are so many sevens.
+fn are_sevens(bytes: &[u8], len: usize) -> bool {
+    bytes.len() == len && bytes.iter().all(|byte| *byte == 7)
+}
+
+/// Whether the text is field 2 of so many sevens.
+fn is_field_of(text: &[u8], len: usize) -> Result<bool, Fail> {
+    let (number, content, rest) = split_field(text)?;
+    let is_alone = number == 2 && rest.is_empty();
+    Ok(is_alone && are_sevens(content.bytes().unwrap_or(&[]), len))
+}
+
+/// Field 2 with so many sevens.
+fn field_of(alloc: Global, len: usize) -> Result<Vec<u8>, AllocError> {
+    let held = Vec::from_elem(alloc, 7, len)?;
+    let mut text = Vec::new(alloc);
+    write_bytes(&mut text, 2, held.as_slice())?;
+    Ok(text)
+}
+
+/// Whether the text is as long as that field and begins so.
+fn is_written(text: &[u8], len: usize, front: &[u8]) -> bool {
+    let is_long = text.len() == len.saturating_add(front.len());
+    is_long && text.starts_with(front)
+}
+
+/// Whether a field of so many bytes begins so, and is read.
+fn is_right(alloc: Global, len: usize, front: &[u8]) -> Result<bool, Fail> {
+    let text = field_of(alloc, len)?;
+    let is_read = is_field_of(text.as_slice(), len)?;
+    Ok(is_read && is_written(text.as_slice(), len, front))
+}
+
+#[test]
+fn long_lengths_are_written(rt: HostRuntime) -> Result<(), Fail> {
+    for (len, front) in LENGTHS {
+        expect_of(&rt, is_right(rt.alloc(), len, front)?, len);
+    }
+    Ok(())
+}
+
+/// Field 2 with embedded words, whose payload is 16,384 bytes.
+fn field_of_words(alloc: Global) -> Result<Vec<u8>, Fail> {
+    let words = Some(words_of(alloc, 16_384)?);
+    let mut out = Vec::new(alloc);
+    append_one(&mut out, 2, &words)?;
+    Ok(out)
+}
+
+/// Whether the words have that payload, and nothing else.
+fn are_long_words(words: &Words) -> bool {
+    let is_alone = words.name.is_empty() && words.tags.is_empty();
+    is_alone && are_sevens(words.payload.as_slice(), 16_384)
+}
+
+/// Whether they were read.
+fn are_long_words_read(read: &Option<Words>) -> bool {
+    match read {
+        Some(words) => are_long_words(words),
+        None => false,
+    }
+}
+
+/// Whether the embedded words of a field are those.
+fn holds_long_words(alloc: Global, content: ContentRef<'_>) -> Result<bool, Fail> {
+    let mut read: Option<Words> = None;
+    merge_one(alloc, &mut read, content)?;
+    Ok(are_long_words_read(&read))
+}
+
+/// Whether the text is a field with those words.
+fn is_field_of_words(alloc: Global, text: &[u8]) -> Result<bool, Fail> {
+    let (_, content, rest) = split_field(text)?;
+    Ok(rest.is_empty() && holds_long_words(alloc, content)?)
+}
+
+/// A message of 16,384 bytes and more in another, whose length is read again behind it.
+#[test]
+fn an_embedded_message_has_a_long_length(rt: HostRuntime) -> Result<(), Fail> {
+    let out = field_of_words(rt.alloc())?;
+    assert!(rt; is_field_of_words(rt.alloc(), out.as_slice())?);
+    Ok(())
+}
+
+/// It begins with its key, its length of four more than the payload, and the payload's key, length and first byte.
+#[test]
+fn a_long_length_stands_in_front(rt: HostRuntime) -> Result<(), Fail> {
+    let out = field_of_words(rt.alloc())?;
+    assert!(rt;
+        out.as_slice()
+            .starts_with(b"\x12\x84\x80\x01\x0a\x80\x80\x01\x07")
+    );
+    Ok(())
+}
