@@ -1,9 +1,8 @@
 //! The operators that order ballots, which are derived (Lamport, *Paxos Made Simple*, section 2.2: numbers that no two
 //! proposers share), and sets of nodes, whose order says nothing.
 
-use crate::support::{ballot, node};
-use ballots::{Ballot, NodeSet};
-use std::alloc::Global;
+use crate::support::{ballot, expect_of, node};
+use ballots::{Ballot, NodeId, NodeSet};
 use std::cmp::Ordering;
 use std::test::Fail;
 
@@ -16,14 +15,6 @@ const RANKED: [(u32, u8); 6] = [
     (3_999_999_999, 6),
     (4_000_000_000, 0),
 ];
-
-fn ranked(alloc: Global) -> Result<Vec<Ballot>, Fail> {
-    let mut ballots = Vec::new(alloc);
-    for (round, number) in RANKED {
-        ballots.push(ballot(round, number)?)?;
-    }
-    Ok(ballots)
-}
 
 /// Whether the operators say of two ballots what is said of their ranks.
 fn are_ordered(a: Ballot, b: Ballot, ranks: Ordering) -> bool {
@@ -38,32 +29,36 @@ fn are_compared(a: Ballot, b: Ballot, ranks: Ordering) -> bool {
 }
 
 /// Whether one ballot, of this rank, is told from each of them by its rank.
-fn is_ranked(ballots: &[Ballot], rank: usize, a: Ballot) -> bool {
-    for (other, b) in ballots.iter().enumerate() {
+fn is_ranked(a: Ballot, rank: usize) -> Result<bool, Fail> {
+    let mut is_right = true;
+    for (other, (round, number)) in RANKED.iter().enumerate() {
+        let b = ballot(*round, *number)?;
         let ranks = rank.cmp(&other);
-        if !are_ordered(a, *b, ranks) || !are_compared(a, *b, ranks) {
-            return false;
-        }
+        is_right = is_right && are_ordered(a, b, ranks) && are_compared(a, b, ranks);
     }
-    true
+    Ok(is_right)
 }
 
 #[test]
 fn ballots_compare_as_their_ranks(rt: HostRuntime) -> Result<(), Fail> {
-    let ballots = ranked(rt.alloc())?;
-    for (rank, a) in ballots.iter().enumerate() {
-        assert!(rt; is_ranked(ballots.as_slice(), rank, *a), "{rank}");
+    for (rank, (round, number)) in RANKED.iter().enumerate() {
+        let ballot = ballot(*round, *number)?;
+        expect_of(&rt, is_ranked(ballot, rank)?, rank);
     }
     Ok(())
+}
+
+/// Whether a set of two nodes is the same in another order, and not that of one of them.
+fn is_set_of_both(one: NodeId, other: NodeId) -> bool {
+    let set = NodeSet::new().with(one).with(other);
+    let again = NodeSet::new().with(other).with(one).with(other);
+    set == again && set != NodeSet::new().with(one)
 }
 
 /// A set is the same in whatever order its nodes come, and however often.
 #[test]
 fn sets_are_compared_by_their_nodes(rt: HostRuntime) -> Result<(), Fail> {
     let (two, five) = (node(2)?, node(5)?);
-    let set = NodeSet::new().with(two).with(five);
-    let again = NodeSet::new().with(five).with(two).with(five);
-    assert!(rt; set == again);
-    assert!(rt; set != NodeSet::new().with(two));
+    assert!(rt; is_set_of_both(two, five));
     Ok(())
 }
