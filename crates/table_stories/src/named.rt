@@ -3,141 +3,136 @@
 use ballots::{UploadBytes, Value};
 use bytes::Bytes;
 use std::alloc::{AllocError, Global};
-use story_words::{StoryFault, bytes_of};
+use story_words::{StoryFault, bytes_of, number_of, split_word};
 use uploads::{DecodeFault, Upload};
 
 /// The most bytes that a story names at once.
 const MAX_BYTES: usize = 33_554_432;
 
-/// Bytes with a name of the story's own, and the upload that they are, if they are one.
+/// Bytes with a name of the story's own.
 #[derive(Drop)]
 pub(crate) struct Named {
     pub(crate) name: String,
     pub(crate) bytes: Bytes,
-    pub(crate) upload: Option<Upload>,
 }
 
-// What stands behind a bar, so many times.
-fn repeated(alloc: Global, words: &str) -> Result<(usize, Vec<u8>), StoryFault> {
-    let Some((count, digits)) = words.trim_start().split_once(' ') else {
+// Puts these bytes as many times as the word says.
+fn push_times(bytes: &mut Vec<u8>, word: &str, more: &[u8]) -> Result<(), StoryFault> {
+    let count = number_of(word)?;
+    if count.saturating_mul(more.len()) > MAX_BYTES {
         return Err(StoryFault::BadArgument);
-    };
-    let bytes = bytes_of(alloc, digits)?;
-    match count.parse::<usize>() {
-        Ok(count) if count.saturating_mul(bytes.len()) <= MAX_BYTES => Ok((count, bytes)),
-        _ => Err(StoryFault::BadArgument),
     }
+    for _ in 0..count {
+        bytes.extend_from_slice(more)?;
+    }
+    Ok(())
+}
+
+// Puts what the words `COUNT BYTES` say.
+fn push_repeated(alloc: Global, bytes: &mut Vec<u8>, words: &str) -> Result<(), StoryFault> {
+    match words.split_once(' ') {
+        Some((count, digits)) => {
+            let more = bytes_of(alloc, digits)?;
+            push_times(bytes, count, more.as_slice())
+        }
+        None => Err(StoryFault::BadArgument),
+    }
+}
+
+fn with_repeated(alloc: Global, front: &str, back: &str) -> Result<Vec<u8>, StoryFault> {
+    let mut bytes = bytes_of(alloc, front)?;
+    push_repeated(alloc, &mut bytes, back.trim_start())?;
+    Ok(bytes)
 }
 
 // The bytes of these words: digits, and behind a bar a number and the digits that come so many times.
 fn whole(alloc: Global, words: &str) -> Result<Vec<u8>, StoryFault> {
-    let Some((front, back)) = words.split_once('|') else {
-        return bytes_of(alloc, words);
-    };
-    let mut bytes = bytes_of(alloc, front)?;
-    let (count, more) = repeated(alloc, back)?;
-    for _ in 0..count {
-        bytes.extend_from_slice(more.as_slice())?;
+    match words.split_once('|') {
+        Some((front, back)) => with_repeated(alloc, front, back),
+        None => bytes_of(alloc, words),
     }
-    Ok(bytes)
-}
-
-// The upload that the bytes are, if they are one.
-fn upload_of(alloc: Global, bytes: &Bytes) -> Result<Option<Upload>, StoryFault> {
-    let text = bytes.clone()?;
-    match Upload::decode(alloc, text) {
-        Ok(upload) => Ok(Some(upload)),
-        Err(DecodeFault::NotAnUpload) => Ok(None),
-        Err(DecodeFault::OutOfMemory) => Err(StoryFault::OutOfMemory),
-    }
-}
-
-/// The bytes of the words, under this name.
-pub(crate) fn name_bytes(alloc: Global, name: &str, words: &str) -> Result<Named, StoryFault> {
-    let bytes = whole(alloc, words)?;
-    under(alloc, name, bytes)
 }
 
 fn shared(bytes: Vec<u8>) -> Result<Bytes, AllocError> {
     Ok(Bytes::from_vec(bytes)?)
 }
 
-// The bytes under this name.
-fn under(alloc: Global, name: &str, bytes: Vec<u8>) -> Result<Named, StoryFault> {
+fn copied(alloc: Global, bytes: &[u8]) -> Result<Bytes, AllocError> {
+    shared(Vec::from_slice(alloc, bytes)?)
+}
+
+fn under(alloc: Global, name: &str, bytes: Vec<u8>) -> Result<Named, AllocError> {
+    let name = String::from_str(alloc, name)?;
     let bytes = shared(bytes)?;
-    let upload = upload_of(alloc, &bytes)?;
-    Ok(Named {
-        name: String::from_str(alloc, name)?,
-        bytes,
-        upload,
-    })
+    Ok(Named { name, bytes })
 }
 
-fn number_of(word: &str) -> Result<usize, StoryFault> {
-    match word.parse::<usize>() {
-        Ok(number) => Ok(number),
-        Err(_) => Err(StoryFault::BadArgument),
+/// The bytes of the words `NAME BYTES`.
+pub(crate) fn name_bytes(alloc: Global, words: &str) -> Result<Named, StoryFault> {
+    let (name, digits) = split_word(words);
+    let bytes = whole(alloc, digits)?;
+    Ok(under(alloc, name, bytes)?)
+}
+
+/// The bytes of this name, those that were named last.
+pub(crate) fn found<'a>(names: &'a [Named], name: &str) -> Result<&'a Bytes, StoryFault> {
+    for named in names.iter().rev() {
+        if named.name.as_str() == name {
+            return Ok(&named.bytes);
+        }
     }
+    Err(StoryFault::BadArgument)
 }
 
-/// As many of the first bytes as the word says, without a name.
-pub(crate) fn cut(alloc: Global, named: &Named, word: &str) -> Result<Named, StoryFault> {
+/// As many of the first bytes as the word says.
+pub(crate) fn cut(alloc: Global, bytes: &[u8], word: &str) -> Result<Bytes, StoryFault> {
     let count = number_of(word)?;
-    match named.bytes.as_slice().get(..count) {
-        Some(front) => under(alloc, "", Vec::from_slice(alloc, front)?),
+    match bytes.get(..count) {
+        Some(front) => Ok(copied(alloc, front)?),
         None => Err(StoryFault::BadArgument),
     }
 }
 
-/// The bytes with another byte at one place, as the words `PLACE BYTE` say, without a name.
-pub(crate) fn changed(alloc: Global, named: &Named, words: &str) -> Result<Named, StoryFault> {
-    let (place, byte) = words.split_once(' ').unwrap_or((words, ""));
-    let place = number_of(place)?;
-    let Ok(byte) = byte.parse::<u8>() else {
-        return Err(StoryFault::BadArgument);
-    };
-    let mut bytes = Vec::from_slice(alloc, named.bytes.as_slice())?;
-    match bytes.get_mut(place) {
-        Some(old) => *old = byte,
-        None => return Err(StoryFault::BadArgument),
+fn byte_of(word: &str) -> Result<u8, StoryFault> {
+    match word.parse::<u8>() {
+        Ok(byte) => Ok(byte),
+        Err(_) => Err(StoryFault::BadArgument),
     }
-    under(alloc, "", bytes)
+}
+
+fn change(bytes: &mut [u8], place: usize, byte: u8) -> Result<(), StoryFault> {
+    match bytes.get_mut(place) {
+        Some(old) => {
+            *old = byte;
+            Ok(())
+        }
+        None => Err(StoryFault::BadArgument),
+    }
+}
+
+/// The bytes with another byte at one place, as the words `PLACE BYTE` say.
+pub(crate) fn changed(alloc: Global, bytes: &[u8], words: &str) -> Result<Bytes, StoryFault> {
+    let (place, byte) = split_word(words);
+    let place = number_of(place)?;
+    let byte = byte_of(byte)?;
+    let mut bytes = Vec::from_slice(alloc, bytes)?;
+    change(bytes.as_mut_slice(), place, byte)?;
+    Ok(shared(bytes)?)
 }
 
 /// The value of these bytes, which are some, but not too many.
-pub(crate) fn value_of(named: &Named) -> Result<Value, StoryFault> {
-    let bytes = named.bytes.clone()?;
-    match UploadBytes::new(bytes) {
+pub(crate) fn value_of(bytes: &Bytes) -> Result<Value, StoryFault> {
+    match UploadBytes::new(bytes.clone()?) {
         Some(bytes) => Ok(Value::Upload(bytes)),
         None => Err(StoryFault::BadArgument),
     }
 }
 
-// The names of the columns.
-fn columns_shown(alloc: Global, upload: &Upload) -> Result<String, AllocError> {
-    let schema = upload.schema(alloc)?;
-    let mut shown = String::new(alloc);
-    for field in &schema.fields {
-        shown.push(' ')?;
-        shown.push_str(field.name.as_str())?;
-    }
-    Ok(shown)
-}
-
-fn upload_shown(alloc: Global, upload: &Upload) -> Result<String, AllocError> {
-    let table = upload.table();
-    let id = upload.id();
-    let id = hex::encode(alloc, &id)?;
-    let schema = upload.schema_bytes().len();
-    let columns = columns_shown(alloc, upload)?;
-    let batches = upload.batch_count();
-    format!(in alloc; "  {table} {id}, schema of {schema} bytes:{columns}, batches {batches}\n")
-}
-
-/// The line that tells which upload the bytes are.
-pub(crate) fn upload_told(alloc: Global, named: &Named) -> Result<String, AllocError> {
-    match &named.upload {
-        Some(upload) => upload_shown(alloc, upload),
-        None => String::from_str(alloc, "  NotAnUpload\n"),
+/// The upload that the bytes are, if they are one.
+pub(crate) fn upload_of(alloc: Global, bytes: &Bytes) -> Result<Option<Upload>, AllocError> {
+    match Upload::decode(alloc, bytes.clone()?) {
+        Ok(upload) => Ok(Some(upload)),
+        Err(DecodeFault::NotAnUpload) => Ok(None),
+        Err(DecodeFault::OutOfMemory) => Err(AllocError),
     }
 }

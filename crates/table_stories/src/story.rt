@@ -1,16 +1,16 @@
 //! A story: the bytes that it has named, and tables that have taken some of them.
 
-use crate::answers::{answer_told, frames_told, info_told, push_outcome};
-use crate::named::{Named, changed, cut, name_bytes, upload_told, value_of};
+use crate::answers::{push_name, push_outcome, tell_bytes, tell_frames, tell_info, tell_lengths};
+use crate::named::{Named, changed, cut, found, name_bytes, upload_of, value_of};
 use crate::tickets_told;
 use ballots::Value;
+use bytes::Bytes;
 use std::alloc::{AllocError, Global};
 use std::hash::RandomState;
 use std::io;
 use std::random::RandomSource;
 use story_words::{StoryFault, Teller, split_word};
 use table_versions::Tables;
-use tickets::Ticket;
 
 /// The most values that tables take.
 const MAX_VALUES: u64 = 1_000_000;
@@ -20,17 +20,18 @@ const MAX_VALUES: u64 = 1_000_000;
 pub(crate) struct Story {
     hashing: RandomState,
     names: Vec<Named>,
-    tables: Tables,
+    tables: Box<Tables>,
 }
 
-// The bytes of this name, those that were named last.
-fn found<'a>(names: &'a [Named], name: &str) -> Result<&'a Named, StoryFault> {
-    for named in names.iter().rev() {
-        if named.name.as_str() == name {
-            return Ok(named);
-        }
-    }
-    Err(StoryFault::BadArgument)
+fn push<T: Drop>(items: &mut Vec<T>, item: T) -> Result<(), AllocError> {
+    items.push(item)?;
+    Ok(())
+}
+
+// Tables of no values.
+fn no_tables(alloc: Global, hashing: RandomState) -> Result<Box<Tables>, AllocError> {
+    let tables = Box::new(alloc, Tables::new(alloc, hashing))?;
+    Ok(tables)
 }
 
 fn value_named(names: &[Named], name: &str) -> Result<Value, StoryFault> {
@@ -40,22 +41,21 @@ fn value_named(names: &[Named], name: &str) -> Result<Value, StoryFault> {
     value_of(found(names, name)?)
 }
 
-fn push_value(values: &mut Vec<Value>, value: Value) -> Result<(), AllocError> {
-    values.push(value)?;
-    Ok(())
+fn push_value(values: &mut Vec<Value>, names: &[Named], name: &str) -> Result<(), StoryFault> {
+    let value = value_named(names, name)?;
+    Ok(push(values, value)?)
 }
 
 fn values_of(alloc: Global, names: &[Named], words: &str) -> Result<Vec<Value>, StoryFault> {
     let mut values = Vec::new(alloc);
     for name in words.split_whitespace() {
-        let value = value_named(names, name)?;
-        push_value(&mut values, value)?;
+        push_value(&mut values, names, name)?;
     }
     Ok(values)
 }
 
 // Hands the values in.
-fn take(tables: &mut Tables, values: &[Value]) -> Result<(), StoryFault> {
+fn take_all(tables: &mut Tables, values: &[Value]) -> Result<(), StoryFault> {
     let taken = tables.taken();
     if taken > MAX_VALUES || values.len() as u64 > MAX_VALUES - taken {
         return Err(StoryFault::BadArgument);
@@ -65,138 +65,180 @@ fn take(tables: &mut Tables, values: &[Value]) -> Result<(), StoryFault> {
     Ok(())
 }
 
-fn push_named(names: &mut Vec<Named>, named: Named) -> Result<(), AllocError> {
-    names.push(named)?;
-    Ok(())
+// Hands in the values of these names, and tells how many were taken in all.
+fn take(
+    alloc: Global,
+    tables: &mut Tables,
+    names: &[Named],
+    words: &str,
+    told: &mut String,
+) -> Result<(), StoryFault> {
+    let values = values_of(alloc, names, words)?;
+    take_all(tables, values.as_slice())?;
+    let taken = tables.taken();
+    Ok(writeln!(told, "  taken {taken}")?)
 }
 
-fn push_told(
+// Names the bytes of the words, and tells which upload they are.
+fn tell_named(
     alloc: Global,
-    line: &mut String,
-    tables: &Tables,
-    named: &Named,
+    names: &mut Vec<Named>,
+    words: &str,
+    told: &mut String,
 ) -> Result<(), StoryFault> {
-    match &named.upload {
-        Some(upload) => Ok(push_outcome(alloc, line, tables.outcome(upload))?),
+    let named = name_bytes(alloc, words)?;
+    tell_bytes(alloc, &named.bytes, told)?;
+    Ok(push(names, named)?)
+}
+
+fn tell_cut(
+    alloc: Global,
+    names: &[Named],
+    words: &str,
+    told: &mut String,
+) -> Result<(), StoryFault> {
+    let (name, count) = split_word(words);
+    let bytes = found(names, name)?;
+    let front = cut(alloc, bytes.as_slice(), count)?;
+    Ok(tell_bytes(alloc, &front, told)?)
+}
+
+fn tell_changed(
+    alloc: Global,
+    names: &[Named],
+    words: &str,
+    told: &mut String,
+) -> Result<(), StoryFault> {
+    let (name, rest) = split_word(words);
+    let bytes = found(names, name)?;
+    let other = changed(alloc, bytes.as_slice(), rest)?;
+    Ok(tell_bytes(alloc, &other, told)?)
+}
+
+fn tell_outcome(
+    alloc: Global,
+    tables: &Tables,
+    bytes: &Bytes,
+    told: &mut String,
+) -> Result<(), StoryFault> {
+    let upload = upload_of(alloc, bytes)?;
+    match &upload {
+        Some(upload) => Ok(push_outcome(told, tables.outcome(upload))?),
         None => Err(StoryFault::BadArgument),
     }
 }
 
-fn push_name(line: &mut String, name: &str) -> Result<(), AllocError> {
-    line.push(' ')?;
-    line.push_str(name)
+fn tell_outcomes(
+    alloc: Global,
+    tables: &Tables,
+    names: &[Named],
+    words: &str,
+    told: &mut String,
+) -> Result<(), StoryFault> {
+    told.push(' ')?;
+    for name in words.split_whitespace() {
+        tell_outcome(alloc, tables, found(names, name)?, told)?;
+    }
+    Ok(told.push('\n')?)
 }
 
-impl Story {
-    fn name(&mut self, alloc: Global, words: &str) -> Result<String, StoryFault> {
-        let (name, digits) = words.split_once(' ').unwrap_or((words, ""));
-        let named = name_bytes(alloc, name, digits)?;
-        let told = upload_told(alloc, &named)?;
-        push_named(&mut self.names, named)?;
-        Ok(told)
+fn tell_names(names: &[String], told: &mut String) -> Result<(), AllocError> {
+    if names.is_empty() {
+        return told.push_str("  none\n");
     }
-
-    fn cut(&self, alloc: Global, words: &str) -> Result<String, StoryFault> {
-        let (name, rest) = words.split_once(' ').unwrap_or((words, ""));
-        let front = cut(alloc, found(self.names.as_slice(), name)?, rest)?;
-        Ok(upload_told(alloc, &front)?)
+    told.push(' ')?;
+    for name in names {
+        push_name(told, name.as_str())?;
     }
+    told.push('\n')
+}
 
-    fn change(&self, alloc: Global, words: &str) -> Result<String, StoryFault> {
-        let (name, rest) = words.split_once(' ').unwrap_or((words, ""));
-        let other = changed(alloc, found(self.names.as_slice(), name)?, rest)?;
-        Ok(upload_told(alloc, &other)?)
+fn tell_tables(tables: &Tables, told: &mut String) -> Result<(), AllocError> {
+    let names = tables.tables()?;
+    tell_names(names.as_slice(), told)
+}
+
+fn tell_latest(
+    alloc: Global,
+    tables: &Tables,
+    table: &str,
+    told: &mut String,
+) -> Result<(), AllocError> {
+    let latest = tables.latest(table)?;
+    match &latest {
+        Some(info) => tell_info(alloc, info, told),
+        None => told.push_str("  none\n"),
     }
+}
 
-    fn begin(&mut self, alloc: Global) -> String {
-        self.tables = Tables::new(alloc, self.hashing);
-        String::new(alloc)
+// The answer to the ticket of the words, where the table has such a version.
+fn answered(alloc: Global, tables: &Tables, words: &str) -> Result<Option<Vec<u8>>, StoryFault> {
+    let ticket = tickets_told::ticket_of(alloc, words)?;
+    match &ticket {
+        Some(ticket) => Ok(tables.answer(ticket)?),
+        None => Err(StoryFault::BadArgument),
     }
+}
 
-    fn take(&mut self, alloc: Global, words: &str) -> Result<String, StoryFault> {
-        let values = values_of(alloc, self.names.as_slice(), words)?;
-        take(&mut self.tables, values.as_slice())?;
-        let taken = self.tables.taken();
-        Ok(format!(in alloc; "  taken {taken}\n")?)
+fn tell_answer(
+    alloc: Global,
+    tables: &Tables,
+    words: &str,
+    told: &mut String,
+) -> Result<(), StoryFault> {
+    let answer = answered(alloc, tables, words)?;
+    match &answer {
+        Some(bytes) => Ok(tell_lengths(alloc, bytes.as_slice(), told)?),
+        None => Ok(told.push_str("  none\n")?),
     }
+}
 
-    fn outcomes(&self, alloc: Global, words: &str) -> Result<String, StoryFault> {
-        let mut line = String::from_str(alloc, " ")?;
-        for name in words.split_whitespace() {
-            let named = found(self.names.as_slice(), name)?;
-            push_told(alloc, &mut line, &self.tables, named)?;
-        }
-        line.push('\n')?;
-        Ok(line)
+fn tell_answer_frames(
+    alloc: Global,
+    tables: &Tables,
+    words: &str,
+    told: &mut String,
+) -> Result<(), StoryFault> {
+    let answer = answered(alloc, tables, words)?;
+    match &answer {
+        Some(bytes) => Ok(tell_frames(alloc, bytes.as_slice(), told)?),
+        None => Ok(told.push_str("  none\n")?),
     }
+}
 
-    fn table_names(&self, alloc: Global) -> Result<String, StoryFault> {
-        let names = self.tables.tables()?;
-        if names.is_empty() {
-            return Ok(String::from_str(alloc, "  none\n")?);
-        }
-        let mut line = String::from_str(alloc, " ")?;
-        for name in &names {
-            push_name(&mut line, name.as_str())?;
-        }
-        line.push('\n')?;
-        Ok(line)
+// What a command gives that asks the tables.
+fn tell_of_tables(
+    alloc: Global,
+    tables: &Tables,
+    word: &str,
+    rest: &str,
+    told: &mut String,
+) -> Result<(), StoryFault> {
+    match word {
+        "tables" => Ok(tell_tables(tables, told)?),
+        "latest" => Ok(tell_latest(alloc, tables, rest, told)?),
+        "answer" => tell_answer(alloc, tables, rest, told),
+        "frames" => tell_answer_frames(alloc, tables, rest, told),
+        _ => Err(StoryFault::NoCommand),
     }
+}
 
-    fn latest(&self, alloc: Global, table: &str) -> Result<String, StoryFault> {
-        match self.tables.latest(table)? {
-            Some(info) => Ok(info_told(alloc, &info)?),
-            None => Ok(String::from_str(alloc, "  none\n")?),
-        }
-    }
-
-    // The answer to the ticket of the words, where the table has such a version.
-    fn answered(&self, alloc: Global, words: &str) -> Result<Option<Vec<u8>>, StoryFault> {
-        match tickets_told::ticket_of(alloc, words)? {
-            Some(ticket) => self.answer_to(&ticket),
-            None => Err(StoryFault::BadArgument),
-        }
-    }
-
-    fn answer_to(&self, ticket: &Ticket) -> Result<Option<Vec<u8>>, StoryFault> {
-        match self.tables.answer(ticket) {
-            Ok(answer) => Ok(answer),
-            Err(AllocError) => Err(StoryFault::OutOfMemory),
-        }
-    }
-
-    fn answer_shown(&self, alloc: Global, words: &str) -> Result<String, StoryFault> {
-        match self.answered(alloc, words)? {
-            Some(bytes) => Ok(answer_told(alloc, bytes.as_slice())?),
-            None => Ok(String::from_str(alloc, "  none\n")?),
-        }
-    }
-
-    fn frames_shown(&self, alloc: Global, words: &str) -> Result<String, StoryFault> {
-        match self.answered(alloc, words)? {
-            Some(bytes) => Ok(frames_told(alloc, bytes.as_slice())?),
-            None => Ok(String::from_str(alloc, "  none\n")?),
-        }
-    }
-
-    // What the command gives.
-    fn answer_to_command(&mut self, alloc: Global, command: &str) -> Result<String, StoryFault> {
-        let (word, rest) = split_word(command);
-        match word {
-            "upload" => self.name(alloc, rest),
-            "cut" => self.cut(alloc, rest),
-            "change" => self.change(alloc, rest),
-            "ticket" => tickets_told::written(alloc, rest),
-            "read-ticket" => tickets_told::read(alloc, rest),
-            "new" => Ok(self.begin(alloc)),
-            "take" => self.take(alloc, rest),
-            "outcome" => self.outcomes(alloc, rest),
-            "tables" => self.table_names(alloc),
-            "latest" => self.latest(alloc, rest),
-            "answer" => self.answer_shown(alloc, rest),
-            "frames" => self.frames_shown(alloc, rest),
-            _ => Err(StoryFault::NoCommand),
-        }
+// What a command gives that asks what names or digits mean, or the tables.
+fn tell(
+    alloc: Global,
+    story: &Story,
+    word: &str,
+    rest: &str,
+    told: &mut String,
+) -> Result<(), StoryFault> {
+    let names = story.names.as_slice();
+    match word {
+        "cut" => tell_cut(alloc, names, rest, told),
+        "change" => tell_changed(alloc, names, rest, told),
+        "ticket" => tickets_told::write(alloc, rest, told),
+        "read-ticket" => tickets_told::read(alloc, rest, told),
+        "outcome" => tell_outcomes(alloc, &story.tables, names, rest, told),
+        _ => tell_of_tables(alloc, &story.tables, word, rest, told),
     }
 }
 
@@ -216,7 +258,7 @@ impl Teller for Story {
         Ok(Story {
             hashing,
             names: Vec::new(alloc),
-            tables: Tables::new(alloc, hashing),
+            tables: no_tables(alloc, hashing)?,
         })
     }
 
@@ -226,7 +268,15 @@ impl Teller for Story {
         command: &str,
         told: &mut String,
     ) -> Result<(), StoryFault> {
-        let answer = self.answer_to_command(alloc, command)?;
-        Ok(told.push_str(answer.as_str())?)
+        let (word, rest) = split_word(command);
+        match word {
+            "upload" => tell_named(alloc, &mut self.names, rest, told),
+            "take" => take(alloc, &mut self.tables, self.names.as_slice(), rest, told),
+            "new" => {
+                self.tables = no_tables(alloc, self.hashing)?;
+                Ok(())
+            }
+            _ => tell(alloc, self, word, rest, told),
+        }
     }
 }
