@@ -7,7 +7,7 @@ ghost use Rattle.stable_records.specs.Found.{FindsOnly, IsCutShort};
 ghost use Rattle.stable_records.specs.Calls.{CountsFault};
 ghost use Rattle.stable_records.specs.Moments.{AnyCrashLeaves};
 
-use crate::support::{records_below, value_of};
+use crate::support::{expect, records_below, value_of};
 use ballots::Record;
 use stable_records::laws::{crashes_cut_keeps_short, one_list_stays_one};
 use stable_records::{MemoryStable, Stable, StoreFault};
@@ -53,12 +53,21 @@ fn recalled_in_memory(alloc: Global, told: &[Record]) -> Result<Vec<Record>, Sto
     keep_and_recall(alloc, &mut store, told)
 }
 
+/// Whether the records are recalled there.
+fn are_recalled(alloc: Global, told: &[Record]) -> Result<bool, Fail> {
+    let found = recalled_in_memory(alloc, told)?;
+    Ok(found.as_slice() == told)
+}
+
+/// The first seven records of a value.
+fn seven_records(alloc: Global) -> Result<Vec<Record>, Fail> {
+    let value = value_of(alloc, b"abc")?;
+    records_below(alloc, 7, &value)
+}
+
 /// Records are recalled as they were kept, in order.
 #[test]
 fn in_memory(rt: HostRuntime) -> Result<(), Fail> {
-    let value = value_of(rt.alloc(), b"abc")?;
-    let told = records_below(rt.alloc(), 7, &value)?;
-    let found = recalled_in_memory(rt.alloc(), told.as_slice())?;
-    assert!(rt; found == told);
-    Ok(())
+    let told = seven_records(rt.alloc())?;
+    expect(&rt, are_recalled(rt.alloc(), told.as_slice()))
 }
