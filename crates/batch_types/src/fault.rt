@@ -41,6 +41,11 @@ pub enum BatchFault {
 }
 
 impl From<AllocError> for BatchFault {
+    ghost use Rattle.std.specs.Prelude.{◌≡◌};
+    ghost use Rattle.batch_types.specs.declared.fault.BatchFault.TheVariants.{OutOfMemory};
+
+    ghost from_gives = { λ _ fault. fault ≡ OutOfMemory };
+
     fn from(_: AllocError) -> BatchFault {
         BatchFault::OutOfMemory
     }
