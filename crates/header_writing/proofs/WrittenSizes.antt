@@ -137,8 +137,9 @@ schema_light schema profile =
       profile.within.bytes_within,
     )
 
-pub schema_small : (schema : SchemaTree) → InProfile schema → length (header_text (schema_header schema)) < 2 ^ 31
-schema_small schema profile =
+-- the bound is what the limits of fields, entries and texts leave
+pub schema_short : (schema : SchemaTree) → InProfile schema → length (header_text (schema_header schema)) ≤ 1310720
+schema_short schema profile =
     omega (
       arith,
       message_light schema_type (schema_object schema) 0,
@@ -148,6 +149,9 @@ schema_small schema profile =
       profile.within.entries_within,
       profile.within.bytes_within,
     )
+
+pub schema_small : (schema : SchemaTree) → InProfile schema → length (header_text (schema_header schema)) < 2 ^ 31
+schema_small schema profile = omega (arith, schema_short schema profile)
 
 -- ---- batches
 
