@@ -31,7 +31,7 @@ use tickets::Ticket;
 use uploads::Upload;
 
 /// The tables that the agreed values make, the first so many of them.
-#[derive(Debug, Drop)]
+#[derive(Debug)]
 pub struct Tables {
     firsts: Firsts,
     tables: NamedTables,
@@ -69,6 +69,18 @@ impl Model for Tables {
       taken = t.taken;
       room = min (spare t.firsts) (min (spare t.tables) (spare t.frames));
     }) values };
+}
+
+// Written out, so that a crate above lets go of tables by one call, and does not prove again what is inside them.
+impl Drop for Tables {
+    fn drop(self) {
+        let Tables {
+            firsts: _,
+            tables: _,
+            frames: _,
+            taken: _,
+        } = self;
+    }
 }
 
 impl Tables {
