@@ -140,3 +140,45 @@ fn a_write_that_fails_is_told_and_the_put_stands(rt: HostRuntime) -> Result<(), 
     assert!(rt; !fails(&rt, 33)?);
     Ok(())
 }
+
+/// A writer that counts its bytes, and those of them that were flushed.
+#[derive(Drop)]
+struct Counting {
+    written: usize,
+    flushed: usize,
+}
+
+impl Write for Counting {
+    fn write(&mut self, bytes: &[u8]) -> io::Result<usize> {
+        self.written = self.written.saturating_add(bytes.len());
+        Ok(bytes.len())
+    }
+
+    fn flush(&mut self) -> io::Result<()> {
+        self.flushed = self.written;
+        Ok(())
+    }
+}
+
+/// How many bytes answer a request, and how many of them were flushed.
+fn counted(rt: &HostRuntime, request: &[u8]) -> Result<(usize, usize), Fail> {
+    let mut backend = backend(rt)?;
+    let mut reader = request;
+    let mut writer = Counting {
+        written: 0,
+        flushed: 0,
+    };
+    match serve_call(rt.alloc(), &mut reader, &mut writer, &mut backend) {
+        Ok(()) => Ok((writer.written, writer.flushed)),
+        Err(_) => Err(Fail::from("not served")),
+    }
+}
+
+#[test]
+fn all_of_an_answer_is_flushed(rt: HostRuntime) -> Result<(), Fail> {
+    let request = put_request(rt.alloc(), &upload(rt.alloc())?)?;
+    assert!(rt; counted(&rt, request.as_slice())? == (33, 33));
+    // A trailer alone, of status 3 and the text NoEnd.
+    assert!(rt; counted(&rt, &[])? == (11, 11));
+    Ok(())
+}

@@ -36,6 +36,12 @@ lawful|the last count|{"members":9,"sent":[],"members":3}
 lawful|a digit in capitals|{"members":1,"sent":["08012801","08022801","080428014A020A0B"]}
 lawful|a digit in both cases|{"members":1,"sent":["08012801","08022801","080428014a020A0b"]}
 lawful|a digit by its number|{"members":1,"sent":["\u00308012801","08022801","080428014a020a0b"]}
+lawful|a name by its numbers|{"m\u0065mbers":3,"sent":[]}
+lawful|the last list|{"members":1,"sent":["08042801"],"sent":[]}
+unlawful|the last list|{"members":1,"sent":[],"sent":["08042801"]}
+lawful|a run inside it|{"run":{"members":9,"sent":[3]},"members":3,"sent":[]}
+lawful|another encoding|{"members":3,"sent":["28010801"]}
+lawful|a field too many|{"members":3,"sent":["08062801"]}
 # No recorded runs.
 no run|no JSON|
 no run|no JSON|lawful
@@ -43,6 +49,11 @@ no run|cut short|{"members":3,"sent":[
 no run|more behind it|{"members":3,"sent":[]} 1
 no run|no object|[3,[]]
 no run|no object|3
+no run|inside a list|[{"members":3,"sent":[]}]
+no run|inside an object|{"run":{"members":3,"sent":[]}}
+no run|no first brace|"members":3,"sent":[]}
+no run|two last braces|{"members":3,"sent":[]}}
+no run|a comma at the end|{"members":3,"sent":[],}
 no run|no members|{"sent":[]}
 no run|no messages|{"members":3}
 no run|other names|{"Members":3,"Sent":[]}
@@ -54,10 +65,15 @@ no run|below 0|{"members":-3,"sent":[]}
 no run|no whole number|{"members":3.0,"sent":[]}
 no run|no whole number|{"members":3e0,"sent":[]}
 no run|no number|{"members":"3","sent":[]}
+no run|no number|{"members":null,"sent":[]}
+no run|a bad count last|{"members":3,"members":9,"sent":[]}
 no run|no list|{"members":3,"sent":{}}
 no run|no list|{"members":3,"sent":"08012801"}
 no run|no text|{"members":3,"sent":["08012801",8022801]}
 no run|no text|{"members":3,"sent":[["08012801"]]}
+no run|no text|{"members":3,"sent":[null]}
+no run|no bytes|{"members":3,"sent":[""]}
+no run|a prefix|{"members":3,"sent":["0x08012801"]}
 no run|half a byte|{"members":3,"sent":["0801280"]}
 no run|no digit|{"members":3,"sent":["0801280g"]}
 no run|a space|{"members":3,"sent":["0801 2801"]}
@@ -69,6 +85,12 @@ const SPACES: &[u8] = b"\n{ \"members\" : 3 ,\t\"sent\" : [ ] }\r\n";
 
 /// A file with a byte that is no UTF-8.
 const NO_TEXT: &[u8] = b"{\"members\":3,\"sent\":[],\"note\":\"\xff\"}";
+
+/// A file behind a byte order mark, which is no part of JSON (RFC 8259, section 8.1), and one with a byte behind it that
+/// is no UTF-8.
+const MARKED: &[u8] = b"\xef\xbb\xbf{\"members\":3,\"sent\":[]}";
+
+const NO_TEXT_BEHIND: &[u8] = b"{\"members\":3,\"sent\":[]}\xff";
 
 /// Whether the audit of a file with this judgement wrote, said and ended so.
 fn is_outcome_of(judgement: &str, outcome: &Outcome) -> bool {
@@ -110,7 +132,7 @@ fn judges_each_file(rt: HostRuntime) {
             files = files.saturating_add(1);
         }
     }
-    assert!(rt; files == 41);
+    assert!(rt; files == 57);
 }
 
 #[test]
@@ -126,6 +148,17 @@ fn judges_runs_and_other_bytes(rt: HostRuntime) {
     );
     expect(&rt, alloc, "spaces", SPACES, "lawful");
     expect(&rt, alloc, "no text", NO_TEXT, "no run");
+    expect(&rt, alloc, "a mark", MARKED, "no run");
+    expect(&rt, alloc, "no text behind", NO_TEXT_BEHIND, "no run");
+}
+
+/// No beginning of a file that tells a run tells one.
+#[test]
+fn a_beginning_means_nothing(rt: HostRuntime) {
+    let file = OVERTAKEN.as_bytes();
+    for end in 0..file.len() {
+        expect(&rt, rt.alloc(), "cut short", &file[..end], "no run");
+    }
 }
 
 /// Whether the audit of the file, whose line is this, fails into a writer of this room, with the line's first bytes gone

@@ -35,14 +35,21 @@ fn answers_a_million_frames_and_no_more(rt: HostRuntime) -> Result<(), Fail> {
     expect_asks(&rt, rt.alloc(), 1_000_001, "frame 1000000: Io")
 }
 
-/// The limit of frames is told before what the next one would be.
-#[test]
-fn tells_the_limit_before_an_end(rt: HostRuntime) -> Result<(), Fail> {
-    let mut text = asks(rt.alloc(), 999_999)?;
+/// How a run over so many Asks and an end frame behind them ends.
+fn ending_of(alloc: Global, count: usize) -> Result<Result<(), (u32, ServeFault)>, Fail> {
+    let mut text = asks(alloc, count)?;
     text.extend_from_slice(&[0x80, 0, 0, 0, 0])?;
     let mut reader = text.as_slice();
-    let ending = answer_frames(rt.alloc(), &mut reader, &mut Vec::new(rt.alloc()));
-    assert!(rt; ending == Err((999_999, ServeFault::EndFlag)));
+    Ok(answer_frames(alloc, &mut reader, &mut Vec::new(alloc)))
+}
+
+/// The limit of frames is told before what the next one would be: behind a million of them an end frame is not looked at.
+#[test]
+fn tells_the_limit_before_an_end(rt: HostRuntime) -> Result<(), Fail> {
+    let before = ending_of(rt.alloc(), 999_999)?;
+    assert!(rt; before == Err((999_999, ServeFault::EndFlag)));
+    let behind = ending_of(rt.alloc(), 1_000_000)?;
+    assert!(rt; behind == Err((1_000_000, ServeFault::FrameLimit)));
     Ok(())
 }
 

@@ -13,6 +13,10 @@ const CALLS: &str = "
 # No word, or a command.
 flightd|acceptor
 flightd acceptor|acceptor
+# Another name of the program, and none of its letters.
+felzoren|acceptor
+audit acceptor|acceptor
+|acceptor
 # The file of an audit.
 flightd audit run.json|[run.json]
 flightd audit /tmp/runs/3|[/tmp/runs/3]
@@ -151,6 +155,14 @@ fn takes_a_call_or_refuses_it(rt: HostRuntime) -> Result<(), Fail> {
             calls = calls.saturating_add(1);
         }
     }
-    assert!(rt; calls == 83);
+    assert!(rt; calls == 86);
+    Ok(())
+}
+
+/// No word at all, not even the program's name, asks for the acceptor too.
+#[test]
+fn takes_no_word_for_the_acceptor(rt: HostRuntime) -> Result<(), Fail> {
+    let found = asked(rt.alloc(), &[])?;
+    assert!(rt; found.as_str() == "acceptor");
     Ok(())
 }

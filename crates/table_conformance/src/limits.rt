@@ -1,8 +1,9 @@
-//! What stands at each limit when an upload is made. Texts that are read have their limits in the stories.
+//! What stands at each limit when an upload is made, and the names of faults. Texts that are read have their limits in the stories.
 
 use crate::support::{batches, id, made, schema};
 use std::alloc::{AllocError, Global};
 use std::test::Fail;
+use tickets::TicketFault;
 use uploads::{DecodeFault, Upload, UploadFault};
 
 /// The fault of an upload without batches to a table of this name.
@@ -173,13 +174,30 @@ fn the_name_is_told_before_the_shape(rt: HostRuntime) -> Result<(), Fail> {
 }
 
 #[test]
-fn faults_have_the_names_that_are_printed(rt: HostRuntime) -> Result<(), Fail> {
+fn faults_of_making_have_the_names_that_are_printed(rt: HostRuntime) -> Result<(), Fail> {
     let alloc = rt.alloc();
-    let name = format!(in alloc;
-        "{} {}",
+    let names = format!(in alloc;
+        "{} {} {} {} {}",
+        UploadFault::BadTable,
+        UploadFault::TooManyBatches,
         UploadFault::ShapeDiffers,
-        DecodeFault::NotAnUpload
+        UploadFault::TooLarge,
+        UploadFault::OutOfMemory
     )?;
-    assert!(rt; name.as_str() == "ShapeDiffers NotAnUpload");
+    assert!(rt; names.as_str() == "BadTable TooManyBatches ShapeDiffers TooLarge OutOfMemory");
+    Ok(())
+}
+
+#[test]
+fn faults_of_reading_have_the_names_that_are_printed(rt: HostRuntime) -> Result<(), Fail> {
+    let alloc = rt.alloc();
+    let names = format!(in alloc;
+        "{} {} {} {}",
+        DecodeFault::NotAnUpload,
+        DecodeFault::OutOfMemory,
+        TicketFault::BadTicket,
+        TicketFault::OutOfMemory
+    )?;
+    assert!(rt; names.as_str() == "NotAnUpload OutOfMemory BadTicket OutOfMemory");
     Ok(())
 }
