@@ -16,10 +16,11 @@ use Rattle.downloads.specs.declared.download.ServedUpload.{ServedUpload}
 use Rattle.downloads.specs.declared.download.Download.{Download}
 use Rattle.downloads.specs.declared.downloading.Downloading.{Downloading}
 use Rattle.downloads.specs.declared.downloading.Downloading.TheVariants as come
-use Rattle.downloads.specs.Downloads.{IsDownload}
+use Rattle.downloads.specs.Downloads.{Downloaded, IsGrouped, NamesDiffer}
 use Rattle.downloads.specs.Taken.{served_in, downloaded_in, HasBatchesOf, HasDownload, HasTaken}
 use Rattle.downloads.specs.Added.{part_in, AreWith, IsAlone}
-use Rattle.downloads.proofs.OneDownload.{SchemaIsOne, UploadIsOne, schemas_are_one, parts_are_one}
+use Rattle.downloads.proofs.Differing.{is_grouped}
+use Rattle.downloads.proofs.OneDownload.{SchemaIsOne, UploadIsOne, schemas_are_one, parts_are_one, one_grouping}
 use Rattle.downloads.proofs.Taking.{goes_further, says_nothing, says_alone}
 
 fits_more : (messages : List (List ℕ)) (message : List ℕ) → AllByRecursion FitsFrame messages → FitsFrame message → AllByRecursion FitsFrame (messages ++ message ∷ [])
@@ -33,7 +34,7 @@ pub schema_came : (message : List ℕ) (download : Download) → IsSchemaMessage
 schema_came message download is none fits = record {
   fit = (fits, tt);
   taken = record {
-    is = subst (λ (l : List ServedUpload). IsDownload (message ∷ []) (record { schema = schema_of download.schema; uploads = map served_in l })) (sym none)
+    is = subst (λ (l : List ServedUpload). IsGrouped (message ∷ []) (record { schema = schema_of download.schema; uploads = map served_in l })) (sym none)
         (record {
           messages_are = ap (λ (m : List ℕ). m ∷ []) is.is;
           profile = is.profile;
@@ -121,3 +122,10 @@ none_is_it messages before has = before.taken [] (subst (λ (l : List (List ℕ)
 pub nothing_reached : (downloading : Downloading) (messages : List (List ℕ)) → (downloading ≡ come.Begun) ⊎ (downloading ≡ come.Spoiled) → HasTaken downloading messages → ¬ HasDownload messages
 nothing_reached downloading messages (inl is) before = none_came messages (subst (λ (d : Downloading). HasTaken d messages) is before)
 nothing_reached downloading messages (inr is) before = none_is_it messages (subst (λ (d : Downloading). HasTaken d messages) is before)
+
+-- a name comes again: a download would be of these uploads
+pub name_again : (download : Download) (messages : List (List ℕ)) → HasTaken (come.Reached download) messages → SchemaIsOne → UploadIsOne
+    → (NamesDiffer (map served_in download.uploads.items) → ⊥) → ¬ HasDownload messages
+name_again download messages before schemas uploads repeats has =
+    let one = one_grouping schemas uploads messages has.0 (downloaded_in download) before.fit (is_grouped messages has.0 has.1) before.taken.is in
+    repeats (subst (λ (d : Downloaded). NamesDiffer d.uploads) one has.1.names_differ)

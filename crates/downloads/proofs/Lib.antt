@@ -1,4 +1,5 @@
 pub mod OneShape
+pub mod Differing
 pub mod Grouping
 pub mod OneDownload
 pub mod OneMore

@@ -1,4 +1,4 @@
--- Messages are those of one download, where each of them says one thing.
+-- Messages group into one list of uploads, where each of them says one thing.
 use Rattle.std.proofs.Common.{◌≡◌, ap, ap₂, subst, sym, ◌∙◌, ℕ, List, [], ◌∷◌, ◌++◌, map, Option, refl, arith}
 use Rattle.std.specs.Prelude.{get_or}
 use Rattle.std.specs.List.{AllByRecursion, flat_map}
@@ -10,8 +10,9 @@ use Rattle.batch_types.specs.Written.{CanBeWritten}
 use Rattle.table_types.specs.Served.{schema_message}
 use Rattle.table_types.specs.Valid.{IsId, FitsFrame}
 use Rattle.served_reading.specs.Messages.{CanBeServed, IsSchemaMessage, IsUploadMessage}
-use Rattle.downloads.specs.Downloads.{ServedUpload, Downloaded, IsServed, IsDownload, served_messages}
+use Rattle.downloads.specs.Downloads.{ServedUpload, Downloaded, IsServed, IsDownload, IsGrouped, served_messages}
 use Rattle.downloads.specs.Parts.{Part, batch_part, parts_from, parts_of, part_text}
+use Rattle.downloads.proofs.Differing.{is_grouped}
 use Rattle.downloads.proofs.Grouping.{grouped_once, all_texts}
 
 abbrev pub further : List (List ℕ) → List (List ℕ)
@@ -81,8 +82,8 @@ module _ (schemas : SchemasAreOne) (parts : PartsAreOne) where
       texts_are_one schema profile fits (flat_map parts_of xs) (flat_map parts_of ys) (all_are_parts schema xs h) (all_are_parts schema ys g)
       (subst (λ (l : List (List ℕ)). AllByRecursion FitsFrame l) (all_texts schema xs) short) (sym (all_texts schema xs) ∙ same ∙ all_texts schema ys)
 
-  pub download_is_one : (messages : List (List ℕ)) (x y : Downloaded) → AllByRecursion FitsFrame messages → IsDownload messages x → IsDownload messages y → x ≡ y
-  download_is_one messages x y fit h g =
+  pub grouping_is_one : (messages : List (List ℕ)) (x y : Downloaded) → AllByRecursion FitsFrame messages → IsGrouped messages x → IsGrouped messages y → x ≡ y
+  grouping_is_one messages x y fit h g =
       let short = subst (λ (l : List (List ℕ)). AllByRecursion FitsFrame l) h.messages_are fit in
       let same = sym h.messages_are ∙ g.messages_are in
       let schema : x.schema ≡ y.schema = schemas x.schema y.schema h.profile h.schema_fits g.profile g.schema_fits short.0 (ap (λ (l : List (List ℕ)). get_or l 0 []) same) in
@@ -112,6 +113,11 @@ parts_are_one uploads schema profile fits p q h g fit same =
     (record { is = same; named = g.0; served = g.1 }) in
     ap₂ (λ (id : List ℕ) (batch : Option Rows). part_with id batch) one.0 one.1
 
+pub one_grouping : SchemaIsOne → UploadIsOne
+    → (messages : List (List ℕ)) (x y : Downloaded) → AllByRecursion FitsFrame messages → IsGrouped messages x → IsGrouped messages y → x ≡ y
+one_grouping schemas uploads = grouping_is_one (schemas_are_one schemas) (parts_are_one uploads)
+
 pub one_download : SchemaIsOne → UploadIsOne
     → (messages : List (List ℕ)) (x y : Downloaded) → AllByRecursion FitsFrame messages → IsDownload messages x → IsDownload messages y → x ≡ y
-one_download schemas uploads = download_is_one (schemas_are_one schemas) (parts_are_one uploads)
+one_download schemas uploads messages x y fit is other =
+    one_grouping schemas uploads messages x y fit (is_grouped messages x is) (is_grouped messages y other)

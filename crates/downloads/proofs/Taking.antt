@@ -1,4 +1,4 @@
--- Messages of a download, and one message more.
+-- Messages that group into uploads, and one message more.
 use Rattle.std.proofs.Common.{◌≡◌, ◌⊎◌, inl, inr, refl, sym, ap, ap₂, subst, ◌∙◌, ℕ, List, [], ◌∷◌, ◌++◌, map, Option, Some, None, append_assoc, arith}
 use Rattle.std.specs.Prelude.{get_or}
 use Rattle.std.specs.List.{AllByRecursion, flat_map}
@@ -11,9 +11,10 @@ use Rattle.batch_types.specs.Written.{CanBeWritten}
 use Rattle.table_types.specs.Served.{schema_message}
 use Rattle.table_types.specs.Valid.{FitsFrame}
 use Rattle.served_reading.specs.Messages.{IsUploadMessage}
-use Rattle.downloads.specs.Downloads.{ServedUpload as Served, Downloaded, IsServed, IsDownload, NamesChange}
+use Rattle.downloads.specs.Downloads.{ServedUpload as Served, Downloaded, IsServed, IsGrouped, NamesChange}
 use Rattle.downloads.specs.Parts.{Part, batch_part, parts_from, parts_of, part_text}
 use Rattle.downloads.specs.Taken.{HasDownload}
+use Rattle.downloads.proofs.Differing.{is_grouped}
 use Rattle.downloads.proofs.Grouping.{IsOther, others_follow, names_rest, all_texts}
 use Rattle.downloads.proofs.OneDownload.{further, IsPart, SchemasAreOne, PartsAreOne, all_are_parts}
 
@@ -143,9 +144,9 @@ module _ (parts : PartsAreOne) (schema : SchemaTree) (profile : InProfile schema
         is = behind.is;
       }
 
--- ---- a download, and one message more
+-- ---- grouped messages, and one message more
 
-module _ (schemas : SchemasAreOne) (parts : PartsAreOne) (messages : List (List ℕ)) (d : Downloaded) (fit : AllByRecursion FitsFrame messages) (is : IsDownload messages d) where
+module _ (schemas : SchemasAreOne) (parts : PartsAreOne) (messages : List (List ℕ)) (d : Downloaded) (fit : AllByRecursion FitsFrame messages) (is : IsGrouped messages d) where
   texts_are : messages ≡ schema_message d.schema ∷ map (part_text d.schema) (flat_map parts_of d.uploads)
   texts_are = is.messages_are ∙ ap (λ (l : List (List ℕ)). schema_message d.schema ∷ l) (all_texts d.schema d.uploads)
 
@@ -154,7 +155,7 @@ module _ (schemas : SchemasAreOne) (parts : PartsAreOne) (messages : List (List 
 
   -- what the message says is put behind what is said
   pub goes_further : (message : List ℕ) (part : Part) (uploads : List Served) → IsUploadMessage d.schema message part.id part.batch
-      → flat_map parts_of uploads ≡ flat_map parts_of d.uploads ++ part ∷ [] → NamesChange uploads → IsDownload (messages ++ message ∷ []) (downloaded d.schema uploads)
+      → flat_map parts_of uploads ≡ flat_map parts_of d.uploads ++ part ∷ [] → NamesChange uploads → IsGrouped (messages ++ message ∷ []) (downloaded d.schema uploads)
   goes_further message part uploads told are change = record {
     messages_are =
         ap₂ (λ (ms : List (List ℕ)) (m : List ℕ). ms ++ m ∷ []) texts_are told.is
@@ -169,8 +170,8 @@ module _ (schemas : SchemasAreOne) (parts : PartsAreOne) (messages : List (List 
     names_change = change;
   }
 
-  -- a download that begins with these messages says what they say, and something more
-  behind : (message : List ℕ) (more : List (List ℕ)) (other : Downloaded) → IsDownload (messages ++ message ∷ more) other
+  -- what begins with these messages says what they say, and something more
+  behind : (message : List ℕ) (more : List (List ℕ)) (other : Downloaded) → IsGrouped (messages ++ message ∷ more) other
       → Follows d.schema (flat_map parts_of d.uploads) message (flat_map parts_of other.uploads)
   behind message more other h =
       let texts : schema_message d.schema ∷ (map (part_text d.schema) (flat_map parts_of d.uploads) ++ message ∷ more)
@@ -189,11 +190,14 @@ module _ (schemas : SchemasAreOne) (parts : PartsAreOne) (messages : List (List 
       (rest_are (schema_message d.schema) (schema_message other.schema) ours theirs texts
       ∙ ap (λ (s : SchemaTree). map (part_text s) (flat_map parts_of other.uploads)) (sym schema))
 
+  grouped_of : (message : List ℕ) (more : List (List ℕ)) (has : HasDownload ((messages ++ message ∷ []) ++ more)) → IsGrouped ((messages ++ message ∷ []) ++ more) has.0
+  grouped_of message more has = is_grouped ((messages ++ message ∷ []) ++ more) has.0 has.1
+
   -- the message says nothing of an upload
   pub says_nothing : (message : List ℕ) → ((id : List ℕ) (rows : Option Rows) → ¬ IsUploadMessage d.schema message id rows)
       → (more : List (List ℕ)) → ¬ HasDownload ((messages ++ message ∷ []) ++ more)
   says_nothing message none more has =
-      let next = behind message more has.0 (subst (λ (l : List (List ℕ)). IsDownload l has.0) (append_assoc messages (message ∷ []) more) has.1) in
+      let next = behind message more has.0 (subst (λ (l : List (List ℕ)). IsGrouped l has.0) (append_assoc messages (message ∷ []) more) (grouped_of message more has)) in
       none next.part.id next.part.batch (record { is = next.says; named = next.is.0; served = next.is.1 })
 
   -- a name stands alone beside the same name
@@ -201,11 +205,11 @@ module _ (schemas : SchemasAreOne) (parts : PartsAreOne) (messages : List (List 
       → flat_map parts_of d.uploads ≡ front ++ last ∷ [] → last.id ≡ part.id → (last.batch ≡ None) ⊎ (part.batch ≡ None)
       → (more : List (List ℕ)) → ¬ HasDownload ((messages ++ message ∷ []) ++ more)
   says_alone message part last front short told are named alone more has =
-      let next = behind message more has.0 (subst (λ (l : List (List ℕ)). IsDownload l has.0) (append_assoc messages (message ∷ []) more) has.1) in
+      let next = behind message more has.0 (subst (λ (l : List (List ℕ)). IsGrouped l has.0) (append_assoc messages (message ∷ []) more) (grouped_of message more has)) in
       let one : part ≡ next.part =
       parts d.schema is.profile is.schema_fits part next.part (told.named, told.served) next.is
       (subst (λ (l : List ℕ). FitsFrame l) told.is short) (sym told.is ∙ next.says) in
       let all : flat_map parts_of has.0.uploads ≡ front ++ last ∷ part ∷ next.others =
       next.are ∙ ap₂ (λ (l : List Part) (p : Part). l ++ p ∷ next.others) are (sym one) ∙ append_assoc front (last ∷ []) (part ∷ next.others) in
-      let each = beside front last part next.others (subst (λ (l : List Part). NoneAlone l) all (none_alone has.0.uploads has.1.names_change)) named in
+      let each = beside front last part next.others (subst (λ (l : List Part). NoneAlone l) all (none_alone has.0.uploads (grouped_of message more has).names_change)) named in
       neither last part alone each.0 each.1

@@ -2,7 +2,7 @@
 -- "Downloading Data". First comes a schema, and then what is served of each upload: a message a batch, each with the upload's own
 -- name, the header of the batch and its one body; or, of an upload without batches, one message with the name alone. That
 -- uploads are told apart by their names is this service's own. These are the `answer_messages` of a version, where no two
--- uploads that stand side by side have one name.
+-- uploads have one name.
 use Rattle.std.specs.Prelude.{◌≡◌, ◌≢◌, ℕ, List, [], ◌∷◌, map}
 use Rattle.std.specs.List.{AllByRecursion, flat_map}
 use Rattle.header_types.specs.Fields.{SchemaTree}
@@ -39,14 +39,30 @@ pub record IsServed (schema : SchemaTree) (served : ServedUpload) : Type 0 where
   pub named : IsId served.id
   pub batches_written : AllByRecursion (CanBeWritten schema) served.batches
 
+-- no two have one name
+abbrev pub NamesDiffer : List ServedUpload → Type 0
+NamesDiffer [] = Unit {0}
+NamesDiffer (one ∷ others) = AllByRecursion (λ (other : ServedUpload). one.id ≢ other.id) others × NamesDiffer others
+
+-- the messages are the schema's, and then those of each upload, of which no two have one name
+pub record IsDownload (messages : List (List ℕ)) (downloaded : Downloaded) : Type 0 where
+  pub messages_are : messages ≡ schema_message downloaded.schema ∷ flat_map (served_messages downloaded.schema) downloaded.uploads
+  pub profile : InProfile downloaded.schema
+  pub schema_fits : FitsSchema downloaded.schema
+  pub each : AllByRecursion (IsServed downloaded.schema) downloaded.uploads
+  pub names_differ : NamesDiffer downloaded.uploads
+
+-- ---- while the messages come
+
 -- no two that stand side by side have one name
 abbrev pub NamesChange : List ServedUpload → Type 0
 NamesChange [] = Unit {0}
 NamesChange (last ∷ []) = Unit {0}
 NamesChange (one ∷ next ∷ others) = (one.id ≢ next.id) × NamesChange (next ∷ others)
 
--- the messages are the schema's, and then those of each upload
-pub record IsDownload (messages : List (List ℕ)) (downloaded : Downloaded) : Type 0 where
+-- as `IsDownload`, save that a name may come again further on: what follows one another under one name is of one upload, so that
+-- the messages are of one list of uploads at most already
+pub record IsGrouped (messages : List (List ℕ)) (downloaded : Downloaded) : Type 0 where
   pub messages_are : messages ≡ schema_message downloaded.schema ∷ flat_map (served_messages downloaded.schema) downloaded.uploads
   pub profile : InProfile downloaded.schema
   pub schema_fits : FitsSchema downloaded.schema
@@ -66,9 +82,9 @@ downloaded_of version = record { schema = version.schema; uploads = map served_o
 abbrev pub IsOfVersion : SchemaTree → Upload → Type 0
 IsOfVersion schema upload = IsUpload upload × SameShape upload.schema schema
 
--- a version of such uploads, of which no two that stand side by side have one name
+-- a version of such uploads, of which no two have one name
 pub record IsServedVersion (version : Version) : Type 0 where
   pub profile : InProfile version.schema
   pub schema_fits : FitsSchema version.schema
   pub each : AllByRecursion (IsOfVersion version.schema) version.uploads
-  pub names_change : NamesChange (map served_of version.uploads)
+  pub names_differ : NamesDiffer (map served_of version.uploads)

@@ -10,7 +10,7 @@ use Rattle.downloads.specs.declared.download.ServedUpload.{ServedUpload}
 use Rattle.downloads.specs.declared.download.Download.{Download}
 use Rattle.downloads.specs.declared.downloading.Downloading.{Downloading}
 use Rattle.downloads.specs.declared.downloading.Downloading.TheVariants as come
-use Rattle.downloads.specs.Downloads.{ServedUpload as Served, Downloaded, IsDownload}
+use Rattle.downloads.specs.Downloads.{ServedUpload as Served, Downloaded, IsDownload, IsGrouped}
 
 -- ---- a download
 
@@ -42,16 +42,21 @@ TellsDownload messages None = ¬ HasDownload messages
 
 -- ---- messages that came
 
+-- the messages group into the uploads of this download, whose batches have the columns of its schema
+pub record GivesGrouped (messages : List (List ℕ)) (download : Download) : Type 0 where
+  pub is : IsGrouped messages (downloaded_in download)
+  pub columns : AllByRecursion (HasBatchesOf (schema_of download.schema)) download.uploads.items
+
 -- a schema that came is in profile
 abbrev pub IsReady : Downloading → Type 0
 IsReady come.Begun = Unit {0}
 IsReady (come.Reached download) = InProfile (schema_of download.schema)
 IsReady come.Spoiled = Unit {0}
 
--- none came; or these are those of a download; or of none, whatever follows them
+-- none came; or these group into the uploads of this; or they are those of no download, whatever follows them
 abbrev pub AreTaken : Downloading → List (List ℕ) → Type 0
 AreTaken come.Begun messages = messages ≡ []
-AreTaken (come.Reached download) messages = GivesDownload messages download
+AreTaken (come.Reached download) messages = GivesGrouped messages download
 AreTaken come.Spoiled messages = (further : List (List ℕ)) → ¬ HasDownload (messages ++ further)
 
 -- the messages came, each of which a frame has room for, and this was made of them

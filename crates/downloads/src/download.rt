@@ -17,6 +17,6 @@ pub struct ServedUpload {
 pub struct Download {
     /// The schema of the version.
     pub schema: Schema,
-    /// Its uploads, in order. No two that stand side by side have one name.
+    /// Its uploads, in order. No two have one name.
     pub uploads: Vec<ServedUpload>,
 }

@@ -9,6 +9,7 @@ ghost use Rattle.downloads.specs.Taken.{IsReady, HasTaken, TellsDownload};
 
 use crate::adding::add;
 use crate::download::Download;
+use crate::names::names_differ;
 use served_reading::laws::messages_are_one;
 use served_reading::{schema_in, upload_in};
 use std::alloc::{AllocError, Global};
@@ -18,7 +19,8 @@ use std::alloc::{AllocError, Global};
 pub enum Downloading {
     /// None came.
     Begun,
-    /// They are those of this download.
+    /// They group into these uploads, of which no two that stand side by side have one name. Whether a name comes again
+    /// further on is not yet asked.
     Reached(Download),
     /// They are those of no download, whatever follows them.
     Spoiled,
@@ -44,13 +46,16 @@ impl Downloading {
         }
     }
 
-    /// The download whose messages came, and no others; `None` where they are those of none.
-    pub fn finish(self) -> Option<Download>
-        ensures { (messages : List (List ℕ)) → HasTaken self messages → TellsDownload messages result }
+    /// The download whose messages came, and no others; `None` where they are those of none, as where a name comes again
+    /// behind another upload.
+    ///
+    /// [`AllocError`]: memory was refused, and what came is let go.
+    pub fn finish(self, alloc: Global) -> Result<Option<Download>, AllocError>
+        ensures { (messages : List (List ℕ)) → HasTaken self messages → IfOk result (TellsDownload messages) }
     {
         match self {
-            Downloading::Reached(download) => Some(download),
-            Downloading::Begun | Downloading::Spoiled => None,
+            Downloading::Reached(download) => without_repeats(alloc, download),
+            Downloading::Begun | Downloading::Spoiled => Ok(None),
         }
     }
 }
@@ -88,5 +93,17 @@ fn go_on(alloc: Global, download: Download, message: &[u8]) -> Result<Downloadin
         Ok(Some(uploads)) => Ok(Downloading::Reached(Download { schema, uploads })),
         Ok(None) => Ok(Downloading::Spoiled),
         Err(refused) => Err(refused),
+    }
+}
+
+/// What the messages of these uploads are at their end: a download, if no two of the uploads have one name.
+fn without_repeats(alloc: Global, download: Download) -> Result<Option<Download>, AllocError>
+    ensures { (messages : List (List ℕ)) → HasTaken (Reached download) messages → IfOk result (TellsDownload messages) }
+{
+    messages_are_one();
+    if names_differ(alloc, download.uploads.as_slice())? {
+        Ok(Some(download))
+    } else {
+        Ok(None)
     }
 }

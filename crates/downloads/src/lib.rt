@@ -4,14 +4,15 @@
 //! name of an upload, and a batch of it or none. The laws say that a node's answers are such, and that the messages of uploads,
 //! of which no two that stand side by side have one name, group into them in one way.
 //!
-//! A [`Downloading`] takes the messages of an answer one by one, and gives the [`Download`] that they are:
+//! A [`Downloading`] takes the messages of an answer one by one, and gives the [`Download`] that they are, in which no two
+//! uploads have one name:
 //!
 //! ```text
 //! let mut downloading = Downloading::Begun;
 //! for message in messages {
 //!     downloading = downloading.take(alloc, message)?;
 //! }
-//! downloading.finish()
+//! downloading.finish(alloc)
 //! ```
 #![tactic(auto)]
 
@@ -19,6 +20,7 @@ mod adding;
 mod download;
 mod downloading;
 pub mod laws;
+mod names;
 
 pub use download::{Download, ServedUpload};
 pub use downloading::Downloading;
