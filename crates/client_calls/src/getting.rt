@@ -52,9 +52,10 @@ fn read_download<R: Read>(alloc: Global, r: &mut R) -> Result<Download, ClientFa
                 }
             }
             Ok(AnswerPart::End) => {
-                return match downloading.finish() {
-                    Some(download) => Ok(download),
-                    None => Err(ClientFault::BadAnswer),
+                return match downloading.finish(alloc) {
+                    Ok(Some(download)) => Ok(download),
+                    Ok(None) => Err(ClientFault::BadAnswer),
+                    Err(_) => Err(ClientFault::Call(CallFault::OutOfMemory)),
                 };
             }
             Err(fault) => return Err(fault),
@@ -67,8 +68,8 @@ fn read_download<R: Read>(alloc: Global, r: &mut R) -> Result<Download, ClientFa
 /// and the uploads of the version.
 ///
 /// The answer is the message of a schema, then those of uploads, each of which has one encoding, and the trailer of a call that
-/// was answered. The batches that follow one another under one name are of one upload, and a name alone is of an upload without
-/// batches.
+/// was answered. The batches that follow one another under one name are of one upload, a name alone is of an upload without
+/// batches, and no two uploads have one name.
 ///
 /// - [`ClientFault::Status`]: the service refused the call, with this status and this text, whatever messages came before.
 /// - [`ClientFault::BadAnswer`]: what came is neither such an answer nor a refusal, within [`MAX_ANSWER_FRAMES`] frames.

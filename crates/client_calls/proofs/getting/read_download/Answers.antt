@@ -22,15 +22,15 @@ returns g c =
     too_many_came c.no_frame_begins_another.ensures GivesDownload HasDownload (HasTaken c.loop-count.downloading) c.loop-count._count (g.R.Read.remaining c.args.r.now) (g.R.Read.remaining c.loop-count.r)
     (omega (arith, most, least)) c.loop-count.invariant.came
 
-pub returns-in-Some : goal.returns-in-Some
-returns-in-Some g c =
+pub returns-in-Ok-Some : goal.returns-in-Ok-Some
+returns-in-Ok-Some g c =
     value_came c.no_frame_begins_another.ensures GivesDownload HasDownload (HasTaken c.loop-count.downloading) c.loop-count._count (g.R.Read.remaining c.args.r.now) (g.R.Read.remaining c.loop-count.r)
-    (g.R.Read.remaining c.next_part.new.r) c.in-Some.download c.loop-count-test.true c.loop-count.invariant.came (rw c.in-Ok-End.field-0-is at c.in-Ok-End.ensures) c.in-Some.ensures
+    (g.R.Read.remaining c.next_part.new.r) c.in-Ok-Some.download c.loop-count-test.true c.loop-count.invariant.came (rw c.in-Ok-End.field-0-is at c.in-Ok-End.ensures) (rw c.in-Ok-Some.field-0-is at c.in-Ok-Some.ensures)
 
-pub returns-in-None : goal.returns-in-None
-returns-in-None g c =
+pub returns-in-Ok-None : goal.returns-in-Ok-None
+returns-in-Ok-None g c =
     no_value_came c.no_frame_begins_another.ensures GivesDownload HasDownload (HasTaken c.loop-count.downloading) c.loop-count._count (g.R.Read.remaining c.args.r.now) (g.R.Read.remaining c.loop-count.r)
-    (g.R.Read.remaining c.next_part.new.r) c.loop-count.invariant.came (rw c.in-Ok-End.field-0-is at c.in-Ok-End.ensures) c.in-None.ensures
+    (g.R.Read.remaining c.next_part.new.r) c.loop-count.invariant.came (rw c.in-Ok-End.field-0-is at c.in-Ok-End.ensures) (rw c.in-Ok-None.field-0-is at c.in-Ok-None.ensures)
 
 pub loop-count-preserved : goal.loop-count-preserved
 loop-count-preserved g c = record {
