@@ -2,11 +2,10 @@
 use Rattle.std.proofs.Common.{refl, ◌∷◌, ◌++◌, ℕ, List, [], arith}
 use Rattle.std.proofs.lemmas.List.{length-map}
 use Rattle.table_types.specs.Uploads.{Upload, upload_text}
-use Rattle.table_types.specs.Valid.{IsTableName}
+use Rattle.table_types.specs.Valid.{FitsFrame, IsTableName, IsUpload}
 use Rattle.tickets.specs.Ticket.{TableVersion, IsTableVersion}
 use Rattle.call_reading.specs.Requests.{AsksForTable, AsksForVersion, Brings, describes, serves, puts, IsCall}
-use Rattle.client_calls.specs.Requests.{table_message, info_request, ticket_message, get_request, put_messages, put_request, further_message}
-use Rattle.request_laws.specs.Asked.{CanBeSent}
+use Rattle.client_calls.specs.Requests.{table_message, info_request, ticket_message, get_request, put_messages, put_request, opening_message, further_message}
 use Rattle.request_laws.proofs.Sizes.{table_message_fits, ticket_message_fits}
 use Rattle.request_laws.proofs.Messages.{batches_fit}
 
@@ -29,12 +28,13 @@ get_is asked rest is asks = record {
   mean = (ticket_message asked, refl, asks);
 }
 
-pub put_is : (upload : Upload) (rest : List ℕ) → CanBeSent upload → Brings (put_messages upload) upload
+pub put_is : (upload : Upload) (rest : List ℕ) → IsUpload upload → FitsFrame (opening_message upload)
+    → Brings (put_messages upload) upload
     → IsCall (put_request upload ++ rest) (puts (upload_text upload)) rest
-put_is upload rest can brings = record {
+put_is upload rest taken opens brings = record {
   messages = put_messages upload;
   parts = refl;
-  fit = (can.opens, batches_fit upload can.taken);
-  few = omega (arith, length-map upload.batches (further_message upload.schema), can.taken.batches_few);
-  mean = (upload, brings, can.taken, refl);
+  fit = (opens, batches_fit upload taken);
+  few = omega (arith, length-map upload.batches (further_message upload.schema), taken.batches_few);
+  mean = (upload, brings, taken, refl);
 }

@@ -1,15 +1,18 @@
 -- How long the messages of a request are, at most.
-use Rattle.std.proofs.Common.{◌≡◌, refl, ℕ, ◌+◌, ◌*◌, ◌≤◌, Bool, true, false, not, cond, List, [], ◌∷◌, ◌++◌, map, length, ap, length-append, arith}
+use Rattle.std.proofs.Common.{◌≡◌, refl, ℕ, ◌+◌, ◌*◌, ◌≤◌, Bool, true, false, not, cond, List, [], ◌∷◌, ◌++◌, map, length, Some, ap, length-append, arith}
 use Rattle.std.specs.Int.{w64, cast_unsigned}
 use Rattle.proto_fields.specs.Varint.{varint_text}
 use Rattle.proto_fields.specs.Field.{Field, Varint, is_default, field_text, fields_text, present}
 use Rattle.proto_messages.specs.Canonical.{bytes_field, canonical}
-use Rattle.proto_wire.specs.Flight.{flight_descriptor_descriptor, path_type}
+use Rattle.proto_wire.specs.Flight.{flight_descriptor_descriptor, data_descriptor, path_type}
+use Rattle.flatbuf_meta.specs.Writable.{schema_text_limit}
+use Rattle.table_types.specs.Uploads.{Upload, schema_text}
 use Rattle.table_types.specs.Served.{data_text}
-use Rattle.table_types.specs.Valid.{FitsFrame, IsTableName}
+use Rattle.table_types.specs.Valid.{FitsFrame, IsTableName, IsUpload}
 use Rattle.tickets.specs.Ticket.{TableVersion, IsTableVersion, ticket_text}
 use Rattle.upload_parts.proofs.CallerLemmas.{part, varint_is, digits_few, part_few, both_fields, no_field, message_size}
-use Rattle.client_calls.specs.Requests.{table_message, ticket_message}
+use Rattle.call_words.specs.Names.{id_text}
+use Rattle.client_calls.specs.Requests.{table_message, ticket_message, opening_message}
 
 -- ---- fields
 
@@ -81,6 +84,40 @@ ticket_message_fits asked is =
     let ticket : List Field = present (bytes_field 1 (ticket_text asked) ∷ []) in
     let whole : length (ticket_message asked) ≡ length (fields_text ticket) + 0 = both_fields ticket [] in
     omega (arith, whole, bytes_few 1 (ticket_text asked), ticket_short asked, is.named.short)
+
+-- ---- uploads
+
+-- a descriptor, and a header without metadata and body
+opening_short : (table id header : List ℕ)
+    → length (canonical data_descriptor (Some (path_type, ([], (table ∷ id ∷ [], tt))), (header, ([], ([], tt)))))
+    ≤ 100 + length table + length id + length header
+opening_short table id header =
+    let descriptor : List ℕ = canonical flight_descriptor_descriptor (path_type, ([], (table ∷ id ∷ [], tt))) in
+    let first : List Field = bytes_field 1 descriptor ∷ [] in
+    let others : List Field = present (bytes_field 2 header ∷ []) ++ [] in
+    let whole : length (fields_text (first ++ others)) ≡ length (fields_text first) + length (fields_text others) =
+    both_fields first others in
+    omega (
+      arith,
+      whole,
+      both_fields (present (bytes_field 2 header ∷ [])) [],
+      length-append (part 1 descriptor) [],
+      part_few 1 descriptor,
+      bytes_few 2 header,
+      names_short table id,
+    )
+
+-- the first message of an upload, whose schema is not longer than schemas are
+pub opening_fits_frame : (upload : Upload) → IsUpload upload → length (id_text upload.id) ≡ 32
+    → length (schema_text upload.schema) ≤ schema_text_limit → FitsFrame (opening_message upload)
+opening_fits_frame upload is digits short =
+    omega (
+      arith,
+      opening_short upload.table (id_text upload.id) (schema_text upload.schema),
+      is.table_named.short,
+      digits,
+      short,
+    )
 
 -- ---- batches
 

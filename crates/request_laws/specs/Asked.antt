@@ -3,12 +3,12 @@
 -- from each other.
 use Rattle.std.specs.Prelude.{ℕ, List, ◌++◌}
 use Rattle.table_types.specs.Uploads.{Upload, upload_text}
-use Rattle.table_types.specs.Valid.{FitsFrame, IsTableName, IsUpload}
+use Rattle.table_types.specs.Valid.{IsTableName, IsUpload}
 use Rattle.tickets.specs.Ticket.{TableVersion, IsTableVersion}
 use Rattle.call_words.specs.declared.refusal.Refusal.{Refusal}
 use Rattle.call_reading.specs.Requests.{describes, serves, puts, IsCall}
 use Rattle.call_reading.specs.Faults.{RefusalStands, IsOfTheMachine}
-use Rattle.client_calls.specs.Requests.{info_request, get_request, opening_message, put_request}
+use Rattle.client_calls.specs.Requests.{info_request, get_request, put_request}
 
 -- ---- what is asked for
 
@@ -24,16 +24,10 @@ GetRequestsAreCalls =
     (asked : TableVersion) (rest : List ℕ) → IsTableVersion asked
     → IsCall (get_request asked ++ rest) (serves asked) rest
 
--- An upload that is taken, where a frame has room for its first message, which has its names and its schema. There is
--- room for the messages of its batches then, since there is for those in which they are served.
-pub record CanBeSent (upload : Upload) : Type 0 where
-  pub taken : IsUpload upload
-  pub opens : FitsFrame (opening_message upload)
-
--- what is written of such an upload is a call that asks to take it
+-- what is written of an upload is a call that asks to take it: frames have room for each of its messages
 abbrev pub PutRequestsAreCalls : Type 0
 PutRequestsAreCalls =
-    (upload : Upload) (rest : List ℕ) → CanBeSent upload
+    (upload : Upload) (rest : List ℕ) → IsUpload upload
     → IsCall (put_request upload ++ rest) (puts (upload_text upload)) rest
 
 -- ---- what is not refused

@@ -15,6 +15,6 @@ returns-clause-get c asked rest is refusal after =
     (c.requests_are_calls.ensures.get asked rest is)
 
 pub returns-clause-put : goal.returns-clause-put
-returns-clause-put c upload rest can refusal after =
+returns-clause-put c upload rest taken refusal after =
     c.calls_are_not_refused.ensures (put_request upload ++ rest) rest after (puts (upload_text upload)) refusal
-    (c.requests_are_calls.ensures.put upload rest can)
+    (c.requests_are_calls.ensures.put upload rest taken)
