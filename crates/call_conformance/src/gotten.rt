@@ -285,6 +285,59 @@ fn messages_behind_those_of_a_version_are_none(rt: HostRuntime) -> Result<(), Fa
     Ok(())
 }
 
+/// The version of an upload of each of these numbers, with the same batch each, as the backend answers its ticket.
+fn version_of(rt: &HostRuntime, numbers: &[u64]) -> Result<Vec<u8>, Fail> {
+    let mut backend = backend(rt)?;
+    let (schema, batches) = of_sample(rt.alloc(), texts(rt.alloc())?)?;
+    let mut version = 0;
+    for number in numbers {
+        version = put_numbered(
+            rt.alloc(),
+            &mut backend,
+            *number,
+            &schema,
+            batches.as_slice(),
+        )?;
+    }
+    served(rt.alloc(), &mut backend, version)
+}
+
+/// An answer of the uploads of the numbers 1, 2 and this, in which the message of the third is that of another version.
+fn with_third(rt: &HostRuntime, number: u64) -> Result<Vec<u8>, Fail> {
+    let mut all = with_end(rt.alloc(), version_of(rt, &[1, 2])?.as_slice(), "")?;
+    let before = version_of(rt, &[2])?;
+    let whole = version_of(rt, &[2, number])?;
+    // The trailer has six bytes.
+    let Some(third) = whole.get(before.len().saturating_sub(6)..) else {
+        return Err(Fail::from("no third message"));
+    };
+    all.extend_from_slice(third)?;
+    Ok(all)
+}
+
+/// Whether a client is served the uploads of the numbers 1, 2 and 3 by these bytes.
+fn are_three(alloc: Global, answer: &[u8]) -> Result<bool, Fail> {
+    match told(alloc, answer)? {
+        Ok(download) => {
+            let mut names = Vec::new(alloc);
+            for upload in &download.uploads {
+                names.push(upload.id)?;
+            }
+            Ok(names.as_slice() == [id(1), id(2), id(3)].as_slice())
+        }
+        Err(_) => Ok(false),
+    }
+}
+
+#[test]
+fn a_name_that_comes_again_behind_another_makes_no_version(rt: HostRuntime) -> Result<(), Fail> {
+    let different = with_third(&rt, 3)?;
+    assert!(rt; are_three(rt.alloc(), different.as_slice())?);
+    let repeated = with_third(&rt, 1)?;
+    assert!(rt; is_no_answer(rt.alloc(), repeated.as_slice())?);
+    Ok(())
+}
+
 #[test]
 fn a_version_that_is_none_is_refused(rt: HostRuntime) -> Result<(), Fail> {
     let mut backend = backend(&rt)?;
