@@ -168,7 +168,7 @@ fn counted(rt: &HostRuntime, request: &[u8]) -> Result<(usize, usize), Fail> {
         written: 0,
         flushed: 0,
     };
-    match serve_call(rt.alloc(), &mut reader, &mut writer, &mut backend) {
+    match serve_call(rt.alloc(), &mut reader, &mut writer, &mut *backend) {
         Ok(()) => Ok((writer.written, writer.flushed)),
         Err(_) => Err(Fail::from("not served")),
     }
