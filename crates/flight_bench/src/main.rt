@@ -10,28 +10,14 @@
 //! do it.
 #![tactic(auto)]
 
-mod batches;
 mod fault;
-mod headers;
-mod lines;
-mod messages;
-mod parts;
+mod tasks;
 mod words;
 
-use batches::{read_often, rewrite_often, write_often};
 use fault::RunFault;
-use headers::{decode_header, encode_header};
-use lines::line_made_of;
-use messages::{Format, decode_data, decode_info, encode_data, encode_info};
-use parts::{call_acceptor, call_learner, call_log, report_value};
-use run_tasks::run_often;
-use std::alloc::Global;
-use std::fs;
-use std::hash::RandomState;
-use std::io::{BufWriter, Write};
+use std::io;
 use std::process::ExitCode;
-use table_tasks::{answer_often, decode_uploads, hold_all, take_often};
-use words::{Task, Work};
+use tasks::run;
 
 /// The status of a run that met no fault.
 const SUCCESS: u8 = 0;
@@ -59,76 +45,22 @@ fn start(rt: &HostRuntime) -> Result<u8, RunFault> {
     let alloc = rt.alloc();
     let words: Vec<String> = std::env::args(rt)?.collect(alloc)?;
     match words::parse(alloc, &words) {
-        Ok(matches) => match words::asked(&matches) {
-            Some((task, count, file)) => run(rt, task, count, file),
-            None => Ok(USAGE),
-        },
-        Err(error) => {
-            error.print(rt)?;
-            Ok(error.exit_code() as u8)
+        Ok(matches) => obey(rt, &matches),
+        Err(error) => Ok(refuse(rt, &error)?),
+    }
+}
+
+fn obey(rt: &HostRuntime, matches: &clap::ArgMatches<'_>) -> Result<u8, RunFault> {
+    match words::asked(matches) {
+        Some((task, count, file)) => {
+            run(rt, task, count, file)?;
+            Ok(SUCCESS)
         }
+        None => Ok(USAGE),
     }
 }
 
-fn run(rt: &HostRuntime, task: Task, count: u64, path: &str) -> Result<u8, RunFault> {
-    match task {
-        Task::Repeat(work) => {
-            let bytes = fs::read(rt, path)?;
-            let sum = repeat(rt, work, count, &bytes)?;
-            println!(rt; "{count} {sum}")?;
-        }
-        Task::Reencode(format) => {
-            let text = fs::read_to_string(rt, path)?;
-            reencode_often(rt, format, count, text.as_str())?;
-        }
-    }
-    Ok(SUCCESS)
-}
-
-// Does the work so many times, and gives the sum of the weights of all repetitions, modulo 2^64.
-fn repeat(rt: &HostRuntime, work: Work, count: u64, bytes: &[u8]) -> Result<u64, RunFault> {
-    let alloc = rt.alloc();
-    match work {
-        Work::DecodeData => decode_data(alloc, count, bytes),
-        Work::EncodeData => encode_data(alloc, count, bytes),
-        Work::DecodeInfo => decode_info(alloc, count, bytes),
-        Work::EncodeInfo => encode_info(alloc, count, bytes),
-        Work::DecodeHeader => decode_header(alloc, count, bytes),
-        Work::EncodeHeader => encode_header(alloc, count, bytes),
-        Work::ReadBatch => read_often(alloc, count, bytes),
-        Work::WriteBatch => write_often(alloc, count, bytes),
-        Work::RewriteBatch => rewrite_often(alloc, count, bytes),
-        Work::CallAcceptor => call_acceptor(alloc, count, bytes.len()),
-        Work::CallLearner => call_learner(alloc, count, bytes.len()),
-        Work::CallLog => call_log(alloc, count, bytes.len()),
-        Work::ReportValue => report_value(alloc, count, bytes),
-        Work::TakeUploads => Ok(take_often(alloc, RandomState::new(rt)?, count, bytes)?),
-        Work::HoldUploads => Ok(hold_all(alloc, RandomState::new(rt)?, count, bytes)?),
-        Work::DecodeUploads => Ok(decode_uploads(alloc, count, bytes)?),
-        Work::AnswerTickets => Ok(answer_often(alloc, RandomState::new(rt)?, count, bytes)?),
-        Work::RunEvents => Ok(run_often(alloc, RandomState::new(rt)?, count, bytes)?),
-    }
-}
-
-fn reencode_often(
-    rt: &HostRuntime,
-    format: Format,
-    count: u64,
-    text: &str,
-) -> Result<(), RunFault> {
-    for _ in 0..count {
-        reencode_lines(rt, format, text)?;
-    }
-    Ok(())
-}
-
-fn reencode_lines(rt: &HostRuntime, format: Format, text: &str) -> Result<(), RunFault> {
-    let alloc = rt.alloc();
-    let mut output = BufWriter::new(alloc, rt.stdout())?;
-    for line in text.lines() {
-        let made = line_made_of(alloc, format, line)?;
-        writeln!(output, "{made}")?;
-    }
-    output.flush()?;
-    Ok(())
+fn refuse(rt: &HostRuntime, error: &clap::Error) -> io::Result<u8> {
+    error.print(rt)?;
+    Ok(error.exit_code() as u8)
 }

@@ -1,12 +1,12 @@
 //! The words of the command line.
 
-use crate::messages::Format;
 use clap::builder::ValueParser;
 use clap::{Arg, ArgMatches, Command, Error};
+use message_tasks::Format;
 use std::alloc::{AllocError, Global};
 
 /// What the program was called for.
-#[derive(Clone, Copy, Debug, PartialEq, Eq)]
+#[derive(Clone, Copy)]
 pub(crate) enum Task {
     /// To do this over and over, and print the count and the sum.
     Repeat(Work),
@@ -15,8 +15,23 @@ pub(crate) enum Task {
 }
 
 /// What is timed.
-#[derive(Clone, Copy, Debug, PartialEq, Eq)]
+#[derive(Clone, Copy)]
 pub(crate) enum Work {
+    /// Messages, headers and batches.
+    Messages(MessageWork),
+    /// The parts of a node.
+    Parts(PartWork),
+    /// The file's uploads are read each time.
+    DecodeUploads,
+    /// Tables of the file's uploads.
+    Tables(TableWork),
+    /// Nodes decide the file's uploads each time.
+    RunEvents,
+}
+
+/// What is timed of messages, headers and batches.
+#[derive(Clone, Copy)]
+pub(crate) enum MessageWork {
     /// A `FlightData` is read each time.
     DecodeData,
     /// It is read once, and written each time.
@@ -35,6 +50,11 @@ pub(crate) enum Work {
     WriteBatch,
     /// It is read and written each time.
     RewriteBatch,
+}
+
+/// What is timed of the parts of a node.
+#[derive(Clone, Copy)]
+pub(crate) enum PartWork {
     /// An acceptor is asked to accept for as many slots as the file has bytes.
     CallAcceptor,
     /// A learner is told of three votes for each of as many slots.
@@ -43,16 +63,17 @@ pub(crate) enum Work {
     CallLog,
     /// An acceptor that has accepted the file's bytes promises ballots, and reports them in each promise.
     ReportValue,
+}
+
+/// What is timed of tables.
+#[derive(Clone, Copy)]
+pub(crate) enum TableWork {
     /// Tables take the file's uploads each time.
     TakeUploads,
     /// Tables take them each time, and all are kept to the end.
     HoldUploads,
-    /// The uploads are read each time.
-    DecodeUploads,
     /// Tables take them once, and answer a ticket each time.
     AnswerTickets,
-    /// Nodes decide the file's uploads each time.
-    RunEvents,
 }
 
 /// The words of all tasks.
@@ -87,6 +108,42 @@ const TASKS: &[&str] = &[
     "reencode-header",
 ];
 
+/// What each word asks to be timed.
+const WORKS: &[(&str, Work)] = &[
+    ("decode-data", Work::Messages(MessageWork::DecodeData)),
+    ("encode-data", Work::Messages(MessageWork::EncodeData)),
+    ("decode-info", Work::Messages(MessageWork::DecodeInfo)),
+    ("encode-info", Work::Messages(MessageWork::EncodeInfo)),
+    ("decode-header", Work::Messages(MessageWork::DecodeHeader)),
+    ("encode-header", Work::Messages(MessageWork::EncodeHeader)),
+    ("read-batch", Work::Messages(MessageWork::ReadBatch)),
+    ("write-batch", Work::Messages(MessageWork::WriteBatch)),
+    ("rewrite-batch", Work::Messages(MessageWork::RewriteBatch)),
+    ("call-acceptor", Work::Parts(PartWork::CallAcceptor)),
+    ("call-learner", Work::Parts(PartWork::CallLearner)),
+    ("call-log", Work::Parts(PartWork::CallLog)),
+    ("report-value", Work::Parts(PartWork::ReportValue)),
+    ("take-uploads", Work::Tables(TableWork::TakeUploads)),
+    ("hold-uploads", Work::Tables(TableWork::HoldUploads)),
+    ("decode-uploads", Work::DecodeUploads),
+    ("answer-tickets", Work::Tables(TableWork::AnswerTickets)),
+    ("run-events", Work::RunEvents),
+];
+
+/// What stands behind `reencode-`, and the messages that each asks for.
+const FORMATS: &[(&str, Format)] = &[
+    ("descriptor", Format::Descriptor),
+    ("ticket", Format::Ticket),
+    ("location", Format::Location),
+    ("endpoint", Format::Endpoint),
+    ("info", Format::Info),
+    ("schema-result", Format::SchemaResult),
+    ("criteria", Format::Criteria),
+    ("data", Format::Data),
+    ("put-result", Format::PutResult),
+    ("header", Format::Header),
+];
+
 /// Reads the words that the program was called with, its own name first: a task, how many times, and a file.
 ///
 /// The error prints itself: a fault of the words to standard error, with exit status 2; the help and the version, which
@@ -97,14 +154,19 @@ pub(crate) fn parse(alloc: Global, words: &[String]) -> Result<ArgMatches<'_>, E
 }
 
 fn command<'a>(alloc: Global) -> Result<Command<'a>, AllocError> {
-    Command::new(alloc, "flight_bench")
-        .version("0.1.0")
-        .about(
-            "Reads and writes messages of Arrow Flight over and over, to be timed and compared from outside",
-        )
-        .arg(task_argument(alloc))?
-        .arg(count_argument(alloc))?
-        .arg(file_argument(alloc))
+    let command = program(alloc).arg(task_argument(alloc))?;
+    with_count_and_file(alloc, command)
+}
+
+fn program<'a>(alloc: Global) -> Command<'a> {
+    Command::new(alloc, "flight_bench").version("0.1.0").about(
+        "Reads and writes messages of Arrow Flight over and over, to be timed and compared from outside",
+    )
+}
+
+fn with_count_and_file<'a>(alloc: Global, command: Command<'a>) -> Result<Command<'a>, AllocError> {
+    let command = command.arg(count_argument(alloc))?;
+    command.arg(file_argument(alloc))
 }
 
 fn task_argument<'a>(alloc: Global) -> Arg<'a> {
@@ -129,55 +191,40 @@ fn file_argument<'a>(alloc: Global) -> Arg<'a> {
 
 /// What the words ask for: the task, how many times, and the file. A call that [`parse`] takes has all three.
 pub(crate) fn asked<'a>(matches: &ArgMatches<'a>) -> Option<(Task, u64, &'a str)> {
-    let task = task_named(matches.get_str("TASK")?)?;
+    let task = task_asked(matches)?;
     let count = matches.get_one::<u64>("COUNT")?;
     let file = matches.get_str("FILE")?;
     Some((task, count, file))
 }
 
+fn task_asked(matches: &ArgMatches<'_>) -> Option<Task> {
+    match matches.get_str("TASK") {
+        Some(word) => task_named(word),
+        None => None,
+    }
+}
+
 fn task_named(word: &str) -> Option<Task> {
     match word.strip_prefix("reencode-") {
-        Some(name) => Some(Task::Reencode(format_named(name)?)),
-        None => Some(Task::Repeat(work_named(word)?)),
+        Some(name) => reencoding(name),
+        None => repetition(word),
     }
 }
 
-fn format_named(name: &str) -> Option<Format> {
-    match name {
-        "descriptor" => Some(Format::Descriptor),
-        "ticket" => Some(Format::Ticket),
-        "location" => Some(Format::Location),
-        "endpoint" => Some(Format::Endpoint),
-        "info" => Some(Format::Info),
-        "schema-result" => Some(Format::SchemaResult),
-        "criteria" => Some(Format::Criteria),
-        "data" => Some(Format::Data),
-        "put-result" => Some(Format::PutResult),
-        "header" => Some(Format::Header),
-        _ => None,
+fn reencoding(name: &str) -> Option<Task> {
+    for (word, format) in FORMATS {
+        if *word == name {
+            return Some(Task::Reencode(*format));
+        }
     }
+    None
 }
 
-fn work_named(word: &str) -> Option<Work> {
-    match word {
-        "decode-data" => Some(Work::DecodeData),
-        "encode-data" => Some(Work::EncodeData),
-        "decode-info" => Some(Work::DecodeInfo),
-        "encode-info" => Some(Work::EncodeInfo),
-        "decode-header" => Some(Work::DecodeHeader),
-        "encode-header" => Some(Work::EncodeHeader),
-        "read-batch" => Some(Work::ReadBatch),
-        "write-batch" => Some(Work::WriteBatch),
-        "rewrite-batch" => Some(Work::RewriteBatch),
-        "call-acceptor" => Some(Work::CallAcceptor),
-        "call-learner" => Some(Work::CallLearner),
-        "call-log" => Some(Work::CallLog),
-        "report-value" => Some(Work::ReportValue),
-        "take-uploads" => Some(Work::TakeUploads),
-        "hold-uploads" => Some(Work::HoldUploads),
-        "decode-uploads" => Some(Work::DecodeUploads),
-        "answer-tickets" => Some(Work::AnswerTickets),
-        "run-events" => Some(Work::RunEvents),
-        _ => None,
+fn repetition(name: &str) -> Option<Task> {
+    for (word, work) in WORKS {
+        if *word == name {
+            return Some(Task::Repeat(*work));
+        }
     }
+    None
 }

@@ -1,4 +1,4 @@
-use Rattle.flight_bench.proofs.batches.+columns_weight.Given as goal
+use Rattle.message_tasks.proofs.batches.+columns_weight.Given as goal
 
 abbrev pub decreases-columns_weight : goal.decreases-columns_weight
 decreases-columns_weight l = l.levels

@@ -1,6 +1,6 @@
 //! Messages of Arrow Flight read, or written, over and over; and each written again in its one encoding.
 
-use crate::fault::RunFault;
+use crate::fault::MessageTaskFault;
 use crate::headers::reencode_header;
 use proto_wire::{
     Criteria, FlightData, FlightDescriptor, FlightEndpoint, FlightInfo, Location, ProtoMessage,
@@ -10,8 +10,8 @@ use std::alloc::Global;
 
 /// What bytes are read as: one of the nine messages of Arrow Flight (Flight.proto), or the header of a message of
 /// Arrow's metadata.
-#[derive(Clone, Copy, Debug, PartialEq, Eq)]
-pub(crate) enum Format {
+#[derive(Clone, Copy)]
+pub enum Format {
     /// A `FlightDescriptor`.
     Descriptor,
     /// A `Ticket`.
@@ -40,59 +40,76 @@ pub(crate) fn reencode(
     format: Format,
     bytes: &[u8],
     out: &mut Vec<u8>,
-) -> Result<(), RunFault> {
+) -> Result<(), MessageTaskFault> {
     match format {
-        Format::Descriptor => FlightDescriptor::decode(alloc, bytes)?.encode(out)?,
-        Format::Ticket => Ticket::decode(alloc, bytes)?.encode(out)?,
-        Format::Location => Location::decode(alloc, bytes)?.encode(out)?,
-        Format::Endpoint => FlightEndpoint::decode(alloc, bytes)?.encode(out)?,
-        Format::Info => FlightInfo::decode(alloc, bytes)?.encode(out)?,
-        Format::SchemaResult => SchemaResult::decode(alloc, bytes)?.encode(out)?,
-        Format::Criteria => Criteria::decode(alloc, bytes)?.encode(out)?,
-        Format::Data => FlightData::decode(alloc, bytes)?.encode(out)?,
-        Format::PutResult => PutResult::decode(alloc, bytes)?.encode(out)?,
-        Format::Header => reencode_header(alloc, bytes, out)?,
+        Format::Descriptor => reencode_as::<FlightDescriptor>(alloc, bytes, out),
+        Format::Ticket => reencode_as::<Ticket>(alloc, bytes, out),
+        Format::Location => reencode_as::<Location>(alloc, bytes, out),
+        Format::Endpoint => reencode_as::<FlightEndpoint>(alloc, bytes, out),
+        Format::Info => reencode_as::<FlightInfo>(alloc, bytes, out),
+        Format::SchemaResult => reencode_as::<SchemaResult>(alloc, bytes, out),
+        Format::Criteria => reencode_as::<Criteria>(alloc, bytes, out),
+        Format::Data => reencode_as::<FlightData>(alloc, bytes, out),
+        Format::PutResult => reencode_as::<PutResult>(alloc, bytes, out),
+        Format::Header => reencode_header(alloc, bytes, out),
     }
-    Ok(())
+}
+
+fn reencode_as<M: ProtoMessage + Drop>(
+    alloc: Global,
+    bytes: &[u8],
+    out: &mut Vec<u8>,
+) -> Result<(), MessageTaskFault> {
+    let message = M::decode(alloc, bytes)?;
+    Ok(message.encode(out)?)
 }
 
 /// Reads a `FlightData` so many times. A repetition weighs what its body does.
-pub(crate) fn decode_data(alloc: Global, count: u64, bytes: &[u8]) -> Result<u64, RunFault> {
+pub fn decode_data(alloc: Global, count: u64, bytes: &[u8]) -> Result<u64, MessageTaskFault> {
     let mut sum: u64 = 0;
     for _ in 0..count {
-        let message = FlightData::decode(alloc, bytes)?;
-        sum = sum.wrapping_add(weight_of(&message.data_body));
+        sum = sum.wrapping_add(data_weight(alloc, bytes)?);
     }
     Ok(sum)
+}
+
+fn data_weight(alloc: Global, bytes: &[u8]) -> Result<u64, MessageTaskFault> {
+    let message = FlightData::decode(alloc, bytes)?;
+    Ok(weight_of(&message.data_body))
 }
 
 /// Reads a `FlightData` once, and writes it so many times. A repetition weighs what is written.
-pub(crate) fn encode_data(alloc: Global, count: u64, bytes: &[u8]) -> Result<u64, RunFault> {
+pub fn encode_data(alloc: Global, count: u64, bytes: &[u8]) -> Result<u64, MessageTaskFault> {
     let message = FlightData::decode(alloc, bytes)?;
-    let mut out = Vec::new(alloc);
-    let mut sum: u64 = 0;
-    for _ in 0..count {
-        out.clear();
-        message.encode(&mut out)?;
-        sum = sum.wrapping_add(weight_of(&out));
-    }
-    Ok(sum)
+    encode_often(alloc, count, &message)
 }
 
 /// Reads a `FlightInfo` so many times. A repetition weighs the number of its endpoints and the last byte of its schema.
-pub(crate) fn decode_info(alloc: Global, count: u64, bytes: &[u8]) -> Result<u64, RunFault> {
+pub fn decode_info(alloc: Global, count: u64, bytes: &[u8]) -> Result<u64, MessageTaskFault> {
     let mut sum: u64 = 0;
     for _ in 0..count {
-        let message = FlightInfo::decode(alloc, bytes)?;
-        sum = sum.wrapping_add(message.endpoint.len() as u64);
-        sum = sum.wrapping_add(last_byte(&message.schema));
+        sum = sum.wrapping_add(info_weight(alloc, bytes)?);
     }
     Ok(sum)
 }
 
-/// Reads a `FlightInfo` once, and writes it so many times. A repetition weighs what is written.
-pub(crate) fn encode_info(alloc: Global, count: u64, bytes: &[u8]) -> Result<u64, RunFault> {
+fn info_weight(alloc: Global, bytes: &[u8]) -> Result<u64, MessageTaskFault> {
     let message = FlightInfo::decode(alloc, bytes)?;
+    let endpoints = message.endpoint.len() as u64;
+    Ok(endpoints.wrapping_add(last_byte(&message.schema)))
+}
+
+/// Reads a `FlightInfo` once, and writes it so many times. A repetition weighs what is written.
+pub fn encode_info(alloc: Global, count: u64, bytes: &[u8]) -> Result<u64, MessageTaskFault> {
+    let message = FlightInfo::decode(alloc, bytes)?;
+    encode_often(alloc, count, &message)
+}
+
+fn encode_often<M: ProtoMessage>(
+    alloc: Global,
+    count: u64,
+    message: &M,
+) -> Result<u64, MessageTaskFault> {
     let mut out = Vec::new(alloc);
     let mut sum: u64 = 0;
     for _ in 0..count {
