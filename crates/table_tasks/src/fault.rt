@@ -4,7 +4,7 @@ use std::alloc::AllocError;
 use thiserror::Error;
 
 /// What ended a task.
-#[derive(Clone, Copy, Debug, PartialEq, Eq, Error)]
+#[derive(Clone, Copy, Debug, Error)]
 pub enum TableTaskFault {
     /// The bytes are not of uploads, each behind its length, or there is none of them where one is asked for.
     #[error("Uploads")]

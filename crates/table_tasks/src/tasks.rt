@@ -8,7 +8,7 @@ use ballots::Value;
 use bytes::Bytes;
 use std::alloc::{AllocError, Global};
 use std::hash::RandomState;
-use table_versions::Tables;
+use table_versions::{TableInfo, Tables};
 use tickets::Ticket;
 use uploads::{DecodeFault, Upload};
 
@@ -44,15 +44,21 @@ fn tables_of(
     Ok(tables)
 }
 
-/// The version, the rows and the bytes of a table.
-fn table_weight(tables: &Tables, name: &str) -> Result<u64, AllocError> {
-    match tables.latest(name)? {
+/// The version, the rows and the bytes of a table, or 0 where there is none.
+fn info_weight(latest: &Option<TableInfo>) -> u64 {
+    match latest {
         Some(info) => {
             let both = info.version.wrapping_add(info.records);
-            Ok(both.wrapping_add(info.total_bytes))
+            both.wrapping_add(info.total_bytes)
         }
-        None => Ok(0),
+        None => 0,
     }
+}
+
+/// What the table of this name weighs.
+fn table_weight(tables: &Tables, name: &str) -> Result<u64, AllocError> {
+    let latest = tables.latest(name)?;
+    Ok(info_weight(&latest))
 }
 
 /// How many values were taken, and the version, the rows and the bytes of each table.
@@ -62,6 +68,16 @@ fn weight(tables: &Tables) -> Result<u64, AllocError> {
         sum = sum.wrapping_add(table_weight(tables, name.as_str())?);
     }
     Ok(sum)
+}
+
+/// What new tables that took the values weigh.
+fn taken_weight(
+    alloc: Global,
+    hashing: RandomState,
+    values: &[Value],
+) -> Result<u64, TableTaskFault> {
+    let tables = tables_of(alloc, hashing, values)?;
+    Ok(weight(&tables)?)
 }
 
 /// New tables take the uploads so many times, each in turn. A repetition weighs the number of uploads, and the version,
@@ -77,10 +93,16 @@ pub fn take_often(
     let values = values_in(alloc, bytes)?;
     let mut sum: u64 = 0;
     for _ in 0..count {
-        let tables = tables_of(alloc, hashing, values.as_slice())?;
-        sum = sum.wrapping_add(weight(&tables)?);
+        sum = sum.wrapping_add(taken_weight(alloc, hashing, values.as_slice())?);
     }
     Ok(sum)
+}
+
+/// Holds the tables beside others, and gives what they weigh.
+fn weight_held(held: &mut Vec<Box<Tables>>, tables: Box<Tables>) -> Result<u64, AllocError> {
+    let weight = weight(&tables)?;
+    held.push(tables)?;
+    Ok(weight)
 }
 
 /// So many tables take the uploads, each in turn, and all are kept until the last has, so that their memory can be
@@ -98,8 +120,7 @@ pub fn hold_all(
     let mut sum: u64 = 0;
     for _ in 0..count {
         let tables = tables_of(alloc, hashing, values.as_slice())?;
-        sum = sum.wrapping_add(weight(&tables)?);
-        held.push(tables).map_err(|_| TableTaskFault::OutOfMemory)?;
+        sum = sum.wrapping_add(weight_held(&mut held, tables)?);
     }
     Ok(sum)
 }
@@ -155,16 +176,21 @@ pub fn decode_uploads(alloc: Global, count: u64, bytes: &[u8]) -> Result<u64, Ta
     Ok(sum)
 }
 
+/// A ticket for the latest version of the table of this name.
+fn ticket_for(tables: &Tables, name: &str) -> Result<Ticket, TableTaskFault> {
+    match tables.latest(name)? {
+        Some(info) => Ticket::new(info.table, info.version).ok_or(TableTaskFault::Uploads),
+        None => Err(TableTaskFault::Uploads),
+    }
+}
+
 /// A ticket for the latest version of the first table.
 fn first_ticket(tables: &Tables) -> Result<Ticket, TableTaskFault> {
     let names = tables.tables()?;
-    let Some(name) = names.first() else {
-        return Err(TableTaskFault::Uploads);
-    };
-    let Some(info) = tables.latest(name.as_str())? else {
-        return Err(TableTaskFault::Uploads);
-    };
-    Ticket::new(info.table, info.version).ok_or(TableTaskFault::Uploads)
+    match names.first() {
+        Some(name) => ticket_for(tables, name.as_str()),
+        None => Err(TableTaskFault::Uploads),
+    }
 }
 
 /// What the answer to a ticket weighs.
@@ -175,8 +201,20 @@ fn answer_weight(tables: &Tables, ticket: &Ticket) -> Result<u64, TableTaskFault
     }
 }
 
-/// Tables take the uploads once, each in turn, and answer the ticket for the latest version of the first of them so many
-/// times. A repetition weighs the number of bytes of the answer, and the last of them.
+/// The tables answer the ticket for the latest version of the first of them so many times.
+fn answers_weight(tables: &Tables, count: u64) -> Result<u64, TableTaskFault>
+    ensures none { count ≡ 0 → IfOk result (λ sum. sum ≡ 0) }
+{
+    let ticket = first_ticket(tables)?;
+    let mut sum: u64 = 0;
+    for _ in 0..count {
+        sum = sum.wrapping_add(answer_weight(tables, &ticket)?);
+    }
+    Ok(sum)
+}
+
+/// Tables take the uploads once, each in turn, and answer the ticket for the latest version of the first of them so
+/// many times. A repetition weighs the number of bytes of the answer, and the last of them.
 pub fn answer_often(
     alloc: Global,
     hashing: RandomState,
@@ -187,10 +225,5 @@ pub fn answer_often(
 {
     let values = values_in(alloc, bytes)?;
     let tables = tables_of(alloc, hashing, values.as_slice())?;
-    let ticket = first_ticket(&tables)?;
-    let mut sum: u64 = 0;
-    for _ in 0..count {
-        sum = sum.wrapping_add(answer_weight(&tables, &ticket)?);
-    }
-    Ok(sum)
+    answers_weight(&tables, count)
 }

@@ -21,6 +21,11 @@ fn value_of(alloc: Global, bytes: &[u8]) -> Result<Value, TableTaskFault> {
     }
 }
 
+fn push_value(alloc: Global, values: &mut Vec<Value>, bytes: &[u8]) -> Result<(), TableTaskFault> {
+    let value = value_of(alloc, bytes)?;
+    values.push(value).map_err(|_| TableTaskFault::OutOfMemory)
+}
+
 /// The uploads as values that nodes may agree on, each with bytes of its own.
 pub(crate) fn values_in(alloc: Global, bytes: &[u8]) -> Result<Vec<Value>, TableTaskFault> {
     let mut values = Vec::new(alloc);
@@ -32,8 +37,7 @@ pub(crate) fn values_in(alloc: Global, bytes: &[u8]) -> Result<Vec<Value>, Table
         let Some((upload, behind)) = split_upload(rest) else {
             return Err(TableTaskFault::Uploads);
         };
-        let value = value_of(alloc, upload)?;
-        values.push(value).map_err(|_| TableTaskFault::OutOfMemory)?;
+        push_value(alloc, &mut values, upload)?;
         rest = behind;
     }
     Ok(values)
