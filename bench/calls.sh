@@ -6,15 +6,17 @@
 # of the same events by `flight_bench`. Each line gives the processor time of one call, the least of five runs of each
 # program in turn, less that of a run without these calls; and how many bytes the server held at most.
 #
-# Seen on four processors that three other tasks shared:
+# Seen on four processors that one or two other tasks shared:
 #
 #                              ours   plain Rust  ratio
-#   DoGet of 64 MiB         78.5 ms      17.9 ms   4.39   816 MiB/s, 0.27 of a raw copy's speed (20.9 ms)
-#   DoPut of 15 MiB         65.7 ms      53.5 ms   1.23   228 MiB/s; 248 MiB held for 120 MiB in plain Rust and here
-#   GetFlightInfo            5.5 us       6.3 us   0.88
+#   DoGet of 64 MiB         68.3 ms      22.7 ms   3.00   938 MiB/s, 0.92 of a raw copy's speed (62.7 ms); 199 MiB held, 134 MiB
+#   DoPut of 15 MiB         64.9 ms      54.4 ms   1.19   231 MiB/s; 248 MiB held for 120 MiB in plain Rust and here
+#   GetFlightInfo            4.7 us       4.3 us   1.08
+#   replay of 10,000 events 34.1 ms, and 18.3 ms `run` itself: 1.86
 #
-# What costs in DoGet: an answer is made whole, one copy of all its frames, and then written through the writer's own
-# buffer, where plain Rust writes the frames where they stand. Of replay nothing was measured yet.
+# An earlier run had the raw copy at 20.9 ms and DoGet, at 78.5 ms, at 0.27 of its speed: what the copy takes swings. What costs in
+# DoGet: an answer is made whole, one copy of all its frames, where plain Rust writes the frames where they stand. Of replay
+# nothing was looked into: it reads its file as one value of JSON, and makes a line for each event.
 set -euo pipefail
 cd "$(dirname "${BASH_SOURCE[0]}")/.."
 work=$(mktemp -d)
