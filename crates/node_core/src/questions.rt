@@ -51,11 +51,14 @@ impl Node {
         self.tables.latest(table)
     }
 
-    /// The names of the tables, in the order of their first effective uploads. Nothing changes.
+    /// The names of the tables, in the order of their first effective uploads. Memory can be refused only where there is a
+    /// table. Nothing changes.
     pub fn tables(&self) -> Result<Vec<String>, OutOfMemory>
-        ensures { (views : Views) (uploads : List Uploaded) → NodeHas self.now views
+        ensures names { (views : Views) (uploads : List Uploaded) → NodeHas self.now views
             → HasUploads self.now.agreement.config.members views.told uploads
             → IfOk result (λ names. map string_bytes names.items ≡ table_names uploads) }
+        ensures memory { OnErr result ((views : Views) (uploads : List Uploaded) → NodeHas self.now views
+            → HasUploads self.now.agreement.config.members views.told uploads → table_names uploads ≢ []) }
     {
         learned_is_one();
         prefixes_are_one();

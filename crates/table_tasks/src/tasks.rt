@@ -45,7 +45,7 @@ fn tables_of(
 }
 
 /// The version, the rows and the bytes of a table, or 0 where there is none.
-fn info_weight(latest: &Option<TableInfo>) -> u64 {
+fn info_weight(latest: Option<&TableInfo>) -> u64 {
     match latest {
         Some(info) => {
             let both = info.version.wrapping_add(info.records);
@@ -58,7 +58,7 @@ fn info_weight(latest: &Option<TableInfo>) -> u64 {
 /// What the table of this name weighs.
 fn table_weight(tables: &Tables, name: &str) -> Result<u64, AllocError> {
     let latest = tables.latest(name)?;
-    Ok(info_weight(&latest))
+    Ok(info_weight(latest.as_ref()))
 }
 
 /// How many values were taken, and the version, the rows and the bytes of each table.
