@@ -1,6 +1,6 @@
 -- Two lists whose items belong together, one by one.
 use Rattle.std.proofs.Common.{◌≡◌, ℕ, ◌+◌, ◌<◌, List, [], ◌∷◌, ◌++◌, map, take, length, get_or, refl, sym, ap, subst, ◌∙◌, arith}
-use Rattle.std.specs.List.{AllZip}
+use Rattle.std.specs.List.{AllByRecursion, AllZip}
 use Rattle.std.proofs.lemmas.List.{map_more}
 
 module _ {A B : Type 0} (R : A → B → Type 0) where
@@ -18,6 +18,11 @@ module _ {A B C : Type 0} (R : B → C → Type 0) (see : A → B) where
       let more : map see (take (i + 1) xs) ≡ map see (take i xs) ++ see x ∷ []
       = map_more see xs i x lt ∙ ap (λ (v : A). map see (take i xs) ++ see v ∷ []) (sym is) in
       subst (λ (bs : List B). AllZip R bs (ys ++ y ∷ [])) (sym more) (zip_push R (map see (take i xs)) ys (see x) y h r)
+
+module _ {A : Type 0} (P : A → Type 0) where
+  pub all_push : (xs : List A) (x : A) → AllByRecursion P xs → P x → AllByRecursion P (xs ++ x ∷ [])
+  all_push [] x all p = (p, tt)
+  all_push (y ∷ xs) x all p = (all.0, all_push xs x all.1 p)
 
 module _ {A B : Type 0} (f : A → B) where
   pub mapped_push : (xs : List A) (x : A) → map f (xs ++ x ∷ []) ≡ map f xs ++ f x ∷ []

@@ -9,7 +9,7 @@ use Rattle.schedule_runner.specs.Runs.{IsRunOf}
 use Rattle.replay_command.specs.declared.fault.ReplayFault.{ReplayFault}
 use Rattle.replay_command.specs.declared.fault.ReplayFault.TheVariants.{BadSchedule, OutOfMemory, Io}
 use Rattle.replay_command.specs.Lines.{lines_of}
-use Rattle.replay_command.specs.ScheduleFile.{MeansSchedule}
+use Rattle.replay_command.specs.ScheduleFile.{MeansSchedule, MeansNothing}
 
 -- the file tells a schedule, and this is a run of its events by nodes that keep to their rules
 pub record PlaysAs (file : List ℕ) (trace : Traced) : Type 0 where
@@ -36,11 +36,11 @@ pub record TellsInPart (file : List ℕ) (old new : Option (List ℕ)) : Type 0 
 abbrev pub IsOfTelling : ReplayFault → Type 0
 IsOfTelling fault = (fault ≡ OutOfMemory) ⊎ (fault ≡ Io)
 
--- What a replay of the file adds to what its writer holds, by how it ends: nothing where the file is refused, and where
--- memory is refused before there is a run.
+-- What a replay of the file adds to what its writer holds, by how it ends: nothing where the file means no schedule, and
+-- where memory is refused before there is a run.
 abbrev pub Replays : List ℕ → Result (Unit {0}) ReplayFault → Option (List ℕ) → Option (List ℕ) → Type 0
 Replays file (Ok done) old new = TellsAll file old new
-Replays file (Err BadSchedule) old new = Keeps old new
+Replays file (Err BadSchedule) old new = MeansNothing file × Keeps old new
 Replays file (Err OutOfMemory) old new = IsUtf8 file × (Keeps old new ⊎ TellsInPart file old new)
 Replays file (Err Io) old new = TellsInPart file old new
 

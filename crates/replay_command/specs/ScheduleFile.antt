@@ -1,12 +1,13 @@
 -- What a file that tells a schedule means: JSON (RFC 8259) whose numbers are whole. A schedule, its words and its limits
 -- are this service's own.
-use Rattle.std.specs.Prelude.{◌≡◌, ℕ, List, [], ◌∷◌, codes, Option, Some, option_and_then, IsUtf8, slice_get}
+use Rattle.std.specs.Prelude.{◌≡◌, ℕ, ◌≤◌, List, [], ◌∷◌, codes, Option, Some, option_and_then, IsUtf8, slice_get}
 use Rattle.std.specs.List.{AllZip}
 use Rattle.serde_json.specs.Data.{Data, unsigned, number, string, Items}
 use Rattle.serde_json.specs.Read.{read as read_text}
-use Rattle.serde_json.specs.Find.{get, as_number, as_u64, as_str, as_array}
+use Rattle.serde_json.specs.Find.{get, as_number, as_u64, as_array}
 use Rattle.serde_json.specs.View.{items_of}
 use Rattle.ballots.specs.Majority.{IsMembers}
+use Rattle.tickets.specs.Ticket.{IsTableVersion}
 use Rattle.node_events.specs.declared.event.Event.{Event}
 use Rattle.node_events.specs.declared.event.Event.TheVariants.{Put, Tick, Deliver, TickCut, DeliverCut, Restart, Get, Info, Outcome}
 use Rattle.schedule_runner.specs.declared.config.Config.{Config}
@@ -17,19 +18,24 @@ use Rattle.replay_command.specs.UploadValue.{MeansUpload}
 abbrev pub whole : ℕ → Data
 whole n = number (unsigned n)
 
+-- how many slots a tick of a schedule leaves to others at most
+abbrev pub most_left : ℕ
+most_left = 255
+
 -- Of these uploads: the word says that this happens to the node, by the values that stand behind the node's number. An
--- upload is named by its place, from 0 on.
+-- upload is named by its place, from 0 on, and a version of a table as a ticket has it.
 abbrev pub Says : List (List ℕ) → List ℕ → ℕ → List Data → Event → Type 0
 Says uploads word node rest (Put own upload) =
     (word ≡ codes "put") × (own ≡ node) × (place : ℕ) × (rest ≡ whole place ∷ []) × (slice_get uploads place ≡ Some upload)
-Says uploads word node rest (Tick own left) = (word ≡ codes "tick") × (own ≡ node) × (rest ≡ whole left ∷ [])
+Says uploads word node rest (Tick own left) = (word ≡ codes "tick") × (own ≡ node) × (rest ≡ whole left ∷ []) × (left ≤ most_left)
 Says uploads word node rest (Deliver own message) = (word ≡ codes "deliver") × (own ≡ node) × (rest ≡ whole message ∷ [])
-Says uploads word node rest (TickCut own left) = (word ≡ codes "tickcut") × (own ≡ node) × (rest ≡ whole left ∷ [])
+Says uploads word node rest (TickCut own left) =
+    (word ≡ codes "tickcut") × (own ≡ node) × (rest ≡ whole left ∷ []) × (left ≤ most_left)
 Says uploads word node rest (DeliverCut own message) =
     (word ≡ codes "delivercut") × (own ≡ node) × (rest ≡ whole message ∷ [])
 Says uploads word node rest (Restart own) = (word ≡ codes "restart") × (own ≡ node) × (rest ≡ [])
 Says uploads word node rest (Get own ticket) =
-    (word ≡ codes "get") × (own ≡ node) × (rest ≡ string ticket.table ∷ whole ticket.version ∷ [])
+    (word ≡ codes "get") × (own ≡ node) × (rest ≡ string ticket.table ∷ whole ticket.version ∷ []) × IsTableVersion ticket
 Says uploads word node rest (Info own table) = (word ≡ codes "info") × (own ≡ node) × (rest ≡ string table ∷ [])
 Says uploads word node rest (Outcome own upload) =
     (word ≡ codes "outcome") × (own ≡ node) × (place : ℕ) × (rest ≡ whole place ∷ []) × (slice_get uploads place ≡ Some upload)
@@ -70,3 +76,7 @@ pub record MeansSchedule (file : List ℕ) (config : Config) (events : List Even
   pub event_values : List Data
   pub events_at : array_at (codes "events") value ≡ Some (items_of event_values)
   pub events_mean : AllZip (TellsEvent uploads) event_values events
+
+-- it means none
+abbrev pub MeansNothing : List ℕ → Type 0
+MeansNothing file = (config : Config) (events : List Event) → MeansSchedule file config events → ⊥

@@ -1,6 +1,6 @@
 -- What a value of JSON tells as an upload: one column of small numbers, batch by batch. Its own name is hexadecimal (RFC
 -- 4648, section 8).
-use Rattle.std.specs.Prelude.{◌≡◌, ◌⊎◌, ◌≤◌, ◌<◌, ℕ, ℤ, pos, ◌-ℤ◌, true, List, [], ◌∷◌, codes, length, map, Option, Some, None, option_and_then, Result, Ok}
+use Rattle.std.specs.Prelude.{◌≡◌, ◌⊎◌, ◌≤◌, ◌<◌, ℕ, ℤ, pos, ◌-ℤ◌, true, List, [], ◌∷◌, codes, length, map, Option, Some, None, option_and_then, Ok}
 use Rattle.std.specs.List.{AllZip}
 use Rattle.serde_json.specs.Data.{Data, null}
 use Rattle.serde_json.specs.Find.{get, as_number, as_i64, as_str, as_array}
@@ -9,6 +9,11 @@ use Rattle.hex.specs.Hex.{decode_of}
 use Rattle.header_types.specs.declared.field_type.BitWidth.TheVariants.{Eight}
 use Rattle.header_types.specs.Fields.{SchemaTree, int_type, tree, no_more, more}
 use Rattle.batch_types.specs.Cells.{Cell, null_cell, bytes_cell, Rows}
+use Rattle.batch_types.specs.Layouts.{bytes_layout}
+use Rattle.batch_types.specs.Shapes.{shape, no_shape, shape_then}
+use Rattle.batch_columns.specs.Held.{shapes_held}
+use Rattle.batch_columns.specs.Batches.{rows_of}
+use Rattle.batch_columns.specs.declared.batch.Batch.{Batch}
 use Rattle.table_types.specs.Uploads.{Upload, upload_text}
 use Rattle.table_types.specs.Valid.{IsUpload}
 
@@ -37,6 +42,12 @@ byte_cell (Some bytes) = bytes_cell bytes
 -- the rows of one column with these cells
 abbrev pub column_rows : List Cell → Rows
 column_rows cells = record { count = length cells; columns = cells ∷ [] }
+
+-- a batch of one column of single bytes, with a cell for each row
+pub record IsByteBatch (batch : Batch) : Type 0 where
+  pub shaped : shapes_held batch.columns.items ≡ shape_then (shape (bytes_layout 1) no_shape) no_shape
+  pub cells : List Cell
+  pub rows_are : rows_of batch ≡ column_rows cells
 
 -- the value is an array, which has a cell for each row
 pub record TellsRows (d : Data) (rows : Rows) : Type 0 where

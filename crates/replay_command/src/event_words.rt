@@ -1,11 +1,14 @@
 //! Events from the arrays that tell them: a word, the number of a node, and what stands behind it.
 
-ghost use Rattle.std.specs.Prelude.{◌≡◌, ◌<◌, ◌∷◌, ℕ, List, [], Some, IfOk, map, slice_get};
+ghost use Rattle.std.specs.Prelude.{◌≡◌, ◌≤◌, ◌∷◌, ℕ, List, [], Some, Ok, IfOk, IfErr, map, slice_get};
 ghost use Rattle.std.specs.String.{string_bytes};
 ghost use Rattle.std.specs.List.{AllZip};
 ghost use Rattle.serde_json.specs.Data.{string};
 ghost use Rattle.serde_json.specs.View.{view};
-ghost use Rattle.replay_command.specs.ScheduleFile.{Says, TellsEvent, whole};
+ghost use Rattle.tickets.specs.Ticket.{TableVersion, IsTableVersion};
+ghost use Rattle.node_events.specs.declared.event.Event.{Event as Happening};
+ghost use Rattle.replay_command.specs.declared.fault.ScheduleFault.TheVariants.{OutOfMemory};
+ghost use Rattle.replay_command.specs.ScheduleFile.{Says, TellsEvent, whole, most_left};
 
 use crate::fault::ScheduleFault;
 use schedule_runner::{Event, TableText};
@@ -16,7 +19,8 @@ use uploads::Upload;
 
 /// How many slots a tick leaves to others: a number of eight bits.
 fn left_of(value: &Value) -> Result<u8, ScheduleFault>
-    ensures { IfOk result (λ left. view value.now ≡ whole left) }
+    ensures read { IfOk result (λ left. (view value.now ≡ whole left) × (left ≤ most_left)) }
+    ensures only { (left : ℕ) → view value.now ≡ whole left → left ≤ most_left → result ≡ Ok left }
 {
     match value.as_u64() {
         Some(left) if left <= 255 => Ok(left as u8),
@@ -25,7 +29,8 @@ fn left_of(value: &Value) -> Result<u8, ScheduleFault>
 }
 
 fn whole_of(value: &Value) -> Result<u64, ScheduleFault>
-    ensures { IfOk result (λ number. view value.now ≡ whole number) }
+    ensures read { IfOk result (λ number. view value.now ≡ whole number) }
+    ensures only { (number : ℕ) → view value.now ≡ whole number → result ≡ Ok number }
 {
     match value.as_u64() {
         Some(number) => Ok(number),
@@ -35,8 +40,10 @@ fn whole_of(value: &Value) -> Result<u64, ScheduleFault>
 
 /// The upload of this place in the list.
 fn upload_at(uploads: &[Upload], value: &Value) -> Result<Upload, ScheduleFault>
-    ensures { IfOk result (λ upload. (place : ℕ) × (view value.now ≡ whole place)
+    ensures read { IfOk result (λ upload. (place : ℕ) × (view value.now ≡ whole place)
         × (slice_get uploads.now place ≡ Some upload)) }
+    ensures refused { (place : ℕ) (upload : List ℕ) → view value.now ≡ whole place
+        → slice_get uploads.now place ≡ Some upload → IfErr result (λ fault. fault ≡ OutOfMemory) }
 {
     let place = whole_of(value)?;
     match uploads.get(place as usize) {
@@ -46,7 +53,8 @@ fn upload_at(uploads: &[Upload], value: &Value) -> Result<Upload, ScheduleFault>
 }
 
 fn text_of(alloc: Global, value: &Value) -> Result<String, ScheduleFault>
-    ensures { IfOk result (λ text. view value.now ≡ string (string_bytes text)) }
+    ensures read { IfOk result (λ text. view value.now ≡ string (string_bytes text)) }
+    ensures refused { (text : List ℕ) → view value.now ≡ string text → IfErr result (λ fault. fault ≡ OutOfMemory) }
 {
     match value.as_str() {
         Some(text) => Ok(String::from_str(alloc, text)?),
@@ -58,6 +66,9 @@ fn text_of(alloc: Global, value: &Value) -> Result<String, ScheduleFault>
 fn ticket_of(alloc: Global, table: &Value, version: &Value) -> Result<Ticket, ScheduleFault>
     ensures table { IfOk result (λ ticket. view table.now ≡ string ticket.table) }
     ensures version { IfOk result (λ ticket. view version.now ≡ whole ticket.version) }
+    ensures valid { IfOk result IsTableVersion }
+    ensures refused { (asked : TableVersion) → view table.now ≡ string asked.table
+        → view version.now ≡ whole asked.version → IsTableVersion asked → IfErr result (λ fault. fault ≡ OutOfMemory) }
 {
     let version = whole_of(version)?;
     let table = text_of(alloc, table)?;
@@ -68,7 +79,9 @@ fn ticket_of(alloc: Global, table: &Value, version: &Value) -> Result<Ticket, Sc
 }
 
 fn event_of_node(word: &str, node: u64) -> Result<Event, ScheduleFault>
-    ensures { (uploads : List (List ℕ)) → IfOk result (Says uploads word.now node []) }
+    ensures read { (uploads : List (List ℕ)) → IfOk result (Says uploads word.now node []) }
+    ensures refused { (uploads : List (List ℕ)) (event : Happening) → Says uploads word.now node [] event
+        → IfErr result (λ fault. fault ≡ OutOfMemory) }
 {
     match word {
         "restart" => Ok(Event::Restart(node)),
@@ -84,7 +97,9 @@ fn event_of_one(
     node: u64,
     value: &Value,
 ) -> Result<Event, ScheduleFault>
-    ensures { IfOk result (Says uploads.now word.now node (view value.now ∷ [])) }
+    ensures read { IfOk result (Says uploads.now word.now node (view value.now ∷ [])) }
+    ensures refused { (event : Happening) → Says uploads.now word.now node (view value.now ∷ []) event
+        → IfErr result (λ fault. fault ≡ OutOfMemory) }
 {
     match word {
         "put" => Ok(Event::Put(node, upload_at(uploads, value)?)),
@@ -105,7 +120,11 @@ fn event_of_two(
     table: &Value,
     version: &Value,
 ) -> Result<Event, ScheduleFault>
-    ensures { (uploads : List (List ℕ)) → IfOk result (Says uploads word.now node (view table.now ∷ view version.now ∷ [])) }
+    ensures read { (uploads : List (List ℕ))
+        → IfOk result (Says uploads word.now node (view table.now ∷ view version.now ∷ [])) }
+    ensures refused { (uploads : List (List ℕ)) (event : Happening)
+        → Says uploads word.now node (view table.now ∷ view version.now ∷ []) event
+        → IfErr result (λ fault. fault ≡ OutOfMemory) }
 {
     match word {
         "get" => Ok(Event::Get(node, ticket_of(alloc, table, version)?)),
@@ -121,7 +140,9 @@ fn event_of_parts(
     node: u64,
     rest: &[Value],
 ) -> Result<Event, ScheduleFault>
-    ensures { IfOk result (Says uploads.now word.now node (map view rest.now)) }
+    ensures read { IfOk result (Says uploads.now word.now node (map view rest.now)) }
+    ensures refused { (event : Happening) → Says uploads.now word.now node (map view rest.now) event
+        → IfErr result (λ fault. fault ≡ OutOfMemory) }
 {
     match rest {
         [] => event_of_node(word, node),
@@ -137,7 +158,9 @@ pub(crate) fn event_of(
     uploads: &[Upload],
     value: &Value,
 ) -> Result<Event, ScheduleFault>
-    ensures { IfOk result (TellsEvent uploads.now (view value.now)) }
+    ensures read { IfOk result (TellsEvent uploads.now (view value.now)) }
+    ensures refused { (event : Happening) → TellsEvent uploads.now (view value.now) event
+        → IfErr result (λ fault. fault ≡ OutOfMemory) }
 {
     let Some(items) = value.as_array() else {
         return Err(ScheduleFault::BadSchedule);
@@ -157,7 +180,9 @@ pub(crate) fn events_of(
     uploads: &[Upload],
     values: &[Value],
 ) -> Result<Vec<Event>, ScheduleFault>
-    ensures { IfOk result (λ events. AllZip (TellsEvent uploads.now) (map view values.now) events.items) }
+    ensures read { IfOk result (λ events. AllZip (TellsEvent uploads.now) (map view values.now) events.items) }
+    ensures refused { (events : List Happening) → AllZip (TellsEvent uploads.now) (map view values.now) events
+        → IfErr result (λ fault. fault ≡ OutOfMemory) }
 {
     let mut events = Vec::new(alloc);
     for value in values {

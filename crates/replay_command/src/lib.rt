@@ -8,6 +8,7 @@
 
 mod event_words;
 mod fault;
+pub mod laws;
 mod lines;
 mod replaying;
 mod schedule_file;

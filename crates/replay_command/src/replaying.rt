@@ -49,10 +49,10 @@ pub fn replay_run<W: Write, E: Write>(
 /// Plays the schedule that a file tells, as [`read_schedule`] reads it, and writes a line for each of its events to `w`,
 /// which is flushed.
 ///
-/// On [`ReplayFault::BadSchedule`] nothing was played and nothing written. On [`ReplayFault::OutOfMemory`] nothing was
-/// written, or a beginning of the lines; a node that wants memory refuses its event, and its line says so. On
-/// [`ReplayFault::Io`] a write or the flush failed or was interrupted, and a beginning of the lines has gone out, or all
-/// of them.
+/// [`ReplayFault::BadSchedule`] says that the file tells no schedule; nothing was played then, and nothing written. On
+/// [`ReplayFault::OutOfMemory`] nothing was written, or a beginning of the lines; a node that wants memory refuses its
+/// event, and its line says so. On [`ReplayFault::Io`] a write or the flush failed or was interrupted, and a beginning of
+/// the lines has gone out, or all of them.
 pub fn replay_file<W: Write>(
     alloc: Global,
     hashing: RandomState,
@@ -68,7 +68,8 @@ pub fn replay_file<W: Write>(
     };
     let trace = match run(alloc, hashing, schedule.config, &schedule.events) {
         Ok(trace) => trace,
-        Err(RunFault::BadConfig) => return Err(ReplayFault::BadSchedule),
+        // A schedule that is read is within the limits of a run.
+        Err(RunFault::BadConfig) => unreachable!(),
         Err(RunFault::OutOfMemory) => return Err(ReplayFault::OutOfMemory),
     };
     tell(alloc, &trace, w)

@@ -1,9 +1,11 @@
 //! A schedule, read from the file that tells it.
 
-ghost use Rattle.std.specs.Prelude.{◌≡◌, ◌≤◌, Some, Err, IfOk, IfSome, IsUtf8, codes};
+ghost use Rattle.std.specs.Prelude.{◌≡◌, ◌⊎◌, ◌≤◌, ℕ, List, Some, None, Err, IfOk, IfErr, IfSome, IsSome, MatchResult, IsUtf8, codes};
 ghost use Rattle.serde_json.specs.Read.{read as read_text};
 ghost use Rattle.serde_json.specs.View.{view};
 ghost use Rattle.ballots.specs.Majority.{IsMembers};
+ghost use Rattle.node_events.specs.declared.event.Event.{Event as Happening};
+ghost use Rattle.schedule_runner.specs.declared.config.Config.{Config as Configured};
 ghost use Rattle.schedule_runner.specs.Limits.{most_slots};
 ghost use Rattle.replay_command.specs.declared.fault.ScheduleFault.TheVariants.{OutOfMemory};
 ghost use Rattle.replay_command.specs.ScheduleFile.{MeansSchedule, TellsConfig, number_at};
@@ -28,6 +30,7 @@ pub struct Schedule {
 
 fn value_of(alloc: Global, file: &[u8]) -> Result<Value, ScheduleFault>
     ensures read { IfOk result (λ value. IsUtf8 file.now × (read_text file.now ≡ Some (view value))) }
+    ensures err { IfErr result (λ fault. (fault ≡ OutOfMemory) ⊎ (IsUtf8 file.now → read_text file.now ≡ None)) }
     ensures memory { result ≡ Err OutOfMemory → IsUtf8 file.now }
 {
     let Ok(text) = from_utf8(file) else {
@@ -41,7 +44,9 @@ fn value_of(alloc: Global, file: &[u8]) -> Result<Value, ScheduleFault>
 }
 
 fn members_of(value: &Value) -> Option<Members>
-    ensures { IfSome result (λ members. (number_at (codes "members") (view value.now) ≡ Some members) × IsMembers members) }
+    ensures read { IfSome result (λ members. (number_at (codes "members") (view value.now) ≡ Some members) × IsMembers members) }
+    ensures only { (members : ℕ) → number_at (codes "members") (view value.now) ≡ Some members → IsMembers members
+        → IsSome result }
 {
     let count = value.get("members").and_then(Value::as_u64)?;
     if count > u64::from(MAX_MEMBERS) {
@@ -51,8 +56,10 @@ fn members_of(value: &Value) -> Option<Members>
 }
 
 fn slot_limit_of(value: &Value) -> Option<u32>
-    ensures { IfSome result (λ slots. (number_at (codes "slot_limit") (view value.now) ≡ Some slots)
+    ensures read { IfSome result (λ slots. (number_at (codes "slot_limit") (view value.now) ≡ Some slots)
         × (1 ≤ slots) × (slots ≤ most_slots)) }
+    ensures only { (slots : ℕ) → number_at (codes "slot_limit") (view value.now) ≡ Some slots → 1 ≤ slots
+        → slots ≤ most_slots → IsSome result }
 {
     let count = value.get("slot_limit").and_then(Value::as_u64)?;
     if count == 0 || count > u64::from(MAX_SLOTS) {
@@ -63,7 +70,8 @@ fn slot_limit_of(value: &Value) -> Option<u32>
 
 /// What the nodes have in common. A journal takes as many entries as it can have.
 fn config_of(value: &Value) -> Option<Config>
-    ensures { IfSome result (TellsConfig (view value.now)) }
+    ensures read { IfSome result (TellsConfig (view value.now)) }
+    ensures only { (config : Configured) → TellsConfig (view value.now) config → IsSome result }
 {
     Some(Config {
         members: members_of(value)?,
@@ -76,10 +84,14 @@ fn config_of(value: &Value) -> Option<Config>
 ///
 /// The file is a JSON object (RFC 8259) with a whole number `members`, 1 to [`MAX_MEMBERS`], a whole number `slot_limit`,
 /// 1 to [`MAX_SLOTS`], an array `uploads` and an array `events`. docs/FORMATS.md has what these arrays hold. Other members
-/// of the object, and of an upload's, are passed over, and of two members of one name the last one counts. Any other file
-/// is a [`ScheduleFault::BadSchedule`]. The only other fault is [`ScheduleFault::OutOfMemory`].
+/// of the object, and of an upload's, are passed over, and of two members of one name the last one counts. Such a file tells
+/// one schedule, and that is read. Any other file is a [`ScheduleFault::BadSchedule`], and no such file is. The only other
+/// fault is [`ScheduleFault::OutOfMemory`], and only of a file that is UTF-8.
 pub fn read_schedule(alloc: Global, file: &[u8]) -> Result<Schedule, ScheduleFault>
     ensures read { IfOk result (λ schedule. MeansSchedule file.now schedule.config schedule.events.items) }
+    ensures only { (config : Configured) (events : List Happening) → MeansSchedule file.now config events
+        → MatchResult result (λ schedule. (schedule.config ≡ config) × (schedule.events.items ≡ events))
+        (λ fault. fault ≡ OutOfMemory) }
     ensures memory { result ≡ Err OutOfMemory → IsUtf8 file.now }
 {
     let value = value_of(alloc, file)?;

@@ -1,19 +1,22 @@
 //! An upload from the value that tells it: one column of small numbers.
 
-ghost use Rattle.std.specs.Prelude.{◌≡◌, ◌∷◌, ℕ, List, [], Some, map, length, codes, option_map, option_and_then, IfOk, IfSome};
-ghost use Rattle.std.specs.List.{AllZip};
+ghost use Rattle.std.specs.Prelude.{◌≡◌, ◌↔◌, ◌∷◌, ℕ, List, [], Option, Some, Ok, map, length, codes, option_map, option_and_then, IfOk, IfErr, IfSome, IsSome};
+ghost use Rattle.std.specs.List.{AllByRecursion, AllZip};
 ghost use Rattle.serde_json.specs.Find.{as_array, get};
 ghost use Rattle.serde_json.specs.View.{view, items_view};
 ghost use Rattle.hex.specs.Hex.{decode_of};
 ghost use Rattle.header_types.specs.Views.{schema_of};
+ghost use Rattle.batch_types.specs.Cells.{Rows};
 ghost use Rattle.batch_types.specs.Layouts.{bytes_layout};
 ghost use Rattle.batch_types.specs.Shapes.{shape, no_shape};
 ghost use Rattle.batch_columns.specs.Batches.{rows_of};
 ghost use Rattle.batch_columns.specs.Made.{bytes_or_null};
 ghost use Rattle.table_types.specs.Uploads.{upload_text};
-ghost use Rattle.table_types.specs.Valid.{IsUpload};
+ghost use Rattle.table_types.specs.Valid.{IsId, IsUpload};
 ghost use Rattle.upload_writing.specs.Making.{upload_of as uploaded};
-ghost use Rattle.replay_command.specs.UploadValue.{IsByteOf, TellsCell, TellsRows, MeansUpload, byte_cell, column_rows, column_schema, name_told, text_at};
+ghost use Rattle.upload_writing.specs.declared.fault.UploadFault.TheVariants as UploadFault;
+ghost use Rattle.replay_command.specs.declared.fault.ScheduleFault.TheVariants.{OutOfMemory};
+ghost use Rattle.replay_command.specs.UploadValue.{IsByteOf, TellsCell, TellsRows, IsByteBatch, MeansUpload, byte_cell, column_rows, column_schema, name_told, text_at};
 
 use crate::fault::ScheduleFault;
 use batch_columns::{Batch, Column};
@@ -48,7 +51,8 @@ fn schema_named(alloc: Global, name: &str) -> Result<Schema, AllocError>
 
 /// The byte of two's complement of a number from -128 to 127, or none.
 fn byte_of(number: i64) -> Option<u8>
-    ensures { IfSome result (λ byte. IsByteOf number byte) }
+    ensures read { IfSome result (λ byte. IsByteOf number byte) }
+    ensures only { (byte : ℕ) → IsByteOf number byte → IsSome result }
 {
     if (0..128).contains(&number) {
         Some(number as u8)
@@ -61,7 +65,9 @@ fn byte_of(number: i64) -> Option<u8>
 
 /// The byte of a number, and none of a null.
 fn cell_of(value: &Value) -> Result<Option<[u8; 1]>, ScheduleFault>
-    ensures { IfOk result (TellsCell (view value.now)) }
+    ensures read { IfOk result (TellsCell (view value.now)) }
+    ensures refused { (cell : Option (List ℕ)) → TellsCell (view value.now) cell
+        → IfErr result (λ fault. fault ≡ OutOfMemory) }
 {
     if value.is_null() {
         return Ok(None);
@@ -76,7 +82,9 @@ fn cell_of(value: &Value) -> Result<Option<[u8; 1]>, ScheduleFault>
 }
 
 fn cells_of(alloc: Global, values: &[Value]) -> Result<Vec<Option<[u8; 1]>>, ScheduleFault>
-    ensures { IfOk result (λ cells. AllZip TellsCell (map view values.now) cells.items) }
+    ensures read { IfOk result (λ cells. AllZip TellsCell (map view values.now) cells.items) }
+    ensures refused { (cells : List (Option (List ℕ))) → AllZip TellsCell (map view values.now) cells
+        → IfErr result (λ fault. fault ≡ OutOfMemory) }
 {
     let mut cells = Vec::new(alloc);
     for value in values {
@@ -109,7 +117,8 @@ fn all_lent(alloc: Global, cells: &[Option<[u8; 1]>]) -> Result<Vec<Option<&[u8]
 
 /// The column of these cells.
 fn column_of(alloc: Global, cells: &[Option<[u8; 1]>]) -> Result<Column, AllocError>
-    ensures { IfOk result (λ column. column.cells ≡ map byte_cell cells.now) }
+    ensures shape { IfOk result (λ column. column.shape ≡ shape (bytes_layout 1) no_shape) }
+    ensures cells { IfOk result (λ column. column.cells ≡ map byte_cell cells.now) }
 {
     let all = all_lent(alloc, cells)?;
     match Column::from_sized(alloc, 1, &all) {
@@ -119,7 +128,8 @@ fn column_of(alloc: Global, cells: &[Option<[u8; 1]>]) -> Result<Column, AllocEr
 }
 
 fn batch_of_cells(alloc: Global, cells: &[Option<[u8; 1]>]) -> Result<Batch, AllocError>
-    ensures { IfOk result (λ batch. rows_of batch ≡ column_rows (map byte_cell cells.now)) }
+    ensures rows { IfOk result (λ batch. rows_of batch ≡ column_rows (map byte_cell cells.now)) }
+    ensures shaped { IfOk result IsByteBatch }
 {
     let column = column_of(alloc, cells)?;
     let mut columns = Vec::new(alloc);
@@ -132,7 +142,9 @@ fn batch_of_cells(alloc: Global, cells: &[Option<[u8; 1]>]) -> Result<Batch, All
 
 /// The batch of an array of numbers and nulls.
 fn batch_of(alloc: Global, value: &Value) -> Result<Batch, ScheduleFault>
-    ensures { IfOk result (λ batch. TellsRows (view value.now) (rows_of batch)) }
+    ensures read { IfOk result (λ batch. TellsRows (view value.now) (rows_of batch)) }
+    ensures shaped { IfOk result IsByteBatch }
+    ensures refused { (rows : Rows) → TellsRows (view value.now) rows → IfErr result (λ fault. fault ≡ OutOfMemory) }
 {
     match value.as_array() {
         Some(values) => {
@@ -144,7 +156,10 @@ fn batch_of(alloc: Global, value: &Value) -> Result<Batch, ScheduleFault>
 }
 
 fn batches_of(alloc: Global, values: &[Value]) -> Result<Vec<Batch>, ScheduleFault>
-    ensures { IfOk result (λ batches. AllZip TellsRows (map view values.now) (map rows_of batches.items)) }
+    ensures read { IfOk result (λ batches. AllZip TellsRows (map view values.now) (map rows_of batches.items)) }
+    ensures shaped { IfOk result (λ batches. AllByRecursion IsByteBatch batches.items) }
+    ensures refused { (all : List Rows) → AllZip TellsRows (map view values.now) all
+        → IfErr result (λ fault. fault ≡ OutOfMemory) }
 {
     let mut batches = Vec::new(alloc);
     for value in values {
@@ -172,7 +187,8 @@ pub(crate) fn array_at<'a>(value: &'a Value, name: &str) -> Option<&'a Vec<Value
 
 /// The upload's own name, 32 hexadecimal digits of either case.
 fn id_of(digits: &str) -> Option<[u8; 16]>
-    ensures { IfSome result (λ id. decode_of digits.now ≡ Ok id) }
+    ensures read { IfSome result (λ id. decode_of digits.now ≡ Ok id) }
+    ensures only { (id : List ℕ) → IsId id → decode_of digits.now ≡ Ok id → IsSome result }
 {
     <[u8; 16] as FromHex>::from_hex(digits).ok()
 }
@@ -187,6 +203,15 @@ fn name_of(value: &Value) -> Option<&str>
     }
 }
 
+fn fault_of(fault: UploadFault) -> ScheduleFault
+    ensures { (result ≡ OutOfMemory) ↔ (fault ≡ UploadFault.OutOfMemory) }
+{
+    match fault {
+        UploadFault::OutOfMemory => ScheduleFault::OutOfMemory,
+        _ => ScheduleFault::BadSchedule,
+    }
+}
+
 /// The upload of these parts.
 fn made(
     alloc: Global,
@@ -198,19 +223,23 @@ fn made(
     ensures valid { IfOk result (λ upload. IsUpload (uploaded table.now id (column_schema name.now) batches.now)) }
     ensures encoded { IfOk result
         (λ upload. upload ≡ upload_text (uploaded table.now id (column_schema name.now) batches.now)) }
+    ensures refused { AllByRecursion IsByteBatch batches.now
+        → IsUpload (uploaded table.now id (column_schema name.now) batches.now)
+        → IfErr result (λ fault. fault ≡ OutOfMemory) }
 {
     let schema = schema_named(alloc, name)?;
     match Upload::new(alloc, table, id, &schema, batches) {
         Ok(upload) => Ok(upload),
-        Err(UploadFault::OutOfMemory) => Err(ScheduleFault::OutOfMemory),
-        Err(_) => Err(ScheduleFault::BadSchedule),
+        Err(fault) => Err(fault_of(fault)),
     }
 }
 
 /// The upload that an object tells: its table, its own name, its values, a batch for each array of them, and, where it
 /// has that member, the name of its column. What else the object has means nothing.
 pub(crate) fn upload_of(alloc: Global, value: &Value) -> Result<Upload, ScheduleFault>
-    ensures { IfOk result (MeansUpload (view value.now)) }
+    ensures read { IfOk result (MeansUpload (view value.now)) }
+    ensures refused { (upload : List ℕ) → MeansUpload (view value.now) upload
+        → IfErr result (λ fault. fault ≡ OutOfMemory) }
 {
     let (Some(table), Some(digits), Some(name)) = (
         text_at(value, "table"),
@@ -228,7 +257,9 @@ pub(crate) fn upload_of(alloc: Global, value: &Value) -> Result<Upload, Schedule
 
 /// The uploads that these values tell, in order.
 pub(crate) fn uploads_of(alloc: Global, values: &[Value]) -> Result<Vec<Upload>, ScheduleFault>
-    ensures { IfOk result (λ uploads. AllZip MeansUpload (map view values.now) uploads.items) }
+    ensures read { IfOk result (λ uploads. AllZip MeansUpload (map view values.now) uploads.items) }
+    ensures refused { (uploads : List (List ℕ)) → AllZip MeansUpload (map view values.now) uploads
+        → IfErr result (λ fault. fault ≡ OutOfMemory) }
 {
     let mut uploads = Vec::new(alloc);
     for value in values {

@@ -1,6 +1,5 @@
-use Rattle.std.proofs.Common.{◌≡◌, ◌+◌, ◌++◌, List, ℕ, OnErr, Result, Err, sym, subst, take, arith, ap}
+use Rattle.std.proofs.Common.{◌++◌, List, ℕ, sym, subst, take, arith}
 use Rattle.std.specs.Io.KnownBytes.{Appends}
-use Rattle.grpc_frames.specs.FrameFaults.{IsBeginning}
 use Rattle.replay_command.specs.Lines.{line_of, lines_of}
 use Rattle.replay_command.proofs.Telling.{appends_both, lines_more, begins_behind, on_err}
 use Rattle.replay_command.proofs.replaying.write_lines.Goals as goal

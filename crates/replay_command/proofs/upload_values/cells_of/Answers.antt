@@ -2,6 +2,8 @@ use Rattle.std.proofs.Common.{rules, sym, subst, arith, ◌+◌, ℕ, List, ◌�
 use Rattle.std.specs.List.{AllZip}
 use Rattle.serde_json.specs.View.{view}
 use Rattle.replay_command.specs.UploadValue.{TellsCell}
+use Rattle.replay_command.specs.declared.fault.ScheduleFault.TheVariants.{OutOfMemory}
+use Rattle.replay_command.proofs.Reading.{zipped_at, told_on}
 use Rattle.replay_command.proofs.Zipped.{zip_more}
 use Rattle.replay_command.proofs.upload_values.cells_of.Goals as goal
 
@@ -9,4 +11,9 @@ pub loop-value-preserved : goal.loop-value-preserved
 loop-value-preserved c =
     let pushed : c.push.new.self.items ≡ c.loop-value.cells.items ++ c.in_ok-cell.cell ∷ [] = search rules in
     subst (λ (l : List (Option (List ℕ))). AllZip TellsCell (map view (take (c.loop-value.value-index + 1) c.args.values.now)) l) (sym pushed)
-    (zip_more TellsCell view c.args.values.now c.loop-value.value-index c.value-item.result c.loop-value.cells.items c.in_ok-cell.cell (omega arith) c.value-item.is c.loop-value.invariant c.in_ok-cell.ensures)
+    (zip_more TellsCell view c.args.values.now c.loop-value.value-index c.value-item.result c.loop-value.cells.items c.in_ok-cell.cell (omega arith) c.value-item.is c.loop-value.invariant c.in_ok-cell.ensures.read)
+
+pub returns-in_err-cell-clause-refused : goal.returns-in_err-cell-clause-refused
+returns-in_err-cell-clause-refused c = λ all told.
+    let here = zipped_at TellsCell view c.args.values.now all c.loop-value.value-index c.value-item.result told (omega arith) c.value-item.is in
+    told_on c.from_residual.result c.in_err-cell.field-0.0 OutOfMemory c.from_residual.ensures.1 (c.in_err-cell.ensures.refused here.0 here.1)

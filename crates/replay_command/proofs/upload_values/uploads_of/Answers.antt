@@ -2,6 +2,8 @@ use Rattle.std.proofs.Common.{rules, sym, subst, arith, ◌+◌, ℕ, List, ◌�
 use Rattle.std.specs.List.{AllZip}
 use Rattle.serde_json.specs.View.{view}
 use Rattle.replay_command.specs.UploadValue.{MeansUpload}
+use Rattle.replay_command.specs.declared.fault.ScheduleFault.TheVariants.{OutOfMemory}
+use Rattle.replay_command.proofs.Reading.{zipped_at, told_on}
 use Rattle.replay_command.proofs.Zipped.{zip_more}
 use Rattle.replay_command.proofs.upload_values.uploads_of.Goals as goal
 
@@ -9,4 +11,9 @@ pub loop-value-preserved : goal.loop-value-preserved
 loop-value-preserved c =
     let pushed : c.push.new.self.items ≡ c.loop-value.uploads.items ++ c.in_ok-upload.upload ∷ [] = search rules in
     subst (λ (l : List (List ℕ)). AllZip MeansUpload (map view (take (c.loop-value.value-index + 1) c.args.values.now)) l) (sym pushed)
-    (zip_more MeansUpload view c.args.values.now c.loop-value.value-index c.value-item.result c.loop-value.uploads.items c.in_ok-upload.upload (omega arith) c.value-item.is c.loop-value.invariant c.in_ok-upload.ensures)
+    (zip_more MeansUpload view c.args.values.now c.loop-value.value-index c.value-item.result c.loop-value.uploads.items c.in_ok-upload.upload (omega arith) c.value-item.is c.loop-value.invariant c.in_ok-upload.ensures.read)
+
+pub returns-in_err-upload-clause-refused : goal.returns-in_err-upload-clause-refused
+returns-in_err-upload-clause-refused c = λ all told.
+    let here = zipped_at MeansUpload view c.args.values.now all c.loop-value.value-index c.value-item.result told (omega arith) c.value-item.is in
+    told_on c.from_residual.result c.in_err-upload.field-0.0 OutOfMemory c.from_residual.ensures.1 (c.in_err-upload.ensures.refused here.0 here.1)
