@@ -5,13 +5,16 @@ use client_calls::{call_info, call_put};
 use flight_calls::{CallFault, serve_call};
 use proto_wire::FlightInfo;
 use std::alloc::Global;
-use std::io::{self, Write};
+use std::io::{self, Read, Write};
 use std::test::Fail;
 use table_backend::TableBackend;
 use uploads::Upload;
 
 /// How many calls are served one behind the other.
 const CALLS: u64 = 2_000;
+
+/// The trailer of a call of which a read failed: status 13, `Io`.
+const IO_TRAILER: [u8; 8] = [0x80, 0, 0, 0, 3, 13, b'I', b'o'];
 
 /// The answer to a request.
 pub(crate) fn answer(
@@ -138,6 +141,44 @@ fn a_write_that_fails_is_told_and_the_put_stands(rt: HostRuntime) -> Result<(), 
     }
     assert!(rt; failed == 33);
     assert!(rt; !fails(&rt, 33)?);
+    Ok(())
+}
+
+/// A reader that gives these bytes, and then fails.
+#[derive(Drop)]
+struct Broken<'a> {
+    left: &'a [u8],
+}
+
+impl<'a> Read for Broken<'a> {
+    fn read(&mut self, room: &mut [u8]) -> io::Result<usize> {
+        if self.left.is_empty() {
+            return Err(io::ErrorKind::ConnectionReset.into());
+        }
+        self.left.read(room)
+    }
+}
+
+/// Whether a call of which a read fails behind these bytes is told as such, and nothing is handed over.
+fn breaks(rt: &HostRuntime, beginning: &[u8]) -> Result<bool, Fail> {
+    let mut backend = backend(rt)?;
+    let mut reader = Broken { left: beginning };
+    let mut writer = Vec::new(rt.alloc());
+    let served = serve_call(rt.alloc(), &mut reader, &mut writer, &mut *backend);
+    let is_told = served == Err(CallFault::Read) && writer.as_slice() == IO_TRAILER.as_slice();
+    Ok(is_told && backend.handed().is_empty())
+}
+
+#[test]
+fn a_read_that_fails_is_told_and_nothing_is_put(rt: HostRuntime) -> Result<(), Fail> {
+    let request = put_request(rt.alloc(), &upload(rt.alloc())?)?;
+    let mut told: usize = 0;
+    for length in 0..request.len() {
+        if breaks(&rt, &request[..length])? {
+            told = told.saturating_add(1);
+        }
+    }
+    assert!(rt; told == request.len());
     Ok(())
 }
 
