@@ -15,8 +15,9 @@
 #   replay of 10,000 events 34.1 ms, and 18.3 ms `run` itself: 1.86
 #
 # An earlier run had the raw copy at 20.9 ms and DoGet, at 78.5 ms, at 0.27 of its speed: what the copy takes swings. What costs in
-# DoGet: an answer is made whole, one copy of all its frames, where plain Rust writes the frames where they stand. Of replay
-# nothing was looked into: it reads its file as one value of JSON, and makes a line for each event.
+# DoGet: an answer is made whole, one copy of all its frames, where plain Rust writes the frames where they stand. Of the 110
+# million instructions of the replay (valgrind) 64 are those of `run`; 16 read the file as one value of JSON and 5 let go of
+# it, which alone makes 1.33; some 10 make the 500 uploads, and the others the events, and a line for each.
 set -euo pipefail
 cd "$(dirname "${BASH_SOURCE[0]}")/.."
 work=$(mktemp -d)
