@@ -10,18 +10,18 @@
 # messages that were sent and all steps. First it shows that the plain nodes give what tools/runs_model.py says of each
 # event of many schedules, and that both programs add up to the same sums over all messages and steps.
 #
-# Seen on four processors that ten other tasks shared, in microseconds for an event, of a program that plays the same
-# nodes and was proved to be safe and to end, before `run` had its contract:
+# Seen on four processors that twelve other tasks shared, in microseconds for an event:
 #
 #                           ours  plain Rust  ratio  instructions, ratio  bytes for each byte put, plain Rust
-#   100 small uploads       1.10        0.51   2.14         6,833   1.85        19.8        12.9
-#   1,000                   1.31        0.65   2.00         6,538   1.76        20.5        14.5
-#   10,000                  1.46        0.79   1.84         6,494   1.78        19.8        13.9
-#   100 uploads of 64 KiB   10.2        8.75   1.16        57,694   1.64        4.16        4.07
-#   1,000                   11.5        9.37   1.23        57,543   1.63        4.09        4.05
+#   100 small uploads       1.38        0.59   2.33         6,886   1.88        29.5        14.2
+#   1,000                   1.62        1.05   1.55         6,586   1.78        20.4        14.2
+#   10,000                  1.92        0.96   2.00         6,534   1.79        19.8        13.9
+#   100 uploads of 64 KiB   13.4        10.0   1.33        57,742   1.64        4.15        4.09
+#   1,000                   14.0        15.2   0.92        57,604   1.64        4.09        4.05
 #
-# From 100 to 10,000 small uploads an event took 1.33 times as long, with thirteen other tasks 1.26 times (plain Rust
-# 1.55 and 1.65), with 0.95 times the instructions: a run holds 7 KB for each upload, and soon no cache holds a run.
+# The times swing: beside one or two tasks the first three ratios were 2.07, 1.83 and 1.79. From 100 to 10,000 small uploads an
+# event took 1.39 times as long (plain Rust 1.62), and 1.19 times beside one or two tasks, with 0.95 times the instructions: a
+# run holds 7 KB for each upload, and soon no cache holds a run.
 # What is more than in plain Rust: of the 131,000 instructions of a small upload (plain Rust 74,000) 43,000 read it at
 # the three nodes (39,000), 10,000 find its parts again, 7,000 read its schema and its header once more, and 25,000
 # move plans and steps from one function to the next. An upload took 140 allocations, in plain Rust 102.
