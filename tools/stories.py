@@ -1,33 +1,107 @@
 #!/usr/bin/env python3
-"""Puts together what each crate of stories has to print: its story files, as its `args` names them, one after the other. With
---check it changes nothing, and says whether each kept `stdout` is that. A crate that is called with files of another kind, as schedules,
-is passed over: whoever makes these makes its `stdout` too."""
+"""Tells each story again through the program of its crate, and says whether it stands there as it is told.
+
+    tools/stories.py [CRATE ..]
+
+A crate named .._stories is a thin program: it reads requests on standard input, a line each, and answers each with a line of
+numbers, bytes and names. Its stories are the files of its `data/`. A story has lines of four kinds: empty ones;
+comments, which begin with `#`; commands; and answers, which begin with two spaces. The module of tools/tellers/ that has the
+crate's name without `_stories` makes requests of each command, and the lines that are told under it of what was answered.
+
+The program is one that is built: by `rt ci`, as two compilers make it, or by `rt run`. The status is 1 where a story is told
+otherwise, or there is no program to tell it."""
+import importlib
+import subprocess
 import sys
 from pathlib import Path
 
 TOP = Path(__file__).resolve().parent.parent
+sys.path.insert(0, str(TOP / "tools"))
+
+
+def crates(words):
+    """The crates that are asked for, or all that have a teller."""
+    tellers = sorted(file.stem for file in (TOP / "tools" / "tellers").glob("*.py"))
+    named = {word.removesuffix("_stories") for word in words}
+    return [name for name in tellers if not named or name in named]
+
+
+def programs(crate):
+    """The programs of a crate that are built: by each of the two compilers, if `rt ci` did it."""
+    return [file for end in ("", ".by-rattle") if (file := TOP / "crates" / crate / "out" / f"{crate}{end}").is_file()]
+
+
+def commands(text):
+    """The commands of a story."""
+    return [line for line in text.splitlines() if line and not line.startswith(("#", "  "))]
+
+
+def answers_of(program, requests):
+    """What the program answers to each request."""
+    given = "".join(f"{request}\n" for request in requests)
+    ran = subprocess.run([program], input=given, capture_output=True, encoding="utf-8", timeout=600, check=False)
+    answers = ran.stdout.splitlines()
+    if ran.returncode != 0 or len(answers) != len(requests):
+        at = requests[len(answers)][:200] if len(answers) < len(requests) else ""
+        sys.exit(f"stories: {program.name} ended with {ran.returncode} {ran.stderr.strip()} at: {at}")
+    return answers
+
+
+def told(program, teller, text):
+    """The story as the program tells it now: comments, empty lines and commands as they stand, and under each command what it
+    gives."""
+    tellings, requests = [], []
+    for command in commands(text):
+        telling = teller.tell(command)
+        asked = next(telling)
+        tellings.append((telling, len(requests), len(requests) + len(asked)))
+        requests += asked
+    answers, lines, coming = answers_of(program, requests), [], iter(tellings)
+    for line in text.splitlines():
+        if line.startswith("  "):
+            continue
+        lines.append(line)
+        if line and not line.startswith("#"):
+            telling, start, end = next(coming)
+            lines += [f"  {line}" for line in sent(telling, answers[start:end])]
+    return lines
+
+
+def sent(telling, answers):
+    """The lines that a telling gives for these answers."""
+    try:
+        telling.send(answers)
+    except StopIteration as end:
+        return end.value
+    raise AssertionError("a telling asks once")
+
+
+def differs(name, lines, text):
+    """Says where what is told is not what stands, if so."""
+    kept = text.splitlines()
+    for number, (new, old) in enumerate(zip(lines + [None], kept + [None]), 1):
+        if new != old:
+            print(f"stories: {name}, line {number}: told `{str(new)[:160]}`, there stands `{str(old)[:160]}`")
+            return True
+    return False
 
 
 def main():
-    is_check = "--check" in sys.argv[1:]
     status = 0
-    for crate in sorted((TOP / "crates").glob("*_stories")):
-        names = (crate / "args").read_text(encoding="utf-8").split()
-        if not all(name.endswith(".txt") for name in names):
-            continue
-        text = "".join((crate / "data" / name).read_text(encoding="utf-8") for name in names)
-        strangers = {file.name for file in (crate / "data").iterdir()} - set(names)
-        for name in sorted(strangers):
-            print(f"stories: {crate.name}/args does not name {name}")
+    for name in crates(sys.argv[1:]):
+        crate = f"{name}_stories"
+        teller = importlib.import_module(f"tellers.{name}")
+        built = programs(crate)
+        if not built:
+            print(f"stories: {crate} is not built")
             status = 1
-        kept = crate / "stdout"
-        if kept.exists() and kept.read_text(encoding="utf-8") == text:
-            continue
-        if is_check:
-            print(f"stories: {crate.name}/stdout is not its stories: tools/stories.py makes it")
-            status = 1
-        else:
-            kept.write_text(text, encoding="utf-8")
+        for program in built:
+            rows = 0
+            for file in sorted((TOP / "crates" / crate / "data").glob("*.txt")):
+                text = file.read_text(encoding="utf-8")
+                status |= differs(f"{crate}/{file.name}", told(program, teller.Teller(), text), text)
+                rows += len(commands(text))
+            print(f"stories: {program.name}, {rows} rows")
     return status
 
 

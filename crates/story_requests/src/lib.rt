@@ -1,0 +1,19 @@
+//! What the programs share that stories are told through: requests that they read, and answers that they print.
+//!
+//! A request is a line of words with one space between: what is asked, and then its arguments. A number is written in
+//! decimal digits, bytes as hexadecimal digits, with `-` for none. The answer is a line of such words too: numbers,
+//! bytes, and names, as those of faults. A program reads requests to the end of its standard input, and answers each.
+//! `tools/stories.py` makes them of the commands of story files, and compares what is answered with what stands there.
+//!
+//! Nothing is claimed here but that answering is safe and ends: what is answered is promised by the crates that do it.
+#![tactic(auto)]
+
+mod answer;
+mod answering;
+mod fault;
+mod words;
+
+pub use answer::Answer;
+pub use answering::{Answers, run};
+pub use fault::RequestFault;
+pub use words::Words;
