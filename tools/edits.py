@@ -1,13 +1,23 @@
 #!/usr/bin/env python3
-"""Tries the must-fail edits of a crate one after the other, as the gate does, on a copy of the crate and of what it stands on, and
-says of each how many processor seconds it took and which goals refused it. A goal that has no answer in `proofs/` is marked with a
-star: there an answer with a bound makes such an edit cheaper.
+"""Tries edits that the proofs have to refuse one after the other, as the gate does, on a copy of the crate and of those that it
+depends on, and says of each how many processor seconds it took and which goals refused it. A goal that has no answer in
+`proofs/` is marked with a star: there an answer with a bound makes such an edit cheaper.
 
-    tools/edits.py [--answer] [--more] CRATE [EDIT ..]
+    tools/edits.py [--answer] CRATE [EDIT ..]
+    tools/edits.py --since COMMIT
+    tools/edits.py --old
 
-With --more the edits of the crate's folder `more-edits/` are tried, which the gate leaves out. With --answer an answer with a bound
-is written for each goal with a star, where the crate is proved with it; the others are named. An edit that the prover takes is told as
-TAKEN, and the status is then 1."""
+The edits of a crate are those of its folders `must-fail/`, which the gate tries too, and `more-edits/`. An edit of a definition
+whose law stands in a crate above has a line `law: CRATE`: where its own crate is proved with it, that crate must not be. With
+--since, the edits of each crate are tried whose sources, definitions or edits changed since that commit. An edit that the prover
+takes is shown as TAKEN, and the status is then 1.
+
+Where all edits of a crate were refused, its line in `edits-refused.txt` says for which sources, definitions and edits that was,
+by their checksum. With --old nothing is tried: the crates are counted whose lines are of other files than stand here.
+
+With --answer an answer with a bound is written for each goal with a star, where the crate is proved with it; the others are
+named."""
+import hashlib
 import itertools
 import re
 import resource
@@ -18,6 +28,8 @@ import tempfile
 from pathlib import Path
 
 TOP = Path(__file__).resolve().parent.parent
+REFUSED = TOP / "edits-refused.txt"
+HEAD = "# Of each crate the checksum of the sources, definitions and edits for which all of its edits were refused: tools/edits.py.\n"
 OPEN = re.compile(r"^note: \S+: it is not proved .*\(`([^`]+)`\)")
 FUNCTION = re.compile(r"^fn (\S+): (?:not proved|no proof: expected answers)")
 ANSWER = re.compile(r"^note: `([^`]+)` of proofs/(\S+)/Answers\.antt must prove")
@@ -85,11 +97,11 @@ def refusals(printed):
     return goals
 
 
-def try_edit(folder, edit):
-    """Checks the crate with the edit, and takes the edit back."""
+def try_edit(folder, edit, own):
+    """Checks the crate of this folder with the edit of the one of the folder `own`, and takes the edit back."""
     whole = {}
     for file, old, new in changes(edit):
-        path = folder / file
+        path = own / file
         text = path.read_text(encoding="utf-8")
         whole.setdefault(path, text)
         if text.count(old) != 1:
@@ -158,38 +170,129 @@ def write_answers(crate, folder, goals):
             print(f"{function} {goal}: no answer of these forms", flush=True)
 
 
-def edits_of(folder, words):
-    """The edits that are asked for, in the order of their names."""
-    names = [word for word in words if not word.startswith("--")][1:]
-    found = sorted((folder / ("more-edits" if "--more" in words else "must-fail")).glob("*.edit"))
+def edits_of(crate, names=()):
+    """The edits of a crate, or those of these names."""
+    found = [edit for part in ("must-fail", "more-edits") for edit in sorted((TOP / "crates" / crate / part).glob("*.edit"))]
     return [edit for edit in found if not names or edit.stem in names]
 
 
-def main():
-    words = sys.argv[1:]
-    crate = next((word for word in words if not word.startswith("--")), None)
-    if crate is None:
-        sys.exit(__doc__)
+def crates_with_edits():
+    return [folder.name for folder in sorted((TOP / "crates").iterdir()) if edits_of(folder.name)]
+
+
+def checksum(crate):
+    """The checksum of a crate's sources, definitions and edits, wherever these stand and whatever they are called."""
+    folder = TOP / "crates" / crate
+    files = [*sorted((folder / "src").rglob("*.rt")), *sorted((folder / "specs").rglob("*.antt"))]
+    texts = [f"{file.relative_to(folder)}\n{file.read_text(encoding='utf-8')}" for file in files]
+    texts += sorted(edit.read_text(encoding="utf-8") for edit in edits_of(crate))
+    return hashlib.sha256("\0".join(texts).encode()).hexdigest()[:32]
+
+
+def refused_lines():
+    """The checksum that each crate's line has."""
+    lines = REFUSED.read_text(encoding="utf-8").splitlines() if REFUSED.exists() else []
+    return dict(line.split() for line in lines if line and not line.startswith("#"))
+
+
+def keep_line(crate, value):
+    """Puts the crate's line in the place of its old one. Crates that have no edits any more lose theirs."""
+    kept = {**refused_lines(), crate: value}
+    lines = [f"{name} {kept[name]}\n" for name in crates_with_edits() if name in kept]
+    REFUSED.write_text(HEAD + "".join(lines), encoding="utf-8")
+
+
+def old_lines():
+    """The crates of which no line says that all edits were refused for the files that stand here."""
+    kept = refused_lines()
+    return [crate for crate in crates_with_edits() if kept.get(crate) != checksum(crate)]
+
+
+def changed_since(commit):
+    """The crates whose sources, definitions or edits are not those of the commit."""
+    words = ["git", "diff", "--name-only", "--no-renames", commit, "--", "crates"]
+    paths = subprocess.run(words, cwd=TOP, capture_output=True, text=True, check=True).stdout.split()
+    parts = ("src", "specs", "must-fail", "more-edits")
+    names = {path.split("/")[1] for path in paths if path.split("/")[2] in parts}
+    return [crate for crate in crates_with_edits() if crate in names]
+
+
+def law_of(edit):
+    """The crate above whose law refuses the edit, where it names one."""
+    lines = edit.read_text(encoding="utf-8").splitlines()
+    return next((line.removeprefix("law: ") for line in lines if line.startswith("law: ")), None)
+
+
+def is_refused(proved, printed):
+    """Whether the prover refused what it checked, and did not merely fail to read it."""
+    return not proved and re.search(r"^logic=not-proved", printed, re.M) is not None
+
+
+def show(edit, folder, taken, proved, printed):
+    """Prints what came of an edit, and gives the goals without an answer that refused it."""
+    goals = refusals(printed)
+    loose = {goal for goal in goals if not has_answer(folder, *goal)}
+    shown = [f"{goal[0].partition('::')[2]} {goal[1]}{'*' * (goal in loose)}" for goal in goals]
+    shown = shown or re.findall(r"^fn [^:]+::(\S+): not proved", printed, re.M) or printed.strip().splitlines()[-1:]
+    fault = "TAKEN" if proved else "" if is_refused(proved, printed) else "BAD EDIT: "
+    print(f"{taken:6.1f} s  {edit.stem}: {fault if proved else fault + ', '.join(shown)}", flush=True)
+    return loose
+
+
+def try_above(edit):
+    """Tries an edit of a definition in the crate above whose law refuses it."""
+    above, own = law_of(edit), edit.parent.parent.name
+    with tempfile.TemporaryDirectory() as scratch:
+        folder = copy_of(above, Path(scratch))
+        return try_edit(folder, edit, folder.parent / own)
+
+
+def try_edits(crate, edits, answers):
+    """Tries these edits of the crate. Gives whether all were refused."""
     with tempfile.TemporaryDirectory() as scratch:
         folder = copy_of(crate, Path(scratch))
         proved, taken, printed = check(folder)
         if not proved:
             sys.exit(f"{printed}\n{crate} is not proved as it stands")
-        print(f"{taken:6.1f} s  the crate as it stands", flush=True)
-        status, total, unbound = 0, 0.0, set()
-        for edit in edits_of(folder, words):
-            proved, taken, printed = try_edit(folder, edit)
-            goals, total = refusals(printed), total + taken
-            loose = {goal for goal in goals if not has_answer(folder, *goal)}
-            unbound |= loose
-            shown = [f"{goal[0].partition('::')[2]} {goal[1]}{'*' * (goal in loose)}" for goal in goals]
-            shown = shown or re.findall(r"^fn [^:]+::(\S+): not proved", printed, re.M) or printed.strip().splitlines()[-1:]
-            print(f"{taken:6.1f} s  {edit.stem}: {'TAKEN' if proved else ', '.join(shown)}", flush=True)
-            status |= proved
+        print(f"{crate}\n{taken:6.1f} s  the crate as it stands", flush=True)
+        are_refused, total, unbound = True, 0.0, set()
+        for edit in edits:
+            proved, taken, printed = try_edit(folder, edit, folder)
+            if proved and law_of(edit):
+                proved, more, printed = try_above(edit)
+                taken += more
+            unbound |= show(edit, folder, taken, proved, printed)
+            are_refused, total = are_refused and is_refused(proved, printed), total + taken
         print(f"{total:6.1f} s  in all", flush=True)
-        if "--answer" in words:
+        if answers:
             write_answers(crate, folder, unbound)
-    return status
+    return are_refused
+
+
+def try_all(crate, answers=False):
+    """Tries all edits of the crate, and keeps that they were refused."""
+    value = checksum(crate)
+    are_refused = try_edits(crate, edits_of(crate), answers)
+    if are_refused and value == checksum(crate):
+        keep_line(crate, value)
+    return are_refused
+
+
+def main():
+    words = sys.argv[1:]
+    names = [word for word in words if not word.startswith("--")]
+    if words == ["--old"]:
+        old, total = old_lines(), len(crates_with_edits())
+        print(f"edits: of {len(old)} of {total} crates not all edits were tried as they stand: {' '.join(old) or 'none'}")
+        return 0
+    if "--since" in words and len(names) == 1:
+        return 0 if all([try_all(crate) for crate in changed_since(names[0])]) else 1
+    if not names:
+        sys.exit(__doc__)
+    crate, *some = names
+    if some:
+        return 0 if try_edits(crate, edits_of(crate, some), "--answer" in words) else 1
+    return 0 if try_all(crate, "--answer" in words) else 1
 
 
 if __name__ == "__main__":
