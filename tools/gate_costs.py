@@ -4,6 +4,9 @@ the crate, that of its tests, its must-fail edits, and the runs of its program a
 
     tools/gate_costs.py [--write] [COMMAND ..]
 
+Machines differ by more than two. So first one fixed example of the toolchain is proved three times from nothing, and the total is
+told in minutes and as a multiple of the least that this took.
+
 With --write the table goes into docs/TESTS.md, between the two lines that mark its place. What a run did not do, since it was kept
 from an earlier one, has the figure of the table that stands there, so that a run over what changed is enough to bring the table up to
 date. Where the run is ended early (SIGTERM), what was under way keeps its old figure too. Below the table the edits are named that
@@ -15,9 +18,11 @@ is the kernel's own figure, so that what was missed shows."""
 import os
 import re
 import resource
+import shutil
 import signal
 import subprocess
 import sys
+import tempfile
 import time
 from pathlib import Path
 
@@ -29,6 +34,9 @@ KINDS = ("proof", "tests", "edits", "runs")
 TICKS = os.sysconf("SC_CLK_TCK")
 # The processor seconds from which on an edit is named.
 DEAR = 20
+# The example of the toolchain that measures the machine, and the libraries of the toolchain that it uses.
+EXAMPLE = "rattle/examples/worked/bikes"
+EXAMPLE_USES = "bikes: anyhow crossbeam_channel\n"
 
 
 def crates():
@@ -63,6 +71,24 @@ def what_it_is(pid, names):
     if "rt-edit-" in os.readlink(f"/proc/{pid}/cwd"):
         return crate, "edits", edit_of(crate, words)
     return crate, "tests" if "--test" in words else "proof", None
+
+
+def example_seconds():
+    """The processor seconds in which the example is proved: the least of three first checks."""
+    example = Path(subprocess.run(["rt", "doc"], capture_output=True, text=True, check=True).stdout.strip()).parent / EXAMPLE
+    taken = []
+    for _ in range(3):
+        with tempfile.TemporaryDirectory() as scratch:
+            Path(scratch, "crates.txt").write_text(EXAMPLE_USES, encoding="utf-8")
+            shutil.copy(TOP / "HANDLES", scratch)
+            folder = Path(scratch, "crates", "bikes")
+            for part in ("src", "specs", "proofs"):
+                shutil.copytree(example / part, folder / part)
+            before = resource.getrusage(resource.RUSAGE_CHILDREN)
+            subprocess.run(["rt", "check", "--jobs", "1"], cwd=folder, stdout=subprocess.DEVNULL, check=True)
+            after = resource.getrusage(resource.RUSAGE_CHILDREN)
+            taken.append(after.ru_utime + after.ru_stime - before.ru_utime - before.ru_stime)
+    return min(taken)
 
 
 class Costs:
@@ -144,7 +170,7 @@ def seconds_of(costs, crate, kept, ended):
     return found
 
 
-def page_of(costs, total, wall, ending, ended):
+def page_of(costs, total, wall, ending, ended, example):
     """The table, as lines of the page."""
     rows = ["| Crate | First check | Tests | Edits | An edit | Runs | Lines of `.rt` |", "|---|---|---|---|---|---|---|"]
     kept, known = kept_cells(), 0
@@ -159,9 +185,14 @@ def page_of(costs, total, wall, ending, ended):
         cells += [f"{seconds['edits']:.0f} ({edits})" if edit else f"({edits})" if edits else "", f"{edit:.1f}" if edit else ""]
         cells += [f"{runs:.0f}" if runs >= 0.5 else "", f"{lines:,}"]
         rows.append("| " + " | ".join(cells) + " |")
-    text = f"The last gate that was measured printed `{ending}`. It took {wall / 60:.0f} minutes on {len(os.sched_getaffinity(0))} processors, and "
-    text += f"{total / 60:.0f} processor minutes. The table has processor seconds, {known / 60:.0f} minutes in all, each as it was when the crate "
-    return [text + "was last proved from nothing.", "", *rows]
+    processors = len(os.sched_getaffinity(0))
+    text = [
+        f"The last gate that was measured printed `{ending}`. It took {wall / 60:.0f} minutes on {processors} processors, and",
+        f"{total / 60:.0f} processor minutes. The table has processor seconds, {known / 60:.0f} minutes in all, each as it was when the crate was",
+        f"last proved from nothing: {known / example:.0f} times the {example:.0f} processor seconds in which the toolchain's example `bikes` was",
+        "proved there.",
+    ]
+    return [*text, "", *rows]
 
 
 def write(lines):
@@ -198,10 +229,12 @@ def run(words, names):
 def main():
     writes = "--write" in sys.argv[1:]
     words = [it for it in sys.argv[1:] if it != "--write"] or [str(TOP / "test")]
-    began = time.monotonic()
+    example = example_seconds()
+    before, began = resource.getrusage(resource.RUSAGE_CHILDREN), time.monotonic()
     status, ending, costs = run(words, set(crates()))
-    used = resource.getrusage(resource.RUSAGE_CHILDREN)
-    lines = page_of(costs, used.ru_utime + used.ru_stime, time.monotonic() - began, ending, status < 0)
+    after = resource.getrusage(resource.RUSAGE_CHILDREN)
+    total = after.ru_utime + after.ru_stime - before.ru_utime - before.ru_stime
+    lines = page_of(costs, total, time.monotonic() - began, ending, status < 0, example)
     print("\n".join(lines))
     for seconds, crate, edit in costs.dear_edits():
         print(f"{seconds:6.1f} s  {crate}/{edit}")
