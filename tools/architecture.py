@@ -1,0 +1,96 @@
+#!/usr/bin/env python3
+"""Makes the table of crates in docs/ARCHITECTURE.md, between the two comments that mark its place: the layers of crates.txt, each
+with its crates, and of each crate the first paragraph of its `src/lib.rt` or `src/main.rt`.
+
+    tools/architecture.py [--check]
+
+With --check it changes nothing. It says whether the table is what it would make, whether each crate of crates.txt comes before
+those that use it, and whether each stands under the heading of a layer. The status is 1 where one of these is not so."""
+import re
+import sys
+from pathlib import Path
+
+TOP = Path(__file__).resolve().parent.parent
+PAGE = TOP / "docs" / "ARCHITECTURE.md"
+FIRST = "<!-- The table below is made by tools/architecture.py. -->"
+LAST = "<!-- The table above is made by tools/architecture.py. -->"
+HEADING = re.compile(r"# (?:Layer (\w+), (.*)|(Tests and benches))$")
+
+
+def layers():
+    """The layers of crates.txt, each as its heading and its crates, each with what it uses."""
+    found = [("", {})]
+    for line in (TOP / "crates.txt").read_text(encoding="utf-8").splitlines():
+        heading, row = HEADING.match(line), line.partition("#")[0]
+        if heading:
+            layer, what, last = heading.groups()
+            found.append((last or f"`{layer}`: {what}", {}))
+        elif ":" in row:
+            crate, _, uses = row.partition(":")
+            found[-1][1][crate.split()[0]] = uses.split()
+    return found
+
+
+def first_paragraph(crate):
+    """What the head of a crate's root says of it, up to the first empty line."""
+    sources = TOP / "crates" / crate / "src"
+    root = next(file for name in ("lib.rt", "main.rt") if (file := sources / name).is_file())
+    words = []
+    for line in root.read_text(encoding="utf-8").splitlines():
+        said = line.removeprefix("//!").strip()
+        if not line.startswith("//!") or not said:
+            break
+        words.append(said)
+    return re.sub(r"\[(`[^`]*`)\]", r"\1", " ".join(words)).replace("|", "\\|")
+
+
+def table(found):
+    """The lines of the table, a part for each layer."""
+    lines = []
+    for heading, crates in found:
+        if not heading:
+            continue
+        lines += ["", f"### {heading[0].upper()}{heading[1:]}"]
+        if crates:
+            lines += ["", "| Crate | What it is |", "|---|---|"]
+        lines += [f"| `{crate}` | {first_paragraph(crate)} |" for crate in crates]
+    return lines
+
+
+def with_table(text, lines):
+    """The page with this table in its place."""
+    head, first, rest = text.partition(FIRST)
+    _, last, tail = rest.partition(LAST)
+    if not first or not last:
+        sys.exit(f"architecture: {PAGE} has no place for the table")
+    return head + "\n".join([FIRST, *lines, "", LAST]) + tail
+
+
+def out_of_order(found):
+    """What is wrong with the order of crates.txt, a line each."""
+    places = {crate: place for place, crate in enumerate(crate for _, crates in found for crate in crates)}
+    wrong = [f"crates.txt: {crate} stands under no layer" for crate in found[0][1]]
+    for _, crates in found:
+        for crate, uses in crates.items():
+            above = [used for used in uses if places.get(used, -1) >= places[crate]]
+            wrong += [f"crates.txt: {crate} uses {used}, whose line comes later" for used in above]
+    return wrong
+
+
+def main():
+    found = layers()
+    text = PAGE.read_text(encoding="utf-8")
+    made = with_table(text, table(found))
+    if sys.argv[1:] != ["--check"]:
+        PAGE.write_text(made, encoding="utf-8")
+        return 0
+    wrong = out_of_order(found)
+    if text != made:
+        wrong.append("docs/ARCHITECTURE.md does not have the table that tools/architecture.py makes")
+    for line in wrong:
+        print(f"architecture: {line}")
+    return 1 if wrong else 0
+
+
+if __name__ == "__main__":
+    sys.exit(main())
