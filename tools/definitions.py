@@ -1,38 +1,30 @@
 #!/usr/bin/env python3
-"""Makes docs/DEFINITIONS.md, the index of all specs/: each module with what its head says, and each name that it defines with
-the comment above it. With --check it changes nothing, and says whether the page is what it would make."""
+"""Prints what the definitions of a crate say: each module of its `specs/` with what its head says, and each name with the comment
+above it. Names in brackets stand beside the one before them, and no words are theirs alone.
+
+    tools/definitions.py                    each crate that has definitions, with their number
+    tools/definitions.py CRATE [WORD ..]    those of a crate: all, or those in whose names or comments one of the words stands
+    tools/definitions.py --check            whether docs/DEFINITIONS.md cites what is there
+
+The page cites a name as `NAME` (`CRATE`), several of one crate as `NAME`, `OTHER` (`CRATE`), and in a table as
+| `NAME` | `CRATE`, `MODULE` |. Each has to be defined in the crate's `specs/`, in that module where one is named, also as a
+constructor or a field; behind the word `law`, `type` or `function` it is one that stands in the crate's `src/`. With --check each
+that is not is printed, and so is each other word of the page in backticks that is cited nowhere, and the status is 1."""
 import re
 import sys
 from pathlib import Path
 
 TOP = Path(__file__).resolve().parent.parent
 PAGE = TOP / "docs" / "DEFINITIONS.md"
-HEAD = """# Definitions
-
-The index of all `specs/`, made by `tools/definitions.py` from the comments there. Contracts cite these names; nothing in them is
-taken from the code's loops. Names in brackets stand beside the one before them, and no words are theirs alone. What tests alone tie
-to a public standard is in [TESTS.md](TESTS.md).
-
-## The promise, phrase by phrase
-
-> For every list of deliveries, losses, repeats, reorderings and restarts, any two nodes that serve one ticket hand out equal schemas and equal batches in equal order, and an upload acknowledged for a version stands exactly once, as it was sent, in every version numbered from it, at whichever node serves that version, provided a restarted node has back every promise, acceptance and begun ballot that it answered for.
-
-| Phrase | What says it |
-|---|---|
-| For every list of deliveries, losses, repeats, reorderings and restarts | `Follows` (`histories`) is of any list of events. A message is lost where no `Deliver` names it or its delivery is refused, repeated and overtaken where deliveries name numbers as they like; a node goes down by a `TickCut` or a `DeliverCut`, and starts again by a `Restart`, whenever the list says so |
-| any two nodes that serve one ticket | two steps `Get` of one table and version that gave `Answer`, at whatever nodes and times |
-| hand out equal schemas and equal batches in equal order | `SameTicketSameBytes`: their bytes are equal, and so is all that can be read from them |
-| an upload acknowledged for a version | a step `Outcome` of the upload that gave `applied` with the version's number |
-| stands exactly once, as it was sent, | `AcknowledgedStandsOnce`: at that place among the uploads of the answer, which have different names; it is the upload of the bytes that were handed in, cell for cell (`IsTextOf`, law `uploads_have_one_encoding`). Metadata of its schema aside: a table shows that of its first upload |
-| in every version numbered from it, at whichever node serves that version | so it is in every answer to a ticket of its table for that version or a later one, earlier or later in the history, at any node |
-| provided a restarted node has back every promise, acceptance and begun ballot that it answered for | a node starts with the records of all steps that it took, and of the one in the midst of which it went down with the record that was due or without it (`found_in`) |
-
-That every history of nodes that follow their rules (`IsDue`) is so is the law `what_follows_is_safe`; that a run of nodes is such a
-history, of the events that were handed in, is the contract of `run` in `schedule_runner` (`IsRunOf`).
-"""
 DEFINED = re.compile(r"^\s*(?:(?:abbrev|unfoldable)\s+)?pub (?:record |data )?([^\s:(]+)")
 OWN_LINE = re.compile(r"^(?:(?:abbrev|unfoldable) )?pub |^(?:abbrev )?mutual$")
 PASSED_ON = re.compile(r"^pub use Rattle\.(\w+)\.specs\.[\w.]+\.\{([^}]*)\}")
+INSIDE = re.compile(r"^ +(?:abbrev )?(?:pub )?(?:record |data )?([A-Za-z]\w*)(?: \([^)]*\))* :", re.M)
+CITED = re.compile(r"(?:\b(law|laws|type|types|function|functions) )?(`\w+`(?:(?:, | and )`\w+`)*)(?: \(| \| )`(\w+)`(?:, `(\w+)`)?")
+IN_SOURCES = r"\bpub (?:fn|enum|struct|trait) {}\b"
+
+
+# ---- the index
 
 
 def names_of(lines, at):
@@ -69,7 +61,7 @@ def put_rows(rows, names, said, title):
         title = title if not own else ""
 
 
-def module(path):
+def index(path):
     """What the head of a module says, and its rows: first the names that it passes on from other crates."""
     lines = path.read_text(encoding="utf-8").splitlines()
     head, at = [], 0
@@ -100,39 +92,99 @@ def module(path):
     return " ".join(head), [row for row in [*passed, *rows] if row[0]]
 
 
+def crates():
+    """The crates that have definitions, in the order of crates.txt."""
+    lines = (TOP / "crates.txt").read_text(encoding="utf-8").splitlines()
+    names = [line.split(":")[0].split()[0] for line in lines if ":" in line.partition("#")[0]]
+    return [name for name in names if (TOP / "crates" / name / "specs" / "Lib.antt").is_file()]
+
+
+def modules(crate):
+    """The modules of a crate's definitions, in the order of its list, each with its file."""
+    specs = TOP / "crates" / crate / "specs"
+    for line in (specs / "Lib.antt").read_text(encoding="utf-8").splitlines():
+        name = line.removeprefix("pub mod ").strip()
+        path = specs / f"{name}.antt"
+        if line.startswith("pub mod ") and path.is_file():
+            yield name, path
+
+
+def count(crate):
+    """How many names a crate defines."""
+    rows = [row for _, path in modules(crate) for row in index(path)[1] if not row[2].startswith("of `")]
+    return sum(len(names) + len(beside) for names, beside, _ in rows)
+
+
 def listed(names):
     return ", ".join(f"`{name}`" for name in names)
 
 
-def page():
-    parts = [HEAD]
-    crates = [line.split(":")[0] for line in (TOP / "crates.txt").read_text().splitlines() if ":" in line and line[0] != "#"]
-    for crate in crates:
-        specs = TOP / "crates" / crate / "specs"
-        if not specs.is_dir():
-            continue
-        parts.append(f"\n## `{crate}`\n")
-        for line in (specs / "Lib.antt").read_text(encoding="utf-8").splitlines():
-            name = line.removeprefix("pub mod ").strip()
-            path = specs / f"{name}.antt"
-            if not line.startswith("pub mod ") or not path.is_file():
-                continue
-            head, rows = module(path)
-            parts.append(f"\n**`{name}`**: {head}\n")
-            for names, beside, said in rows:
-                more = f" (beside it {listed(beside)})" if beside else ""
-                parts.append(f"- {listed(names)}{more}{': ' + said if said else ''}\n")
-    return "".join(parts)
+def lines_of(rows):
+    """A line for each row."""
+    for names, beside, said in rows:
+        more = f" ({listed(beside)})" if beside else ""
+        yield f"- {listed(names)}{more}{': ' + said if said else ''}"
+
+
+def show(crate, words):
+    """Prints the index of a crate, or what of it has one of these words."""
+    for name, path in modules(crate):
+        head, rows = index(path)
+        lines = [line for line in lines_of(rows) if not words or any(word.lower() in line.lower() for word in words)]
+        if lines or not words:
+            print("\n".join([f"{name}: {head}", *lines, ""]))
+
+
+# ---- the page
+
+
+def is_defined(name, crate, module):
+    """Whether the definitions of a crate have this name, in this module where one is named."""
+    for found, path in modules(crate):
+        if module in (None, found):
+            _, rows = index(path)
+            inside = INSIDE.findall(path.read_text(encoding="utf-8"))
+            if name in inside or any(name in names or name in beside for names, beside, _ in rows):
+                return True
+    return False
+
+
+def is_in_sources(name, crate):
+    """Whether the sources of a crate have a public function or type of this name."""
+    sources = (TOP / "crates" / crate / "src").rglob("*.rt")
+    return any(re.search(IN_SOURCES.format(re.escape(name)), file.read_text(encoding="utf-8")) for file in sources)
+
+
+def wrong_in(text):
+    """What the page cites that is not there, and words in backticks that are cited nowhere, a line each."""
+    all_crates, cited, wrong = crates(), set(), []
+    for word, names, crate, module in CITED.findall(text):
+        for name in re.findall(r"`(\w+)`", names):
+            cited |= {name, crate, module}
+            if crate not in all_crates:
+                wrong.append(f"`{name}`: there is no crate `{crate}` with definitions")
+            elif not (is_in_sources(name, crate) if word else is_defined(name, crate, module or None)):
+                wrong.append(f"`{name}` is not in {crate}{' ' + module if module else ''}")
+    others = {word for word in re.findall(r"`(\w+)`", text) if word not in cited and word not in all_crates}
+    return wrong + [f"`{word}` is cited with no crate" for word in sorted(others)]
 
 
 def main():
-    made = page()
-    if sys.argv[1:] == ["--check"]:
-        if PAGE.read_text(encoding="utf-8") != made:
-            sys.exit("docs/DEFINITIONS.md is not what tools/definitions.py makes")
-        return
-    PAGE.write_text(made, encoding="utf-8")
+    words = sys.argv[1:]
+    if words == ["--check"]:
+        wrong = wrong_in(PAGE.read_text(encoding="utf-8"))
+        for line in wrong:
+            print(f"definitions: docs/DEFINITIONS.md: {line}")
+        return 1 if wrong else 0
+    if words and words[0] not in crates():
+        sys.exit(f"definitions: crates.txt has no crate {words[0]} with definitions")
+    if words:
+        show(words[0], words[1:])
+    else:
+        for crate in crates():
+            print(f"{count(crate):5} {crate}")
+    return 0
 
 
 if __name__ == "__main__":
-    main()
+    sys.exit(main())
