@@ -2,10 +2,14 @@
 """A client that speaks to the service over pipes, written from docs/FORMATS.md alone and with nothing but Python's standard library.
 
     tools/peer.py [PROGRAM]
+    tools/peer.py [put TABLE NUMBER .. | get TABLE VERSION] ..
 
-It starts PROGRAM (crates/call_server/out/call_server), puts uploads of several types, asks what is told of their tables, gets every
-version, and compares cell for cell what it reads with what it put. Then it asks for what has to be refused. It prints a line for each
-table and each refusal, and ends with status 1 where anything is not as it has to be."""
+It starts PROGRAM (crates/call_server/out/call_server), puts uploads of several types, asks for the description of their tables, gets
+every version, and compares cell for cell what it reads with what it put. Then it asks for what has to be refused. It prints a line for
+each table and each refusal, and ends with status 1 where anything is not as it has to be.
+
+With words it makes these calls of one server, whose tables are empty at first: `put` uploads one batch of these numbers in a column
+of Int of 64 bits, `-` for a null, and prints the version that acknowledges it; `get` prints the rows of a version, a line for each."""
 import hashlib
 import struct
 import subprocess
@@ -490,5 +494,57 @@ def main(program=PROGRAM):
     print(f"{len(TABLES)} tables and {6 + len(BREAKS)} refusals are as they have to be")
 
 
+# ---- calls from the shell
+
+
+NUMBERS_ALONE = whole([("a", "Int", 64)])
+
+
+def commands(words):
+    """The calls that words ask for, each with its own words."""
+    found = []
+    for word in words:
+        if word in ("put", "get"):
+            found.append([word])
+        else:
+            found[-1].append(word)
+    if all(len(it) == 3 if it[0] == "get" else len(it) >= 2 for it in found):
+        return found
+    sys.exit(__doc__)
+
+
+def put_numbers(server, table, numbers, count):
+    rows = [(None if it == "-" else int(it),) for it in numbers]
+    print(f"{table}: version {version_put(server, table, name_of(table, count), NUMBERS_ALONE, [rows])}")
+
+
+def print_version(server, table, version):
+    columns, uploads, _ = downloaded(server, table, int(version))
+    want(columns, NUMBERS_ALONE)
+    for _, batches in uploads:
+        for (number,) in (row for rows in batches for row in rows):
+            print("-" if number is None else number)
+
+
+def make_calls(words, program=PROGRAM):
+    """Makes the calls of these words, one after the other, at one server."""
+    calls = commands(words)
+    if not program.is_file():
+        sys.exit(f"peer: {program} is not built: say `rt run < /dev/null` in crates/call_server")
+    server = Server(program)
+    for count, (word, table, *others) in enumerate(calls):
+        try:
+            if word == "put":
+                put_numbers(server, table, others, count)
+            else:
+                print_version(server, table, *others)
+        except Wrong as wrong:
+            sys.exit(f"peer: {word} {table}: {wrong}")
+    want(server.end(), 0)
+
+
 if __name__ == "__main__":
-    main(*sys.argv[1:])
+    if sys.argv[1:2] in (["put"], ["get"]):
+        make_calls(sys.argv[1:])
+    else:
+        main(*sys.argv[1:])
