@@ -1,6 +1,6 @@
 #!/usr/bin/env python3
-"""Makes the table of crates in docs/ARCHITECTURE.md, between the two comments that mark its place: the layers of crates.txt, each
-with its crates, and of each crate the first paragraph of its `src/lib.rt` or `src/main.rt`.
+"""Makes the table of crates in docs/ARCHITECTURE.md, between the two comments that mark its place: the layers of crates.txt,
+each with its crates, and of each crate the first paragraph of its `src/lib.rt` or `src/main.rt`.
 
     tools/architecture.py [--check]
 

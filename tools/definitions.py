@@ -1,6 +1,6 @@
 #!/usr/bin/env python3
-"""Prints what the definitions of a crate say: each module of its `specs/` with what its head says, and each name with the comment
-above it. Names in brackets stand beside the one before them, and no words are theirs alone.
+"""Prints what the definitions of a crate say: each module of its `specs/` with what its head says, and each name with the
+comment above it. Names in brackets stand beside the one before them, and no words are theirs alone.
 
     tools/definitions.py                    each crate that has definitions, with their number
     tools/definitions.py CRATE [WORD ..]    those of a crate: all, or those in whose names or comments one of the words stands
@@ -8,8 +8,8 @@ above it. Names in brackets stand beside the one before them, and no words are t
 
 The page cites a name as `NAME` (`CRATE`), several of one crate as `NAME`, `OTHER` (`CRATE`), and in a table as
 | `NAME` | `CRATE`, `MODULE` |. Each has to be defined in the crate's `specs/`, in that module where one is named, also as a
-constructor or a field; behind the word `law`, `type` or `function` it is one that stands in the crate's `src/`. With --check each
-that is not is printed, and so is each other word of the page in backticks that is cited nowhere, and the status is 1."""
+constructor or a field; behind the word `law`, `type` or `function` it is one that stands in the crate's `src/`. With --check
+each that is not is printed, and so is each other word of the page in backticks that is cited nowhere, and the status is 1."""
 import re
 import sys
 from pathlib import Path
@@ -20,7 +20,8 @@ DEFINED = re.compile(r"^\s*(?:(?:abbrev|unfoldable)\s+)?pub (?:record |data )?([
 OWN_LINE = re.compile(r"^(?:(?:abbrev|unfoldable) )?pub |^(?:abbrev )?mutual$")
 PASSED_ON = re.compile(r"^pub use Rattle\.(\w+)\.specs\.[\w.]+\.\{([^}]*)\}")
 INSIDE = re.compile(r"^ +(?:abbrev )?(?:pub )?(?:record |data )?([A-Za-z]\w*)(?: \([^)]*\))* :", re.M)
-CITED = re.compile(r"(?:\b(law|laws|type|types|function|functions) )?(`\w+`(?:(?:, | and )`\w+`)*)(?: \(| \| )`(\w+)`(?:, `(\w+)`)?")
+NAMES = r"(`\w+`(?:(?:, | and )`\w+`)*)"
+CITED = re.compile(rf"(?:\b(laws?|types?|functions?) )?{NAMES}(?: \(| \| )`(\w+)`(?:, `(\w+)`)?")
 IN_SOURCES = r"\bpub (?:fn|enum|struct|trait) {}\b"
 
 

@@ -1,15 +1,17 @@
 #!/usr/bin/env python3
-"""A client that speaks to the service over pipes, written from docs/FORMATS.md alone and with nothing but Python's standard library.
+"""A client that speaks to the service over pipes, written from docs/FORMATS.md alone and with nothing but Python's standard
+library.
 
     tools/peer.py [PROGRAM]
     tools/peer.py [put TABLE NUMBER .. | get TABLE VERSION] ..
 
-It starts PROGRAM (crates/call_server/out/call_server), puts uploads of several types, asks for the description of their tables, gets
-every version, and compares cell for cell what it reads with what it put. Then it asks for what has to be refused. It prints a line for
-each table and each refusal, and ends with status 1 where anything is not as it has to be.
+It starts PROGRAM (crates/call_server/out/call_server), puts uploads of several types, asks for the description of their tables,
+gets every version, and compares cell for cell what it reads with what it put. Then it asks for what has to be refused. It
+prints a line for each table and each refusal, and ends with status 1 where anything is not as it has to be.
 
-With words it makes these calls of one server, whose tables are empty at first: `put` uploads one batch of these numbers in a column
-of Int of 64 bits, `-` for a null, and prints the version that acknowledges it; `get` prints the rows of a version, a line for each."""
+With words it makes these calls of one server, whose tables are empty at first: `put` uploads one batch of these numbers in a
+column of Int of 64 bits, `-` for a null, and prints the version that acknowledges it; `get` prints the rows of a version, a
+line for each."""
 import hashlib
 import struct
 import subprocess
