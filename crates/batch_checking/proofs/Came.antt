@@ -14,10 +14,10 @@ use Rattle.batch_types.specs.Placed.{is_valid}
 use Rattle.batch_types.specs.Rules.{places_of, places_inside, asked_inside}
 use Rattle.batch_types.specs.LaysOut.{IsSound, AreSound, HaveFault}
 use Rattle.batch_columns.specs.Held.{layout_named}
-use Rattle.batch_sources.specs.declared.place.Place.{Place}
-use Rattle.batch_sources.specs.declared.source.Source.{Source}
-use Rattle.batch_sources.specs.Sources.{nodes_of_tree, buffers_of_tree, columns_from}
-use Rattle.batch_sources.specs.Read.{IsSourceOf, column_at}
+use Rattle.batch_columns.specs.declared.place.Place.{Place}
+use Rattle.batch_columns.specs.declared.source.Source.{Source}
+use Rattle.batch_columns.specs.Sources.{nodes_of_tree, buffers_of_tree, columns_from}
+use Rattle.batch_columns.specs.Read.{IsSourceOf, column_at}
 use Rattle.batch_checking.specs.declared.around.Around.{Around}
 use Rattle.batch_checking.specs.Around.{source_places, places_around, AreSteady}
 use Rattle.batch_checking.specs.Checked.{KeepsOwn, BreaksOwn, InsideIsSound}

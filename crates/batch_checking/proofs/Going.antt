@@ -15,7 +15,7 @@ use Rattle.batch_types.specs.Rules.{first_length, places_of, asked_inside}
 use Rattle.batch_columns.specs.Held.{layout_named}
 use Rattle.batch_columns.specs.declared.layout.Layout.{Layout as Declared}
 use Rattle.batch_columns.specs.declared.layout.Layout.TheVariants.{Null, Bits, Bytes, Binary, Utf8, List as Lists, FixedSizeList, Struct}
-use Rattle.batch_sources.specs.Sources.{column_from, columns_from}
+use Rattle.batch_columns.specs.Sources.{column_from, columns_from}
 use Rattle.batch_checking.specs.Around.{Holds}
 use Rattle.batch_checking.specs.Columns.{Reaches, AllReach, LeadsInto}
 use Rattle.batch_checking.proofs.Held.{held_below, below_held, flat_held, filter_held, range_held}

@@ -12,8 +12,8 @@ use Rattle.batch_types.specs.Placed.{buffer_at, is_valid, value_bytes}
 use Rattle.batch_types.specs.Rules.{IsInside, HasNullCount, HasOffsets, AreUtf8, first_length}
 use Rattle.batch_types.specs.LaysOut.{KeepsRule}
 use Rattle.batch_columns.specs.Held.{layout_named}
-use Rattle.batch_sources.specs.declared.source.Source.{Source}
-use Rattle.batch_sources.specs.Read.{IsSource, IsSourceOf, LiesInside}
+use Rattle.batch_columns.specs.declared.source.Source.{Source}
+use Rattle.batch_columns.specs.Read.{IsSource, IsSourceOf, LiesInside}
 use Rattle.batch_checking.specs.SourceRules.{OffsetsHold}
 use Rattle.batch_checking.specs.Around.{Holds, TextsHold}
 use Rattle.batch_checking.specs.Checked.{PartsKeep, SourceKeeps, KeepsOwn, BreaksOwn}

@@ -12,10 +12,10 @@ use Rattle.batch_types.specs.Layouts.{layout_of, buffers_in_layout}
 use Rattle.batch_types.specs.Laid.{Node, Range, LaidColumns, column_then}
 use Rattle.batch_types.specs.Rules.{first_length}
 use Rattle.batch_types.specs.LaysOut.{values_limit}
-use Rattle.batch_sources.specs.declared.place.Place.{Place}
-use Rattle.batch_sources.specs.declared.source.Source.{Source}
-use Rattle.batch_sources.specs.Sources.{nodes_of_tree, buffers_of_tree, column_from, columns_from}
-use Rattle.batch_sources.specs.Read.{IsSourceOf, column_at}
+use Rattle.batch_columns.specs.declared.place.Place.{Place}
+use Rattle.batch_columns.specs.declared.source.Source.{Source}
+use Rattle.batch_columns.specs.Sources.{nodes_of_tree, buffers_of_tree, column_from, columns_from}
+use Rattle.batch_columns.specs.Read.{IsSourceOf, column_at}
 use Rattle.batch_checking.specs.declared.around.Around.{Around}
 use Rattle.batch_checking.specs.Checked.{ReachesIf}
 use Rattle.batch_checking.specs.Columns.{forest_seen, inside_of, MayCheckOne, places_in}

@@ -7,7 +7,7 @@ use Rattle.batch_types.specs.Rules.{places_of}
 use Rattle.batch_columns.specs.Held.{layout_named}
 use Rattle.batch_columns.specs.declared.layout.Layout.{Layout as Declared}
 use Rattle.batch_columns.specs.declared.layout.Layout.TheVariants.{List as Lists, FixedSizeList, Utf8}
-use Rattle.batch_sources.specs.declared.source.Source.{Source}
+use Rattle.batch_columns.specs.declared.source.Source.{Source}
 use Rattle.batch_checking.specs.SourceRules.{AreSpread, StandsIn}
 use Rattle.batch_checking.specs.Around.{Holds, StandsInside, IsSteady, IsSteadySource, TextsHold}
 use Rattle.batch_checking.proofs.Held.{held_range, range_held, below_held}

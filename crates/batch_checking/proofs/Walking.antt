@@ -6,7 +6,7 @@ use Rattle.batch_types.specs.Placed.{is_valid}
 use Rattle.batch_types.specs.Rules.{places_of}
 use Rattle.batch_columns.specs.Held.{layout_named}
 use Rattle.batch_columns.specs.declared.layout.Layout.TheVariants.{Null}
-use Rattle.batch_sources.specs.declared.source.Source.{Source}
+use Rattle.batch_columns.specs.declared.source.Source.{Source}
 use Rattle.batch_checking.specs.Around.{Holds, IsValidAt, StandsInside, source_places, places_around, IsSteadySource, AreSteady}
 use Rattle.batch_checking.proofs.Held.{held_flat, flat_held, held_filter, filter_held, below_held, held_range, range_held}
 

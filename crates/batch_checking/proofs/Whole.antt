@@ -14,9 +14,9 @@ use Rattle.batch_types.specs.Cells.{Rows}
 use Rattle.batch_types.specs.Laid.{LaidColumns, node_count, buffer_count}
 use Rattle.batch_types.specs.Order.{head_order, AreKept}
 use Rattle.batch_types.specs.LaysOut.{HasRowsWithin, KeepsHeadRule, HasColumns, LaysOut, IsFaultOf, body_of, columns_at as cells_of_columns}
-use Rattle.batch_sources.specs.declared.place.Place.{Place}
-use Rattle.batch_sources.specs.declared.source.Source.{Source}
-use Rattle.batch_sources.specs.Sources.{columns_from}
+use Rattle.batch_columns.specs.declared.place.Place.{Place}
+use Rattle.batch_columns.specs.declared.source.Source.{Source}
+use Rattle.batch_columns.specs.Sources.{columns_from}
 use Rattle.batch_checking.specs.declared.around.Around.{Around}
 use Rattle.batch_checking.specs.Around.{places_around, AreSteady}
 use Rattle.batch_checking.specs.Columns.{sources_around, first_places, places_in, forest_seen, columns_at, MayCheck}

@@ -10,7 +10,7 @@ use Rattle.batch_types.specs.Placed.{is_valid, value_bytes}
 use Rattle.batch_types.specs.Rules.{places_of}
 use Rattle.batch_types.specs.LaysOut.{values_limit}
 use Rattle.batch_columns.specs.Held.{layout_named}
-use Rattle.batch_sources.specs.declared.source.Source.{Source}
+use Rattle.batch_columns.specs.declared.source.Source.{Source}
 use Rattle.batch_checking.specs.SourceRules.{AreSpread}
 
 -- the number is in the list

@@ -9,7 +9,7 @@ use Rattle.batch_types.specs.Order.{column_order, AreKept, IsFirstBroken}
 use Rattle.batch_types.specs.Rules.{AreLong, HasNullCount, asked_inside, places_inside}
 use Rattle.batch_types.specs.LaysOut.{KeepsRule, AreSound, HaveFault}
 use Rattle.batch_columns.specs.Held.{layout_named}
-use Rattle.batch_sources.specs.declared.source.Source.{Source}
+use Rattle.batch_columns.specs.declared.source.Source.{Source}
 use Rattle.batch_checking.specs.SourceRules.{OffsetsHold}
 use Rattle.batch_checking.specs.Around.{TextsHold}
 

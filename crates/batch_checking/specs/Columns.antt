@@ -14,9 +14,9 @@ use Rattle.batch_types.specs.Layouts.{list_layout, fixed_size_list_layout, struc
 use Rattle.batch_types.specs.Rules.{first_length}
 use Rattle.batch_types.specs.LaysOut.{values_limit}
 use Rattle.batch_columns.specs.Held.{layout_named}
-use Rattle.batch_sources.specs.declared.place.Place.{Place}
-use Rattle.batch_sources.specs.declared.source.Source.{Source}
-use Rattle.batch_sources.specs.Sources.{columns_from}
+use Rattle.batch_columns.specs.declared.place.Place.{Place}
+use Rattle.batch_columns.specs.declared.source.Source.{Source}
+use Rattle.batch_columns.specs.Sources.{columns_from}
 use Rattle.batch_checking.specs.declared.around.Around.{Around}
 use Rattle.batch_checking.specs.SourceRules.{AreSpreadWithin}
 use Rattle.batch_checking.specs.Around.{places_around, IsSteadySource, AreSteady}

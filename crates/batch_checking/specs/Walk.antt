@@ -5,7 +5,7 @@ use Rattle.header_types.specs.Fields.{Forest}
 use Rattle.batch_types.specs.declared.fault.BatchFault.{BatchFault}
 use Rattle.batch_types.specs.Laid.{node_count, buffer_count}
 use Rattle.batch_types.specs.LaysOut.{AreSound, HaveFault}
-use Rattle.batch_sources.specs.declared.place.Place.{Place}
+use Rattle.batch_columns.specs.declared.place.Place.{Place}
 use Rattle.batch_checking.specs.declared.around.Around.{Around}
 use Rattle.batch_checking.specs.Columns.{columns_at, places_in, MayCheck}
 

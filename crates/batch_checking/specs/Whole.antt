@@ -6,7 +6,7 @@ use Rattle.header_types.specs.Fields.{SchemaTree}
 use Rattle.header_types.specs.Header.{Head}
 use Rattle.batch_types.specs.declared.fault.BatchFault.{BatchFault}
 use Rattle.batch_types.specs.LaysOut.{AreSound, HaveFault, body_of}
-use Rattle.batch_sources.specs.Sources.{columns_from}
+use Rattle.batch_columns.specs.Sources.{columns_from}
 
 -- they keep their rules
 abbrev pub ColumnsAreSound : SchemaTree → Head → List ℕ → Type 0

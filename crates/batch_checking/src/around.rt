@@ -7,8 +7,7 @@ ghost use Rattle.batch_checking.specs.Columns.{sources_around};
 
 use crate::offsets::row_around;
 use crate::validity::is_valid;
-use batch_columns::Layout;
-use batch_sources::Source;
+use batch_columns::{Layout, Source};
 use header_types::MAX_DEPTH;
 
 /// The columns around a column, the outermost first, and how many rows the batch has.

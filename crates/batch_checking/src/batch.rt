@@ -12,8 +12,8 @@ ghost use Rattle.batch_checking.specs.Whole.{ColumnsAreSound, ColumnsHaveFault};
 use crate::around::Around;
 use crate::fields::check_fields;
 use crate::head::check_head;
-use batch_sources::Place;
-use batch_sources::laws::sources_are_the_columns;
+use batch_columns::Place;
+use batch_columns::laws::sources_are_the_columns;
 use batch_types::BatchFault;
 use header_types::{BatchHead, Schema};
 

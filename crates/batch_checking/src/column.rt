@@ -14,8 +14,7 @@ use crate::lengths::is_long;
 use crate::offsets::have_risen;
 use crate::texts::has_texts;
 use crate::validity::has_null_count;
-use batch_columns::Layout;
-use batch_sources::Source;
+use batch_columns::{Layout, Source};
 use batch_types::BatchFault;
 
 /// Whether the offsets of a column, where it has some, lead into its bytes or into the first column inside it, which

@@ -4,16 +4,14 @@ ghost use Rattle.std.specs.Prelude.{◌≡◌, ◌↔◌, ◌+◌, ◌≤◌, �
 ghost use Rattle.batch_types.specs.Rules.{first_length, asked_inside as asked_of};
 ghost use Rattle.batch_types.specs.LaysOut.{AreSound, HaveFault, values_limit};
 ghost use Rattle.batch_columns.specs.Held.{layout_named};
-ghost use Rattle.batch_sources.specs.Read.{column_at, IsSourceOf};
-ghost use Rattle.batch_sources.specs.Sources.{nodes_of_tree, buffers_of_tree};
+ghost use Rattle.batch_columns.specs.Read.{column_at, IsSourceOf};
+ghost use Rattle.batch_columns.specs.Sources.{nodes_of_tree, buffers_of_tree};
 ghost use Rattle.batch_checking.specs.Checked.{KeepsOwn, BreaksOwn, InsideIsSound, InsideHasFault};
-ghost use Rattle.batch_checking.specs.Columns.{places_in, forest_seen, columns_at, inside_of, MayCheck, MayCheckOne};
-ghost use Rattle.batch_checking.specs.Columns.{IsBehind, IsOpen, tree_seen};
+ghost use Rattle.batch_checking.specs.Columns.{places_in, forest_seen, columns_at, inside_of, MayCheck, MayCheckOne, IsBehind, IsOpen, tree_seen};
 
 use crate::around::Around;
 use crate::column::check_source;
-use batch_columns::Layout;
-use batch_sources::{Place, Source, source_at};
+use batch_columns::{Layout, Place, Source, source_at};
 use batch_types::BatchFault;
 use header_types::{BatchHead, Field};
 

@@ -1,7 +1,6 @@
 //! Whether a header keeps its own rules.
 
-ghost use Rattle.std.specs.Prelude.{◌≡◌, ◌↔◌, ◌+◌, ◌*◌, ◌<◌, ◌≤◌, ◌≤ℤ◌, ℕ, pos, map, length, get_or};
-ghost use Rattle.std.specs.Prelude.{IsTrue, IfErr, OnOk};
+ghost use Rattle.std.specs.Prelude.{◌≡◌, ◌↔◌, ◌+◌, ◌*◌, ◌<◌, ◌≤◌, ◌≤ℤ◌, ℕ, pos, map, length, get_or, IsTrue, IfErr, OnOk};
 ghost use Rattle.header_types.specs.Views.{tree_of, forest_of, schema_of};
 ghost use Rattle.header_types.specs.HeaderViews.{head_of};
 ghost use Rattle.header_types.specs.Profile.{InProfile};
@@ -9,8 +8,7 @@ ghost use Rattle.batch_types.specs.Laid.{node_count, buffer_count};
 ghost use Rattle.batch_types.specs.Order.{head_order, AreKept, IsFirstBroken};
 ghost use Rattle.batch_types.specs.LaysOut.{KeepsHeadRule, HasRowsWithin, HasBody, rows_limit, values_limit};
 
-use batch_columns::layout_of;
-use batch_sources::Place;
+use batch_columns::{Place, layout_of};
 use batch_types::BatchFault;
 use header_types::{BatchHead, Field, Schema};
 

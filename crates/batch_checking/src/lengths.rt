@@ -5,8 +5,7 @@ ghost use Rattle.batch_types.specs.Rules.{IsValidityLong, AreOffsetsLong, AreLon
 ghost use Rattle.batch_types.specs.LaysOut.{values_limit};
 ghost use Rattle.batch_columns.specs.Held.{layout_named};
 
-use batch_columns::Layout;
-use batch_sources::Source;
+use batch_columns::{Layout, Source};
 
 /// Whether a bitmap of so many bytes is long enough for so many values; it may be empty where none is null (Apache
 /// Arrow, "Arrow Columnar Format", "Validity bitmaps").

@@ -11,8 +11,7 @@ ghost use Rattle.batch_checking.specs.Around.{Holds, IsValidAt, places_around, A
 use crate::around::belongs;
 use crate::offsets::start_at;
 use crate::validity::is_valid;
-use batch_columns::Layout;
-use batch_sources::Source;
+use batch_columns::{Layout, Source};
 use header_types::MAX_DEPTH;
 use simdutf8::basic::from_utf8;
 

@@ -7,8 +7,7 @@ ghost use Rattle.batch_types.specs.LaysOut.{values_limit};
 ghost use Rattle.batch_columns.specs.Held.{layout_named};
 ghost use Rattle.batch_checking.specs.SourceRules.{has_values as has_values_seen, nulls_counted};
 
-use batch_columns::Layout;
-use batch_sources::Source;
+use batch_columns::{Layout, Source};
 use bitmaps::{bit, count_zeros};
 
 /// Whether a column of this layout may have values that are not null.

@@ -4,3 +4,5 @@ pub mod Looking
 pub mod Beside
 pub mod Counting
 pub mod Comparing
+pub mod Listing
+pub mod Reading

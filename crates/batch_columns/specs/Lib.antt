@@ -11,3 +11,5 @@ pub mod Alike
 pub mod Few
 pub mod Batches
 pub mod SameBatches
+pub mod Sources
+pub mod Read

@@ -1,4 +1,4 @@
-//! Conformance tests of `bitmaps`, `batch_columns`, `batch_cells`, `batch_checking` and `batch_writing`, where only code
+//! Conformance tests of `bitmaps`, `batch_columns`, `batch_cells`, `batch_checking` and `record_batches`, where only code
 //! can test: a plain program beside the calls, over all short lists of bits, over runs of bits from and to every place in
 //! a byte, and over long ones; columns of all short lists of bits and nulls, cell by cell, and as plain cells; headers and
 //! bodies that were worked out by hand, judged and written.

@@ -1,4 +1,4 @@
-//! Batches that `batch_writing` writes, beside bytes that were worked out by hand (Apache Arrow, "Arrow Columnar
+//! Batches that `record_batches` writes, beside bytes that were worked out by hand (Apache Arrow, "Arrow Columnar
 //! Format", "Buffer alignment and padding" and "RecordBatch message").
 
 ghost use Rattle.std.specs.Prelude.{◌≡◌, ◌≤◌, length, true};
@@ -8,8 +8,8 @@ ghost use Rattle.batch_types.specs.Shapes.{no_shape};
 ghost use Rattle.batch_columns.specs.Contents.{shapes_in};
 
 use batch_columns::{Batch, Column, ColumnFault, are_of};
-use batch_writing::{body_length, write_body};
 use header_types::{BatchHead, BitWidth, Field, Schema, Ty};
+use record_batches::{body_length, write_body};
 use std::alloc::{AllocError, Global};
 use std::process::Abort;
 use std::test::Fail;

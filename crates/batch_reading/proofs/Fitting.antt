@@ -16,7 +16,7 @@ use Rattle.batch_types.specs.Laid.{Node, Range, LaidColumn, laid, LaidColumns}
 use Rattle.batch_types.specs.Placed.{start_of, length_of, cell_at, fields_at, buffer_at}
 use Rattle.batch_types.specs.Canonical.{blank_of, first_blank, blanks_of}
 use Rattle.batch_types.specs.Typed.{IsCellOf, IsElementOf, AreFieldsOf, AllCells, count_of}
-use Rattle.batch_sources.specs.Sources.{nodes_of_tree, buffers_of_tree, column_from, columns_from}
+use Rattle.batch_columns.specs.Sources.{nodes_of_tree, buffers_of_tree, column_from, columns_from}
 use Rattle.batch_reading.specs.Spots.{Spot}
 use Rattle.batch_reading.specs.Taken.{valid_in, seen}
 use Rattle.batch_reading.specs.Planned.{elements_taken, spots_under, spots_inside}

@@ -16,7 +16,7 @@ use Rattle.batch_columns.specs.Contents.{Contents}
 use Rattle.batch_columns.specs.Held.{shapes_held, layout_named}
 use Rattle.batch_columns.specs.declared.layout.Layout.{Layout as Declared}
 use Rattle.batch_columns.specs.declared.layout.Layout.TheVariants.{Null, Bits, Bytes, Binary, Utf8, List as Lists, FixedSizeList, Struct}
-use Rattle.batch_sources.specs.Sources.{columns_from}
+use Rattle.batch_columns.specs.Sources.{columns_from}
 use Rattle.batch_reading.specs.declared.wanted.Wanted.{Wanted}
 use Rattle.batch_reading.specs.Spots.{places_of, marks_of, Spot, spots_of, IsWanted}
 use Rattle.batch_reading.specs.Spread.{HasSpans, ReadsWithin}

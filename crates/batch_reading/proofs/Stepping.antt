@@ -21,8 +21,8 @@ use Rattle.batch_columns.specs.Contents.{Contents}
 use Rattle.batch_columns.specs.Held.{shapes_held, layout_named}
 use Rattle.batch_columns.specs.Kept.{IsKept}
 use Rattle.batch_columns.specs.declared.layout.Layout.{Layout as Declared}
-use Rattle.batch_sources.specs.declared.place.Place.{Place}
-use Rattle.batch_sources.specs.Sources.{nodes_of_tree, buffers_of_tree, column_from, columns_from}
+use Rattle.batch_columns.specs.declared.place.Place.{Place}
+use Rattle.batch_columns.specs.Sources.{nodes_of_tree, buffers_of_tree, column_from, columns_from}
 use Rattle.batch_reading.specs.declared.wanted.Wanted.{Wanted}
 use Rattle.batch_reading.specs.declared.plan.Inside.{Inside}
 use Rattle.batch_reading.specs.declared.plan.Plan.{Plan}

@@ -25,8 +25,8 @@ use Rattle.batch_columns.specs.Batches.{rows_of, IsBatchOf}
 use Rattle.batch_columns.specs.Few.{columns_cells}
 use Rattle.batch_columns.specs.Contents.{Contents}
 use Rattle.batch_columns.specs.declared.batch.Batch.{Batch}
-use Rattle.batch_sources.specs.declared.place.Place.{Place}
-use Rattle.batch_sources.specs.Sources.{columns_from}
+use Rattle.batch_columns.specs.declared.place.Place.{Place}
+use Rattle.batch_columns.specs.Sources.{columns_from}
 use Rattle.batch_reading.specs.declared.wanted.Wanted.{Wanted}
 use Rattle.batch_reading.specs.Spots.{DoRun, places_of, marks_of, HasMarks, Spot, spots_of, runs_of_rows}
 use Rattle.batch_reading.specs.Built.{cell_wanted, columns_wanted, AreFit}

@@ -15,8 +15,8 @@ use Rattle.batch_types.specs.Shapes.{Shape, shapes_of}
 use Rattle.batch_columns.specs.Few.{columns_cells}
 use Rattle.batch_columns.specs.Contents.{Contents}
 use Rattle.batch_columns.specs.Held.{shapes_held}
-use Rattle.batch_sources.specs.declared.place.Place.{Place}
-use Rattle.batch_sources.specs.Sources.{columns_from}
+use Rattle.batch_columns.specs.declared.place.Place.{Place}
+use Rattle.batch_columns.specs.Sources.{columns_from}
 use Rattle.batch_reading.specs.declared.wanted.Wanted.{Wanted}
 use Rattle.batch_reading.specs.Spots.{spots_of, IsWanted}
 use Rattle.batch_reading.specs.Built.{columns_wanted, AreFit}

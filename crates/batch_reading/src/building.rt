@@ -8,13 +8,12 @@ ghost use Rattle.batch_types.specs.Layouts.{layout_of as layout_of_type, buffers
 ghost use Rattle.batch_types.specs.Shapes.{shape};
 ghost use Rattle.batch_columns.specs.Held.{layout_named, shapes_held};
 ghost use Rattle.batch_columns.specs.Kept.{IsKept};
-ghost use Rattle.batch_sources.specs.Read.{column_at, IsSourceOf, LiesInside};
+ghost use Rattle.batch_columns.specs.Read.{column_at, IsSourceOf, LiesInside};
 ghost use Rattle.batch_reading.specs.Readable.{forest_seen, AreReadable, HaveFewValues, AreBuilt};
 
 use crate::plan::{Plan, plan_column};
 use crate::wanted::Wanted;
-use batch_columns::{Column, Layout};
-use batch_sources::{Place, Source, source_at};
+use batch_columns::{Column, Layout, Place, Source, source_at};
 use header_types::{BatchHead, Field};
 use std::alloc::{AllocError, Global};
 

@@ -1,8 +1,7 @@
 //! What a column is built of, layout by layout.
 
 ghost use Rattle.std.specs.Prelude.{◌≡◌, ℕ, ◌*◌, ◌≤◌, List, [], length, IfOk};
-ghost use Rattle.batch_types.specs.Layouts.{null_layout, bits_layout, bytes_layout, list_layout};
-ghost use Rattle.batch_types.specs.Layouts.{fixed_size_list_layout, struct_layout};
+ghost use Rattle.batch_types.specs.Layouts.{null_layout, bits_layout, bytes_layout, list_layout, fixed_size_list_layout, struct_layout};
 ghost use Rattle.batch_types.specs.LaysOut.{values_limit};
 ghost use Rattle.batch_columns.specs.Held.{layout_named};
 ghost use Rattle.batch_reading.specs.Planned.{spots_inside, AreInside, IsPlanned};
@@ -14,8 +13,7 @@ use crate::blocks::blocks_taken;
 use crate::inside::{fixed_inside, lists_inside};
 use crate::spans::spans_taken;
 use crate::wanted::{Run, Wanted};
-use batch_columns::Layout;
-use batch_sources::Source;
+use batch_columns::{Layout, Source};
 use bitmaps::Bitmap;
 use std::alloc::{AllocError, Global};
 

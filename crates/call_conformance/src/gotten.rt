@@ -11,7 +11,7 @@ use header_types::{Schema, Ty};
 use std::alloc::Global;
 use std::test::Fail;
 use table_backend::TableBackend;
-use tickets::Ticket;
+use table_types::Ticket;
 use uploads::Upload;
 
 /// How many batches the upload of many batches has.

@@ -12,7 +12,7 @@ use Rattle.batch_types.specs.LaysOut.{LaysOut}
 use Rattle.table_types.specs.Uploads.{Upload, upload_text}
 use Rattle.table_types.specs.Served.{in_frame}
 use Rattle.table_types.specs.Valid.{FitsFrame}
-use Rattle.tickets.specs.Ticket.{TableVersion, IsTicket}
+use Rattle.table_types.specs.Ticket.{TableVersion, IsTicket}
 use Rattle.call_words.specs.declared.method.Method.{Method}
 use Rattle.call_words.specs.declared.method.Method.TheVariants as methods
 use Rattle.call_words.specs.Methods.{path_text}

@@ -21,7 +21,7 @@ use Rattle.record_batches.specs.Reading.{IsToldOf}
 use Rattle.table_types.specs.Uploads.{Upload}
 use Rattle.table_types.specs.Served.{in_frame}
 use Rattle.table_types.specs.Valid.{FitsFrame, batches_limit}
-use Rattle.tickets.specs.Ticket.{TableVersion}
+use Rattle.table_types.specs.Ticket.{TableVersion}
 use Rattle.upload_writing.specs.Making.{IsSmall}
 use Rattle.call_words.specs.declared.method.Method.{Method}
 use Rattle.call_words.specs.declared.refusal.Refusal.{Refusal}

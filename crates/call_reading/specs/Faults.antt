@@ -21,7 +21,7 @@ use Rattle.record_batches.specs.Reading.{IsToldOf}
 use Rattle.table_types.specs.Uploads.{Upload}
 use Rattle.table_types.specs.Served.{in_frame}
 use Rattle.table_types.specs.Valid.{FitsFrame, batches_limit}
-use Rattle.tickets.specs.Ticket.{TableVersion, IsTicket}
+use Rattle.table_types.specs.Ticket.{TableVersion, IsTicket}
 use Rattle.upload_writing.specs.Making.{IsSmall}
 use Rattle.call_words.specs.declared.back_fault.BackFault.TheVariants as backs
 use Rattle.call_words.specs.declared.method.Method.{Method}

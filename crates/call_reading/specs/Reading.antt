@@ -5,7 +5,7 @@ use Rattle.std.specs.List.{AllByRecursion}
 use Rattle.std.specs.declared.alloc.Global.{Global}
 use Rattle.grpc_frames.specs.Frame.{Frame}
 use Rattle.proto_wire.specs.Flight.{flight_descriptor_descriptor, ticket_descriptor, criteria_descriptor}
-use Rattle.tickets.specs.Ticket.{TableVersion}
+use Rattle.table_types.specs.Ticket.{TableVersion}
 use Rattle.table_types.specs.Served.{in_frame}
 use Rattle.table_types.specs.Valid.{FitsFrame}
 use Rattle.call_words.specs.declared.method.Method.{Method}

@@ -12,7 +12,7 @@ use grpc_frames::laws::no_frame_begins_another;
 use header_types::laws::headers_are_one;
 use proto_messages::laws::messages_are_one;
 use record_batches::laws::refusals_are_right;
-use tickets::laws::tickets_have_one_encoding;
+use table_types::laws::tickets_have_one_encoding;
 
 /// A call has an end, and nothing behind the end is part of it.
 pub fn calls_have_an_end()

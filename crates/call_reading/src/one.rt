@@ -4,7 +4,7 @@ ghost use Rattle.std.specs.Prelude.{◌≡◌, ◌⊎◌, ℕ, List, string_byte
 ghost use Rattle.grpc_frames.specs.FrameFaults.{WhereKnown};
 ghost use Rattle.proto_messages.specs.Descriptor.{IsMessage};
 ghost use Rattle.proto_wire.specs.Flight.{flight_descriptor_descriptor, ticket_descriptor, criteria_descriptor};
-ghost use Rattle.tickets.specs.Ticket.{TableVersion};
+ghost use Rattle.table_types.specs.Ticket.{TableVersion};
 ghost use Rattle.call_words.specs.Names.{TableFault};
 ghost use Rattle.call_words.specs.declared.refusal.Refusal.{Refusal as RefusalModel};
 ghost use Rattle.call_words.specs.declared.refusal.Refusal.TheVariants.{OutOfMemory};
@@ -18,7 +18,7 @@ use proto_messages::ProtoMessage;
 use proto_wire::{Criteria, FlightDescriptor, Ticket as TicketMessage};
 use std::alloc::Global;
 use std::io::Read;
-use tickets::{Ticket, TicketFault as BadTicket};
+use table_types::{Ticket, TicketFault as BadTicket};
 
 /// The message that these bytes mean.
 pub(crate) fn decoded<M: ProtoMessage + Drop>(alloc: Global, message: &[u8]) -> Result<M, Refusal>

@@ -1,6 +1,6 @@
 //! What a call asks for.
 
-use tickets::Ticket;
+use table_types::Ticket;
 use uploads::Upload;
 
 /// What a call asks for, of all that there is to ask (Apache Arrow, "Flight.proto", service `FlightService`).

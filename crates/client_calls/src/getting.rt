@@ -17,7 +17,7 @@ use downloads::{Download, Downloading};
 use grpc_frames::laws::no_frame_begins_another;
 use std::alloc::Global;
 use std::io::{Read, Write};
-use tickets::Ticket;
+use table_types::Ticket;
 
 /// What came, with one message more.
 fn with_message(

@@ -15,7 +15,7 @@ use proto_messages::ProtoMessage;
 use proto_wire::{DescriptorType, FlightDescriptor, Ticket as TicketMessage};
 use std::alloc::{AllocError, Global};
 use std::io::Write;
-use tickets::Ticket;
+use table_types::Ticket;
 
 /// Writes a request of one message.
 fn send_one<W: Write>(w: &mut W, path: &[u8], message: &[u8]) -> Result<(), CallFault>

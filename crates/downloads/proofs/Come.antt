@@ -10,8 +10,8 @@ use Rattle.batch_columns.specs.declared.batch.Batch.{Batch}
 use Rattle.batch_columns.specs.Batches.{rows_of, IsBatchOf}
 use Rattle.header_types.specs.Fields.{SchemaTree}
 use Rattle.table_types.specs.Valid.{FitsFrame}
-use Rattle.served_reading.specs.Messages.{IsSchemaMessage, IsUploadMessage}
-use Rattle.served_reading.specs.declared.upload_message.UploadMessage.{UploadMessage}
+use Rattle.downloads.specs.Messages.{IsSchemaMessage, IsUploadMessage}
+use Rattle.downloads.specs.declared.upload_message.UploadMessage.{UploadMessage}
 use Rattle.downloads.specs.declared.download.ServedUpload.{ServedUpload}
 use Rattle.downloads.specs.declared.download.Download.{Download}
 use Rattle.downloads.specs.declared.downloading.Downloading.{Downloading}

@@ -5,3 +5,6 @@ pub mod OneDownload
 pub mod OneMore
 pub mod Taking
 pub mod Come
+pub mod Found
+pub mod Said
+pub mod Apart

@@ -9,7 +9,7 @@ use Rattle.batch_types.specs.Cells.{Rows}
 use Rattle.batch_types.specs.Written.{CanBeWritten}
 use Rattle.table_types.specs.Served.{schema_message}
 use Rattle.table_types.specs.Valid.{IsId, FitsFrame}
-use Rattle.served_reading.specs.Messages.{CanBeServed, IsSchemaMessage, IsUploadMessage}
+use Rattle.downloads.specs.Messages.{CanBeServed, IsSchemaMessage, IsUploadMessage}
 use Rattle.downloads.specs.Downloads.{ServedUpload, Downloaded, IsServed, IsDownload, IsGrouped, served_messages}
 use Rattle.downloads.specs.Parts.{Part, batch_part, parts_from, parts_of, part_text}
 use Rattle.downloads.proofs.Differing.{is_grouped}

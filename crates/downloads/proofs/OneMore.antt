@@ -9,7 +9,7 @@ use Rattle.header_types.specs.Fields.{SchemaTree}
 use Rattle.batch_types.specs.Cells.{Rows}
 use Rattle.batch_columns.specs.declared.batch.Batch.{Batch}
 use Rattle.batch_columns.specs.Batches.{rows_of, IsBatchOf}
-use Rattle.served_reading.specs.declared.upload_message.UploadMessage.{UploadMessage}
+use Rattle.downloads.specs.declared.upload_message.UploadMessage.{UploadMessage}
 use Rattle.downloads.specs.declared.download.ServedUpload.{ServedUpload}
 use Rattle.downloads.specs.Downloads.{ServedUpload as Served, NamesChange}
 use Rattle.downloads.specs.Parts.{Part, batch_part, parts_from, parts_of}

@@ -10,7 +10,7 @@ use Rattle.batch_types.specs.Cells.{Rows}
 use Rattle.batch_types.specs.Written.{CanBeWritten}
 use Rattle.table_types.specs.Served.{schema_message}
 use Rattle.table_types.specs.Valid.{FitsFrame}
-use Rattle.served_reading.specs.Messages.{IsUploadMessage}
+use Rattle.downloads.specs.Messages.{IsUploadMessage}
 use Rattle.downloads.specs.Downloads.{ServedUpload as Served, Downloaded, IsServed, IsGrouped, NamesChange}
 use Rattle.downloads.specs.Parts.{Part, batch_part, parts_from, parts_of, part_text}
 use Rattle.downloads.specs.Taken.{HasDownload}

@@ -7,7 +7,7 @@ use Rattle.std.specs.declared.alloc.Global.{Global}
 use Rattle.header_types.specs.Fields.{SchemaTree}
 use Rattle.batch_columns.specs.declared.batch.Batch.{Batch}
 use Rattle.batch_columns.specs.Batches.{rows_of, IsBatchOf}
-use Rattle.served_reading.specs.declared.upload_message.UploadMessage.{UploadMessage}
+use Rattle.downloads.specs.declared.upload_message.UploadMessage.{UploadMessage}
 use Rattle.downloads.specs.declared.download.ServedUpload.{ServedUpload}
 use Rattle.downloads.specs.Downloads.{NamesChange}
 use Rattle.downloads.specs.Parts.{Part, parts_of}

@@ -2,7 +2,7 @@
 use Rattle.std.specs.Prelude.{ℕ, List, [], ◌∷◌, Option, Some, None, map}
 use Rattle.header_types.specs.Fields.{SchemaTree}
 use Rattle.batch_types.specs.Cells.{Rows}
-use Rattle.served_reading.specs.Messages.{message_text}
+use Rattle.downloads.specs.Messages.{message_text}
 use Rattle.downloads.specs.Downloads.{ServedUpload}
 
 -- what one message says

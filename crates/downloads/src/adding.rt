@@ -4,9 +4,9 @@ ghost use Rattle.std.specs.Prelude.{◌≡◌, IfOk};
 ghost use Rattle.std.specs.Option.{option_to_list};
 ghost use Rattle.downloads.specs.Added.{IsBegun, Begins, Lengthens, Adds};
 
+use crate::UploadMessage;
 use crate::download::ServedUpload;
 use batch_columns::Batch;
-use served_reading::UploadMessage;
 use std::alloc::{AllocError, Global};
 
 /// The batch alone, if there is one.

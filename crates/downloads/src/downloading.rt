@@ -9,9 +9,9 @@ ghost use Rattle.downloads.specs.Taken.{IsReady, HasTaken, TellsDownload};
 
 use crate::adding::add;
 use crate::download::Download;
+use crate::laws::messages_are_one;
 use crate::names::names_differ;
-use served_reading::laws::messages_are_one;
-use served_reading::{schema_in, upload_in};
+use crate::{schema_in, upload_in};
 use std::alloc::{AllocError, Global};
 
 /// What the messages are that came so far.

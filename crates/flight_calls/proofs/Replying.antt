@@ -7,7 +7,7 @@ use Rattle.table_types.specs.Uploads.{Upload, upload_text, schema_text}
 use Rattle.table_types.specs.Valid.{IsUpload, FitsFrame}
 use Rattle.table_types.specs.Tables.{Version, applied}
 use Rattle.table_types.specs.Answers.{answer_of, answer_messages}
-use Rattle.tickets.specs.Ticket.{TableVersion, IsTableVersion}
+use Rattle.table_types.specs.Ticket.{TableVersion, IsTableVersion}
 use Rattle.call_words.specs.declared.refusal.Refusal.{Refusal}
 use Rattle.call_words.specs.declared.refusal.Refusal.TheVariants as refusals
 use Rattle.call_reading.specs.Requests.{describes, shows, lists, serves}

@@ -3,7 +3,7 @@ use Rattle.std.specs.Prelude.{◌≡◌, List, map, string_bytes}
 use Rattle.std.specs.List.{AllZip}
 use Rattle.table_types.specs.Uploads.{schema_text}
 use Rattle.table_types.specs.Valid.{FitsFrame}
-use Rattle.tickets.specs.Ticket.{IsTableVersion}
+use Rattle.table_types.specs.Ticket.{IsTableVersion}
 use Rattle.flight_calls.specs.declared.described.Described.{Described}
 use Rattle.flight_calls.specs.Replies.{Description}
 

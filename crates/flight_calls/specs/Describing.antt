@@ -6,7 +6,7 @@ use Rattle.proto_messages.specs.Canonical.{canonical}
 use Rattle.proto_wire.specs.Flight.{info_descriptor, endpoint_descriptor, schema_result_descriptor}
 use Rattle.header_writing.specs.Canonical.{encapsulated}
 use Rattle.table_types.specs.Valid.{FitsFrame}
-use Rattle.tickets.specs.Ticket.{TableVersion, IsTableVersion, ticket_text}
+use Rattle.table_types.specs.Ticket.{TableVersion, IsTableVersion, ticket_text}
 use Rattle.call_words.specs.Names.{table_descriptor}
 use Rattle.flight_calls.specs.declared.described.Described.{Described}
 use Rattle.flight_calls.specs.Replies.{total_of}

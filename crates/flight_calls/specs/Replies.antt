@@ -12,7 +12,7 @@ use Rattle.table_types.specs.Uploads.{Upload, upload_text, schema_text}
 use Rattle.table_types.specs.Valid.{IsUpload, FitsFrame}
 use Rattle.table_types.specs.Tables.{Version, Outcome, applied, mismatched, conflicting, unknown}
 use Rattle.table_types.specs.Answers.{answer_messages}
-use Rattle.tickets.specs.Ticket.{TableVersion, ticket_text}
+use Rattle.table_types.specs.Ticket.{TableVersion, ticket_text}
 use Rattle.call_words.specs.declared.back_fault.BackFault.{BackFault}
 use Rattle.call_words.specs.declared.refusal.Refusal.{Refusal}
 use Rattle.call_words.specs.declared.refusal.Refusal.TheVariants as refusals

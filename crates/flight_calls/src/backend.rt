@@ -8,16 +8,15 @@ ghost use Rattle.table_types.specs.Tables.{Version};
 ghost use Rattle.table_types.specs.Answers.{answer_of};
 ghost use Rattle.table_versions.specs.Outcomes.{told};
 ghost use Rattle.call_reading.specs.Requests.{Request, describes, shows, lists, serves, puts};
-ghost use Rattle.flight_calls.specs.Replies.{BackAnswer, Description};
-ghost use Rattle.flight_calls.specs.Replies.{described, shown, listed, served, decided, failed};
+ghost use Rattle.flight_calls.specs.Replies.{BackAnswer, Description, described, shown, listed, served, decided, failed};
 ghost use Rattle.flight_calls.specs.Backing.{Describes, DescribeAll};
 ghost use Rattle.call_words.specs.declared.back_fault.BackFault.TheVariants.{OutOfMemory};
 
 use crate::described::Described;
 use call_words::BackFault;
 use std::alloc::Global;
+use table_types::Ticket;
 use table_versions::Outcome;
-use tickets::Ticket;
 use uploads::Upload;
 
 /// What stands behind the calls of one connection: it takes uploads, and tells of tables. It names which answers each

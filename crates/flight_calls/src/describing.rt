@@ -5,12 +5,11 @@ ghost use Rattle.proto_messages.specs.Canonical.{canonical};
 ghost use Rattle.proto_wire.specs.FlightValues.{descriptor_values, endpoint_values, location_values, info_values};
 ghost use Rattle.header_writing.specs.Canonical.{encapsulated};
 ghost use Rattle.table_types.specs.Valid.{FitsFrame};
-ghost use Rattle.tickets.specs.Ticket.{IsTableVersion, ticket_text};
+ghost use Rattle.table_types.specs.Ticket.{IsTableVersion, ticket_text};
 ghost use Rattle.call_words.specs.Names.{table_descriptor};
 ghost use Rattle.flight_calls.specs.Replies.{total_of};
 ghost use Rattle.call_words.specs.Results.{applied_descriptor, put_result};
-ghost use Rattle.flight_calls.specs.Describing.{CanBeTold, version_in, locations_in, endpoint_told, values_told};
-ghost use Rattle.flight_calls.specs.Describing.{message_of, schema_told};
+ghost use Rattle.flight_calls.specs.Describing.{CanBeTold, version_in, locations_in, endpoint_told, values_told, message_of, schema_told};
 
 use crate::described::Described;
 use header_writing::encapsulate;
@@ -20,7 +19,7 @@ use proto_wire::{
     SchemaResult, Ticket as TicketMessage,
 };
 use std::alloc::{AllocError, Global};
-use tickets::Ticket;
+use table_types::Ticket;
 
 /// The least number that a total does not hold.
 const TOTAL_LIMIT: u64 = 9_223_372_036_854_775_808;

@@ -17,8 +17,8 @@ use crate::framing::{frame_of, info_frame, info_frames, schema_frame};
 use call_reading::FlightRequest;
 use call_words::Refusal;
 use std::alloc::Global;
+use table_types::Ticket;
 use table_versions::Outcome;
-use tickets::Ticket;
 use uploads::Upload;
 
 /// The frame of what is told of a table.

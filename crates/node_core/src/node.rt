@@ -49,10 +49,13 @@ impl Model for Node {
 impl Drop for Node {
     fn drop(self) {
         let Node {
-            agreement: _,
-            tables: _,
-            waiting: _,
+            agreement,
+            tables,
+            waiting,
         } = self;
+        drop(agreement);
+        drop(tables);
+        drop(waiting);
     }
 }
 

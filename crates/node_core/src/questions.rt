@@ -16,8 +16,8 @@ use crate::node::Node;
 use ballots::OutOfMemory;
 use decided_log::laws::prefixes_are_one;
 use learner::laws::learned_is_one;
+use table_types::Ticket;
 use table_versions::{Outcome, TableInfo};
-use tickets::Ticket;
 use uploads::Upload;
 
 impl Node {

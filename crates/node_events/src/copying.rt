@@ -4,7 +4,7 @@ ghost use Rattle.std.specs.Prelude.{◌≡◌, IfOk};
 
 use crate::event::Event;
 use std::alloc::{AllocError, Global};
-use tickets::Ticket;
+use table_types::Ticket;
 
 /// A copy of a ticket.
 fn copy_of_ticket(alloc: Global, ticket: &Ticket) -> Result<Ticket, AllocError>

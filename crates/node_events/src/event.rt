@@ -4,7 +4,7 @@ ghost use Rattle.std.specs.Prelude.{◌≡◌};
 ghost use Rattle.histories.specs.Event.{node_of};
 
 use crate::table_text::TableText;
-use tickets::Ticket;
+use table_types::Ticket;
 use uploads::Upload;
 
 /// What happens to one node, whose number comes first. Every number may stand there: an event of a node that is no member

@@ -11,7 +11,7 @@ ghost use Rattle.node_events.specs.Told.{gave_of};
 use bytes::Bytes;
 use node_core::Node;
 use node_events::{Gave, Reason};
-use tickets::Ticket;
+use table_types::Ticket;
 
 // The bytes as an answer.
 fn answer(bytes: Vec<u8>) -> Gave

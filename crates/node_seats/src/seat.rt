@@ -22,7 +22,7 @@ use std::alloc::{AllocError, Global};
 use std::hash::RandomState;
 use std::marker::Model;
 use std::mem;
-use tickets::Ticket;
+use table_types::Ticket;
 use uploads::Upload;
 
 /// A node with the store of its records, up or down.
@@ -68,9 +68,11 @@ impl Drop for Seat {
             me: _,
             members: _,
             slot_limit: _,
-            store: _,
-            node: _,
+            store,
+            node,
         } = self;
+        drop(store);
+        drop(node);
     }
 }
 

@@ -7,7 +7,7 @@ use Rattle.serde_json.specs.Data.{Data, string}
 use Rattle.serde_json.specs.Find.{as_array, as_str, as_number, as_u64}
 use Rattle.serde_json.specs.View.{view, items_of}
 use Rattle.serde_json.specs.declared.value.Value.{Value}
-use Rattle.tickets.specs.Ticket.{TableVersion}
+use Rattle.table_types.specs.Ticket.{TableVersion}
 use Rattle.node_events.specs.declared.event.Event.{Event}
 use Rattle.node_events.specs.declared.event.Event.TheVariants.{Put, Tick, Deliver, TickCut, DeliverCut, Restart, Get, Info, Outcome}
 use Rattle.replay_command.specs.ScheduleFile.{Says, TellsEvent, whole}

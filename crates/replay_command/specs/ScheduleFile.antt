@@ -7,7 +7,7 @@ use Rattle.serde_json.specs.Read.{read as read_text}
 use Rattle.serde_json.specs.Find.{get, as_number, as_u64, as_array}
 use Rattle.serde_json.specs.View.{items_of}
 use Rattle.ballots.specs.Majority.{IsMembers}
-use Rattle.tickets.specs.Ticket.{IsTableVersion}
+use Rattle.table_types.specs.Ticket.{IsTableVersion}
 use Rattle.node_events.specs.declared.event.Event.{Event}
 use Rattle.node_events.specs.declared.event.Event.TheVariants.{Put, Tick, Deliver, TickCut, DeliverCut, Restart, Get, Info, Outcome}
 use Rattle.schedule_runner.specs.declared.config.Config.{Config}

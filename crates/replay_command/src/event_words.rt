@@ -5,7 +5,7 @@ ghost use Rattle.std.specs.String.{string_bytes};
 ghost use Rattle.std.specs.List.{AllZip};
 ghost use Rattle.serde_json.specs.Data.{string};
 ghost use Rattle.serde_json.specs.View.{view};
-ghost use Rattle.tickets.specs.Ticket.{TableVersion, IsTableVersion};
+ghost use Rattle.table_types.specs.Ticket.{TableVersion, IsTableVersion};
 ghost use Rattle.node_events.specs.declared.event.Event.{Event as Happening};
 ghost use Rattle.replay_command.specs.declared.fault.ScheduleFault.TheVariants.{OutOfMemory};
 ghost use Rattle.replay_command.specs.ScheduleFile.{Says, TellsEvent, whole, most_left};
@@ -14,7 +14,7 @@ use crate::fault::ScheduleFault;
 use schedule_runner::{Event, TableText};
 use serde_json::Value;
 use std::alloc::Global;
-use tickets::Ticket;
+use table_types::Ticket;
 use uploads::Upload;
 
 /// How many slots a tick leaves to others: a number of eight bits.

@@ -3,7 +3,7 @@ use Rattle.std.proofs.Common.{refl, ◌∷◌, ◌++◌, ℕ, List, [], arith}
 use Rattle.std.proofs.lemmas.List.{length-map}
 use Rattle.table_types.specs.Uploads.{Upload, upload_text}
 use Rattle.table_types.specs.Valid.{FitsFrame, IsTableName, IsUpload}
-use Rattle.tickets.specs.Ticket.{TableVersion, IsTableVersion}
+use Rattle.table_types.specs.Ticket.{TableVersion, IsTableVersion}
 use Rattle.call_reading.specs.Requests.{AsksForTable, AsksForVersion, Brings, describes, serves, puts, IsCall}
 use Rattle.client_calls.specs.Requests.{table_message, info_request, ticket_message, get_request, put_messages, put_request, opening_message, further_message}
 use Rattle.request_laws.proofs.Sizes.{table_message_fits, ticket_message_fits}

@@ -18,7 +18,7 @@ use Rattle.batch_types.specs.Written.{CanBeWritten}
 use Rattle.table_types.specs.Uploads.{Upload, schema_text, head_text}
 use Rattle.table_types.specs.Served.{data_text}
 use Rattle.table_types.specs.Valid.{FitsFrame, IsTableName, IsUpload, upload_limit}
-use Rattle.tickets.specs.Ticket.{TableVersion, IsTableVersion, ticket_text, IsTicket}
+use Rattle.table_types.specs.Ticket.{TableVersion, IsTableVersion, ticket_text, IsTicket}
 use Rattle.upload_parts.specs.Parts.{batch_parts, served_of}
 use Rattle.upload_parts.proofs.CallerLemmas.{message_long, parts_fit}
 use Rattle.call_words.specs.Names.{id_text, table_descriptor, upload_descriptor}

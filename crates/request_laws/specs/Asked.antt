@@ -4,7 +4,7 @@
 use Rattle.std.specs.Prelude.{ℕ, List, ◌++◌}
 use Rattle.table_types.specs.Uploads.{Upload, upload_text}
 use Rattle.table_types.specs.Valid.{IsTableName, IsUpload}
-use Rattle.tickets.specs.Ticket.{TableVersion, IsTableVersion}
+use Rattle.table_types.specs.Ticket.{TableVersion, IsTableVersion}
 use Rattle.call_words.specs.declared.refusal.Refusal.{Refusal}
 use Rattle.call_reading.specs.Requests.{describes, serves, puts, IsCall}
 use Rattle.call_reading.specs.Faults.{RefusalStands, IsOfTheMachine}

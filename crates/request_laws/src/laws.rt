@@ -3,18 +3,16 @@
 ghost use Rattle.std.specs.Prelude.{◌++◌, ℕ, List};
 ghost use Rattle.table_types.specs.Uploads.{Upload};
 ghost use Rattle.table_types.specs.Valid.{IsTableName, IsUpload};
-ghost use Rattle.tickets.specs.Ticket.{TableVersion, IsTableVersion};
+ghost use Rattle.table_types.specs.Ticket.{TableVersion, IsTableVersion};
 ghost use Rattle.client_calls.specs.Requests.{info_request, get_request, put_request};
-ghost use Rattle.request_laws.specs.Asked.{InfoRequestsAreCalls, GetRequestsAreCalls, PutRequestsAreCalls};
-ghost use Rattle.request_laws.specs.Asked.{IsFaultless};
+ghost use Rattle.request_laws.specs.Asked.{InfoRequestsAreCalls, GetRequestsAreCalls, PutRequestsAreCalls, IsFaultless};
 
 use batch_types::laws::written_rows_are_laid_out;
 use call_reading::laws::calls_are_not_refused;
 use call_words::laws::descriptors_name_one;
 use flatbuf_meta::laws::{written_headers_are_shown, written_schemas_are_short};
 use proto_messages::laws::canonical_messages_are_messages;
-use table_types::laws::batches_have_headers;
-use tickets::laws::tickets_have_one_encoding;
+use table_types::laws::{batches_have_headers, tickets_have_one_encoding};
 
 /// What a client writes is the call that it means, and whatever stands behind it is left: of the name of a table it
 /// asks what is told of that table, of a ticket for its version, and of an upload to take it. Frames have room for all

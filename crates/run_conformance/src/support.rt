@@ -6,8 +6,8 @@ use schedule_runner::{Config, Event, Gave, RunFault, Trace, run};
 use std::alloc::Global;
 use std::hash::RandomState;
 use std::test::Fail;
+use table_types::Ticket;
 use table_versions::Outcome;
-use tickets::Ticket;
 use uploads::{Upload, UploadFault};
 
 /// So many members.

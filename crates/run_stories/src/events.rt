@@ -3,7 +3,7 @@
 use schedule_runner::{Event, TableText};
 use std::alloc::Global;
 use story_words::{StoryFault, split_word};
-use tickets::Ticket;
+use table_types::Ticket;
 use uploads::Upload;
 
 /// The number of the digits.

@@ -2,7 +2,7 @@
 
 ghost use Rattle.std.specs.Prelude.{◌≡◌, ℕ, ◌≤◌, List, Some, slice_get};
 ghost use Rattle.table_types.specs.Uploads.{Upload as Uploaded};
-ghost use Rattle.tickets.specs.Ticket.{TableVersion};
+ghost use Rattle.table_types.specs.Ticket.{TableVersion};
 ghost use Rattle.table_versions.specs.declared.outcome.Outcome.TheVariants.{Applied};
 ghost use Rattle.histories.specs.Texts.{IsTextOf};
 ghost use Rattle.safe_histories.specs.Safe.{StandsIn};

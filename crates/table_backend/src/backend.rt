@@ -13,10 +13,10 @@ use flight_calls::{Backend, Described};
 use std::alloc::Global;
 use std::hash::RandomState;
 use std::marker::Model;
+use table_types::Ticket;
 use table_types::laws::tables_have_one_shape;
 use table_versions::laws::{same_tables_hold_the_same, values_hold_one_list_of_uploads};
 use table_versions::{Outcome, Tables};
-use tickets::Ticket;
 use uploads::Upload;
 
 /// The most values that tables take.

@@ -1,4 +1,4 @@
-//! Conformance tests of `uploads`, `tickets` and `table_versions`, over their public calls, of which rows cannot tell:
+//! Conformance tests of `uploads`, `table_types` and `table_versions`, over their public calls, of which rows cannot tell:
 //! refused memory, what stands at each limit when an upload is made, bytes that are shared, and many uploads.
 //!
 //! The crate has no code but tests, so that what is proved in the crates below is not proved again together with them.

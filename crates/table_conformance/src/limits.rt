@@ -3,7 +3,7 @@
 use crate::support::{batches, id, made, schema};
 use std::alloc::{AllocError, Global};
 use std::test::Fail;
-use tickets::TicketFault;
+use table_types::TicketFault;
 use uploads::{DecodeFault, Upload, UploadFault};
 
 /// The fault of an upload without batches to a table of this name.

@@ -4,8 +4,8 @@ use crate::support::{no_tables, small, value_of};
 use bytes::Bytes;
 use std::alloc::{AllocError, Global};
 use std::test::Fail;
+use table_types::Ticket;
 use table_versions::{Outcome, Tables};
-use tickets::Ticket;
 use uploads::Upload;
 
 // How many uploads the tables take: some that forgot uploads behind a thousand would pass every story.

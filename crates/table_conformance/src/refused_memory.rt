@@ -8,8 +8,8 @@ use bytes::Bytes;
 use header_types::Schema;
 use std::alloc::{AllocError, Global};
 use std::test::Fail;
+use table_types::{Ticket, TicketFault};
 use table_versions::{Outcome, TableInfo, Tables};
-use tickets::{Ticket, TicketFault};
 use uploads::{DecodeFault, Upload, UploadFault};
 
 /// An upload of these batches.

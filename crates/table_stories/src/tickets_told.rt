@@ -2,7 +2,7 @@
 
 use std::alloc::{AllocError, Global};
 use story_words::{StoryFault, bytes_of, split_word};
-use tickets::{Ticket, TicketFault};
+use table_types::{Ticket, TicketFault};
 
 fn version_of(word: &str) -> Result<u64, StoryFault> {
     match word.parse::<u64>() {

@@ -8,8 +8,8 @@ use ballots::Value;
 use bytes::Bytes;
 use std::alloc::{AllocError, Global};
 use std::hash::RandomState;
+use table_types::Ticket;
 use table_versions::{TableInfo, Tables};
-use tickets::Ticket;
 use uploads::{DecodeFault, Upload};
 
 /// The most values that tables take.

@@ -5,3 +5,4 @@ pub mod Bare
 pub mod Bounds
 pub mod OneEncoding
 pub mod Texts
+pub mod Decoding

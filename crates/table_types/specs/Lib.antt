@@ -4,3 +4,4 @@ pub mod Valid
 pub mod Texts
 pub mod Tables
 pub mod Answers
+pub mod Ticket

@@ -1,7 +1,6 @@
 //! Laws of the tables that a list of uploads makes.
 
-ghost use Rattle.std.specs.Prelude.{◌≡◌, ◌≢◌, ℕ, ◌-◌, ◌<◌, ◌≤◌, List, [], ◌++◌, length, take, get_or, Some, true, false};
-ghost use Rattle.std.specs.Prelude.{◌↔◌};
+ghost use Rattle.std.specs.Prelude.{◌≡◌, ◌≢◌, ℕ, ◌-◌, ◌<◌, ◌≤◌, List, [], ◌++◌, length, take, get_or, Some, true, false, ◌↔◌};
 ghost use Rattle.flatbuf_meta.specs.Writable.{IsWritable};
 ghost use Rattle.header_types.specs.Fields.{SchemaTree};
 ghost use Rattle.header_types.specs.Header.{schema_header, batch_header};
@@ -14,10 +13,9 @@ ghost use Rattle.batch_types.specs.Written.{CanBeWritten};
 ghost use Rattle.table_types.specs.declared.names.TheConstants.{MAX_TABLE_NAME_BYTES};
 ghost use Rattle.table_types.specs.Valid.{IsUpload, name_limit, upload_limit};
 ghost use Rattle.table_types.specs.Texts.{IsUploadText, AreUploadsOf};
-ghost use Rattle.table_types.specs.Tables.{bare_schema};
+ghost use Rattle.table_types.specs.Tables.{bare_schema, has_id, shape_text, is_same, effective, Version, version_of, Outcome, applied, conflicting, unknown, first_named, outcome_of};
 ghost use Rattle.std.specs.List.{AllByRecursion, list_any};
-ghost use Rattle.table_types.specs.Tables.{has_id, shape_text, is_same, effective, Version, version_of, Outcome, applied};
-ghost use Rattle.table_types.specs.Tables.{conflicting, unknown, first_named, outcome_of};
+ghost use Rattle.table_types.specs.Ticket.{TableVersion, IsTableVersion, ticket_text, IsTicket};
 
 use batch_types::laws::{batches_are_one, written_rows_are_laid_out};
 use flatbuf_meta::laws::written_headers_differ;
@@ -112,4 +110,12 @@ pub fn shapes_are_without_metadata()
         → shape_text x ≡ shape_text y → SameShape x.schema y.schema }
 {
     written_headers_differ();
+}
+
+/// Bytes are the ticket for one version at most, and each version that there can be has one ticket.
+pub fn tickets_have_one_encoding()
+    ensures one { (text : List ℕ) (x y : TableVersion) → IsTicket text x → IsTicket text y → x ≡ y }
+    ensures each { (x : TableVersion) → IsTableVersion x → IsTicket (ticket_text x) x }
+{
+    canonical_messages_are_one();
 }

@@ -1,7 +1,6 @@
 //! The tables of a node.
 
-ghost use Rattle.std.specs.Prelude.{◌≡◌, ◌≢◌, ◌≤◌, ◌+◌, ◌++◌, [], List, length, map, string_bytes, IfOk, OnOk};
-ghost use Rattle.std.specs.Prelude.{OnErr, IsSome};
+ghost use Rattle.std.specs.Prelude.{◌≡◌, ◌≢◌, ◌≤◌, ◌+◌, ◌++◌, [], List, length, map, string_bytes, IfOk, OnOk, OnErr, IsSome};
 ghost use Rattle.std.specs.Option.{option_map};
 ghost use Rattle.table_types.specs.Uploads.{Upload as Uploaded, upload_text};
 ghost use Rattle.table_types.specs.Valid.{IsUpload};
@@ -26,8 +25,8 @@ use indexmap::IndexMap;
 use std::alloc::Global;
 use std::hash::RandomState;
 use std::marker::Model;
+use table_types::Ticket;
 use table_types::laws::texts_hold_one_list_of_uploads;
-use tickets::Ticket;
 use uploads::Upload;
 
 /// The tables that the agreed values make, the first so many of them.
@@ -75,11 +74,14 @@ impl Model for Tables {
 impl Drop for Tables {
     fn drop(self) {
         let Tables {
-            firsts: _,
-            tables: _,
-            frames: _,
+            firsts,
+            tables,
+            frames,
             taken: _,
         } = self;
+        drop(firsts);
+        drop(tables);
+        drop(frames);
     }
 }
 

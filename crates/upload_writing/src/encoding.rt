@@ -21,10 +21,10 @@ ghost use Rattle.upload_writing.specs.Sized.{parts_held};
 ghost use Rattle.upload_writing.specs.Written.{AreShort};
 
 use batch_columns::Batch;
-use batch_writing::write_body;
 use header_types::{BatchHead, Schema};
 use header_writing::{write_batch, write_schema};
 use proto_fields::{append_number, write_bytes, write_nonempty_bytes};
+use record_batches::write_body;
 use std::alloc::{AllocError, Global};
 use table_types::laws::batches_have_headers;
 use upload_parts::field_length;

@@ -15,12 +15,11 @@ ghost use Rattle.upload_parts.specs.Parts.{batch_parts, batch_text, batches_text
 ghost use Rattle.upload_writing.specs.Making.{AreOfSchema, IsSmall, upload_of};
 ghost use Rattle.upload_writing.specs.Sized.{parts_held, AreServed};
 
-use batch_columns::Batch;
-use batch_sources::{Place, place_behind};
+use batch_columns::{Batch, Place, place_behind};
 use batch_types::laws::written_rows_are_laid_out;
-use batch_writing::body_length;
 use header_types::Schema;
 use header_writing::{batch_length, schema_length};
+use record_batches::body_length;
 use upload_parts::{MAX_UPLOAD_BYTES, field_length, fits_frame, part_length};
 
 /// How many bytes the message has that is written of the head of a batch of this schema, whatever its rows.

@@ -3,8 +3,8 @@ use Rattle.header_types.specs.FieldView.{field_head_of}
 use Rattle.batch_types.specs.Layouts.{layout_of, buffers_in_layout}
 use Rattle.batch_types.specs.Order.{column_order, AreKept, IsFirstBroken}
 use Rattle.batch_columns.specs.Held.{layout_named}
-use Rattle.batch_sources.specs.declared.source.Source.{Source}
-use Rattle.batch_sources.specs.Read.{column_at}
+use Rattle.batch_columns.specs.declared.source.Source.{Source}
+use Rattle.batch_columns.specs.Read.{column_at}
 use Rattle.batch_checking.specs.Around.{places_around}
 use Rattle.batch_checking.specs.Checked.{SourceKeeps}
 use Rattle.batch_checking.specs.Columns.{first_places, places_in, inside_of, LeadsInto}

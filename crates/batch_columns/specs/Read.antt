@@ -1,0 +1,38 @@
+-- What is read of one column: its layout, its node and the bytes of its buffers. Apache Arrow, "Arrow Columnar Format",
+-- "Physical memory layout" and "RecordBatch message".
+use Rattle.std.specs.Prelude.{◌≡◌, ℕ, ◌<◌, pos, List, length, drop, get_or}
+use Rattle.header_types.specs.declared.schema.Field.{Field}
+use Rattle.header_types.specs.declared.header.BatchHead.{BatchHead}
+use Rattle.header_types.specs.Fields.{tree}
+use Rattle.header_types.specs.FieldView.{field_head_of, entries_in, fields_in}
+use Rattle.batch_types.specs.Layouts.{Layout}
+use Rattle.batch_types.specs.Laid.{Node, Range, LaidColumn, laid}
+use Rattle.batch_types.specs.Placed.{buffer_at}
+use Rattle.batch_types.specs.Rules.{IsInside}
+use Rattle.batch_columns.specs.Held.{layout_named}
+use Rattle.batch_columns.specs.declared.place.Place.{Place}
+use Rattle.batch_columns.specs.declared.source.Source.{Source}
+use Rattle.batch_columns.specs.Sources.{column_from}
+
+-- the column of a field at a place of a header
+abbrev pub column_at : Field → BatchHead → Place → LaidColumn
+column_at field head place =
+    column_from (tree (field_head_of field) (entries_in field) (fields_in field)) (drop place.node head.nodes.items)
+    (drop place.buffer head.buffers.items)
+
+-- all its own buffers lie inside the body
+abbrev pub LiesInside : List ℕ → LaidColumn → Type 0
+LiesInside body (laid layout node ranges inner) =
+    (n : ℕ) → n < length ranges → IsInside (length body) (get_or ranges n (pos 0, pos 0))
+
+-- a column of this layout, with this node and these ranges of a body
+pub record IsSource (body : List ℕ) (layout : Layout) (node : Node) (ranges : List Range)
+    (source : Source) : Type 0 where
+  pub layout_is : layout_named source.layout ≡ layout
+  pub node_is : node ≡ (pos source.length, source.nulls)
+  pub validity_is : source.validity.now ≡ buffer_at body ranges 0
+  pub second_is : source.second.now ≡ buffer_at body ranges 1
+  pub third_is : source.third.now ≡ buffer_at body ranges 2
+
+abbrev pub IsSourceOf : List ℕ → LaidColumn → Source → Type 0
+IsSourceOf body (laid layout node ranges inner) source = IsSource body layout node ranges source

@@ -1,5 +1,0 @@
-pub mod Adding
-pub mod Inside
-pub mod Lengths
-pub mod Whole
-pub mod Rooms

@@ -1,3 +1,0 @@
-pub mod Messages
-pub mod Told
-pub mod Parts
