@@ -27,16 +27,16 @@ SOURCES = ("src", "specs", "proofs")
 
 
 def uses():
-    """For each crate that the program consists of, the crates of this repository that it uses, the lowest first."""
+    """For each crate that the program consists of, the libraries that it uses, the lowest crate first."""
     lines = [line.partition("#")[0] for line in (TOP / "crates.txt").read_text(encoding="utf-8").splitlines()]
     listed = {line.split(":")[0].split()[0]: line.partition(":")[2].split() for line in lines if ":" in line}
     found = {}
 
     def add(crate):
         if crate in listed and crate not in found:
-            for below in listed[crate]:
-                add(below)
-            found[crate] = [below for below in listed[crate] if below in listed]
+            for library in listed[crate]:
+                add(library)
+            found[crate] = listed[crate]
 
     add(PROGRAM)
     return found
@@ -47,7 +47,7 @@ def below(crate, used):
     found, left = [], list(used[crate])
     while left:
         name = left.pop()
-        if name not in found:
+        if name in used and name not in found:
             found.append(name)
             left += used[name]
     return found
@@ -107,8 +107,9 @@ class Lane:
                 move(self.folder / "crates" / name / "out", TOP / "crates" / name / "out")
         shutil.rmtree(self.folder, ignore_errors=True)
         self.folder.mkdir(parents=True)
-        for file in ("crates.txt", "HANDLES"):
-            shutil.copy(TOP / file, self.folder)
+        shutil.copy(TOP / "HANDLES", self.folder)
+        lines = [f"{name}: {' '.join(libraries)}\n" for name, libraries in names.items()]
+        (self.folder / "crates.txt").write_text("".join(lines), encoding="utf-8")
         for name in names:
             for part in SOURCES:
                 if (TOP / "crates" / name / part).is_dir():
@@ -178,7 +179,7 @@ def prove_libraries(used, lanes, progress):
                 if lane.running.returncode:
                     return lane.log()
                 built.add(crate)
-        ready = [name for name in left if built.issuperset(used[name])]
+        ready = [name for name in left if built.issuperset(below(name, used))]
         free = [lane for lane in lanes if not lane.crate]
         idle = len(lanes) - sum(lane.jobs for lane in lanes if lane.crate)
         for lane in free[: max(idle, 0)]:
