@@ -1,22 +1,22 @@
 #!/usr/bin/env python3
-"""Tries edits that the proofs have to refuse one after the other, as the gate does, on a copy of the crate and of those that it
-depends on, and says of each how many processor seconds it took and which goals refused it. A goal that has no answer in
-`proofs/` is marked with a star: there an answer with a bound makes such an edit cheaper.
+"""Tries edits that the proofs have to refuse.
 
-    tools/edits.py [--answer] CRATE [EDIT ..]
     tools/edits.py --since COMMIT
+    tools/edits.py --all CRATE ..
     tools/edits.py --old
+    tools/edits.py [--answer] CRATE [EDIT ..]
 
-The edits of a crate are those of its folders `must-fail/`, which the gate tries too, and `more-edits/`. An edit of a definition
-whose law stands in a crate above has a line `law: CRATE`: where its own crate is proved with it, that crate must not be. With
---since, the edits of each crate are tried whose sources, definitions or edits changed since that commit. An edit that the prover
-takes is shown as TAKEN, and the status is then 1.
+The edits of a crate are those of its folders `must-fail/`, which the gate tries too, and `more-edits/`. With --since those
+of each crate are tried, as the gate would try them, whose sources, definitions or edits changed since that commit, and with
+--all those of the crates that are named. An edit of a definition that a crate above refuses, and not its own, has a line
+`law: CRATE`, and is tried there. Where all edits of a crate were refused, its line in `edits-refused.txt` says for which
+sources, definitions and edits that was, by their checksum. With --old nothing is tried: the crates are counted whose lines
+are of other files.
 
-Where all edits of a crate were refused, its line in `edits-refused.txt` says for which sources, definitions and edits that was,
-by their checksum. With --old nothing is tried: the crates are counted whose lines are of other files than stand here.
-
-With --answer an answer with a bound is written for each goal with a star, where the crate is proved with it; the others are
-named."""
+Without these words the edits of one crate are tried one after the other over one copy of it. Of each is said how many
+processor seconds it took and which goals refused it; an edit that the prover takes is shown as TAKEN, and the status is then
+1. A goal that has no answer in `proofs/` is marked with a star: there an answer with a bound makes such an edit cheaper. With
+--answer such an answer is written for each goal with a star, where the crate is proved with it; the others are named."""
 import hashlib
 import itertools
 import re
@@ -29,7 +29,7 @@ from pathlib import Path
 
 TOP = Path(__file__).resolve().parent.parent
 REFUSED = TOP / "edits-refused.txt"
-HEAD = "# Of each crate the checksum of the sources, definitions and edits for which all of its edits were refused: tools/edits.py.\n"
+HEAD = "# Of each crate the checksum of what all of its edits were refused for: its sources, definitions and edits.\n"
 OPEN = re.compile(r"^note: \S+: it is not proved .*\(`([^`]+)`\)")
 FUNCTION = re.compile(r"^fn (\S+): (?:not proved|no proof: expected answers)")
 ANSWER = re.compile(r"^note: `([^`]+)` of proofs/(\S+)/Answers\.antt must prove")
@@ -97,11 +97,11 @@ def refusals(printed):
     return goals
 
 
-def try_edit(folder, edit, own):
-    """Checks the crate of this folder with the edit of the one of the folder `own`, and takes the edit back."""
+def try_edit(folder, edit):
+    """Checks the crate with the edit, and takes the edit back."""
     whole = {}
     for file, old, new in changes(edit):
-        path = own / file
+        path = folder / file
         text = path.read_text(encoding="utf-8")
         whole.setdefault(path, text)
         if text.count(old) != 1:
@@ -202,10 +202,10 @@ def keep_line(crate, value):
     REFUSED.write_text(HEAD + "".join(lines), encoding="utf-8")
 
 
-def old_lines():
-    """The crates of which no line says that all edits were refused for the files that stand here."""
+def old_lines_of(crates):
+    """Those of the crates of which no line says that all edits were refused for the files that stand here."""
     kept = refused_lines()
-    return [crate for crate in crates_with_edits() if kept.get(crate) != checksum(crate)]
+    return [crate for crate in crates if kept.get(crate) != checksum(crate)]
 
 
 def changed_since(commit):
@@ -239,14 +239,6 @@ def show(edit, folder, taken, proved, printed):
     return loose
 
 
-def try_above(edit):
-    """Tries an edit of a definition in the crate above whose law refuses it."""
-    above, own = law_of(edit), edit.parent.parent.name
-    with tempfile.TemporaryDirectory() as scratch:
-        folder = copy_of(above, Path(scratch))
-        return try_edit(folder, edit, folder.parent / own)
-
-
 def try_edits(crate, edits, answers):
     """Tries these edits of the crate. Gives whether all were refused."""
     with tempfile.TemporaryDirectory() as scratch:
@@ -254,13 +246,10 @@ def try_edits(crate, edits, answers):
         proved, taken, printed = check(folder)
         if not proved:
             sys.exit(f"{printed}\n{crate} is not proved as it stands")
-        print(f"{crate}\n{taken:6.1f} s  the crate as it stands", flush=True)
+        print(f"{taken:6.1f} s  the crate as it stands", flush=True)
         are_refused, total, unbound = True, 0.0, set()
         for edit in edits:
-            proved, taken, printed = try_edit(folder, edit, folder)
-            if proved and law_of(edit):
-                proved, more, printed = try_above(edit)
-                taken += more
+            proved, taken, printed = try_edit(folder, edit)
             unbound |= show(edit, folder, taken, proved, printed)
             are_refused, total = are_refused and is_refused(proved, printed), total + taken
         print(f"{total:6.1f} s  in all", flush=True)
@@ -269,30 +258,72 @@ def try_edits(crate, edits, answers):
     return are_refused
 
 
-def try_all(crate, answers=False):
-    """Tries all edits of the crate, and keeps that they were refused."""
-    value = checksum(crate)
-    are_refused = try_edits(crate, edits_of(crate), answers)
-    if are_refused and value == checksum(crate):
-        keep_line(crate, value)
-    return are_refused
+def put_together(folder, crates):
+    """Copies all sources, with the edits of these crates as the only ones that the gate tries."""
+    for file in ("crates.txt", "HANDLES"):
+        shutil.copy(TOP / file, folder)
+    shutil.copytree(TOP / "crates", folder / "crates", ignore=shutil.ignore_patterns("out", "must-fail", "more-edits"))
+    for crate in crates:
+        (folder / "crates" / crate / "must-fail").mkdir()
+        for edit in edits_of(crate):
+            if law_of(edit) is None:
+                shutil.copy(edit, folder / "crates" / crate / "must-fail")
+
+
+def lines_of_gate(folder, crates):
+    """What `rt ci` prints of these crates, line by line, with each line on edits passed on."""
+    words = ["rt", "ci", *crates]
+    ran = subprocess.Popen(words, cwd=folder, stdout=subprocess.PIPE, stderr=subprocess.STDOUT, text=True, errors="replace")
+    for line in ran.stdout:
+        if re.match(r"rt: (must-fail|.*NOT PROVED)", line):
+            print(line.removeprefix("rt: ").rstrip()[:200], flush=True)
+        yield line
+    ran.wait()
+
+
+def is_refused_above(edit):
+    """Whether the crate above that the edit names is no longer proved with it."""
+    with tempfile.TemporaryDirectory() as scratch:
+        folder, crate = Path(scratch), edit.parent.parent.name
+        put_together(folder, [])
+        for file, old, new in changes(edit):
+            path = folder / "crates" / crate / file
+            path.write_text(path.read_text(encoding="utf-8").replace(old, new), encoding="utf-8")
+        return any(re.match(r"logic=not-proved", line) for line in lines_of_gate(folder, [law_of(edit)]))
+
+
+def try_all(crates):
+    """Tries all edits of these crates as the gate would, and keeps whose were all refused. Gives whether all were."""
+    sums, refused = {crate: checksum(crate) for crate in crates}, set()
+    with tempfile.TemporaryDirectory() as scratch:
+        put_together(Path(scratch), crates)
+        for line in lines_of_gate(Path(scratch), crates):
+            if found := re.match(r"rt: must-fail (\S+)/(\S+)\.edit: refused", line):
+                refused.add(found.groups())
+    for crate in crates:
+        left = [edit for edit in edits_of(crate) if (crate, edit.stem) not in refused]
+        left = [edit.stem for edit in left if law_of(edit) is None or not is_refused_above(edit)]
+        if left:
+            print(f"{crate}: not refused: {' '.join(left)}")
+        elif sums[crate] == checksum(crate):
+            keep_line(crate, sums[crate])
+    return not old_lines_of(crates)
 
 
 def main():
     words = sys.argv[1:]
     names = [word for word in words if not word.startswith("--")]
     if words == ["--old"]:
-        old, total = old_lines(), len(crates_with_edits())
+        old, total = old_lines_of(crates_with_edits()), len(crates_with_edits())
         print(f"edits: of {len(old)} of {total} crates not all edits were tried as they stand: {' '.join(old) or 'none'}")
         return 0
     if "--since" in words and len(names) == 1:
-        return 0 if all([try_all(crate) for crate in changed_since(names[0])]) else 1
+        return 0 if try_all(changed_since(names[0])) else 1
+    if "--all" in words and names:
+        return 0 if try_all(names) else 1
     if not names:
         sys.exit(__doc__)
-    crate, *some = names
-    if some:
-        return 0 if try_edits(crate, edits_of(crate, some), "--answer" in words) else 1
-    return 0 if try_all(crate, "--answer" in words) else 1
+    return 0 if try_edits(names[0], edits_of(names[0], names[1:]), "--answer" in words) else 1
 
 
 if __name__ == "__main__":
