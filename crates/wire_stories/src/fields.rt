@@ -1,132 +1,156 @@
 //! Numbered fields, read and written (Protocol Buffers, "Encoding", "Message Structure").
 
-use crate::fault::StoryFault;
-use crate::hexadecimal::{bytes_of, digits_of};
+ghost use Rattle.proto_fields.specs.Field.{IsFieldNumber};
+
 use proto_wire::{
     Content, ContentRef, MAX_FIELD_NUMBER, WireFault, read_fields, split_field, write_bytes,
     write_nonempty_bytes, write_nonzero_varint, write_varint,
 };
 use std::alloc::Global;
-use std::io::Write;
+use story_requests::{Answer, RequestFault, Words};
 
-/// Prints the fields, one a line, or the fault that stands in the bytes.
-pub(crate) fn read_all<W: Write>(
+/// Answers with the name of the fault.
+pub(crate) fn name(
+    alloc: Global,
+    fault: WireFault,
+    answer: &mut Answer,
+) -> Result<(), RequestFault> {
+    let name = format!(in alloc; "{fault}")?;
+    answer.word(name.as_str())
+}
+
+/// Of each field its number, its kind and what it holds, or the fault that stands in the bytes.
+pub(crate) fn read_all(
     alloc: Global,
     bytes: &[u8],
-    output: &mut W,
-) -> Result<(), StoryFault> {
+    answer: &mut Answer,
+) -> Result<(), RequestFault> {
     match read_fields(alloc, bytes) {
-        Ok(fields) => print_all(alloc, &fields, output),
-        Err(WireFault::OutOfMemory) => Err(StoryFault::OutOfMemory),
-        Err(fault) => {
-            writeln!(output, "  {fault}")?;
-            Ok(())
-        }
+        Ok(fields) => show_all(&fields, answer),
+        Err(fault) => name(alloc, fault, answer),
     }
 }
 
-fn print_all<W: Write>(
-    alloc: Global,
-    fields: &[(u32, Content)],
-    output: &mut W,
-) -> Result<(), StoryFault> {
-    if fields.is_empty() {
-        writeln!(output, "  none")?;
-    }
+fn show_all(fields: &[(u32, Content)], answer: &mut Answer) -> Result<(), RequestFault> {
     for (number, content) in fields {
-        print_one(alloc, *number, content, output)?;
+        answer.number(u64::from(*number))?;
+        show(content, answer)?;
     }
     Ok(())
 }
 
-fn print_one<W: Write>(
-    alloc: Global,
-    number: u32,
-    content: &Content,
-    output: &mut W,
-) -> Result<(), StoryFault> {
+fn show(content: &Content, answer: &mut Answer) -> Result<(), RequestFault> {
     match content {
-        Content::Varint(value) => writeln!(output, "  {number}: varint {value}")?,
-        Content::Eight(bytes) => {
-            let digits = digits_of(alloc, bytes)?;
-            writeln!(output, "  {number}: eight bytes {digits}")?;
+        Content::Varint(value) => {
+            answer.word("varint")?;
+            answer.number(*value)
         }
-        Content::Bytes(bytes) => {
-            let digits = digits_of(alloc, bytes)?;
-            writeln!(output, "  {number}: bytes {digits}")?;
-        }
-        Content::Four(bytes) => {
-            let digits = digits_of(alloc, bytes)?;
-            writeln!(output, "  {number}: four bytes {digits}")?;
-        }
+        Content::Eight(bytes) => show_bytes("eight", bytes, answer),
+        Content::Bytes(bytes) => show_bytes("bytes", bytes, answer),
+        Content::Four(bytes) => show_bytes("four", bytes, answer),
     }
-    Ok(())
 }
 
-/// Prints the field at the front, what it lends as a number or as bytes, and the bytes behind it; or the fault.
-pub(crate) fn split_front<W: Write>(
+fn show_bytes(kind: &str, bytes: &[u8], answer: &mut Answer) -> Result<(), RequestFault> {
+    answer.word(kind)?;
+    answer.bytes(bytes)
+}
+
+/// The field at the front, what it lends as a number or as bytes, and the bytes behind it; or the fault.
+pub(crate) fn split_front(
     alloc: Global,
     bytes: &[u8],
-    output: &mut W,
-) -> Result<(), StoryFault> {
+    answer: &mut Answer,
+) -> Result<(), RequestFault> {
     match split_field(bytes) {
         Ok((number, content, rest)) => {
-            print_one(alloc, number, &content.to_content(alloc)?, output)?;
-            print_lent(alloc, content, output)?;
-            let rest = digits_of(alloc, rest)?;
-            writeln!(output, "  left {rest}")?;
+            answer.number(u64::from(number))?;
+            show_lent(alloc, content, answer)?;
+            answer.bytes(rest)
         }
-        Err(fault) => writeln!(output, "  {fault}")?,
+        Err(fault) => name(alloc, fault, answer),
     }
-    Ok(())
 }
 
-// Prints the number that is lent, or the bytes, where there are such.
-fn print_lent<W: Write>(
+// What a field holds, and then the number that is lent, or the bytes, where there are such.
+fn show_lent(
     alloc: Global,
     content: ContentRef<'_>,
-    output: &mut W,
-) -> Result<(), StoryFault> {
+    answer: &mut Answer,
+) -> Result<(), RequestFault> {
+    show_copy(alloc, content, answer)?;
     if let Some(number) = content.number() {
-        writeln!(output, "  number {number}")?;
+        answer.number(number)?;
     }
-    if let Some(bytes) = content.bytes() {
-        let digits = digits_of(alloc, bytes)?;
-        writeln!(output, "  bytes {digits}")?;
+    match content.bytes() {
+        Some(bytes) => answer.bytes(bytes),
+        None => Ok(()),
     }
-    Ok(())
 }
 
-/// Prints the bytes of one field: `varint FIELD NUMBER` and `bytes FIELD BYTES`, and with `nonzero-` and `nonempty-`
-/// before them those that leave a default out. Numbers are decimal.
-pub(crate) fn write<W: Write>(
+fn show_copy(
     alloc: Global,
-    command: &str,
-    words: &str,
-    output: &mut W,
-) -> Result<(), StoryFault> {
-    let (field, word) = words.split_once(' ').unwrap_or((words, ""));
-    let Ok(field) = field.parse::<u32>() else {
-        return Err(StoryFault::BadArgument);
-    };
-    if field == 0 || field > MAX_FIELD_NUMBER {
-        return Err(StoryFault::BadArgument);
+    content: ContentRef<'_>,
+    answer: &mut Answer,
+) -> Result<(), RequestFault> {
+    let held = content.to_content(alloc)?;
+    show(&held, answer)
+}
+
+/// The bytes of the field of this number.
+pub(crate) fn write(
+    alloc: Global,
+    asked: &str,
+    words: &mut Words<'_>,
+    answer: &mut Answer,
+) -> Result<(), RequestFault> {
+    let field = words.number()?;
+    if field == 0 || field > u64::from(MAX_FIELD_NUMBER) {
+        return Err(RequestFault::BadRequest);
     }
+    let field = field as u32;
     let mut out = Vec::new(alloc);
-    match command {
-        "varint" => write_varint(&mut out, field, number_of(word)?)?,
-        "nonzero-varint" => write_nonzero_varint(&mut out, field, number_of(word)?)?,
-        "bytes" => write_bytes(&mut out, field, &bytes_of(alloc, word)?)?,
-        _ => write_nonempty_bytes(&mut out, field, &bytes_of(alloc, word)?)?,
+    let written = match asked {
+        "varint" | "nonzero-varint" => put_number(&mut out, asked, field, words),
+        _ => put_bytes(alloc, &mut out, asked, field, words),
+    };
+    match written {
+        Ok(()) => answer.bytes(&out),
+        Err(fault) => Err(fault),
     }
-    let digits = digits_of(alloc, &out)?;
-    writeln!(output, "  {digits}")?;
+}
+
+fn put_number(
+    out: &mut Vec<u8>,
+    asked: &str,
+    field: u32,
+    words: &mut Words<'_>,
+) -> Result<(), RequestFault>
+    requires { IsFieldNumber field }
+{
+    let number = words.number()?;
+    if asked == "varint" {
+        write_varint(out, field, number)?;
+    } else {
+        write_nonzero_varint(out, field, number)?;
+    }
     Ok(())
 }
 
-fn number_of(word: &str) -> Result<u64, StoryFault> {
-    match word.parse::<u64>() {
-        Ok(number) => Ok(number),
-        Err(_) => Err(StoryFault::BadArgument),
+fn put_bytes(
+    alloc: Global,
+    out: &mut Vec<u8>,
+    asked: &str,
+    field: u32,
+    words: &mut Words<'_>,
+) -> Result<(), RequestFault>
+    requires { IsFieldNumber field }
+{
+    let bytes = words.bytes(alloc)?;
+    if asked == "bytes" {
+        write_bytes(out, field, &bytes)?;
+    } else {
+        write_nonempty_bytes(out, field, &bytes)?;
     }
+    Ok(())
 }

@@ -1,68 +1,61 @@
 //! Frames, read and written (gRPC over HTTP/2, "Length-Prefixed-Message").
 
-use crate::fault::StoryFault;
-use crate::hexadecimal::{bytes_of, digits_of};
-use proto_wire::{END_FLAG, MAX_FRAME_PAYLOAD, MESSAGE_FLAG, read_frame, write_frame};
+use proto_wire::{END_FLAG, Frame, MAX_FRAME_PAYLOAD, MESSAGE_FLAG, read_frame, write_frame};
 use std::alloc::Global;
-use std::io::Write;
+use story_requests::{Answer, RequestFault, Words};
 
-/// Prints the frames that stand one after the other, and then that the input has ended; or the fault, and the bytes
-/// behind which the reader stands.
-pub(crate) fn read_all<W: Write>(
+/// The frames that stand one after the other, and then `NoMore` or the fault, and the bytes behind which the reader
+/// stands.
+pub(crate) fn read_all(
     alloc: Global,
     bytes: &[u8],
-    output: &mut W,
-) -> Result<(), StoryFault> {
+    answer: &mut Answer,
+) -> Result<(), RequestFault> {
     let mut rest = bytes;
     // Each frame has at least five bytes.
     for _ in 0..=bytes.len() {
-        if !read_one(alloc, &mut rest, output)? {
+        if !read_one(alloc, &mut rest, answer)? {
             break;
         }
     }
-    Ok(())
+    answer.bytes(rest)
 }
 
-// Prints the frame at the front, and says whether there was one.
-fn read_one<W: Write>(alloc: Global, rest: &mut &[u8], output: &mut W) -> Result<bool, StoryFault> {
+// The frame at the front, or how the input ends; and whether there was a frame.
+fn read_one(alloc: Global, rest: &mut &[u8], answer: &mut Answer) -> Result<bool, RequestFault> {
     match read_frame(alloc, rest) {
-        Ok(Some(frame)) => {
-            let payload = digits_of(alloc, &frame.payload)?;
-            writeln!(output, "  flag {}, payload {payload}", frame.flag)?;
-            Ok(true)
-        }
-        Ok(None) => {
-            writeln!(output, "  no more")?;
-            Ok(false)
-        }
-        Err(fault) => {
-            let left = digits_of(alloc, rest)?;
-            writeln!(output, "  {fault}, left {left}")?;
-            Ok(false)
-        }
+        Ok(Some(frame)) => show(&frame, answer),
+        Ok(None) => end("NoMore", answer),
+        Err(fault) => end(fault.to_string(alloc)?.as_str(), answer),
     }
 }
 
-/// Prints the bytes of a frame: `frame FLAG PAYLOAD`, the flag in decimal digits.
-pub(crate) fn write<W: Write>(
+fn show(frame: &Frame, answer: &mut Answer) -> Result<bool, RequestFault> {
+    answer.number(u64::from(frame.flag))?;
+    answer.bytes(&frame.payload)?;
+    Ok(true)
+}
+
+fn end(how: &str, answer: &mut Answer) -> Result<bool, RequestFault> {
+    answer.word(how)?;
+    Ok(false)
+}
+
+/// The bytes of the frame of this flag and payload.
+pub(crate) fn write(
     alloc: Global,
-    words: &str,
-    output: &mut W,
-) -> Result<(), StoryFault> {
-    let (flag, payload) = words.split_once(' ').unwrap_or((words, ""));
-    let Ok(flag) = flag.parse::<u8>() else {
-        return Err(StoryFault::BadArgument);
-    };
-    let payload = bytes_of(alloc, payload)?;
-    let is_flag = flag == MESSAGE_FLAG || flag == END_FLAG;
+    words: &mut Words<'_>,
+    answer: &mut Answer,
+) -> Result<(), RequestFault> {
+    let flag = words.number()?;
+    let payload = words.bytes(alloc)?;
+    let is_flag = flag == u64::from(MESSAGE_FLAG) || flag == u64::from(END_FLAG);
     if !is_flag || payload.len() > MAX_FRAME_PAYLOAD {
-        return Err(StoryFault::BadArgument);
+        return Err(RequestFault::BadRequest);
     }
     let mut frame = Vec::new(alloc);
-    if write_frame(&mut frame, flag, &payload).is_err() {
-        return Err(StoryFault::OutOfMemory);
+    if write_frame(&mut frame, flag as u8, &payload).is_err() {
+        return Err(RequestFault::OutOfMemory);
     }
-    let digits = digits_of(alloc, &frame)?;
-    writeln!(output, "  {digits}")?;
-    Ok(())
+    answer.bytes(&frame)
 }

@@ -1,46 +1,67 @@
-//! Tells stories of the wire: frames, fields, and the messages of Arrow Flight. `wire_stories FILE ..` prints each file
-//! again, and under each of its commands what the command gives now.
+//! Answers requests about the wire: frames read and written, numbered fields, and the messages of Arrow Flight.
 //!
-//! A story has lines of four kinds: empty ones; comments, which begin with `#`; commands; and answers, which begin with
-//! two spaces and are passed over, since they are told anew. So a file that tells the truth is printed as it stands.
+//! `frames BYTES` gives the flag and the payload of each frame, and then how the input ends, with the bytes that are
+//! left; `frame FLAG PAYLOAD` the bytes of a frame. `fields BYTES` gives of each field its number, its kind and what it
+//! holds; `front BYTES` the same of the field at the front, what it lends, and the bytes behind it. `varint FIELD
+//! NUMBER` and `bytes FIELD BYTES` give the bytes of a field, and with `nonzero-` and `nonempty-` before them those
+//! that leave a default out. The name of a message and bytes give what each of its fields holds, and its encoding.
+//! `tools/tellers/wire.py` makes the requests.
 //!
-//! Nothing is claimed here but that telling is safe and ends: what is read and written is promised by the crates that
-//! do it.
+//! Nothing is claimed here but that answering is safe and ends: what is answered is promised by `proto_wire` and the
+//! crates below it.
 #![tactic(auto)]
 
-mod fault;
 mod fields;
 mod frames;
-mod hexadecimal;
 mod messages;
-mod several;
 mod shown;
-mod story;
 
-use fault::StoryFault;
-use std::fs;
-use std::io::{BufWriter, Write};
+use std::alloc::Global;
 use std::process::ExitCode;
+use story_requests::{Answer, Answers, RequestFault, Words};
 
 fn main(rt: HostRuntime) -> ExitCode {
-    match tell_all(&rt) {
-        Ok(()) => ExitCode::from(0),
-        Err(fault) => {
-            // Where this fails too, the status alone tells.
-            let _ = eprintln!(rt; "wire_stories: {fault}");
-            ExitCode::from(1)
+    story_requests::run::<Wire>(&rt)
+}
+
+/// Who answers. Nothing is kept from one request to the next.
+#[derive(Drop)]
+struct Wire;
+
+impl Answers for Wire {
+    fn new(_alloc: Global) -> Result<Wire, RequestFault> {
+        Ok(Wire)
+    }
+
+    fn answer(
+        &mut self,
+        alloc: Global,
+        asked: &str,
+        words: &mut Words<'_>,
+        answer: &mut Answer,
+    ) -> Result<(), RequestFault> {
+        match asked {
+            "frame" => frames::write(alloc, words, answer),
+            "varint" | "nonzero-varint" | "bytes" | "nonempty-bytes" => {
+                fields::write(alloc, asked, words, answer)
+            }
+            _ => read(alloc, asked, words, answer),
         }
     }
 }
 
-fn tell_all(rt: &HostRuntime) -> Result<(), StoryFault> {
-    let alloc = rt.alloc();
-    let words: Vec<String> = std::env::args(rt)?.collect(alloc)?;
-    let mut output = BufWriter::new(alloc, rt.stdout())?;
-    for path in words.iter().skip(1) {
-        let text = fs::read_to_string(rt, path.as_str())?;
-        story::tell(alloc, text.as_str(), &mut output)?;
+// Answers what is asked of the bytes that are the next word.
+fn read(
+    alloc: Global,
+    asked: &str,
+    words: &mut Words<'_>,
+    answer: &mut Answer,
+) -> Result<(), RequestFault> {
+    let bytes = words.bytes(alloc)?;
+    match asked {
+        "frames" => frames::read_all(alloc, &bytes, answer),
+        "fields" => fields::read_all(alloc, &bytes, answer),
+        "front" => fields::split_front(alloc, &bytes, answer),
+        _ => messages::read(alloc, asked, &bytes, answer),
     }
-    output.flush()?;
-    Ok(())
 }

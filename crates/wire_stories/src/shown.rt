@@ -1,198 +1,115 @@
-//! The messages of Arrow Flight as lines, a line a field (Apache Arrow, "Flight.proto"). A field that stands once is
-//! shown also where it holds its default; a repeated one is shown once for each time it stands.
+//! The messages of Arrow Flight as words: of each field by rising numbers what it holds (Apache Arrow,
+//! "Flight.proto"). Of a field that may be missing or repeated its count comes first. A text is given as its bytes.
 
-use crate::fault::StoryFault;
-use crate::hexadecimal::digits_of;
 use proto_wire::{
     Criteria, FlightData, FlightDescriptor, FlightEndpoint, FlightInfo, Location, PutResult,
     SchemaResult, Ticket,
 };
 use std::alloc::Global;
-use std::io::Write;
+use story_requests::{Answer, RequestFault};
 
 /// A message that can be shown.
 pub(crate) trait Shown {
-    /// Prints its fields, so many steps deep.
-    fn show<W: Write>(&self, alloc: Global, depth: usize, output: &mut W) -> Result<(), StoryFault>;
+    /// Puts what its fields hold.
+    fn show(&self, alloc: Global, answer: &mut Answer) -> Result<(), RequestFault>;
 }
 
-// Prints two spaces a step.
-fn indent<W: Write>(depth: usize, output: &mut W) -> Result<(), StoryFault> {
-    for _ in 0..depth {
-        write!(output, "  ")?;
+fn show_signed(alloc: Global, number: i64, answer: &mut Answer) -> Result<(), RequestFault> {
+    let digits = format!(in alloc; "{number}")?;
+    answer.word(digits.as_str())
+}
+
+fn show_one<M: Shown>(
+    alloc: Global,
+    message: &Option<M>,
+    answer: &mut Answer,
+) -> Result<(), RequestFault> {
+    match message {
+        None => answer.number(0),
+        Some(message) => {
+            answer.number(1)?;
+            message.show(alloc, answer)
+        }
+    }
+}
+
+fn show_each<M: Shown>(
+    alloc: Global,
+    messages: &[M],
+    answer: &mut Answer,
+) -> Result<(), RequestFault> {
+    answer.number(messages.len() as u64)?;
+    for message in messages {
+        message.show(alloc, answer)?;
     }
     Ok(())
 }
 
-fn show_bytes<W: Write>(
-    alloc: Global,
-    depth: usize,
-    name: &str,
-    bytes: &[u8],
-    output: &mut W,
-) -> Result<(), StoryFault> {
-    let digits = digits_of(alloc, bytes)?;
-    indent(depth, output)?;
-    writeln!(output, "{name} {digits}")?;
-    Ok(())
-}
-
-fn show_text<W: Write>(
-    depth: usize,
-    name: &str,
-    text: &str,
-    output: &mut W,
-) -> Result<(), StoryFault> {
-    indent(depth, output)?;
-    writeln!(output, "{name} \"{text}\"")?;
-    Ok(())
-}
-
-fn show_number<W: Write>(
-    depth: usize,
-    name: &str,
-    number: i64,
-    output: &mut W,
-) -> Result<(), StoryFault> {
-    indent(depth, output)?;
-    writeln!(output, "{name} {number}")?;
-    Ok(())
-}
-
-fn show_embedded<M: Shown, W: Write>(
-    alloc: Global,
-    depth: usize,
-    name: &str,
-    message: &M,
-    output: &mut W,
-) -> Result<(), StoryFault> {
-    indent(depth, output)?;
-    writeln!(output, "{name}")?;
-    message.show(alloc, depth.saturating_add(1), output)
-}
-
 impl Shown for FlightDescriptor {
-    fn show<W: Write>(
-        &self,
-        alloc: Global,
-        depth: usize,
-        output: &mut W,
-    ) -> Result<(), StoryFault> {
-        show_number(depth, "type", i64::from(self.descriptor_type.0), output)?;
-        show_bytes(alloc, depth, "cmd", &self.cmd, output)?;
+    fn show(&self, alloc: Global, answer: &mut Answer) -> Result<(), RequestFault> {
+        show_signed(alloc, i64::from(self.descriptor_type.0), answer)?;
+        answer.bytes(&self.cmd)?;
+        answer.number(self.path.len() as u64)?;
         for element in &self.path {
-            show_text(depth, "path", element.as_str(), output)?;
+            answer.bytes(element.as_bytes())?;
         }
         Ok(())
     }
 }
 
 impl Shown for Ticket {
-    fn show<W: Write>(
-        &self,
-        alloc: Global,
-        depth: usize,
-        output: &mut W,
-    ) -> Result<(), StoryFault> {
-        show_bytes(alloc, depth, "ticket", &self.ticket, output)
+    fn show(&self, _alloc: Global, answer: &mut Answer) -> Result<(), RequestFault> {
+        answer.bytes(&self.ticket)
     }
 }
 
 impl Shown for Location {
-    fn show<W: Write>(
-        &self,
-        _alloc: Global,
-        depth: usize,
-        output: &mut W,
-    ) -> Result<(), StoryFault> {
-        show_text(depth, "uri", self.uri.as_str(), output)
+    fn show(&self, _alloc: Global, answer: &mut Answer) -> Result<(), RequestFault> {
+        answer.bytes(self.uri.as_bytes())
     }
 }
 
 impl Shown for FlightEndpoint {
-    fn show<W: Write>(
-        &self,
-        alloc: Global,
-        depth: usize,
-        output: &mut W,
-    ) -> Result<(), StoryFault> {
-        if let Some(ticket) = &self.ticket {
-            show_embedded(alloc, depth, "ticket", ticket, output)?;
-        }
-        for location in &self.location {
-            show_embedded(alloc, depth, "location", location, output)?;
-        }
-        Ok(())
+    fn show(&self, alloc: Global, answer: &mut Answer) -> Result<(), RequestFault> {
+        show_one(alloc, &self.ticket, answer)?;
+        show_each(alloc, &self.location, answer)
     }
 }
 
 impl Shown for FlightInfo {
-    fn show<W: Write>(
-        &self,
-        alloc: Global,
-        depth: usize,
-        output: &mut W,
-    ) -> Result<(), StoryFault> {
-        show_bytes(alloc, depth, "schema", &self.schema, output)?;
-        if let Some(descriptor) = &self.flight_descriptor {
-            show_embedded(alloc, depth, "flight_descriptor", descriptor, output)?;
-        }
-        for endpoint in &self.endpoint {
-            show_embedded(alloc, depth, "endpoint", endpoint, output)?;
-        }
-        show_number(depth, "total_records", self.total_records, output)?;
-        show_number(depth, "total_bytes", self.total_bytes, output)?;
-        indent(depth, output)?;
-        writeln!(output, "ordered {}", self.ordered)?;
-        Ok(())
+    fn show(&self, alloc: Global, answer: &mut Answer) -> Result<(), RequestFault> {
+        answer.bytes(&self.schema)?;
+        show_one(alloc, &self.flight_descriptor, answer)?;
+        show_each(alloc, &self.endpoint, answer)?;
+        show_signed(alloc, self.total_records, answer)?;
+        show_signed(alloc, self.total_bytes, answer)?;
+        answer.number(u64::from(self.ordered))
     }
 }
 
 impl Shown for SchemaResult {
-    fn show<W: Write>(
-        &self,
-        alloc: Global,
-        depth: usize,
-        output: &mut W,
-    ) -> Result<(), StoryFault> {
-        show_bytes(alloc, depth, "schema", &self.schema, output)
+    fn show(&self, _alloc: Global, answer: &mut Answer) -> Result<(), RequestFault> {
+        answer.bytes(&self.schema)
     }
 }
 
 impl Shown for Criteria {
-    fn show<W: Write>(
-        &self,
-        alloc: Global,
-        depth: usize,
-        output: &mut W,
-    ) -> Result<(), StoryFault> {
-        show_bytes(alloc, depth, "expression", &self.expression, output)
+    fn show(&self, _alloc: Global, answer: &mut Answer) -> Result<(), RequestFault> {
+        answer.bytes(&self.expression)
     }
 }
 
 impl Shown for FlightData {
-    fn show<W: Write>(
-        &self,
-        alloc: Global,
-        depth: usize,
-        output: &mut W,
-    ) -> Result<(), StoryFault> {
-        if let Some(descriptor) = &self.flight_descriptor {
-            show_embedded(alloc, depth, "flight_descriptor", descriptor, output)?;
-        }
-        show_bytes(alloc, depth, "data_header", &self.data_header, output)?;
-        show_bytes(alloc, depth, "app_metadata", &self.app_metadata, output)?;
-        show_bytes(alloc, depth, "data_body", &self.data_body, output)
+    fn show(&self, alloc: Global, answer: &mut Answer) -> Result<(), RequestFault> {
+        show_one(alloc, &self.flight_descriptor, answer)?;
+        answer.bytes(&self.data_header)?;
+        answer.bytes(&self.app_metadata)?;
+        answer.bytes(&self.data_body)
     }
 }
 
 impl Shown for PutResult {
-    fn show<W: Write>(
-        &self,
-        alloc: Global,
-        depth: usize,
-        output: &mut W,
-    ) -> Result<(), StoryFault> {
-        show_bytes(alloc, depth, "app_metadata", &self.app_metadata, output)
+    fn show(&self, _alloc: Global, answer: &mut Answer) -> Result<(), RequestFault> {
+        answer.bytes(&self.app_metadata)
     }
 }
