@@ -1,124 +1,162 @@
 //! The calls of an acceptor (Lamport, *Paxos Made Simple*, section 2.2).
 
-use crate::fault::StoryFault;
-use crate::hexadecimal::bytes_of;
-use crate::words;
-use acceptor::{Acceptor, Answer};
-use ballots::{Acceptance, Ballot, Record, Slot};
+use crate::{shown, words};
+use acceptor::{Acceptor, Answer as Reply};
+use ballots::{Acceptance, Ballot, Body, Message, Record, Slot};
 use std::alloc::Global;
-use std::io::Write;
+use std::mem;
+use story_requests::{Answer, RequestFault, Words};
 
-/// Makes the call, and prints what it gives.
-pub(crate) fn call<W: Write>(
+/// Answers a call of the acceptor.
+pub(crate) fn answer(
     alloc: Global,
     acceptor: &mut Acceptor,
-    call: &str,
-    rest: &[&str],
-    output: &mut W,
-) -> Result<(), StoryFault> {
-    match rest {
-        [slot] => {
-            let slot = words::slot(slot)?;
-            look(acceptor, call, slot, output)
-        }
-        [slot, ballot] => {
-            let slot = words::slot(slot)?;
-            let ballot = words::ballot(ballot)?;
-            ask(acceptor, call, slot, ballot, output)
-        }
-        [slot, ballot, value] if call == "accept" => {
-            let slot = words::slot(slot)?;
-            let ballot = words::ballot(ballot)?;
-            let value = words::value(alloc, value)?;
-            let answer = acceptor.on_accept(slot, Acceptance { ballot, value })?;
-            print_answer(&answer, output)
-        }
-        _ => Err(StoryFault::NoCommand),
+    words: &mut Words<'_>,
+    answer: &mut Answer,
+) -> Result<(), RequestFault> {
+    match words.next() {
+        "new" => make(alloc, acceptor, words),
+        "take" => take(alloc, acceptor, words),
+        "hand" => ask(alloc, acceptor, words, answer),
+        "would-grant" => would_grant(alloc, acceptor, words, answer),
+        "promised" => promised(alloc, acceptor, words, answer),
+        "accepted" => accepted(alloc, acceptor, words, answer),
+        _ => Err(RequestFault::BadRequest),
     }
 }
 
-fn look<W: Write>(
-    acceptor: &Acceptor,
-    call: &str,
-    slot: Slot,
-    output: &mut W,
-) -> Result<(), StoryFault> {
-    match call {
-        "promised" => print_promised(acceptor.promised(slot), output),
-        "accepted" => print_accepted(acceptor, slot, output),
-        _ => Err(StoryFault::NoCommand),
+// Puts the acceptor in its place that these records leave: how many they are, and their encodings.
+fn make(alloc: Global, acceptor: &mut Acceptor, words: &mut Words<'_>) -> Result<(), RequestFault> {
+    let mut records = Vec::new(alloc);
+    for _ in 0..words.number()? {
+        let record = record_of(alloc, words)?;
+        push(&mut records, record)?;
     }
-}
-
-fn print_promised<W: Write>(promised: Option<Ballot>, output: &mut W) -> Result<(), StoryFault> {
-    match promised {
-        Some(ballot) => writeln!(output, "  {ballot}")?,
-        None => writeln!(output, "  nothing")?,
-    }
+    let restored = Acceptor::from_records(alloc, &records)?;
+    drop(mem::replace(acceptor, restored));
     Ok(())
 }
 
-fn print_accepted<W: Write>(
-    acceptor: &Acceptor,
-    slot: Slot,
-    output: &mut W,
-) -> Result<(), StoryFault> {
-    match acceptor.accepted(slot) {
-        Some(Acceptance { ballot, value }) => writeln!(output, "  {value} at {ballot}")?,
-        None => writeln!(output, "  nothing")?,
-    }
+// Has it take a record as the last of those that it has. The room is for a record of any slot.
+fn take(alloc: Global, acceptor: &mut Acceptor, words: &mut Words<'_>) -> Result<(), RequestFault> {
+    let record = record_of(alloc, words)?;
+    acceptor.make_room(Slot::new(0).unwrap())?;
+    acceptor.apply(record);
     Ok(())
 }
 
-fn ask<W: Write>(
+fn record_of(alloc: Global, words: &mut Words<'_>) -> Result<Record, RequestFault> {
+    let bytes = words.bytes(alloc)?;
+    match Record::decode(alloc, &bytes) {
+        Ok(record) => Ok(record),
+        Err(_) => Err(RequestFault::BadRequest),
+    }
+}
+
+fn push(records: &mut Vec<Record>, record: Record) -> Result<(), RequestFault> {
+    match records.push(record) {
+        Ok(()) => Ok(()),
+        Err(_) => Err(RequestFault::OutOfMemory),
+    }
+}
+
+// Hands it a Prepare or an Accept, and gives what it replies.
+fn ask(
+    alloc: Global,
     acceptor: &mut Acceptor,
-    call: &str,
+    words: &mut Words<'_>,
+    answer: &mut Answer,
+) -> Result<(), RequestFault> {
+    let message = words::message(alloc, words)?;
+    let slot = message.slot;
+    match &message.body {
+        Body::Prepare { ballot } => prepare(alloc, acceptor, slot, *ballot, answer),
+        Body::Accept(proposal) => accept(alloc, acceptor, slot, proposal, answer),
+        _ => Err(RequestFault::BadRequest),
+    }
+}
+
+fn prepare(
+    alloc: Global,
+    acceptor: &mut Acceptor,
     slot: Slot,
     ballot: Ballot,
-    output: &mut W,
-) -> Result<(), StoryFault> {
-    match call {
-        "would-promise" => print_whether(acceptor.would_promise(slot, ballot), output),
-        "would-grant" => print_whether(acceptor.would_grant(slot, ballot), output),
-        "prepare" => {
-            let answer = acceptor.on_prepare(slot, ballot)?;
-            print_answer(&answer, output)
+    answer: &mut Answer,
+) -> Result<(), RequestFault> {
+    let reply = acceptor.on_prepare(slot, ballot)?;
+    show(alloc, &reply, answer)
+}
+
+fn accept(
+    alloc: Global,
+    acceptor: &mut Acceptor,
+    slot: Slot,
+    proposal: &Acceptance,
+    answer: &mut Answer,
+) -> Result<(), RequestFault> {
+    let reply = acceptor.on_accept(slot, proposal.clone()?)?;
+    show(alloc, &reply, answer)
+}
+
+fn show(alloc: Global, reply: &Reply, answer: &mut Answer) -> Result<(), RequestFault> {
+    match reply {
+        Reply::Promise(None) => answer.word("Promise"),
+        Reply::Promise(Some(report)) => {
+            answer.word("Promise")?;
+            shown::acceptance(alloc, report, answer)
         }
-        _ => Err(StoryFault::NoCommand),
+        Reply::Granted => answer.word("Granted"),
+        Reply::Nack(promised) => {
+            answer.word("Nack")?;
+            shown::ballot(alloc, *promised, answer)
+        }
+    }
+}
+
+// Whether it would grant a Prepare or an Accept.
+fn would_grant(
+    alloc: Global,
+    acceptor: &Acceptor,
+    words: &mut Words<'_>,
+    answer: &mut Answer,
+) -> Result<(), RequestFault> {
+    let message = words::message(alloc, words)?;
+    shown::whether(would_take(acceptor, &message)?, answer)
+}
+
+fn would_take(acceptor: &Acceptor, message: &Message) -> Result<bool, RequestFault> {
+    let slot = message.slot;
+    match &message.body {
+        Body::Prepare { ballot } => Ok(acceptor.would_promise(slot, *ballot)),
+        Body::Accept(proposal) => Ok(acceptor.would_grant(slot, proposal.ballot)),
+        _ => Err(RequestFault::BadRequest),
     }
 }
 
-fn print_whether<W: Write>(is_so: bool, output: &mut W) -> Result<(), StoryFault> {
-    let word = if is_so { "yes" } else { "no" };
-    writeln!(output, "  {word}")?;
-    Ok(())
-}
-
-fn print_answer<W: Write>(answer: &Answer, output: &mut W) -> Result<(), StoryFault> {
-    match answer {
-        Answer::Promise(None) => writeln!(output, "  promises, and has accepted nothing")?,
-        Answer::Promise(Some(Acceptance { ballot, value })) => {
-            writeln!(output, "  promises, and has accepted {value} at {ballot}")?
-        }
-        Answer::Granted => writeln!(output, "  accepts")?,
-        Answer::Nack(promised) => writeln!(output, "  refuses, since it promised {promised}")?,
+// The ballot that it promised for the slot, if any.
+fn promised(
+    alloc: Global,
+    acceptor: &Acceptor,
+    words: &mut Words<'_>,
+    answer: &mut Answer,
+) -> Result<(), RequestFault> {
+    let slot = words::slot(alloc, words)?;
+    match acceptor.promised(slot) {
+        Some(ballot) => shown::ballot(alloc, ballot, answer),
+        None => Ok(()),
     }
-    Ok(())
 }
 
-/// The acceptor that these records leave, each told as the hexadecimal digits of its encoding.
-pub(crate) fn restored(alloc: Global, digits: &[&str]) -> Result<Acceptor, StoryFault> {
-    let mut records = Vec::new(alloc);
-    for word in digits {
-        let record = record_of(alloc, word)?;
-        if records.push(record).is_err() {
-            return Err(StoryFault::OutOfMemory);
-        }
+// What it accepted for the slot, if anything.
+fn accepted(
+    alloc: Global,
+    acceptor: &Acceptor,
+    words: &mut Words<'_>,
+    answer: &mut Answer,
+) -> Result<(), RequestFault> {
+    let slot = words::slot(alloc, words)?;
+    match acceptor.accepted(slot) {
+        Some(acceptance) => shown::acceptance(alloc, acceptance, answer),
+        None => Ok(()),
     }
-    Ok(Acceptor::from_records(alloc, &records)?)
-}
-
-fn record_of(alloc: Global, digits: &str) -> Result<Record, StoryFault> {
-    let bytes = bytes_of(alloc, digits)?;
-    Ok(Record::decode(alloc, &bytes)?)
 }

@@ -1,84 +1,79 @@
 //! Histories of messages, and whether they are lawful (Lamport, *Paxos Made Simple*, section 2).
 
-use crate::fault::StoryFault;
+use crate::words;
 use ballots::{Members, Message};
 use lawful_histories::{Trace, audit};
 use std::alloc::Global;
-use std::io::Write;
+use std::mem;
+use story_requests::{Answer, RequestFault, Words};
 
-/// How many members agree, and the line of each message that was said, in order.
+/// How many members agree, and the messages that were said, in order.
 #[derive(Drop)]
 pub(crate) struct History {
-    alloc: Global,
     members: Members,
-    said: Vec<String>,
+    said: Vec<Message>,
 }
 
 impl History {
     /// Nothing is said yet.
     pub(crate) fn new(alloc: Global, members: Members) -> History {
         History {
-            alloc,
             members,
             said: Vec::new(alloc),
         }
     }
 
-    fn say(&mut self, line: &str) -> Result<(), StoryFault> {
-        let line = String::from_str(self.alloc, line)?;
-        if self.said.push(line).is_err() {
-            return Err(StoryFault::OutOfMemory);
-        }
-        Ok(())
-    }
-
-    // Whether what was said is lawful.
-    fn is_lawful(&self) -> Result<bool, StoryFault> {
-        let sent = messages_of(self.alloc, &self.said)?;
-        Ok(audit(&Trace::new(self.members, sent)))
-    }
-}
-
-fn messages_of(alloc: Global, lines: &[String]) -> Result<Vec<Message>, StoryFault> {
-    let mut messages = Vec::new(alloc);
-    for line in lines {
-        let message = Message::from_str(alloc, line.as_str())?;
-        if messages.push(message).is_err() {
-            return Err(StoryFault::OutOfMemory);
+    fn push(&mut self, message: Message) -> Result<(), RequestFault> {
+        match self.said.push(message) {
+            Ok(()) => Ok(()),
+            Err(_) => Err(RequestFault::OutOfMemory),
         }
     }
-    Ok(messages)
 }
 
-/// Says the message of this line, and prints whether the history is lawful with it.
-pub(crate) fn say<W: Write>(
+/// Answers a call of the history.
+pub(crate) fn answer(
+    alloc: Global,
     history: &mut History,
-    line: &str,
-    output: &mut W,
-) -> Result<(), StoryFault> {
-    history.say(line)?;
-    judge(history, output)
+    words: &mut Words<'_>,
+    answer: &mut Answer,
+) -> Result<(), RequestFault> {
+    match words.next() {
+        "new" => make(alloc, history, words),
+        "say" => say(alloc, history, words),
+        "if" => suppose(alloc, history, words, answer),
+        "audit" => judge(history, answer),
+        _ => Err(RequestFault::BadRequest),
+    }
 }
 
-/// Prints whether the history would be lawful with the message of this line.
-pub(crate) fn suppose<W: Write>(
+// Puts a history of so many members in its place.
+fn make(alloc: Global, history: &mut History, words: &mut Words<'_>) -> Result<(), RequestFault> {
+    let members = words::members(words)?;
+    drop(mem::replace(history, History::new(alloc, members)));
+    Ok(())
+}
+
+// Says the message.
+fn say(alloc: Global, history: &mut History, words: &mut Words<'_>) -> Result<(), RequestFault> {
+    history.push(words::message(alloc, words)?)
+}
+
+// Whether the history would be lawful with the message.
+fn suppose(
+    alloc: Global,
     history: &mut History,
-    line: &str,
-    output: &mut W,
-) -> Result<(), StoryFault> {
-    history.say(line)?;
-    judge(history, output)?;
+    words: &mut Words<'_>,
+    answer: &mut Answer,
+) -> Result<(), RequestFault> {
+    say(alloc, history, words)?;
+    judge(history, answer)?;
     history.said.pop();
     Ok(())
 }
 
-/// Prints whether the history is lawful.
-pub(crate) fn judge<W: Write>(history: &History, output: &mut W) -> Result<(), StoryFault> {
-    let word = if history.is_lawful()? {
-        "lawful"
-    } else {
-        "unlawful"
-    };
-    writeln!(output, "  {word}")?;
-    Ok(())
+// Whether the history is lawful.
+fn judge(history: &History, answer: &mut Answer) -> Result<(), RequestFault> {
+    let trace = Trace::new(history.members, history.said.clone()?);
+    answer.word(if audit(&trace) { "lawful" } else { "unlawful" })
 }

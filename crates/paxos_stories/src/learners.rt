@@ -1,102 +1,83 @@
 //! The calls of a learner (Lamport, *Paxos Made Simple*, section 2.3). Each is told beforehand what it will make
 //! learned.
 
-use crate::fault::StoryFault;
-use crate::words;
-use ballots::{Ballot, NodeId, Slot, Value};
+use crate::{shown, words};
+use ballots::{Acceptance, Body, NodeId, Slot, Value};
 use learner::Learner;
 use std::alloc::Global;
-use std::io::Write;
+use std::mem;
+use story_requests::{Answer, RequestFault, Words};
 
-/// Makes the call, and prints what it gives.
-pub(crate) fn call<W: Write>(
+/// Answers a call of the learner.
+pub(crate) fn answer(
     alloc: Global,
     learner: &mut Learner,
-    call: &str,
-    rest: &[&str],
-    output: &mut W,
-) -> Result<(), StoryFault> {
-    match call {
-        "accepted" => {
-            let learned = accepted(alloc, learner, rest)?;
-            print_learned(&learned, output)
-        }
-        "decided" => {
-            let learned = decided(alloc, learner, rest)?;
-            print_learned(&learned, output)
-        }
-        "knows" => knows(learner, rest, output),
-        _ => Err(StoryFault::NoCommand),
+    words: &mut Words<'_>,
+    answer: &mut Answer,
+) -> Result<(), RequestFault> {
+    match words.next() {
+        "new" => make(alloc, learner, words),
+        "hand" => tell(alloc, learner, words, answer),
+        "knows" => knows(alloc, learner, words, answer),
+        _ => Err(RequestFault::BadRequest),
+    }
+}
+
+// Puts a learner of so many members in its place.
+fn make(alloc: Global, learner: &mut Learner, words: &mut Words<'_>) -> Result<(), RequestFault> {
+    let members = words::members(words)?;
+    drop(mem::replace(learner, Learner::new(alloc, members)));
+    Ok(())
+}
+
+// Tells it an Accepted or a Decided, and gives the value that it learns, if any.
+fn tell(
+    alloc: Global,
+    learner: &mut Learner,
+    words: &mut Words<'_>,
+    answer: &mut Answer,
+) -> Result<(), RequestFault> {
+    let message = words::message(alloc, words)?;
+    let sender = message.sender;
+    let slot = message.slot;
+    match message.body {
+        Body::Accepted(acceptance) => accepted(learner, sender, slot, acceptance, answer),
+        Body::Decided { value } => decided(learner, slot, value, answer),
+        _ => Err(RequestFault::BadRequest),
     }
 }
 
 fn accepted(
-    alloc: Global,
     learner: &mut Learner,
-    words: &[&str],
-) -> Result<Option<Value>, StoryFault> {
-    let [node, slot, ballot, value] = words else {
-        return Err(StoryFault::BadArgument);
-    };
-    let node = words::node(node)?;
-    let slot = words::slot(slot)?;
-    let ballot = words::ballot(ballot)?;
-    let value = words::value(alloc, value)?;
-    tell_accepted(learner, node, slot, ballot, value)
+    sender: NodeId,
+    slot: Slot,
+    acceptance: Acceptance,
+    answer: &mut Answer,
+) -> Result<(), RequestFault> {
+    let Acceptance { ballot, value } = acceptance;
+    let learned = learner.see_on_accepted(sender, slot, ballot, &value)?;
+    learner.on_accepted(sender, slot, ballot, value);
+    shown::perhaps(learned.as_ref(), answer)
 }
 
 fn decided(
-    alloc: Global,
-    learner: &mut Learner,
-    words: &[&str],
-) -> Result<Option<Value>, StoryFault> {
-    let [slot, value] = words else {
-        return Err(StoryFault::BadArgument);
-    };
-    let slot = words::slot(slot)?;
-    let value = words::value(alloc, value)?;
-    tell_decided(learner, slot, value)
-}
-
-fn knows<W: Write>(learner: &Learner, words: &[&str], output: &mut W) -> Result<(), StoryFault> {
-    let slot = words::slot(words::only(words)?)?;
-    print_known(learner.decided(slot), output)
-}
-
-fn tell_accepted(
-    learner: &mut Learner,
-    node: NodeId,
-    slot: Slot,
-    ballot: Ballot,
-    value: Value,
-) -> Result<Option<Value>, StoryFault> {
-    let learned = learner.see_on_accepted(node, slot, ballot, &value)?;
-    learner.on_accepted(node, slot, ballot, value);
-    Ok(learned)
-}
-
-fn tell_decided(
     learner: &mut Learner,
     slot: Slot,
     value: Value,
-) -> Result<Option<Value>, StoryFault> {
+    answer: &mut Answer,
+) -> Result<(), RequestFault> {
     let learned = learner.see_on_decided(slot, &value)?;
     learner.on_decided(slot, value);
-    Ok(learned)
+    shown::perhaps(learned.as_ref(), answer)
 }
 
-fn print_learned<W: Write>(learned: &Option<Value>, output: &mut W) -> Result<(), StoryFault> {
-    match learned {
-        Some(value) => writeln!(output, "  learns {value}")?,
-        None => writeln!(output, "  learns nothing")?,
-    }
-    Ok(())
-}
-
-fn print_known<W: Write>(known: Option<&Value>, output: &mut W) -> Result<(), StoryFault> {
-    match known {
-        Some(value) => writeln!(output, "  {value}")?,
-        None => writeln!(output, "  nothing")?,
-    }
-    Ok(())
+// The value that it has learned for the slot, if any.
+fn knows(
+    alloc: Global,
+    learner: &Learner,
+    words: &mut Words<'_>,
+    answer: &mut Answer,
+) -> Result<(), RequestFault> {
+    let slot = words::slot(alloc, words)?;
+    shown::perhaps(learner.decided(slot), answer)
 }

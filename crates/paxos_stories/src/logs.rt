@@ -1,100 +1,88 @@
 //! The calls of a log of decided values (Lamport, *Paxos Made Simple*, section 3).
 
-use crate::fault::StoryFault;
-use crate::words;
-use ballots::{Slot, Value};
+use crate::{shown, words};
+use ballots::{Body, Slot, Value};
 use decided_log::DecidedLog;
 use std::alloc::Global;
-use std::io::Write;
+use std::mem;
+use story_requests::{Answer, RequestFault, Words};
 
-/// Makes the call, and prints what it gives.
-pub(crate) fn call<W: Write>(
+/// Answers a call of the log.
+pub(crate) fn answer(
     alloc: Global,
     log: &mut DecidedLog,
-    call: &str,
-    rest: &[&str],
-    output: &mut W,
-) -> Result<(), StoryFault> {
-    match call {
-        "insert" => insert_one(alloc, log, rest, output),
-        "noops" => insert_noops(log, rest, output),
-        "asked" => ask(log, rest, output),
-        _ => Err(StoryFault::NoCommand),
+    words: &mut Words<'_>,
+    answer: &mut Answer,
+) -> Result<(), RequestFault> {
+    match words.next() {
+        "new" => make(alloc, log, words),
+        "insert" => insert(alloc, log, words, answer),
+        "asked" => ask(alloc, log, words, answer),
+        "holds" => holds(alloc, log, words, answer),
+        _ => Err(RequestFault::BadRequest),
     }
 }
 
-fn insert_one<W: Write>(
-    alloc: Global,
-    log: &mut DecidedLog,
-    words: &[&str],
-    output: &mut W,
-) -> Result<(), StoryFault> {
-    let [slot, value] = words else {
-        return Err(StoryFault::BadArgument);
-    };
-    let slot = words::slot(slot)?;
-    let value = words::value(alloc, value)?;
-    let gained = insert(log, slot, value)?;
-    print_gained(&gained, log.prefix().len(), output)
-}
-
-fn ask<W: Write>(log: &DecidedLog, words: &[&str], output: &mut W) -> Result<(), StoryFault> {
-    let slot = words::slot(words::only(words)?)?;
-    let count = log.asked(slot)?.len();
-    writeln!(output, "  tells {count}")?;
+// Puts a log of this node in its place.
+fn make(alloc: Global, log: &mut DecidedLog, words: &mut Words<'_>) -> Result<(), RequestFault> {
+    let node = words::node(words)?;
+    drop(mem::replace(log, DecidedLog::new(alloc, node)));
     Ok(())
 }
 
-// Inserts a value, and gives those by which the prefix grows.
-fn insert(log: &mut DecidedLog, slot: Slot, value: Value) -> Result<Vec<Value>, StoryFault> {
+// Inserts the value of a Decided, and gives how long the prefix is then, and the values by which it has grown.
+fn insert(
+    alloc: Global,
+    log: &mut DecidedLog,
+    words: &mut Words<'_>,
+    answer: &mut Answer,
+) -> Result<(), RequestFault> {
+    let message = words::message(alloc, words)?;
+    let slot = message.slot;
+    match message.body {
+        Body::Decided { value } => insert_value(log, slot, value, answer),
+        _ => Err(RequestFault::BadRequest),
+    }
+}
+
+fn insert_value(
+    log: &mut DecidedLog,
+    slot: Slot,
+    value: Value,
+    answer: &mut Answer,
+) -> Result<(), RequestFault> {
     let gained = log.gain(slot, &value)?;
     log.insert(slot, value);
-    Ok(gained)
+    show_gained(&gained, log.prefix().len(), answer)
 }
 
-// Inserts a no-op for each of these slots, and prints by how many values the prefix grew at each, where it is as many.
-fn insert_noops<W: Write>(
-    log: &mut DecidedLog,
-    words: &[&str],
-    output: &mut W,
-) -> Result<(), StoryFault> {
-    let [first, last] = words else {
-        return Err(StoryFault::BadArgument);
-    };
-    let first = words::number(first)?;
-    let last = words::number(last)?;
-    let (wanted, is_same) = noops_grow(log, first, last)?;
-    let words = if is_same { "at each" } else { "at the first" };
-    let len = log.prefix().len();
-    writeln!(output, "  grows by {wanted} {words}, to {len}")?;
-    Ok(())
-}
-
-// By how many values the prefix grows at the first of these slots, and whether it grows by as many at each.
-fn noops_grow(log: &mut DecidedLog, first: u32, last: u32) -> Result<(usize, bool), StoryFault> {
-    let wanted = noop_grows(log, first)?;
-    let mut is_same = true;
-    for number in first..last {
-        let grown = noop_grows(log, number + 1)?;
-        is_same = is_same && grown == wanted;
-    }
-    Ok((wanted, is_same))
-}
-
-fn noop_grows(log: &mut DecidedLog, number: u32) -> Result<usize, StoryFault> {
-    let slot = Slot::new(number).ok_or(StoryFault::BadArgument)?;
-    let gained = insert(log, slot, Value::Noop)?;
-    Ok(gained.len())
-}
-
-fn print_gained<W: Write>(gained: &[Value], len: usize, output: &mut W) -> Result<(), StoryFault> {
-    write!(output, "  grows by")?;
-    if gained.is_empty() {
-        write!(output, " nothing")?;
-    }
+fn show_gained(gained: &[Value], len: usize, answer: &mut Answer) -> Result<(), RequestFault> {
+    answer.number(len as u64)?;
     for value in gained {
-        write!(output, " {value}")?;
+        answer.bytes(value.as_bytes())?;
     }
-    writeln!(output, ", to {len}")?;
     Ok(())
+}
+
+// How many values it tells who asks for them from this slot on.
+fn ask(
+    alloc: Global,
+    log: &DecidedLog,
+    words: &mut Words<'_>,
+    answer: &mut Answer,
+) -> Result<(), RequestFault> {
+    let slot = words::slot(alloc, words)?;
+    let told = log.asked(slot)?;
+    answer.number(told.len() as u64)
+}
+
+// The value of this slot in the prefix, if it goes so far.
+fn holds(
+    alloc: Global,
+    log: &DecidedLog,
+    words: &mut Words<'_>,
+    answer: &mut Answer,
+) -> Result<(), RequestFault> {
+    let slot = words::slot(alloc, words)?;
+    shown::perhaps(log.prefix().get(slot.number() as usize), answer)
 }

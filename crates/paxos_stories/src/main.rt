@@ -1,57 +1,74 @@
-//! Tells stories of the parts of a Paxos node: its acceptor, its proposer, its learner, and its log of decided values;
-//! of what nodes send and keep, as lines and as bytes; and of which histories of messages are lawful.
-//! `paxos_stories FILE ..` prints each file again, and under each of its commands what the command gives now.
+//! Answers requests about the parts of a Paxos node: its acceptor, its proposer, its learner, and its log of decided
+//! values; about what nodes send and keep, as lines and as bytes; and about which histories of messages are lawful.
 //!
-//! A story has lines of four kinds: empty ones; comments, which begin with `#`; commands; and answers, which begin with
-//! two spaces and are passed over, since they are told anew. So a file that tells the truth is printed as it stands.
-//! Slots, nodes and rounds are written in decimal digits, a ballot as its round and its node with a point between them,
-//! a value as `noop` or as the hexadecimal digits of its bytes, and a message as in `node 1 slot 5 Accept 2.1 616263`.
+//! A request of a part has its name, and then the call. What is asked mostly comes as the encoding of a message: an
+//! acceptor is handed Prepares and Accepts, a proposer Promises and Nacks, a learner Accepteds and Decideds, and a log
+//! Decideds. A look at a slot is an Ask. A line comes as its bytes. In an answer a ballot stands as its line, and a value
+//! as its bytes, with `-` for a no-op. `tools/tellers/paxos.py` makes the requests.
 //!
-//! Nothing is claimed here but that telling is safe and ends: what the parts answer is promised by their own crates.
+//! Nothing is claimed here but that answering is safe and ends: what the parts answer is promised by their own crates.
 #![tactic(auto)]
 
 mod acceptors;
 mod encodings;
-mod fault;
-mod hexadecimal;
 mod histories;
-mod kept;
 mod learners;
-mod lines;
 mod logs;
 mod proposers;
-mod several;
-mod story;
+mod shown;
 mod words;
 
-use fault::StoryFault;
-use std::fs;
-use std::io::{BufWriter, Write};
+use crate::histories::History;
+use acceptor::Acceptor;
+use ballots::{Members, NodeId};
+use decided_log::DecidedLog;
+use learner::Learner;
+use proposer::Proposer;
+use std::alloc::Global;
 use std::process::ExitCode;
+use story_requests::{Answer, Answers, RequestFault, Words};
 
 fn main(rt: HostRuntime) -> ExitCode {
-    match tell_all(&rt) {
-        Ok(()) => ExitCode::from(0),
-        Err(fault) => {
-            // Where this fails too, the status alone tells.
-            let _ = eprintln!(rt; "paxos_stories: {fault}");
-            ExitCode::from(1)
+    story_requests::run::<Parts>(&rt)
+}
+
+/// The parts that are asked: those of node 0 of one, and a history of one member, until others are made.
+#[derive(Drop)]
+struct Parts {
+    acceptor: Acceptor,
+    proposer: Proposer,
+    learner: Learner,
+    log: DecidedLog,
+    history: History,
+}
+
+impl Answers for Parts {
+    fn new(alloc: Global) -> Result<Parts, RequestFault> {
+        let node = NodeId::new(0).unwrap();
+        let members = Members::new(1).unwrap();
+        Ok(Parts {
+            acceptor: Acceptor::new(alloc),
+            proposer: Proposer::new(node, members, 0),
+            learner: Learner::new(alloc, members),
+            log: DecidedLog::new(alloc, node),
+            history: History::new(alloc, members),
+        })
+    }
+
+    fn answer(
+        &mut self,
+        alloc: Global,
+        asked: &str,
+        words: &mut Words<'_>,
+        answer: &mut Answer,
+    ) -> Result<(), RequestFault> {
+        match asked {
+            "acceptor" => acceptors::answer(alloc, &mut self.acceptor, words, answer),
+            "proposer" => proposers::answer(alloc, &mut self.proposer, words, answer),
+            "learner" => learners::answer(alloc, &mut self.learner, words, answer),
+            "log" => logs::answer(alloc, &mut self.log, words, answer),
+            "history" => histories::answer(alloc, &mut self.history, words, answer),
+            _ => encodings::answer(alloc, asked, words, answer),
         }
     }
-}
-
-fn tell_all(rt: &HostRuntime) -> Result<(), StoryFault> {
-    let alloc = rt.alloc();
-    let words: Vec<String> = std::env::args(rt)?.collect(alloc)?;
-    let mut output = BufWriter::new(alloc, rt.stdout())?;
-    for path in words.iter().skip(1) {
-        tell_file(rt, path.as_str(), &mut output)?;
-    }
-    output.flush()?;
-    Ok(())
-}
-
-fn tell_file<W: Write>(rt: &HostRuntime, path: &str, output: &mut W) -> Result<(), StoryFault> {
-    let text = fs::read_to_string(rt, path)?;
-    story::tell(rt.alloc(), text.as_str(), output)
 }

@@ -1,159 +1,161 @@
 //! The calls of a proposer (Lamport, *Paxos Made Simple*, section 2.2). Each is told beforehand what it will give.
 
-use crate::fault::StoryFault;
-use crate::words;
-use ballots::{Acceptance, Ballot, NodeId, Slot, Value};
+use crate::{shown, words};
+use ballots::{Acceptance, Ballot, Body, NodeId, Slot, Value};
 use proposer::{Proposer, RoundsSpent};
 use std::alloc::Global;
-use std::io::Write;
+use std::mem;
+use story_requests::{Answer, RequestFault, Words};
 
-/// A proposer that is this node of so many members, and has begun ballots up to this round.
-pub(crate) fn new(words: &[&str]) -> Result<Proposer, StoryFault> {
-    let [node, members, round] = words else {
-        return Err(StoryFault::BadArgument);
-    };
-    let node = words::node(node)?;
-    let members = words::members(members)?;
-    let round = words::number(round)?;
-    Ok(Proposer::new(node, members, round))
-}
-
-/// Makes the call, and prints what it gives.
-pub(crate) fn call<W: Write>(
+/// Answers a call of the proposer.
+pub(crate) fn answer(
     alloc: Global,
     proposer: &mut Proposer,
-    call: &str,
-    rest: &[&str],
-    output: &mut W,
-) -> Result<(), StoryFault> {
-    match call {
-        "begin" => begin(alloc, proposer, rest, output),
-        "promise" => promise(alloc, proposer, rest, output),
-        "nack" => nack(proposer, rest, output),
-        "attempt" => print_attempt(proposer, output),
-        _ => Err(StoryFault::NoCommand),
+    words: &mut Words<'_>,
+    answer: &mut Answer,
+) -> Result<(), RequestFault> {
+    match words.next() {
+        "new" => make(proposer, words),
+        "begin" => begin(alloc, proposer, words, answer),
+        "hand" => tell(alloc, proposer, words, answer),
+        "attempt" => attempt(alloc, proposer, answer),
+        _ => Err(RequestFault::BadRequest),
     }
 }
 
-fn begin<W: Write>(
+// Puts a proposer in its place: its node, how many members there are, and the highest round that it has begun.
+fn make(proposer: &mut Proposer, words: &mut Words<'_>) -> Result<(), RequestFault> {
+    let node = words::node(words)?;
+    let members = words::members(words)?;
+    let round = words::number(words)?;
+    drop(mem::replace(proposer, Proposer::new(node, members, round)));
+    Ok(())
+}
+
+// Begins an attempt: the highest round that was seen, and a Decided of the slot and the proposer's own value.
+fn begin(
     alloc: Global,
     proposer: &mut Proposer,
-    words: &[&str],
-    output: &mut W,
-) -> Result<(), StoryFault> {
-    let [slot, seen, candidate] = words else {
-        return Err(StoryFault::BadArgument);
-    };
-    let slot = words::slot(slot)?;
-    let seen = words::number(seen)?;
-    let candidate = words::value(alloc, candidate)?;
+    words: &mut Words<'_>,
+    answer: &mut Answer,
+) -> Result<(), RequestFault> {
+    let seen = words::number(words)?;
+    let message = words::message(alloc, words)?;
+    let slot = message.slot;
+    match message.body {
+        Body::Decided { value } => begin_with(alloc, proposer, slot, seen, value, answer),
+        _ => Err(RequestFault::BadRequest),
+    }
+}
+
+fn begin_with(
+    alloc: Global,
+    proposer: &mut Proposer,
+    slot: Slot,
+    seen: u32,
+    candidate: Value,
+    answer: &mut Answer,
+) -> Result<(), RequestFault> {
     let foretold = proposer.see_begin(slot, seen, &candidate);
     let begun = proposer.begin(slot, seen, candidate);
-    print_begun(foretold, begun, output)
+    show_begun(alloc, foretold, begun, answer)
 }
 
-fn nack<W: Write>(
-    proposer: &mut Proposer,
-    words: &[&str],
-    output: &mut W,
-) -> Result<(), StoryFault> {
-    let [slot, ballot] = words else {
-        return Err(StoryFault::BadArgument);
-    };
-    let slot = words::slot(slot)?;
-    let ballot = words::ballot(ballot)?;
-    // Foretold there is nothing.
-    proposer.see_on_nack(slot, ballot);
-    proposer.on_nack(slot, ballot);
-    print_attempt(proposer, output)
-}
-
-fn print_begun<W: Write>(
+fn show_begun(
+    alloc: Global,
     foretold: Result<Ballot, RoundsSpent>,
     begun: Result<Ballot, RoundsSpent>,
-    output: &mut W,
-) -> Result<(), StoryFault> {
+    answer: &mut Answer,
+) -> Result<(), RequestFault> {
     if foretold != begun {
-        return Err(StoryFault::ForetoldOtherwise);
+        return answer.word("ForetoldOtherwise");
     }
     match begun {
-        Ok(ballot) => writeln!(output, "  begins {ballot}")?,
-        Err(fault) => writeln!(output, "  {fault}")?,
+        Ok(ballot) => shown::ballot(alloc, ballot, answer),
+        Err(fault) => {
+            let name = fault.to_string(alloc)?;
+            answer.word(name.as_str())
+        }
     }
-    Ok(())
 }
 
-fn promise<W: Write>(
+// Tells it a Promise, and gives what it asks to accept; or a Nack, of which nothing is foretold.
+fn tell(
     alloc: Global,
     proposer: &mut Proposer,
-    words: &[&str],
-    output: &mut W,
-) -> Result<(), StoryFault> {
-    let [sender, slot, ballot, report @ ..] = words else {
-        return Err(StoryFault::BadArgument);
-    };
-    let sender = words::node(sender)?;
-    let slot = words::slot(slot)?;
-    let ballot = words::ballot(ballot)?;
-    let report = report_of(alloc, report)?;
-    let given = give(proposer, sender, slot, ballot, report)?;
-    print_accept(&given, output)
+    words: &mut Words<'_>,
+    answer: &mut Answer,
+) -> Result<(), RequestFault> {
+    let message = words::message(alloc, words)?;
+    let sender = message.sender;
+    let slot = message.slot;
+    match &message.body {
+        Body::Promise { ballot, report } => {
+            promise(alloc, proposer, (sender, slot, *ballot), report, answer)
+        }
+        Body::Nack { ballot, .. } => nack(alloc, proposer, slot, *ballot, answer),
+        _ => Err(RequestFault::BadRequest),
+    }
 }
 
-// What the promise gives, and was foretold to give.
-fn give(
+fn nack(
+    alloc: Global,
     proposer: &mut Proposer,
-    sender: NodeId,
     slot: Slot,
     ballot: Ballot,
-    report: Option<Acceptance>,
-) -> Result<Option<(Slot, Ballot, Value)>, StoryFault> {
-    let foretold = proposer.see_on_promise(sender, slot, ballot, &report)?;
-    let given = proposer.on_promise(sender, slot, ballot, report);
+    answer: &mut Answer,
+) -> Result<(), RequestFault> {
+    proposer.see_on_nack(slot, ballot);
+    proposer.on_nack(slot, ballot);
+    attempt(alloc, proposer, answer)
+}
+
+fn promise(
+    alloc: Global,
+    proposer: &mut Proposer,
+    (sender, slot, ballot): (NodeId, Slot, Ballot),
+    report: &Option<Acceptance>,
+    answer: &mut Answer,
+) -> Result<(), RequestFault> {
+    let foretold = proposer.see_on_promise(sender, slot, ballot, report)?;
+    let given = proposer.on_promise(sender, slot, ballot, report.clone()?);
     if foretold != given {
-        return Err(StoryFault::ForetoldOtherwise);
+        return answer.word("ForetoldOtherwise");
     }
-    Ok(given)
+    show_accept(alloc, &given, answer)
 }
 
-fn report_of(alloc: Global, words: &[&str]) -> Result<Option<Acceptance>, StoryFault> {
-    match words {
-        [] => Ok(None),
-        [ballot, value] => {
-            let ballot = words::ballot(ballot)?;
-            let value = words::value(alloc, value)?;
-            Ok(Some(Acceptance { ballot, value }))
-        }
-        _ => Err(StoryFault::BadArgument),
-    }
-}
-
-fn print_accept<W: Write>(
+fn show_accept(
+    alloc: Global,
     accept: &Option<(Slot, Ballot, Value)>,
-    output: &mut W,
-) -> Result<(), StoryFault> {
+    answer: &mut Answer,
+) -> Result<(), RequestFault> {
     match accept {
         Some((slot, ballot, value)) => {
-            let slot = slot.number();
-            writeln!(output, "  asks to accept {value} for {slot} at {ballot}")?
+            show_place(alloc, *slot, *ballot, answer)?;
+            answer.bytes(value.as_bytes())
         }
-        None => writeln!(output, "  nothing")?,
+        None => Ok(()),
     }
-    Ok(())
 }
 
-fn print_attempt<W: Write>(proposer: &Proposer, output: &mut W) -> Result<(), StoryFault> {
-    let word = if proposer.has_majority() {
-        "has"
-    } else {
-        "lacks"
-    };
+fn show_place(
+    alloc: Global,
+    slot: Slot,
+    ballot: Ballot,
+    answer: &mut Answer,
+) -> Result<(), RequestFault> {
+    answer.number(u64::from(slot.number()))?;
+    shown::ballot(alloc, ballot, answer)
+}
+
+// The slot and the ballot of the attempt that is open, if any, and whether it has its majority.
+fn attempt(alloc: Global, proposer: &Proposer, answer: &mut Answer) -> Result<(), RequestFault> {
     match proposer.attempt() {
         Some((slot, ballot)) => {
-            let slot = slot.number();
-            writeln!(output, "  for {slot} at {ballot}, {word} its majority")?
+            show_place(alloc, slot, ballot, answer)?;
+            shown::whether(proposer.has_majority(), answer)
         }
-        None => writeln!(output, "  none")?,
+        None => Ok(()),
     }
-    Ok(())
 }

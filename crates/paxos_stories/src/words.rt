@@ -1,51 +1,45 @@
-//! What the words behind a command name.
+//! What words of a request stand for.
 
-use crate::fault::StoryFault;
-use ballots::{Ballot, Members, NodeId, Slot, Value};
+use ballots::{Members, Message, NodeId, Slot};
 use std::alloc::Global;
-use std::str::FromStr;
+use story_requests::{RequestFault, Words};
 
-/// The one word that there is.
-pub(crate) fn only<'a>(words: &[&'a str]) -> Result<&'a str, StoryFault> {
-    match words {
-        [word] => Ok(*word),
-        _ => Err(StoryFault::BadArgument),
+/// The message whose encoding the next word is.
+pub(crate) fn message(alloc: Global, words: &mut Words<'_>) -> Result<Message, RequestFault> {
+    let bytes = words.bytes(alloc)?;
+    match Message::decode(alloc, &bytes) {
+        Ok(message) => Ok(message),
+        Err(_) => Err(RequestFault::BadRequest),
     }
 }
 
-pub(crate) fn number(word: &str) -> Result<u32, StoryFault> {
-    match word.parse::<u32>() {
+/// The slot of that message.
+pub(crate) fn slot(alloc: Global, words: &mut Words<'_>) -> Result<Slot, RequestFault> {
+    let message = message(alloc, words)?;
+    Ok(message.slot)
+}
+
+/// The next word as a number of 32 bits.
+pub(crate) fn number(words: &mut Words<'_>) -> Result<u32, RequestFault> {
+    match u32::try_from(words.number()?) {
         Ok(number) => Ok(number),
-        Err(_) => Err(StoryFault::BadArgument),
+        Err(_) => Err(RequestFault::BadRequest),
     }
 }
 
-fn byte(word: &str) -> Result<u8, StoryFault> {
-    match word.parse::<u8>() {
+fn byte(words: &mut Words<'_>) -> Result<u8, RequestFault> {
+    match u8::try_from(words.number()?) {
         Ok(number) => Ok(number),
-        Err(_) => Err(StoryFault::BadArgument),
+        Err(_) => Err(RequestFault::BadRequest),
     }
 }
 
-pub(crate) fn slot(word: &str) -> Result<Slot, StoryFault> {
-    let number = number(word)?;
-    Slot::new(number).ok_or(StoryFault::BadArgument)
+/// The node whose number the next word is.
+pub(crate) fn node(words: &mut Words<'_>) -> Result<NodeId, RequestFault> {
+    NodeId::new(byte(words)?).ok_or(RequestFault::BadRequest)
 }
 
-pub(crate) fn node(word: &str) -> Result<NodeId, StoryFault> {
-    let number = byte(word)?;
-    NodeId::new(number).ok_or(StoryFault::BadArgument)
-}
-
-pub(crate) fn members(word: &str) -> Result<Members, StoryFault> {
-    let number = byte(word)?;
-    Members::new(number).ok_or(StoryFault::BadArgument)
-}
-
-pub(crate) fn ballot(word: &str) -> Result<Ballot, StoryFault> {
-    Ok(Ballot::from_str(word)?)
-}
-
-pub(crate) fn value(alloc: Global, word: &str) -> Result<Value, StoryFault> {
-    Ok(Value::from_str(alloc, word)?)
+/// As many members as the next word says.
+pub(crate) fn members(words: &mut Words<'_>) -> Result<Members, RequestFault> {
+    Members::new(byte(words)?).ok_or(RequestFault::BadRequest)
 }
