@@ -1,27 +1,26 @@
-//! Tells stories of uploads, of tickets, and of the tables that agreed values make. `table_stories FILE ..` prints each
-//! file again, and under each of its commands what the command gives now.
+//! Answers requests about uploads, tickets, and the tables that agreed values make. `story_requests` says what a request
+//! and an answer are; a table's name is given and told as bytes.
 //!
-//! `upload NAME BYTES` names bytes, and tells the upload that they are, if they are one; behind `| COUNT` stand bytes
-//! that come so often behind the others. `cut NAME COUNT` tells the same of the first bytes, and `change NAME PLACE BYTE`
-//! of the bytes with another one at a place. `ticket VERSION TABLE` writes a ticket, and `read-ticket BYTES` reads one.
+//! `upload BYTES` tells the upload that the bytes are: its table, its own name, the length of its schema's header, the
+//! number of its batches, and the names of its columns; or `NotAnUpload`. `ticket VERSION TABLE` gives the bytes of a
+//! ticket, `none` where there is none such, and `read-ticket BYTES` the version and the table of one, or `BadTicket`.
 //!
-//! `new` begins with tables of no values. `take NAME ..` hands in the values of these names, `noop` being the one for
-//! nothing. `outcome NAME ..` tells what has become of uploads, `tables` the names of the tables, and `latest TABLE` a
-//! table's latest version. `answer VERSION TABLE` tells how long the frames of an answer are, and the MD5 of all its
-//! bytes (RFC 1321); `frames VERSION TABLE` tells the frames themselves.
+//! `new` begins with tables of no values. `take BYTES ..` hands in values, no bytes being the one for nothing, and tells how
+//! many were taken in all. `outcome BYTES` tells what has become of an upload, and `tables` the names of the tables. `latest
+//! TABLE` tells a table's latest version, its rows, the bytes of its answer and its schema, and `answer VERSION TABLE` the
+//! bytes that answer a ticket; each `none` where there is no such version.
 //!
-//! Nothing is claimed here but that telling is safe and ends: what is told is promised by the crates that do it.
+//! Nothing is claimed here but that answering is safe and ends: what is told is promised by the crates that do it.
 #![tactic(auto)]
 
-mod answers;
-mod named;
+mod asked;
 mod story;
-mod tickets_told;
+mod told;
 
 use std::process::ExitCode;
 use story::Story;
-use story_words::run;
+use story_requests::run;
 
 fn main(rt: HostRuntime) -> ExitCode {
-    run::<Story>(&rt, "table_stories")
+    run::<Story>(&rt)
 }

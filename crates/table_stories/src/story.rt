@@ -1,31 +1,23 @@
-//! A story: the bytes that it has named, and tables that have taken some of them.
+//! Tables that have taken some values, and what is asked of them.
 
-use crate::answers::{push_name, push_outcome, tell_bytes, tell_frames, tell_info, tell_lengths};
-use crate::named::{Named, changed, cut, found, name_bytes, upload_of, value_of};
-use crate::tickets_told;
-use ballots::Value;
-use bytes::Bytes;
+use crate::asked::{table_of, ticket_of, upload_of, values_of};
+use crate::told::{tell_info, tell_outcome, tell_ticket, tell_upload};
 use std::alloc::{AllocError, Global};
 use std::hash::RandomState;
 use std::io;
 use std::random::RandomSource;
-use story_words::{StoryFault, Teller, split_word};
+use story_requests::{Answer, Answers, RequestFault, Words};
 use table_versions::Tables;
+use tickets::{Ticket, TicketFault};
 
 /// The most values that tables take.
 const MAX_VALUES: u64 = 1_000_000;
 
-/// Who has named bytes, and tables.
+/// Who has tables.
 #[derive(Drop)]
 pub(crate) struct Story {
     hashing: RandomState,
-    names: Vec<Named>,
     tables: Box<Tables>,
-}
-
-fn push<T: Drop>(items: &mut Vec<T>, item: T) -> Result<(), AllocError> {
-    items.push(item)?;
-    Ok(())
 }
 
 // Tables of no values.
@@ -34,211 +26,101 @@ fn no_tables(alloc: Global, hashing: RandomState) -> Result<Box<Tables>, AllocEr
     Ok(tables)
 }
 
-fn value_named(names: &[Named], name: &str) -> Result<Value, StoryFault> {
-    if name == "noop" {
-        return Ok(Value::Noop);
+fn read_upload(
+    alloc: Global,
+    words: &mut Words<'_>,
+    answer: &mut Answer,
+) -> Result<(), RequestFault> {
+    match &upload_of(alloc, words)? {
+        Some(upload) => tell_upload(alloc, upload, answer),
+        None => answer.word("NotAnUpload"),
     }
-    value_of(found(names, name)?)
 }
 
-fn push_value(values: &mut Vec<Value>, names: &[Named], name: &str) -> Result<(), StoryFault> {
-    let value = value_named(names, name)?;
-    Ok(push(values, value)?)
-}
-
-fn values_of(alloc: Global, names: &[Named], words: &str) -> Result<Vec<Value>, StoryFault> {
-    let mut values = Vec::new(alloc);
-    for name in words.split_whitespace() {
-        push_value(&mut values, names, name)?;
+fn write_ticket(
+    alloc: Global,
+    words: &mut Words<'_>,
+    answer: &mut Answer,
+) -> Result<(), RequestFault> {
+    match &ticket_of(alloc, words)? {
+        Some(ticket) => answer.bytes(ticket.encode(alloc)?.as_slice()),
+        None => answer.word("none"),
     }
-    Ok(values)
 }
 
-// Hands the values in.
-fn take_all(tables: &mut Tables, values: &[Value]) -> Result<(), StoryFault> {
-    let taken = tables.taken();
-    if taken > MAX_VALUES || values.len() as u64 > MAX_VALUES - taken {
-        return Err(StoryFault::BadArgument);
+fn read_ticket(
+    alloc: Global,
+    words: &mut Words<'_>,
+    answer: &mut Answer,
+) -> Result<(), RequestFault> {
+    let bytes = words.bytes(alloc)?;
+    match Ticket::decode(alloc, bytes.as_slice()) {
+        Ok(ticket) => tell_ticket(&ticket, answer),
+        Err(TicketFault::BadTicket) => answer.word("BadTicket"),
+        Err(TicketFault::OutOfMemory) => Err(RequestFault::OutOfMemory),
     }
-    let ready = tables.ready(values)?;
-    tables.apply(ready);
-    Ok(())
 }
 
-// Hands in the values of these names, and tells how many were taken in all.
 fn take(
     alloc: Global,
     tables: &mut Tables,
-    names: &[Named],
-    words: &str,
-    told: &mut String,
-) -> Result<(), StoryFault> {
-    let values = values_of(alloc, names, words)?;
-    take_all(tables, values.as_slice())?;
+    words: &mut Words<'_>,
+    answer: &mut Answer,
+) -> Result<(), RequestFault> {
+    let values = values_of(alloc, words)?;
     let taken = tables.taken();
-    Ok(writeln!(told, "  taken {taken}")?)
+    if taken > MAX_VALUES || values.len() as u64 > MAX_VALUES - taken {
+        return Err(RequestFault::BadRequest);
+    }
+    let ready = tables.ready(values.as_slice())?;
+    tables.apply(ready);
+    answer.number(tables.taken())
 }
 
-// Names the bytes of the words, and tells which upload they are.
-fn tell_named(
-    alloc: Global,
-    names: &mut Vec<Named>,
-    words: &str,
-    told: &mut String,
-) -> Result<(), StoryFault> {
-    let named = name_bytes(alloc, words)?;
-    tell_bytes(alloc, &named.bytes, told)?;
-    Ok(push(names, named)?)
-}
-
-fn tell_cut(
-    alloc: Global,
-    names: &[Named],
-    words: &str,
-    told: &mut String,
-) -> Result<(), StoryFault> {
-    let (name, count) = split_word(words);
-    let bytes = found(names, name)?;
-    let front = cut(alloc, bytes.as_slice(), count)?;
-    Ok(tell_bytes(alloc, &front, told)?)
-}
-
-fn tell_changed(
-    alloc: Global,
-    names: &[Named],
-    words: &str,
-    told: &mut String,
-) -> Result<(), StoryFault> {
-    let (name, rest) = split_word(words);
-    let bytes = found(names, name)?;
-    let other = changed(alloc, bytes.as_slice(), rest)?;
-    Ok(tell_bytes(alloc, &other, told)?)
-}
-
-fn tell_outcome(
+fn outcome(
     alloc: Global,
     tables: &Tables,
-    bytes: &Bytes,
-    told: &mut String,
-) -> Result<(), StoryFault> {
-    let upload = upload_of(alloc, bytes)?;
-    match &upload {
-        Some(upload) => Ok(push_outcome(told, tables.outcome(upload))?),
-        None => Err(StoryFault::BadArgument),
+    words: &mut Words<'_>,
+    answer: &mut Answer,
+) -> Result<(), RequestFault> {
+    match &upload_of(alloc, words)? {
+        Some(upload) => tell_outcome(tables.outcome(upload), answer),
+        None => Err(RequestFault::BadRequest),
     }
 }
 
-fn tell_outcomes(
-    alloc: Global,
-    tables: &Tables,
-    names: &[Named],
-    words: &str,
-    told: &mut String,
-) -> Result<(), StoryFault> {
-    told.push(' ')?;
-    for name in words.split_whitespace() {
-        tell_outcome(alloc, tables, found(names, name)?, told)?;
-    }
-    Ok(told.push('\n')?)
-}
-
-fn tell_names(names: &[String], told: &mut String) -> Result<(), AllocError> {
-    if names.is_empty() {
-        return told.push_str("  none\n");
-    }
-    told.push(' ')?;
-    for name in names {
-        push_name(told, name.as_str())?;
-    }
-    told.push('\n')
-}
-
-fn tell_tables(tables: &Tables, told: &mut String) -> Result<(), AllocError> {
+fn names(tables: &Tables, answer: &mut Answer) -> Result<(), RequestFault> {
     let names = tables.tables()?;
-    tell_names(names.as_slice(), told)
+    for name in &names {
+        answer.bytes(name.as_bytes())?;
+    }
+    Ok(())
 }
 
-fn tell_latest(
+fn latest(
     alloc: Global,
     tables: &Tables,
-    table: &str,
-    told: &mut String,
-) -> Result<(), AllocError> {
-    let latest = tables.latest(table)?;
-    match &latest {
-        Some(info) => tell_info(alloc, info, told),
-        None => told.push_str("  none\n"),
+    words: &mut Words<'_>,
+    answer: &mut Answer,
+) -> Result<(), RequestFault> {
+    let table = table_of(alloc, words)?;
+    match &tables.latest(table.as_str())? {
+        Some(info) => tell_info(info, answer),
+        None => answer.word("none"),
     }
 }
 
-// The answer to the ticket of the words, where the table has such a version.
-fn answered(alloc: Global, tables: &Tables, words: &str) -> Result<Option<Vec<u8>>, StoryFault> {
-    let ticket = tickets_told::ticket_of(alloc, words)?;
-    match &ticket {
-        Some(ticket) => Ok(tables.answer(ticket)?),
-        None => Err(StoryFault::BadArgument),
-    }
-}
-
-fn tell_answer(
-    alloc: Global,
+fn answered(
     tables: &Tables,
-    words: &str,
-    told: &mut String,
-) -> Result<(), StoryFault> {
-    let answer = answered(alloc, tables, words)?;
-    match &answer {
-        Some(bytes) => Ok(tell_lengths(alloc, bytes.as_slice(), told)?),
-        None => Ok(told.push_str("  none\n")?),
-    }
-}
-
-fn tell_answer_frames(
-    alloc: Global,
-    tables: &Tables,
-    words: &str,
-    told: &mut String,
-) -> Result<(), StoryFault> {
-    let answer = answered(alloc, tables, words)?;
-    match &answer {
-        Some(bytes) => Ok(tell_frames(alloc, bytes.as_slice(), told)?),
-        None => Ok(told.push_str("  none\n")?),
-    }
-}
-
-// What a command gives that asks the tables.
-fn tell_of_tables(
-    alloc: Global,
-    tables: &Tables,
-    word: &str,
-    rest: &str,
-    told: &mut String,
-) -> Result<(), StoryFault> {
-    match word {
-        "tables" => Ok(tell_tables(tables, told)?),
-        "latest" => Ok(tell_latest(alloc, tables, rest, told)?),
-        "answer" => tell_answer(alloc, tables, rest, told),
-        "frames" => tell_answer_frames(alloc, tables, rest, told),
-        _ => Err(StoryFault::NoCommand),
-    }
-}
-
-// What a command gives that asks what names or digits mean, or the tables.
-fn tell(
-    alloc: Global,
-    story: &Story,
-    word: &str,
-    rest: &str,
-    told: &mut String,
-) -> Result<(), StoryFault> {
-    let names = story.names.as_slice();
-    match word {
-        "cut" => tell_cut(alloc, names, rest, told),
-        "change" => tell_changed(alloc, names, rest, told),
-        "ticket" => tickets_told::write(alloc, rest, told),
-        "read-ticket" => tickets_told::read(alloc, rest, told),
-        "outcome" => tell_outcomes(alloc, &story.tables, names, rest, told),
-        _ => tell_of_tables(alloc, &story.tables, word, rest, told),
+    ticket: &Option<Ticket>,
+    answer: &mut Answer,
+) -> Result<(), RequestFault> {
+    let Some(ticket) = ticket else {
+        return Err(RequestFault::BadRequest);
+    };
+    match &tables.answer(ticket)? {
+        Some(bytes) => answer.bytes(bytes.as_slice()),
+        None => answer.word("none"),
     }
 }
 
@@ -251,32 +133,34 @@ impl RandomSource for NoKeys {
     }
 }
 
-impl Teller for Story {
-    // That has named nothing, with tables of no values.
-    fn new(alloc: Global) -> Result<Story, StoryFault> {
+impl Answers for Story {
+    fn new(alloc: Global) -> Result<Story, RequestFault> {
         let hashing = RandomState::new(&NoKeys)?;
-        Ok(Story {
-            hashing,
-            names: Vec::new(alloc),
-            tables: no_tables(alloc, hashing)?,
-        })
+        let tables = no_tables(alloc, hashing)?;
+        Ok(Story { hashing, tables })
     }
 
     fn answer(
         &mut self,
         alloc: Global,
-        command: &str,
-        told: &mut String,
-    ) -> Result<(), StoryFault> {
-        let (word, rest) = split_word(command);
-        match word {
-            "upload" => tell_named(alloc, &mut self.names, rest, told),
-            "take" => take(alloc, &mut self.tables, self.names.as_slice(), rest, told),
+        asked: &str,
+        words: &mut Words<'_>,
+        answer: &mut Answer,
+    ) -> Result<(), RequestFault> {
+        match asked {
+            "upload" => read_upload(alloc, words, answer),
+            "ticket" => write_ticket(alloc, words, answer),
+            "read-ticket" => read_ticket(alloc, words, answer),
             "new" => {
                 self.tables = no_tables(alloc, self.hashing)?;
                 Ok(())
             }
-            _ => tell(alloc, self, word, rest, told),
+            "take" => take(alloc, &mut self.tables, words, answer),
+            "outcome" => outcome(alloc, &self.tables, words, answer),
+            "tables" => names(&self.tables, answer),
+            "latest" => latest(alloc, &self.tables, words, answer),
+            "answer" => answered(&self.tables, &ticket_of(alloc, words)?, answer),
+            _ => Err(RequestFault::BadRequest),
         }
     }
 }

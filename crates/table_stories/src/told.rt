@@ -1,0 +1,53 @@
+//! The words of what is told.
+
+use std::alloc::Global;
+use story_requests::{Answer, RequestFault};
+use table_versions::{Outcome, TableInfo};
+use tickets::Ticket;
+use uploads::Upload;
+
+fn tell_columns(alloc: Global, upload: &Upload, answer: &mut Answer) -> Result<(), RequestFault> {
+    let schema = upload.schema(alloc)?;
+    for field in &schema.fields {
+        answer.bytes(field.name.as_bytes())?;
+    }
+    Ok(())
+}
+
+/// Tells the parts of an upload.
+pub(crate) fn tell_upload(
+    alloc: Global,
+    upload: &Upload,
+    answer: &mut Answer,
+) -> Result<(), RequestFault> {
+    answer.bytes(upload.table().as_bytes())?;
+    answer.bytes(&upload.id())?;
+    answer.number(upload.schema_bytes().len() as u64)?;
+    answer.number(upload.batch_count() as u64)?;
+    tell_columns(alloc, upload, answer)
+}
+
+/// Tells what has become of an upload.
+pub(crate) fn tell_outcome(outcome: Outcome, answer: &mut Answer) -> Result<(), RequestFault> {
+    match outcome {
+        Outcome::Applied(version) => answer.number(version),
+        Outcome::SchemaMismatch => answer.word("SchemaMismatch"),
+        Outcome::Conflict => answer.word("Conflict"),
+        Outcome::Unknown => answer.word("Unknown"),
+    }
+}
+
+/// Tells the latest version of a table.
+pub(crate) fn tell_info(info: &TableInfo, answer: &mut Answer) -> Result<(), RequestFault> {
+    answer.bytes(info.table.as_bytes())?;
+    answer.number(info.version)?;
+    answer.number(info.records)?;
+    answer.number(info.total_bytes)?;
+    answer.bytes(info.schema.as_slice())
+}
+
+/// Tells the version and the table of a ticket.
+pub(crate) fn tell_ticket(ticket: &Ticket, answer: &mut Answer) -> Result<(), RequestFault> {
+    answer.number(ticket.version())?;
+    answer.bytes(ticket.table().as_bytes())
+}
