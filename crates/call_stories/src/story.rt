@@ -1,151 +1,76 @@
-//! A story: the bytes that it has named, and a backend that has taken some uploads.
+//! A backend that has taken some uploads, and calls that it serves.
 
-use crate::answers::{frames_told, push_handed, refusal_told};
-use crate::calls::call_of;
-use crate::shelf::{Named, name_bytes};
+use crate::asked::{input_of, texts_of};
 use flight_calls::{CallFault, serve_call};
 use std::alloc::{AllocError, Global};
 use std::hash::RandomState;
 use std::io;
 use std::random::RandomSource;
-use story_words::{StoryFault, Teller, number_of, split_word};
+use story_requests::{Answer, Answers, RequestFault, Words};
 use table_backend::TableBackend;
+use uploads::Upload;
 
-/// Who has named bytes, and a backend.
+/// Who has a backend.
 #[derive(Drop)]
 pub(crate) struct Story {
     hashing: RandomState,
-    names: Vec<Named>,
-    backend: TableBackend,
+    backend: Box<TableBackend>,
 }
 
-fn push_named(names: &mut Vec<Named>, named: Named) -> Result<(), AllocError> {
-    names.push(named)?;
-    Ok(())
+fn backend_of(
+    alloc: Global,
+    hashing: RandomState,
+    slots: u64,
+    locations: Vec<String>,
+) -> Result<Box<TableBackend>, AllocError> {
+    let backend = TableBackend::new(alloc, hashing, slots, locations);
+    let backend = Box::new(alloc, backend)?;
+    Ok(backend)
 }
 
-fn texts(alloc: Global, words: &str) -> Result<Vec<String>, AllocError> {
-    let mut texts = Vec::new(alloc);
-    for word in words.split_whitespace() {
-        let text = String::from_str(alloc, word)?;
-        texts.push(text)?;
-    }
-    Ok(texts)
-}
-
-// The answer to a call of these bytes, and how many of them are left behind it.
+// Serves a call, and gives how many bytes of its input were left.
 fn served(
     alloc: Global,
     backend: &mut TableBackend,
-    call: &[u8],
-) -> Result<(Vec<u8>, usize), StoryFault> {
-    let mut input = call;
-    let mut output = Vec::new(alloc);
-    match serve_call(alloc, &mut input, &mut output, backend) {
-        Ok(()) => Ok((output, input.len())),
-        Err(CallFault::OutOfMemory) => Err(StoryFault::OutOfMemory),
-        Err(_) => Err(StoryFault::Io),
+    input: &[u8],
+    output: &mut Vec<u8>,
+) -> Result<usize, RequestFault> {
+    let mut rest = input;
+    match serve_call(alloc, &mut rest, output, backend) {
+        Ok(()) => Ok(rest.len()),
+        Err(CallFault::OutOfMemory) => Err(RequestFault::OutOfMemory),
+        Err(_) => Err(RequestFault::Io),
     }
 }
 
-fn push_left(alloc: Global, lines: &mut String, left: usize) -> Result<(), AllocError> {
-    if left == 0 {
-        return Ok(());
+fn tell_names(handed: &[Upload], answer: &mut Answer) -> Result<(), RequestFault> {
+    for upload in handed {
+        answer.bytes(&upload.id())?;
     }
-    let line = format!(in alloc; "  left {left}\n")?;
-    lines.push_str(line.as_str())
+    Ok(())
 }
 
-// Puts a line for the beginnings of these lengths, which are told the same.
-fn push_range(
+fn call(
     alloc: Global,
-    lines: &mut String,
-    first: usize,
-    last: usize,
-    told: &str,
-) -> Result<(), AllocError> {
-    let line = format!(in alloc; "  {first} to {last}: {told}\n")?;
-    lines.push_str(line.as_str())
+    backend: &mut TableBackend,
+    words: &mut Words<'_>,
+    answer: &mut Answer,
+) -> Result<(), RequestFault> {
+    let input = input_of(alloc, words)?;
+    let before = backend.handed().len();
+    let mut output = Vec::new(alloc);
+    let left = served(alloc, backend, input.as_slice(), &mut output)?;
+    answer.bytes(output.as_slice())?;
+    answer.number(left as u64)?;
+    tell_names(backend.handed().get(before..).unwrap_or(&[]), answer)
 }
 
 impl Story {
-    fn name(&mut self, alloc: Global, words: &str) -> Result<String, StoryFault> {
-        let named = name_bytes(alloc, words)?;
-        push_named(&mut self.names, named)?;
-        Ok(String::new(alloc))
-    }
-
-    fn begin(&mut self, alloc: Global, words: &str) -> Result<String, StoryFault> {
-        let (slots, rest) = split_word(words);
-        let slots = number_of(slots)? as u64;
-        let locations = texts(alloc, rest)?;
-        self.backend = TableBackend::new(alloc, self.hashing, slots, locations);
-        Ok(String::new(alloc))
-    }
-
-    // Serves a call, and gives its answer and how many bytes were left.
-    fn serve(&mut self, alloc: Global, call: &[u8]) -> Result<String, StoryFault> {
-        let before = self.backend.handed().len();
-        let (answer, left) = served(alloc, &mut self.backend, call)?;
-        let mut lines = frames_told(alloc, answer.as_slice())?;
-        push_left(alloc, &mut lines, left)?;
-        let handed = self.backend.handed().get(before..).unwrap_or(&[]);
-        push_handed(alloc, &mut lines, handed)?;
-        Ok(lines)
-    }
-
-    fn call(&mut self, alloc: Global, words: &str) -> Result<String, StoryFault> {
-        let call = call_of(alloc, self.names.as_slice(), words)?;
-        self.serve(alloc, call.as_slice())
-    }
-
-    fn refusal(&mut self, alloc: Global, call: &[u8]) -> Result<String, StoryFault> {
-        let (answer, _) = served(alloc, &mut self.backend, call)?;
-        Ok(refusal_told(alloc, answer.as_slice())?)
-    }
-
-    // The lines of all beginnings of a call: one for those next to one another that are told the same.
-    fn beginnings(&mut self, alloc: Global, call: &[u8]) -> Result<String, StoryFault> {
-        let mut lines = String::new(alloc);
-        let mut first = 0;
-        let mut told = self.refusal(alloc, &[])?;
-        for count in 1..call.len() {
-            let next = self.refusal(alloc, &call[..count])?;
-            if next.as_str() != told.as_str() {
-                push_range(alloc, &mut lines, first, count - 1, told.as_str())?;
-                first = count;
-                told = next;
-            }
-        }
-        push_range(
-            alloc,
-            &mut lines,
-            first,
-            call.len().saturating_sub(1),
-            told.as_str(),
-        )?;
-        Ok(lines)
-    }
-
-    fn cuts(&mut self, alloc: Global, words: &str) -> Result<String, StoryFault> {
-        let call = call_of(alloc, self.names.as_slice(), words)?;
-        let before = self.backend.handed().len();
-        let mut lines = self.beginnings(alloc, call.as_slice())?;
-        let handed = self.backend.handed().get(before..).unwrap_or(&[]);
-        push_handed(alloc, &mut lines, handed)?;
-        Ok(lines)
-    }
-
-    // What the command gives.
-    fn answer_to_command(&mut self, alloc: Global, command: &str) -> Result<String, StoryFault> {
-        let (word, rest) = split_word(command);
-        match word {
-            "bytes" => self.name(alloc, rest),
-            "new" => self.begin(alloc, rest),
-            "call" => self.call(alloc, rest),
-            "cuts" => self.cuts(alloc, rest),
-            _ => Err(StoryFault::NoCommand),
-        }
+    fn begin(&mut self, alloc: Global, words: &mut Words<'_>) -> Result<(), RequestFault> {
+        let slots = words.number()?;
+        let locations = texts_of(alloc, words)?;
+        self.backend = backend_of(alloc, self.hashing, slots, locations)?;
+        Ok(())
     }
 }
 
@@ -158,24 +83,25 @@ impl RandomSource for NoKeys {
     }
 }
 
-impl Teller for Story {
-    // That has named nothing, with a backend that takes no upload.
-    fn new(alloc: Global) -> Result<Story, StoryFault> {
+impl Answers for Story {
+    // With a backend that takes no upload.
+    fn new(alloc: Global) -> Result<Story, RequestFault> {
         let hashing = RandomState::new(&NoKeys)?;
-        Ok(Story {
-            hashing,
-            names: Vec::new(alloc),
-            backend: TableBackend::new(alloc, hashing, 0, Vec::new(alloc)),
-        })
+        let backend = backend_of(alloc, hashing, 0, Vec::new(alloc))?;
+        Ok(Story { hashing, backend })
     }
 
     fn answer(
         &mut self,
         alloc: Global,
-        command: &str,
-        told: &mut String,
-    ) -> Result<(), StoryFault> {
-        let answer = self.answer_to_command(alloc, command)?;
-        Ok(told.push_str(answer.as_str())?)
+        asked: &str,
+        words: &mut Words<'_>,
+        answer: &mut Answer,
+    ) -> Result<(), RequestFault> {
+        match asked {
+            "new" => self.begin(alloc, words),
+            "call" => call(alloc, &mut self.backend, words, answer),
+            _ => Err(RequestFault::BadRequest),
+        }
     }
 }
