@@ -1,16 +1,14 @@
-//! A story: nodes, the uploads that it has numbered, and the events that happen.
+//! Nodes, the uploads that are numbered, and the events that happen.
 
-use crate::events::{event_of, whole_of};
-use crate::lines::{digest_told, messages_told, steps_told};
-use ballots::Members;
-use bytes::Bytes;
+use crate::asked::{config_of, event_of, upload_of};
+use crate::told::{tell_messages, tell_steps};
 use schedule_runner::{Config, Event, RunFault, Trace, audit, run};
 use std::alloc::{AllocError, Global};
 use std::hash::RandomState;
 use std::io;
 use std::random::RandomSource;
-use story_words::{StoryFault, Teller, bytes_of, split_word};
-use uploads::{DecodeFault, Upload};
+use story_requests::{Answer, Answers, RequestFault, Words};
+use uploads::Upload;
 
 /// Who has heard of nodes, uploads and events.
 #[derive(Drop)]
@@ -21,105 +19,69 @@ pub(crate) struct Story {
     events: Vec<Event>,
 }
 
-fn shared(bytes: Vec<u8>) -> Result<Bytes, AllocError> {
-    Ok(Bytes::from_vec(bytes)?)
-}
-
-fn upload_of(alloc: Global, digits: &str) -> Result<Upload, StoryFault> {
-    let bytes = shared(bytes_of(alloc, digits)?)?;
-    match Upload::decode(alloc, bytes) {
-        Ok(upload) => Ok(upload),
-        Err(DecodeFault::NotAnUpload) => Err(StoryFault::BadArgument),
-        Err(DecodeFault::OutOfMemory) => Err(StoryFault::OutOfMemory),
-    }
-}
-
-fn members_of(word: &str) -> Result<Members, StoryFault> {
-    let Ok(count) = word.parse::<u8>() else {
-        return Err(StoryFault::BadArgument);
-    };
-    match Members::new(count) {
-        Some(members) => Ok(members),
-        None => Err(StoryFault::BadArgument),
-    }
-}
-
-fn config_of(words: &str) -> Result<Config, StoryFault> {
-    let (count, slots) = split_word(words);
-    let members = members_of(count)?;
-    match slots.parse::<u32>() {
-        Ok(slot_limit) => Ok(Config {
-            members,
-            slot_limit,
-            journal_limit: 1,
-        }),
-        Err(_) => Err(StoryFault::BadArgument),
-    }
-}
-
-fn push<T>(items: &mut Vec<T>, item: T) -> Result<(), AllocError>
-where
-    T: Drop,
-{
+fn push<T: Drop>(items: &mut Vec<T>, item: T) -> Result<(), AllocError> {
     items.push(item)?;
     Ok(())
 }
 
-fn judged(alloc: Global, mut told: String, trace: &Trace) -> Result<String, StoryFault> {
-    let word = if audit(trace) { "lawful" } else { "unlawful" };
-    let line = format!(in alloc; "  {word}\n")?;
-    told.push_str(line.as_str())?;
-    Ok(told)
+fn boxed(alloc: Global, trace: Trace) -> Result<Box<Trace>, AllocError> {
+    let trace = Box::new(alloc, trace)?;
+    Ok(trace)
+}
+
+// What happened, and `None` of nodes or slots that are too many or too few.
+fn played(alloc: Global, story: &Story) -> Result<Option<Box<Trace>>, RequestFault> {
+    let Some(config) = story.config else {
+        return Err(RequestFault::BadRequest);
+    };
+    match run(alloc, story.hashing, config, story.events.as_slice()) {
+        Ok(trace) => Ok(Some(boxed(alloc, trace)?)),
+        Err(RunFault::BadConfig) => Ok(None),
+        Err(RunFault::OutOfMemory) => Err(RequestFault::OutOfMemory),
+    }
+}
+
+fn tell_judged(alloc: Global, trace: &Trace, answer: &mut Answer) -> Result<(), RequestFault> {
+    let judged = if audit(trace) { "lawful" } else { "unlawful" };
+    answer.word(judged)?;
+    tell_messages(alloc, trace.sent(), answer)
+}
+
+fn play(alloc: Global, story: &Story, answer: &mut Answer) -> Result<(), RequestFault> {
+    match &played(alloc, story)? {
+        Some(trace) => tell_steps(trace.steps(), answer),
+        None => answer.word("BadConfig"),
+    }
+}
+
+fn messages(alloc: Global, story: &Story, answer: &mut Answer) -> Result<(), RequestFault> {
+    match &played(alloc, story)? {
+        Some(trace) => tell_judged(alloc, trace, answer),
+        None => answer.word("BadConfig"),
+    }
 }
 
 impl Story {
-    fn begin(&mut self, alloc: Global, words: &str) -> Result<String, StoryFault> {
+    fn begin(&mut self, words: &mut Words<'_>) -> Result<(), RequestFault> {
         self.config = Some(config_of(words)?);
         self.uploads.clear();
         self.events.clear();
-        Ok(String::new(alloc))
+        Ok(())
     }
 
-    fn number(&mut self, alloc: Global, digits: &str) -> Result<String, StoryFault> {
-        let upload = upload_of(alloc, digits)?;
-        push(&mut self.uploads, upload)?;
-        Ok(String::new(alloc))
+    fn number(&mut self, alloc: Global, words: &mut Words<'_>) -> Result<(), RequestFault> {
+        let upload = upload_of(alloc, words)?;
+        Ok(push(&mut self.uploads, upload)?)
     }
 
-    fn add(&mut self, alloc: Global, word: &str, rest: &str) -> Result<String, StoryFault> {
-        let event = event_of(alloc, self.uploads.as_slice(), word, rest)?;
-        push(&mut self.events, event)?;
-        Ok(String::new(alloc))
-    }
-
-    fn played(&self, alloc: Global) -> Result<Result<Trace, RunFault>, StoryFault> {
-        match self.config {
-            Some(config) => Ok(run(alloc, self.hashing, config, self.events.as_slice())),
-            None => Err(StoryFault::BadArgument),
-        }
-    }
-
-    fn tell(&self, alloc: Global, word: &str) -> Result<String, StoryFault> {
-        let trace = match self.played(alloc)? {
-            Ok(trace) => trace,
-            Err(RunFault::BadConfig) => return Ok(String::from_str(alloc, "  BadConfig\n")?),
-            Err(RunFault::OutOfMemory) => return Err(StoryFault::OutOfMemory),
-        };
-        match word {
-            "play" => Ok(steps_told(alloc, trace.steps())?),
-            "messages" => judged(alloc, messages_told(alloc, trace.sent())?, &trace),
-            _ => judged(alloc, digest_told(alloc, trace.sent())?, &trace),
-        }
-    }
-
-    fn answer_to_command(&mut self, alloc: Global, command: &str) -> Result<String, StoryFault> {
-        let (word, rest) = split_word(command);
-        match word {
-            "nodes" => self.begin(alloc, rest),
-            "upload" => self.number(alloc, rest),
-            "play" | "messages" | "digest" => self.tell(alloc, word),
-            _ => self.add(alloc, word, rest),
-        }
+    fn add(
+        &mut self,
+        alloc: Global,
+        name: &str,
+        words: &mut Words<'_>,
+    ) -> Result<(), RequestFault> {
+        let event = event_of(alloc, self.uploads.as_slice(), name, words)?;
+        Ok(push(&mut self.events, event)?)
     }
 }
 
@@ -132,9 +94,8 @@ impl RandomSource for NoKeys {
     }
 }
 
-impl Teller for Story {
-    // That has heard of nothing.
-    fn new(alloc: Global) -> Result<Story, StoryFault> {
+impl Answers for Story {
+    fn new(alloc: Global) -> Result<Story, RequestFault> {
         Ok(Story {
             hashing: RandomState::new(&NoKeys)?,
             config: None,
@@ -146,10 +107,16 @@ impl Teller for Story {
     fn answer(
         &mut self,
         alloc: Global,
-        command: &str,
-        told: &mut String,
-    ) -> Result<(), StoryFault> {
-        let answer = self.answer_to_command(alloc, command)?;
-        Ok(told.push_str(answer.as_str())?)
+        asked: &str,
+        words: &mut Words<'_>,
+        answer: &mut Answer,
+    ) -> Result<(), RequestFault> {
+        match asked {
+            "nodes" => self.begin(words),
+            "upload" => self.number(alloc, words),
+            "play" => play(alloc, self, answer),
+            "messages" => messages(alloc, self, answer),
+            _ => self.add(alloc, asked, words),
+        }
     }
 }

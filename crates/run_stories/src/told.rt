@@ -1,0 +1,94 @@
+//! The words of what is told of a run.
+
+use ballots::Message;
+use schedule_runner::{Event, Gave, Reason, Step};
+use std::alloc::Global;
+use story_requests::{Answer, RequestFault};
+use table_versions::Outcome;
+
+fn tell_numbered(name: &str, number: u64, answer: &mut Answer) -> Result<(), RequestFault> {
+    answer.word(name)?;
+    answer.number(number)
+}
+
+fn tell_sent(first: u64, count: u64, answer: &mut Answer) -> Result<(), RequestFault> {
+    tell_numbered("sent", first, answer)?;
+    answer.number(count)
+}
+
+fn tell_bytes(bytes: &[u8], answer: &mut Answer) -> Result<(), RequestFault> {
+    answer.word("answer")?;
+    answer.bytes(bytes)
+}
+
+fn tell_outcome(outcome: Outcome, answer: &mut Answer) -> Result<(), RequestFault> {
+    match outcome {
+        Outcome::Applied(version) => tell_numbered("applied", version, answer),
+        Outcome::SchemaMismatch => answer.word("mismatch"),
+        Outcome::Conflict => answer.word("conflict"),
+        Outcome::Unknown => answer.word("unknown"),
+    }
+}
+
+fn reason_name(reason: Reason) -> &'static str {
+    match reason {
+        Reason::OutOfRange => "OutOfRange",
+        Reason::SlotsSpent => "SlotsSpent",
+        Reason::RoundsSpent => "RoundsSpent",
+        Reason::OutOfMemory => "OutOfMemory",
+        Reason::Down => "Down",
+        Reason::NotSent => "NotSent",
+    }
+}
+
+fn tell_reason(reason: Reason, answer: &mut Answer) -> Result<(), RequestFault> {
+    answer.word("refused")?;
+    answer.word(reason_name(reason))
+}
+
+// What a cut gives is told as such.
+fn done_name(event: &Event) -> &'static str {
+    match event {
+        Event::TickCut(..) | Event::DeliverCut(..) => "cut",
+        _ => "done",
+    }
+}
+
+fn tell_step(step: &Step, answer: &mut Answer) -> Result<(), RequestFault> {
+    match &step.gave {
+        Gave::Sent { first, count } => tell_sent(*first, *count, answer),
+        Gave::Done => answer.word(done_name(&step.event)),
+        Gave::Answer(bytes) => tell_bytes(bytes.as_slice(), answer),
+        Gave::Unavailable => answer.word("unavailable"),
+        Gave::Info(version) => tell_numbered("info", *version, answer),
+        Gave::NoTable => answer.word("notable"),
+        Gave::Outcome(outcome) => tell_outcome(*outcome, answer),
+        Gave::Refused(reason) => tell_reason(*reason, answer),
+    }
+}
+
+/// Tells what each step gave.
+pub(crate) fn tell_steps(steps: &[Step], answer: &mut Answer) -> Result<(), RequestFault> {
+    for step in steps {
+        tell_step(step, answer)?;
+    }
+    Ok(())
+}
+
+fn tell_message(alloc: Global, message: &Message, answer: &mut Answer) -> Result<(), RequestFault> {
+    let mut bytes = Vec::new(alloc);
+    message.encode(&mut bytes)?;
+    answer.bytes(bytes.as_slice())
+}
+
+/// Tells the bytes of each message.
+pub(crate) fn tell_messages(
+    alloc: Global,
+    sent: &[Message],
+    answer: &mut Answer,
+) -> Result<(), RequestFault> {
+    for message in sent {
+        tell_message(alloc, message, answer)?;
+    }
+    Ok(())
+}
