@@ -5,7 +5,7 @@ use bytes::Bytes;
 use schedule_runner::{Config, Event, TableText};
 use std::alloc::{AllocError, Global};
 use story_requests::{RequestFault, Words};
-use tickets::Ticket;
+use table_types::Ticket;
 use uploads::{DecodeFault, Upload};
 
 fn byte_of(words: &mut Words<'_>) -> Result<u8, RequestFault> {

@@ -4,7 +4,7 @@ use ballots::{UploadBytes, Value};
 use bytes::Bytes;
 use std::alloc::{AllocError, Global};
 use story_requests::{RequestFault, Words};
-use tickets::Ticket;
+use table_types::Ticket;
 use uploads::{DecodeFault, Upload};
 
 /// The name of a table that comes next.

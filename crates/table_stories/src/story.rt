@@ -7,8 +7,8 @@ use std::hash::RandomState;
 use std::io;
 use std::random::RandomSource;
 use story_requests::{Answer, Answers, RequestFault, Words};
+use table_types::{Ticket, TicketFault};
 use table_versions::Tables;
-use tickets::{Ticket, TicketFault};
 
 /// The most values that tables take.
 const MAX_VALUES: u64 = 1_000_000;

@@ -2,8 +2,8 @@
 
 use std::alloc::Global;
 use story_requests::{Answer, RequestFault};
+use table_types::Ticket;
 use table_versions::{Outcome, TableInfo};
-use tickets::Ticket;
 use uploads::Upload;
 
 fn tell_columns(alloc: Global, upload: &Upload, answer: &mut Answer) -> Result<(), RequestFault> {
