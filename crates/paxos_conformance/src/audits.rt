@@ -1,4 +1,0 @@
-//! The judge of histories over a long one.
-
-mod histories;
-mod long;
