@@ -1,5 +1,6 @@
 """Tells stories of the wire: frames, numbered fields, and the messages of Arrow Flight."""
-from wire_model import DATA_MESSAGE, DESCRIPTOR, ENDPOINT, INFO, KINDS, LOCATION, TICKET, shown
+from repeated import tell_each
+from wire_model import DATA_MESSAGE, DESCRIPTOR, ENDPOINT, INFO, KINDS, LOCATION, TICKET, bytes_field, shown
 
 MESSAGES = {
     "descriptor": DESCRIPTOR,
@@ -81,6 +82,16 @@ def front_lines(answer):
     return [field_line(number, kind, held), *(f"{lending} {it}" for it in lent), f"left {rest}"]
 
 
+def payload_of(length):
+    """So many bytes, which differ from place to place and from length to length."""
+    return bytes((place + length) % 251 for place in range(length))
+
+
+def frame_of(flag, length):
+    """A frame of such a payload (gRPC over HTTP/2, "Length-Prefixed-Message")."""
+    return bytes([flag]) + length.to_bytes(4, "big") + payload_of(length)
+
+
 def frames_lines(answer):
     *frames, end, rest = answer.split(" ")
     lines = [f"flag {frames[place]}, payload {frames[place + 1]}" for place in range(0, len(frames), 2)]
@@ -90,6 +101,46 @@ def frames_lines(answer):
 READINGS = {"frames": frames_lines, "fields": fields_lines, "front": front_lines}
 
 
+def tell_long_frame(flag, length):
+    """Whether a frame of so long a payload is written as it has to be, and that is read as its flag and its payload."""
+    payload, frame = payload_of(length).hex() or "-", frame_of(flag, length).hex()
+    written, read = yield [f"frame {flag} {payload}", f"frames {frame}"]
+    is_read = read == f"{flag} {payload} NoMore -"
+    return ["written" if written == frame else "written otherwise", "read back" if is_read else "read otherwise"]
+
+
+def tell_cut_frame(flag, length):
+    """Such a frame without its last byte, without its last two, and with another behind it whose flag is none."""
+    frame = frame_of(flag, length).hex()
+    *cuts, behind = yield [f"frames {frame[:-2]}", f"frames {frame[:-4]}", f"frames {frame}020000000007"]
+    return [*(line for it in cuts for line in frames_lines(it)), *frames_lines(behind)[1:]]
+
+
+def tell_stream(count):
+    """So many frames in one text, with payloads of 0 to 96 bytes, every third of them with the other flag."""
+    frames = [(128 if number % 3 == 1 else 0, number % 97) for number in range(count)]
+    (read,) = yield ["frames " + b"".join(frame_of(*it) for it in frames).hex()]
+    told = [f"flag {flag}, payload {payload_of(length).hex() or '-'}" for flag, length in frames]
+    lines = frames_lines(read)
+    return [f"{count} frames", *lines[count:]] if lines[:count] == told else lines
+
+
+def tell_long_field(number, length):
+    """How the field of so many bytes begins, before the bytes, and whether they are read back."""
+    held = b"\7" * length
+    written, read = yield [f"bytes {number} {held.hex()}", f"fields {bytes_field(number, held).hex()}"]
+    front = written.removesuffix(held.hex())
+    return [front, "read back" if read == f"{number} bytes {held.hex()}" else "read otherwise"]
+
+
+LONG_COMMANDS = {
+    "long-frame": tell_long_frame,
+    "cut-frame": tell_cut_frame,
+    "stream": tell_stream,
+    "long-field": tell_long_field,
+}
+
+
 class Teller:
     """Tells a story of the wire. No command depends on those before it."""
 
@@ -97,6 +148,10 @@ class Teller:
         name, _, rest = command.partition(" ")
         if name == "one-of":
             return self.tell_one_of(*rest.split(": "))
+        if name == "each":
+            return tell_each(self, rest)
+        if name in LONG_COMMANDS:
+            return LONG_COMMANDS[name](*map(int, rest.split(" ")))
         if name == "each-message":
             return self.tell_each(digits(rest))
         if name in ("frame", "varint", "nonzero-varint", "bytes", "nonempty-bytes"):

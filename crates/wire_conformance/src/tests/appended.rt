@@ -1,12 +1,12 @@
-//! What is written stands behind the bytes that were there, embedded messages in fields whose keys take two bytes, and
-//! fields whose lengths take two, three and four bytes (Protocol Buffers, "Encoding", "Message Structure").
+//! What is written stands behind the bytes that were there, and embedded messages in fields whose keys take two bytes
+//! and whose lengths take three (Protocol Buffers, "Encoding", "Message Structure").
 
 use super::samples::words_of;
-use super::texts::{are_equal, expect_of};
+use super::texts::are_equal;
 use crate::sample::{Numbers, Words};
-use proto_fields::{ContentRef, split_field, write_bytes};
+use proto_fields::{ContentRef, split_field};
 use proto_messages::{ProtoMessage, append_one, merge_one};
-use std::alloc::{AllocError, Global};
+use std::alloc::Global;
 use std::test::Fail;
 
 /// Numbers of kind 5, whose count is 300.
@@ -80,53 +80,9 @@ fn an_embedded_message_is_read_behind_a_long_key(rt: HostRuntime) -> Result<(), 
     Ok(())
 }
 
-/// Lengths at the edges of two, three and four bytes, and how a field 2 of so many bytes begins.
-const LENGTHS: [(usize, &[u8]); 4] = [
-    (16_383, b"\x12\xff\x7f"),
-    (16_384, b"\x12\x80\x80\x01"),
-    (2_097_151, b"\x12\xff\xff\x7f"),
-    (2_097_152, b"\x12\x80\x80\x80\x01"),
-];
-
 /// Whether these are so many sevens.
 fn are_sevens(bytes: &[u8], len: usize) -> bool {
     bytes.len() == len && bytes.iter().all(|byte| *byte == 7)
-}
-
-/// Whether the text is field 2 of so many sevens.
-fn is_field_of(text: &[u8], len: usize) -> Result<bool, Fail> {
-    let (number, content, rest) = split_field(text)?;
-    let is_alone = number == 2 && rest.is_empty();
-    Ok(is_alone && are_sevens(content.bytes().unwrap_or(&[]), len))
-}
-
-/// Field 2 with so many sevens.
-fn field_of(alloc: Global, len: usize) -> Result<Vec<u8>, AllocError> {
-    let held = Vec::from_elem(alloc, 7, len)?;
-    let mut text = Vec::new(alloc);
-    write_bytes(&mut text, 2, held.as_slice())?;
-    Ok(text)
-}
-
-/// Whether the text is as long as that field and begins so.
-fn is_written(text: &[u8], len: usize, front: &[u8]) -> bool {
-    let is_long = text.len() == len.saturating_add(front.len());
-    is_long && text.starts_with(front)
-}
-
-/// Whether a field of so many bytes begins so, and is read.
-fn is_right(alloc: Global, len: usize, front: &[u8]) -> Result<bool, Fail> {
-    let text = field_of(alloc, len)?;
-    let is_read = is_field_of(text.as_slice(), len)?;
-    Ok(is_read && is_written(text.as_slice(), len, front))
-}
-
-#[test]
-fn long_lengths_are_written(rt: HostRuntime) -> Result<(), Fail> {
-    for (len, front) in LENGTHS {
-        expect_of(&rt, is_right(rt.alloc(), len, front)?, len);
-    }
-    Ok(())
 }
 
 /// Field 2 with embedded words, whose payload is 16,384 bytes.

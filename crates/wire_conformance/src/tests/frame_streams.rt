@@ -1,20 +1,13 @@
-//! Streams of frames: a payload of every length, thousands of frames in one text, and readers and writers whose calls
-//! fail, each in its turn.
+//! Readers and writers of frames whose calls fail, each in its turn.
 
 use super::frames::{read, write};
-use super::texts::{are_equal, expect_of};
-use grpc_frames::{END_FLAG, Frame, FrameFault, MESSAGE_FLAG};
+use super::texts::are_equal;
+use grpc_frames::{Frame, FrameFault, MESSAGE_FLAG};
 use std::alloc::{AllocError, Global};
 use std::io;
 use std::io::{Read, Write};
 use std::process::Abort;
 use std::test::Fail;
-
-/// Payloads of 0 to so many bytes are tried.
-const LONGEST: usize = 3_000;
-
-/// The frames of one text.
-const FRAMES: usize = 5_000;
 
 /// The payload of the frame whose calls fail: the frame has 5 bytes more.
 const CUT_PAYLOAD: usize = 40;
@@ -71,35 +64,12 @@ fn payload_of(alloc: Global, len: usize) -> Result<Vec<u8>, AllocError> {
     Ok(payload)
 }
 
-/// The flag of the frame of this number.
-fn flag_of(number: usize) -> u8 {
-    if number % 3 == 1 {
-        return END_FLAG;
-    }
-    MESSAGE_FLAG
-}
-
 /// Whether a frame with this flag and payload was read.
 fn is_frame(read: &Result<Option<Frame>, FrameFault>, flag: u8, payload: &[u8]) -> bool {
     match read {
         Ok(Some(frame)) => frame.flag == flag && are_equal(frame.payload.as_slice(), payload),
         _ => false,
     }
-}
-
-/// Whether the next frame of the text has this flag and this payload.
-fn is_next(alloc: Global, rest: &mut &[u8], flag: u8, payload: &[u8]) -> bool {
-    is_frame(&read(alloc, rest), flag, payload)
-}
-
-/// Whether the end of the input was read.
-fn is_none(read: &Result<Option<Frame>, FrameFault>) -> bool {
-    matches!(read, Ok(None))
-}
-
-/// Whether the input has ended there.
-fn is_end(alloc: Global, rest: &mut &[u8]) -> bool {
-    is_none(&read(alloc, rest))
 }
 
 /// Whether this fault was told.
@@ -115,121 +85,6 @@ fn frame_text(alloc: Global, flag: u8, payload: &[u8]) -> Result<Vec<u8>, Fail> 
     let mut text = Vec::new(alloc);
     write(&mut text, flag, payload)?;
     Ok(text)
-}
-
-/// Whether the text is this frame, to its end.
-fn is_alone(alloc: Global, text: &[u8], flag: u8, payload: &[u8]) -> bool {
-    let mut rest = text;
-    is_next(alloc, &mut rest, flag, payload) && is_end(alloc, &mut rest)
-}
-
-/// Whether a frame is written with five bytes before its payload, and read back to the end of the input.
-fn is_read_back(alloc: Global, flag: u8, payload: &[u8]) -> Result<bool, Fail> {
-    let text = frame_text(alloc, flag, payload)?;
-    let is_long = text.len() == payload.len().saturating_add(5);
-    Ok(is_long && is_alone(alloc, text.as_slice(), flag, payload))
-}
-
-/// Whether a payload of so many bytes comes back.
-fn comes_back(alloc: Global, len: usize) -> Result<bool, Fail> {
-    let payload = payload_of(alloc, len)?;
-    is_read_back(alloc, flag_of(len), payload.as_slice())
-}
-
-#[test]
-fn a_payload_of_every_length_comes_back(rt: HostRuntime) -> Result<(), Fail> {
-    for len in 0..=LONGEST {
-        expect_of(&rt, comes_back(rt.alloc(), len)?, len);
-    }
-    Ok(())
-}
-
-/// Whether a frame without its last bytes is told to be cut short, with nothing left.
-fn is_cut_short(alloc: Global, text: &[u8], missing: usize) -> bool {
-    let end = text.len().saturating_sub(missing);
-    let mut rest = text.get(..end).unwrap_or(&[]);
-    let is_told = is_fault(&read(alloc, &mut rest), FrameFault::Truncated);
-    is_told && rest.is_empty()
-}
-
-/// Whether a frame is read and the two bytes behind it are left.
-fn leaves_the_rest(alloc: Global, text: &[u8], flag: u8, payload: &[u8]) -> bool {
-    let mut rest = text;
-    is_next(alloc, &mut rest, flag, payload) && are_equal(rest, &[1, 7])
-}
-
-/// Whether a frame is told to be cut short without its last byte or its last two, and leaves two bytes behind it.
-fn is_cut_and_left(alloc: Global, flag: u8, payload: &[u8]) -> Result<bool, Fail> {
-    let mut text = frame_text(alloc, flag, payload)?;
-    let is_cut = is_cut_short(alloc, text.as_slice(), 1);
-    let is_shorter_cut = is_cut_short(alloc, text.as_slice(), 2);
-    text.extend_from_slice(b"\x01\x07")?;
-    Ok(is_cut && is_shorter_cut && leaves_the_rest(alloc, text.as_slice(), flag, payload))
-}
-
-/// Whether a payload of so many bytes is cut short and left.
-fn is_told_cut(alloc: Global, len: usize) -> Result<bool, Fail> {
-    let payload = payload_of(alloc, len)?;
-    is_cut_and_left(alloc, flag_of(len), payload.as_slice())
-}
-
-/// Room for 65,536 bytes of a payload is made first, and for more as they come. So a payload of that many, and of one
-/// less and one more, comes back, is cut short where one or two of its bytes are missing, and leaves what stands behind
-/// it.
-#[test]
-fn a_payload_about_the_first_room_comes_back(rt: HostRuntime) -> Result<(), Fail> {
-    for len in 65_535..=65_537 {
-        expect_of(&rt, comes_back(rt.alloc(), len)?, len);
-        expect_of(&rt, is_told_cut(rt.alloc(), len)?, len);
-    }
-    Ok(())
-}
-
-/// Appends the frame of this number, with a payload of 0 to 96 bytes.
-fn append(text: &mut Vec<u8>, alloc: Global, number: usize) -> Result<(), Fail> {
-    let payload = payload_of(alloc, number % 97)?;
-    Ok(write(text, flag_of(number), payload.as_slice())?)
-}
-
-/// The text of all the frames.
-fn stream_of(alloc: Global) -> Result<Vec<u8>, Fail> {
-    let mut text = Vec::new(alloc);
-    for number in 0..FRAMES {
-        append(&mut text, alloc, number)?;
-    }
-    Ok(text)
-}
-
-/// Whether the next frame of the text is that of this number.
-fn is_next_of(alloc: Global, rest: &mut &[u8], number: usize) -> Result<bool, AllocError> {
-    let payload = payload_of(alloc, number % 97)?;
-    Ok(is_next(alloc, rest, flag_of(number), payload.as_slice()))
-}
-
-/// How many frames stand there one after the other.
-fn frames_read(alloc: Global, rest: &mut &[u8]) -> Result<usize, AllocError> {
-    for number in 0..FRAMES {
-        if !is_next_of(alloc, rest, number)? {
-            return Ok(number);
-        }
-    }
-    Ok(FRAMES)
-}
-
-/// How many frames the text has, where it ends behind the last of all.
-fn frames_of(alloc: Global, text: &[u8]) -> Result<Option<usize>, AllocError> {
-    let mut rest = text;
-    let count = frames_read(alloc, &mut rest)?;
-    let is_end = is_end(alloc, &mut rest);
-    Ok(is_end.then_some(count))
-}
-
-#[test]
-fn thousands_of_frames_are_read_one_after_the_other(rt: HostRuntime) -> Result<(), Fail> {
-    let text = stream_of(rt.alloc())?;
-    let count = frames_of(rt.alloc(), text.as_slice())?;
-    assert!(rt; count == Some(FRAMES));
-    Ok(())
 }
 
 /// The calls that move so many bytes, at most `step` of them a call.

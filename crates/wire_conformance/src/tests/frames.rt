@@ -1,4 +1,4 @@
-//! Frames of which rows cannot tell: the longest payload, a writer that takes no byte, and the names of all faults.
+//! Frames of which rows cannot tell: a writer that takes no byte, and the names of all faults.
 
 use super::texts::are_equal;
 use grpc_frames::{
@@ -68,41 +68,6 @@ fn names(alloc: Global) -> Result<String, AllocError> {
 fn faults_print_their_names(rt: HostRuntime) -> Result<(), Fail> {
     let names = names(rt.alloc())?;
     assert!(rt; names.as_str() == "Truncated BadFlag Compressed TooLong Io OutOfMemory ");
-    Ok(())
-}
-
-/// The text of a frame with the longest payload.
-fn longest_frame(alloc: Global) -> Result<Vec<u8>, AllocError> {
-    let mut bytes = Vec::from_slice(alloc, b"\x80\x00\x40\x00\x00")?;
-    bytes.resize(4_194_309, 7)?;
-    Ok(bytes)
-}
-
-/// Whether the frame is the longest one.
-fn is_longest(frame: &Frame) -> bool {
-    let len = frame.payload.len();
-    let are_sevens = frame.payload.iter().all(|byte| *byte == 7);
-    frame.flag == END_FLAG && len == 4_194_304 && len == MAX_FRAME_PAYLOAD && are_sevens
-}
-
-/// Whether the longest one was read.
-fn is_longest_read(read: &Result<Option<Frame>, FrameFault>) -> bool {
-    match read {
-        Ok(Some(frame)) => is_longest(frame),
-        _ => false,
-    }
-}
-
-/// Whether the text is the longest frame and nothing more.
-fn is_longest_alone(alloc: Global, text: &[u8]) -> bool {
-    let mut rest = text;
-    is_longest_read(&read(alloc, &mut rest)) && rest.is_empty()
-}
-
-#[test]
-fn reads_the_longest_payload(rt: HostRuntime) -> Result<(), Fail> {
-    let bytes = longest_frame(rt.alloc())?;
-    assert!(rt; is_longest_alone(rt.alloc(), bytes.as_slice()));
     Ok(())
 }
 
