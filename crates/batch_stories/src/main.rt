@@ -1,24 +1,44 @@
-//! Tells stories of batches. `batch_stories FILE ..` prints each file again, and under each of its commands what the
-//! command gives now.
+//! Answers requests about batches: `read SCHEMA HEADER BODY` with the bytes of two messages and of a body reads a batch
+//! and writes it again, `layouts SCHEMA` says how values of the fields stand in buffers.
 //!
-//! `schema TYPES` takes the types of the columns, and tells how many columns, nodes and buffers a batch of them has.
-//! `read ROWS NODES | BUFFERS | LENGTH BODY` reads a batch of them, `read compressed ..` one that says that it is
-//! compressed: it tells the rows, a column a line, or why there are none; and then `canonical` where the batch is as it
-//! would be written, or else the nodes, the buffers and the body that would be written.
+//! What can't be read is answered with the fault's name. What `{:?}` prints of a value is answered in hexadecimal.
 //!
-//! Nothing is claimed here but that telling is safe and ends: what is read and written is promised by the crates that
+//! Nothing is claimed here but that answering is safe and ends: what is read and written is promised by the crates that
 //! do it.
 #![tactic(auto)]
 
 mod cells;
-mod counts;
-mod heads;
-mod reader;
+mod layouts;
+mod reading;
 
-use reader::Reader;
+use std::alloc::Global;
 use std::process::ExitCode;
-use story_words::run;
+use story_requests::{Answer, Answers, RequestFault, Words, run};
+
+/// Who answers about batches.
+#[derive(Drop)]
+struct BatchAnswers {}
+
+impl Answers for BatchAnswers {
+    fn new(_alloc: Global) -> Result<BatchAnswers, RequestFault> {
+        Ok(BatchAnswers {})
+    }
+
+    fn answer(
+        &mut self,
+        alloc: Global,
+        asked: &str,
+        words: &mut Words<'_>,
+        answer: &mut Answer,
+    ) -> Result<(), RequestFault> {
+        match asked {
+            "read" => reading::answer_read(alloc, words, answer),
+            "layouts" => layouts::answer_layouts(alloc, words, answer),
+            _ => Err(RequestFault::BadRequest),
+        }
+    }
+}
 
 fn main(rt: HostRuntime) -> ExitCode {
-    run::<Reader>(&rt, "batch_stories")
+    run::<BatchAnswers>(&rt)
 }
