@@ -1,7 +1,7 @@
 """Tells the stories of headers of messages, and of the places that they are read at."""
 from batches import bytes_of
 from debug_text import quoted, value_of
-from header_texts import NONE, Text, field, schema_text
+from header_texts import NONE, Text, batch_text, field, schema_text
 from make import quoted as name_shown
 
 WIDTHS = {
@@ -142,6 +142,25 @@ def sized(tops, inner, outer, *lengths):
     ty = "Timestamp", {"unit": ("Nanosecond", []), "timezone": ("Some", [zone])}
     fields_read = [field_value(name, ty, [], [(key, value)] * inner)] * tops
     return text.schema(fields, text.vector(*[entry] * outer)), schema_value(fields_read, [(key, value)] * outer)
+
+
+def unlike_pairs(count):
+    """So many pairs of numbers, no two of them alike."""
+    first = 0x0123_4567_89AB_CDEF
+    return [(number, number - 2**63) for number in range(first, first + count)]
+
+
+def batch_of_nodes(count):
+    """The text of a batch of so many nodes, with three buffers each, and the header that it is."""
+    nodes, buffers = unlike_pairs(count), unlike_pairs(3 * count)
+    head = {"length": 7, "nodes": nodes, "buffers": buffers, "compressed": False, "body_length": 64}
+    return batch_text(7, nodes, buffers, False, 64), ("Batch", [("BatchHead", head)])
+
+
+def whole_shown(answer, value):
+    """Whether the header of an answer is all of this one."""
+    header = header_in(answer)
+    return answer if header is None else "whole" if header == value else "in part"
 
 
 # ---- schemas from words
@@ -285,10 +304,15 @@ class Teller:
         answers = yield [f"message {text.hex()}" for text in texts]
         return [line for answer in answers for line in shown(answer)]
 
+    def tell_batch(self, words):
+        """What is read of the header of a batch of so many nodes, and what is written of that."""
+        text, value = batch_of_nodes(int(words))
+        answer, rewritten = yield [f"message {text}", f"rewritten {text}"]
+        return [whole_shown(answer, value), "the same bytes" if rewritten == text else rewritten]
+
     def whole(self, text, value):
         (answer,) = yield [f"message {text.hex()}"]
-        header = header_in(answer)
-        return [answer if header is None else "whole" if header == value else "in part"]
+        return [whole_shown(answer, value)]
 
     def tell_tree(self, words):
         kind, *numbers = words.split()

@@ -1,4 +1,3 @@
 //! The calls of `flatbuf_meta`, where only code can test them.
 
-mod batches;
 mod faults;
