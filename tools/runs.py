@@ -1,22 +1,23 @@
 #!/usr/bin/env python3
 """Makes the stories of runs in crates/run_stories/data: `examples.txt`, the schedules of examples/ that have their lines beside them,
-and `drawn.txt`, schedules that are drawn, with what the model in runs_model.py says of each event and each message. And puts the
-schedules of examples/ into crates/replay_stories, with what is to be printed of them: the lines beside them.
+and `drawn.txt`, schedules that are drawn, with what the model in runs_model.py says of each event and each message.
 
     tools/runs.py --write               makes them
     tools/runs.py --check               says which of them differ
-    tools/runs.py --tell FIRST LAST     prints the drawn runs from one seed up to another, as `run_stories` prints them again"""
+    tools/runs.py --tell FIRST LAST     has the built `run_stories` tell the drawn runs from one seed up to another, and says where it
+                                        tells otherwise than the model"""
 import hashlib
 import sys
 from pathlib import Path
 
+import stories
 from paxos_model import KINDS, MESSAGE, encoding
 from runs_model import drawn, is_lawful, lines_of, schedules
+from tellers.run import Teller
 from wire_model import put
 
 CRATES = Path(__file__).resolve().parent.parent / "crates"
 DATA = CRATES / "run_stories" / "data"
-REPLAYED = CRATES / "replay_stories"
 # how many runs are drawn for the stories
 DRAWN = 120
 NOTATION = """\
@@ -113,22 +114,17 @@ def drawn_runs(seeds):
     return "\n".join(lines) + "\n"
 
 
-def replayed():
-    """The files of crates/replay_stories: the schedules, their names, and what is printed of them."""
-    files = [file for file, _ in schedules()]
-    told = {f"data/{it.name}": it.read_text() for it in files}
-    told["args"] = "".join(f"{it.name}\n" for it in files)
-    told["stdout"] = "".join(f"# {it.name}\n{it.with_suffix('.lines').read_text()}" for it in files)
-    return told
+def tell(first, last):
+    """Whether a program tells drawn runs otherwise than the model."""
+    text, built = drawn_runs(range(first, last)), stories.programs("run_stories")
+    return not built or any(stories.differs(it.name, stories.told(it, Teller(), text), text) for it in built)
 
 
 def main():
     if "--tell" in sys.argv[1:]:
-        first, last = map(int, sys.argv[2:])
-        return sys.stdout.write(drawn_runs(range(first, last))) and 0
+        return tell(*map(int, sys.argv[2:]))
     checks = "--write" not in sys.argv[1:]
-    stories = put(DATA, {"examples.txt": examples(), "drawn.txt": drawn_runs(range(DRAWN))}, checks)
-    return put(REPLAYED, replayed(), checks) or stories
+    return put(DATA, {"examples.txt": examples(), "drawn.txt": drawn_runs(range(DRAWN))}, checks)
 
 
 if __name__ == "__main__":

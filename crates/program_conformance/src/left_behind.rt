@@ -1,4 +1,4 @@
-//! Where the reader stands after a run, and runs over thousands of frames.
+//! Where the reader stands after a run.
 
 use crate::support::spelled;
 use acceptor_command::answer_frames;
@@ -52,29 +52,5 @@ fn reads_no_more_behind_thousands_of_frames(rt: HostRuntime) -> Result<(), Fail>
     input.extend_from_slice(&spelled(alloc, "80 00000000")?)?;
     input.extend_from_slice(&ask)?;
     assert!(rt; is_read(alloc, &input, 35_005));
-    Ok(())
-}
-
-/// The frame of a message of this kind, about ballot (1, 0) and a slot of two digits to the base 128.
-fn frame_of(kind: u8, low: u8, high: u8) -> [u8; 12] {
-    [0, 0, 0, 0, 7, 8, kind, 0x18, low | 0x80, high, 0x28, 1]
-}
-
-/// A Prepare of each of 5,000 slots is promised, in the order of asking, and nothing of the input is left.
-#[test]
-fn promises_thousands_of_slots(rt: HostRuntime) -> Result<(), Fail> {
-    let alloc = rt.alloc();
-    let mut input = Vec::new(alloc);
-    let mut wanted = Vec::new(alloc);
-    for high in 1..=40 {
-        for low in 0..125 {
-            input.extend_from_slice(&frame_of(1, low, high))?;
-            wanted.extend_from_slice(&frame_of(2, low, high))?;
-        }
-    }
-    let mut reader = input.as_slice();
-    let mut output = Vec::new(alloc);
-    let ending = answer_frames(alloc, &mut reader, &mut output);
-    assert!(rt; ending == Ok(()) && reader.is_empty() && output == wanted);
     Ok(())
 }

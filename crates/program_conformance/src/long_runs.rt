@@ -2,10 +2,9 @@
 //! worked out by hand.
 
 use crate::streams::Narrow;
-use crate::support::{run_over, spelled, tells};
+use crate::support::spelled;
 use acceptor_command::{ServeFault, answer_frames};
 use std::alloc::Global;
-use std::process::Abort;
 use std::test::Fail;
 
 /// So many Asks, each a frame that needs no reply.
@@ -16,23 +15,6 @@ fn asks(alloc: Global, count: usize) -> Result<Vec<u8>, Fail> {
         text.extend_from_slice(&ask)?;
     }
     Ok(text)
-}
-
-/// A run over so many Asks ends with this line, and with none where it is empty.
-fn expect_asks(rt: &impl Abort, alloc: Global, count: usize, line: &str) -> Result<(), Fail> {
-    let text = asks(alloc, count)?;
-    let outcome = run_over(alloc, &text);
-    assert!(rt; outcome.output.is_empty(), "over {count}");
-    let is_told = tells(alloc, outcome.status, &outcome.said, line)?;
-    assert!(rt; is_told, "over {count}");
-    Ok(())
-}
-
-#[test]
-fn answers_a_million_frames_and_no_more(rt: HostRuntime) -> Result<(), Fail> {
-    expect_asks(&rt, rt.alloc(), 999_999, "")?;
-    expect_asks(&rt, rt.alloc(), 1_000_000, "frame 1000000: Io")?;
-    expect_asks(&rt, rt.alloc(), 1_000_001, "frame 1000000: Io")
 }
 
 /// How a run over so many Asks and an end frame behind them ends.
@@ -75,41 +57,6 @@ fn accept_and_prepare(alloc: Global, beginning: &str, count: usize) -> Result<Ve
     push_with_value(alloc, &mut text, beginning, count)?;
     text.extend_from_slice(&spelled(alloc, "00 00000004 08012802")?)?;
     Ok(text)
-}
-
-/// The Accepted of the value, and the Promise that reports it.
-fn longest_answers(alloc: Global) -> Result<Vec<u8>, Fail> {
-    let mut wanted = Vec::new(alloc);
-    let accepted = "00 003ffffe 0805 2801 4af5ffff01";
-    push_with_value(alloc, &mut wanted, accepted, REPORTED)?;
-    let promise = "00 00400000 0802 2802 3801 4af5ffff01";
-    push_with_value(alloc, &mut wanted, promise, REPORTED)?;
-    Ok(wanted)
-}
-
-#[test]
-fn reports_the_longest_value(rt: HostRuntime) -> Result<(), Fail> {
-    let alloc = rt.alloc();
-    let text = accept_and_prepare(alloc, "00 003ffffe 0804 2801 4af5ffff01", REPORTED)?;
-    let outcome = run_over(alloc, &text);
-    assert!(rt; outcome.output == longest_answers(alloc)?);
-    assert!(rt; outcome.status == 0 && outcome.said.is_empty());
-    Ok(())
-}
-
-/// The Promise of a value of one byte more would be longer than a payload may be.
-#[test]
-fn tells_an_answer_that_is_too_long(rt: HostRuntime) -> Result<(), Fail> {
-    let alloc = rt.alloc();
-    let text = accept_and_prepare(alloc, "00 003fffff 0804 2801 4af6ffff01", REPORTED + 1)?;
-    let mut wanted = Vec::new(alloc);
-    let accepted = "00 003fffff 0805 2801 4af6ffff01";
-    push_with_value(alloc, &mut wanted, accepted, REPORTED + 1)?;
-    let outcome = run_over(alloc, &text);
-    assert!(rt; outcome.output == wanted);
-    let is_told = tells(alloc, outcome.status, &outcome.said, "frame 1: TooLong")?;
-    assert!(rt; is_told);
-    Ok(())
 }
 
 /// Whether the first answer goes out where there is room for so many bytes, and else a failed write is told of it.

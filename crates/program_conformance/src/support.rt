@@ -1,6 +1,5 @@
-//! Runs in memory, and the first conversation.
+//! A conversation, and how a run tells its end.
 
-use acceptor_command::acceptor_run;
 use std::alloc::{AllocError, Global};
 use std::test::Fail;
 
@@ -26,27 +25,6 @@ pub(crate) fn answered_within(given: usize) -> (usize, usize) {
         }
     }
     (frames, written)
-}
-
-/// What a run gave.
-#[derive(Drop)]
-pub struct Outcome {
-    pub status: u8,
-    pub output: Vec<u8>,
-    pub said: Vec<u8>,
-}
-
-/// Runs the acceptor over these bytes.
-pub(crate) fn run_over(alloc: Global, input: &[u8]) -> Outcome {
-    let mut reader = input;
-    let mut output = Vec::new(alloc);
-    let mut said = Vec::new(alloc);
-    let status = acceptor_run(alloc, &mut reader, &mut output, &mut said);
-    Outcome {
-        status,
-        output,
-        said,
-    }
 }
 
 /// Whether a run ended with this line and status 1, or, where the line is empty, with none and status 0.

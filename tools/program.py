@@ -1,0 +1,247 @@
+#!/usr/bin/env python3
+"""Runs flightd, as the gate built it, and says whether it writes, says and ends as it has to.
+
+    tools/program.py
+
+The rows of tools/program/ were worked out by hand: conversations with the acceptor, recorded runs and schedules, good and
+wrong, the words of calls, and what the help tells. The schedules of examples/ are played too, whose lines the model in
+runs_model.py made. Each row is tried with the program as each of the two compilers built it. It prints how many rows there are
+of each kind, and ends with status 1 where the program does otherwise, or is not built."""
+import json
+import subprocess
+import sys
+import tempfile
+from pathlib import Path
+
+TOP = Path(__file__).resolve().parent.parent
+ROWS = TOP / "tools" / "program"
+EXAMPLES = TOP / "examples"
+# a frame that needs no answer, and the frame of the end
+ASK, END = bytes.fromhex("00000000020806"), bytes.fromhex("8000000000")
+MOST_FRAMES = 1_000_000
+# the longest value of an Accept that a Promise can report: the Promise has a second round beside it, and is as long as a
+# payload may be
+REPORTED = 4_194_293
+ID = "000102030405060708090a0b0c0d0e0f"
+UPLOAD = '{"table":"t","id":"%s","values":[[1,null,3]]}' % ID
+# An upload is decided with no message lost, and two nodes are asked for it.
+DECIDED = """["put",0,0],["tick",0,0],["deliver",0,0],["deliver",1,0],["deliver",0,1],["deliver",0,2],["deliver",0,3],
+["deliver",1,3],["deliver",0,4],["deliver",0,5],["outcome",0,0],["get",2,"t",1]"""
+DECIDED_LINES = ["done", *(f"sent {it}" for it in "012-345--"), "applied 1", "unavailable"]
+# a file that is an unlawful run, and a schedule of one event
+BOTH = b'{"members":3,"sent":["08042801"],"slot_limit":2,"uploads":[],"events":[["tick",0,0]]}'
+PREPARE, PROMISE = bytes.fromhex("000000000408012801"), bytes.fromhex("000000000408022801")
+
+
+def rows(name, parts):
+    """The rows of a file, each in so many parts with bars between them."""
+    lines = (ROWS / name).read_text(encoding="utf-8").splitlines()
+    return [line.split("|", parts - 1) for line in lines if "|" in line and not line.startswith("#")]
+
+
+class Program:
+    """The program, and a folder for files that it reads."""
+
+    def __init__(self, path, folder):
+        self.path, self.folder = path, Path(folder)
+
+    def run(self, words, given=b"", name="flightd"):
+        """The status of a call, and the bytes of its standard output and standard error."""
+        ran = subprocess.run([name, *words], executable=self.path, input=given, capture_output=True, cwd=self.folder,
+                             timeout=120, check=False)
+        return ran.returncode, ran.stdout, ran.stderr
+
+    def over(self, command, text):
+        """The outcome of a command over a file of these bytes."""
+        file = self.folder / "file.json"
+        file.write_bytes(text)
+        return self.run([command, file.name])
+
+
+def said(line):
+    """How a call without output ends that says this line, and one that says nothing."""
+    return (1, b"flightd: %s\n" % line.encode()) if line else (0, b"")
+
+
+def is_conversation(outcome, answers, lines):
+    status, output, line = outcome
+    return output == answers and (status, line) in [said(it) for it in lines]
+
+
+# ---- the acceptor
+
+
+def conversations(program):
+    for given, answers, line in rows("conversations.txt", 3):
+        first, _, other = line.partition(" or ")
+        lines = [first, f"frame 0: {other}"] if other else [line]
+        outcome = program.run(["acceptor"], bytes.fromhex(given))
+        yield f"{given} {line}", is_conversation(outcome, bytes.fromhex(answers), lines)
+    competing = rows("competing.txt", 2)
+    given, answers = (bytes.fromhex("".join(texts)) for texts in zip(*competing))
+    yield "competing.txt", is_conversation(program.run([], given), answers, [""])
+    given = "00 00000004 08012801 00 00000008 0804100128023001 00 00000004 08042801 00 00000008 0801100228033002"
+    answers = "00 00000004 08022801 00 00000006 080528023001 00 00000008 0803280138024001 00 0000000a 08022803300238024001"
+    yield given, is_conversation(program.run([], bytes.fromhex(given)), bytes.fromhex(answers), [""])
+
+
+def frame_of(kind, slot):
+    """The frame of a message of this kind, about ballot (1, 0) and a slot of two digits to the base 128."""
+    return bytes([0, 0, 0, 0, 7, 8, kind, 0x18, slot % 128 | 128, slot // 128, 0x28, 1])
+
+
+def frames(program):
+    """The limit of frames, which is told before what the next one would be; and 5,000 slots."""
+    for count, behind, line in (
+        (MOST_FRAMES - 1, b"", ""), (MOST_FRAMES, b"", "frame 1000000: Io"), (MOST_FRAMES, ASK, "frame 1000000: Io"),
+        (MOST_FRAMES - 1, END, "frame 999999: BadFlag"), (MOST_FRAMES, END, "frame 1000000: Io"),
+    ):
+        outcome = program.run([], count * ASK + behind)
+        yield f"{count} frames and {behind.hex()}", is_conversation(outcome, b"", [line])
+    slots = [128 * high + low for high in range(1, 41) for low in range(125)]
+    given, answers = (b"".join(frame_of(kind, slot) for slot in slots) for kind in (1, 2))
+    yield "5,000 slots", is_conversation(program.run([], given), answers, [""])
+
+
+def with_value(beginning, size):
+    return bytes.fromhex(beginning) + bytes([7]) * size
+
+
+def values(program):
+    """An Accept of a long value, and a Prepare above it, whose Promise has room for the value or not."""
+    prepare = bytes.fromhex("00 00000004 08012802")
+    accepted = with_value("00 003ffffe 0805 2801 4af5ffff01", REPORTED)
+    promise = with_value("00 00400000 0802 2802 3801 4af5ffff01", REPORTED)
+    outcome = program.run([], with_value("00 003ffffe 0804 2801 4af5ffff01", REPORTED) + prepare)
+    yield "the longest value", is_conversation(outcome, accepted + promise, [""])
+    accepted = with_value("00 003fffff 0805 2801 4af6ffff01", REPORTED + 1)
+    outcome = program.run([], with_value("00 003fffff 0804 2801 4af6ffff01", REPORTED + 1) + prepare)
+    yield "a longer value", is_conversation(outcome, accepted, ["frame 1: TooLong"])
+
+
+# ---- recorded runs
+
+
+JUDGED = {"lawful": (0, b"lawful\n", b""), "unlawful": (1, b"unlawful\n", b""), "no run": (1, b"", b"flightd: BadTrace\n")}
+
+
+def audits(program):
+    files = [(judgement, why, file.encode()) for judgement, why, file in rows("runs.txt", 3)]
+    files += [
+        # white space where RFC 8259, section 2, has it; no UTF-8; and a byte order mark, which is no part of JSON (section 8.1)
+        ("lawful", "spaces", b'\n{ "members" : 3 ,\t"sent" : [ ] }\r\n'),
+        ("no run", "no text", b'{"members":3,"sent":[],"note":"\xff"}'),
+        ("no run", "a mark", b'\xef\xbb\xbf{"members":3,"sent":[]}'),
+        ("no run", "no text behind", b'{"members":3,"sent":[]}\xff'),
+    ]
+    whole = next(file for _, why, file in files if why == "an acceptance above")
+    files += [("no run", f"its first {size} bytes", whole[:size]) for size in range(len(whole))]
+    for judgement, why, file in files:
+        yield f"{judgement}: {why}", program.over("audit", file) == JUDGED[judgement]
+
+
+# ---- schedules
+
+
+def schedule(uploads, events):
+    """The schedule of three nodes and two slots with these uploads and events."""
+    return f'{{"members":3,"slot_limit":2,"uploads":[{uploads}],"events":[{events}]}}'.encode()
+
+
+def is_played(outcome, lines):
+    return outcome == (0, "".join(f"{place} {line}\n" for place, line in enumerate(lines)).encode(), b"")
+
+
+def is_told(outcome, told, lines=()):
+    """Whether a file was played with these lines, or was refused, as it is told."""
+    return outcome == (1, b"", b"flightd: BadSchedule\n") if told == "bad" else is_played(outcome, lines)
+
+
+def schedules(program):
+    for told, file in rows("schedules.txt", 2):
+        yield f"{told}: {file}", is_told(program.over("replay", file.encode()), told)
+    no_text = b'{"members":3,"slot_limit":2,"uploads":[],"events":[],"note":"\xff"}'
+    yield "no text", is_told(program.over("replay", no_text), "bad")
+    for told, upload in rows("uploads.txt", 2):
+        yield f"{told}: {upload}", is_told(program.over("replay", schedule(upload, "")), told)
+    for count, told in ((1024, "good"), (1025, "bad")):
+        upload = json.dumps({"table": "t", "id": ID, "values": count * [[]]})
+        yield f"{count} batches", is_told(program.over("replay", schedule(upload, "")), told)
+
+
+def events(program):
+    for told, event in rows("events.txt", 2):
+        yield f"{told}: {event}", is_told(program.over("replay", schedule(UPLOAD, event)), told, [told])
+    yield "an upload", is_played(program.over("replay", schedule(UPLOAD, DECIDED)), DECIDED_LINES)
+    # a node at which nothing waits asks for the first slot at each tick
+    ticks = ",".join(5000 * ['["tick",2,0]'])
+    yield "5,000 ticks", is_played(program.over("replay", schedule("", ticks)), [f"sent {number}" for number in range(5000)])
+
+
+def examples(program):
+    for lines in sorted(EXAMPLES.glob("*.lines")):
+        outcome = program.run(["replay", lines.with_suffix(".json")])
+        yield lines.name, outcome == (0, lines.read_bytes(), b"")
+
+
+# ---- words
+
+
+def file_of(wanted):
+    """The name of the file that is asked for, where one is."""
+    return wanted[1:-1] if wanted[0] + wanted[-1] in ("[]", "()", "{}") else None
+
+
+def asked(outcome, name):
+    """What a call was taken for, over an input that the acceptor answers, and a file of this name alone."""
+    status, output, line = outcome
+    if line:
+        return f"{status} error"
+    if (status, output) == (0, PROMISE):
+        return "acceptor"
+    if (status, output) == (0, b"0 sent 0\n"):
+        return f"{{{name}}}"
+    if status == 1 and output.startswith(b"unlawful\n"):
+        return f"[{name}]" if output == b"unlawful\n" else f"({name})"
+    return f"{status} output"
+
+
+def calls(program):
+    for call, wanted in rows("calls.txt", 2):
+        with tempfile.TemporaryDirectory(dir=program.folder) as folder:
+            there = Program(program.path, folder)
+            name, *words = (word.replace("FOLDER", folder) for word in call.split(" "))
+            wanted = wanted.replace("FOLDER", folder)
+            if file := file_of(wanted):
+                (there.folder / file).write_bytes(BOTH)
+            outcome = there.run(words, PREPARE, name)
+            yield call, asked(outcome, file) == wanted
+
+
+def helps(program):
+    for call, line in rows("helps.txt", 2):
+        name, *words = call.split(" ")
+        status, output, error = program.run(words, name=name)
+        yield f"{call}: {line}", (status, error) == (0, b"") and line in output.decode()
+
+
+def main():
+    built = [file for end in ("", ".by-rattle") if (file := TOP / "crates" / "flightd" / "out" / f"flightd{end}").is_file()]
+    if not built:
+        print("program: flightd is not built")
+        return 1
+    status = 0
+    for path in built:
+        for kind in (conversations, frames, values, audits, schedules, events, examples, calls, helps):
+            with tempfile.TemporaryDirectory() as folder:
+                found = list(kind(Program(path, folder)))
+            for label, is_so in found:
+                if not is_so:
+                    print(f"program: {path.name} does otherwise, {kind.__name__}: {label[:160]}")
+                    status = 1
+            print(f"program: {path.name}, {len(found)} {kind.__name__}")
+    return status
+
+
+if __name__ == "__main__":
+    sys.exit(main())
