@@ -18,8 +18,8 @@ fn accepts_too(sent: &[Message], number: u8, vote: &Message) -> bool {
         && other.body == vote.body)
 }
 
-/// Whether the message says that something is accepted which a majority accepted at this ballot.
-pub(crate) fn is_of_choice(members: Members, sent: &[Message], vote: &Message) -> bool {
+// Whether the message says that something is accepted which a majority accepted at this ballot.
+fn is_of_choice(members: Members, sent: &[Message], vote: &Message) -> bool {
     let voters = (0..members.count())
         .filter(|number| accepts_too(sent, *number, vote))
         .count();
@@ -37,11 +37,6 @@ fn are_two_choices(members: Members, sent: &[Message], one: &Message, other: &Me
         }
         _ => false,
     }
-}
-
-/// Whether anything was chosen.
-pub(crate) fn is_something_chosen(members: Members, sent: &[Message]) -> bool {
-    sent.iter().any(|vote| is_of_choice(members, sent, vote))
 }
 
 /// Whether two values were chosen for one slot.

@@ -1,12 +1,9 @@
 //! Two leaders that take the promises from each other.
 
-use crate::chosen::{is_chosen_twice, is_something_chosen};
-use crate::support::{played, push_deliveries, tells_outcomes, upload};
-use schedule_runner::{Event, Trace, audit};
+use crate::support::{push_deliveries, upload};
+use schedule_runner::Event;
 use std::alloc::Global;
-use std::hash::RandomState;
 use std::test::Fail;
-use table_versions::Outcome;
 
 /// How many ballots the two begin.
 const BALLOTS: u64 = 20;
@@ -63,49 +60,5 @@ pub(crate) fn push_end(events: &mut Vec<Event>, alloc: Global) -> Result<(), Fai
             events.push(Event::Outcome(node, upload(alloc, number)?))?;
         }
     }
-    Ok(())
-}
-
-fn duelled(alloc: Global, hashing: RandomState, ends: bool) -> Result<Trace, Fail> {
-    let mut events = Vec::new(alloc);
-    push_duel(&mut events, alloc)?;
-    if ends {
-        push_end(&mut events, alloc)?;
-    }
-    played(alloc, hashing, 4, events.as_slice())
-}
-
-#[test]
-fn nothing_is_chosen_for_twenty_ballots(rt: HostRuntime) -> Result<(), Fail> {
-    let hashing = RandomState::new(&rt)?;
-    let trace = duelled(rt.alloc(), hashing, false)?;
-    let chosen = is_something_chosen(trace.members(), trace.sent());
-    assert!(rt; !chosen && audit(&trace));
-    assert!(rt; trace.sent().len() == 117);
-    Ok(())
-}
-
-#[test]
-fn nothing_is_chosen_twice(rt: HostRuntime) -> Result<(), Fail> {
-    let hashing = RandomState::new(&rt)?;
-    let trace = duelled(rt.alloc(), hashing, true)?;
-    let chosen = is_something_chosen(trace.members(), trace.sent());
-    let twice = is_chosen_twice(trace.members(), trace.sent());
-    assert!(rt; chosen && !twice && audit(&trace));
-    Ok(())
-}
-
-#[test]
-fn the_loser_proposes_what_the_other_had_accepted_last(rt: HostRuntime) -> Result<(), Fail> {
-    let hashing = RandomState::new(&rt)?;
-    let trace = duelled(rt.alloc(), hashing, true)?;
-    let wanted = [
-        Outcome::Unknown,
-        Outcome::Applied(1),
-        Outcome::Unknown,
-        Outcome::Applied(1),
-    ];
-    let told = tells_outcomes(&trace, &wanted);
-    assert!(rt; told);
     Ok(())
 }

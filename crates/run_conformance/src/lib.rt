@@ -1,32 +1,19 @@
-//! Conformance tests of nodes and of their runs, over the public calls of `node_core`, `node_seats` and `schedule_runner`, of
-//! which rows cannot tell: drawn orders by the thousand, thousands of uploads, clusters of every size, nodes that have lost
-//! a record, and refused memory.
+//! Conformance tests of nodes and of their runs, over the public calls of `node_core` and `schedule_runner`, of which rows
+//! cannot tell: nodes that have lost a record, and refused memory.
 //!
 //! The crate has no code but tests, so that what is proved in the crates below is not proved again together with them.
-//! Rows are told as stories, in `run_stories`.
+//! Rows are told as stories, in `run_stories`, and long runs by `tools/sweeps.py`, which the same program plays.
 #![tactic(auto)]
 
 #[cfg(test)]
-mod any_order;
-#[cfg(test)]
-mod away;
-#[cfg(test)]
 mod chosen;
-#[cfg(test)]
-mod clusters;
 #[cfg(test)]
 mod duel;
 #[cfg(test)]
 mod lost_records;
-#[cfg(test)]
-mod many;
 #[cfg(test)]
 mod nodes;
 #[cfg(test)]
 mod refused_memory;
 #[cfg(test)]
 mod support;
-#[cfg(test)]
-mod two_leaders;
-#[cfg(test)]
-mod two_of_three;
