@@ -24,7 +24,7 @@ work=$(mktemp -d)
 trap 'rm -rf "$work"' EXIT
 rustc -O --edition 2021 -o "$work/calls" bench/plain_calls.rs
 rustc -O --edition 2021 -o "$work/runs" bench/plain_runs.rs
-for program in "call_server" "flightd replay examples/no_loss.json" "flight_bench --version"; do
+for program in "call_server" "flightd replay examples/no_loss.json" "flight_bench decode-data 0 /dev/null"; do
   name=${program%% *}
   words=${program#"$name"}
   words=${words/ examples/ $PWD/examples}

@@ -11,7 +11,7 @@ source bench/programs.sh plain_messages
 for message in data info; do
   file=$work/$message
   "$plain" "generate-$message" >"$file"
-  agree_on_lines "reencode-$message" "$file"
+  agree_on_message "reencode-$message" "$file"
   agree "decode-$message" 100 "$file"
   agree "encode-$message" 100 "$file"
   echo "$message: both write the same $(stat -c %s "$file") bytes, and both tallies agree"

@@ -12,7 +12,7 @@ source bench/programs.sh plain_headers
 for header in flat deep; do
   file=$work/$header
   "$plain" generate "$header" >"$file"
-  agree_on_lines reencode-header "$file"
+  agree_on_message reencode-header "$file"
   agree decode-header 100 "$file"
   agree encode-header 100 "$file"
   echo "$header: both write the same $(stat -c %s "$file") bytes, and both tallies agree"

@@ -322,14 +322,13 @@ fn decode_often<M: Message>(count: u64, text: &[u8], weight: fn(&M) -> u64) -> R
     Ok(sum)
 }
 
-fn encode_often<M: Message>(count: u64, text: &[u8]) -> Result<u64, Fault> {
+fn encode_often<M: Message>(count: u64, text: &[u8], out: &mut Vec<u8>) -> Result<u64, Fault> {
     let message = M::decode(text)?;
-    let mut out = Vec::new();
     let mut sum = 0u64;
     for _ in 0..count {
         out.clear();
-        black_box(&message).encode(&mut out);
-        sum = sum.wrapping_add(text_weight(black_box(&out)));
+        black_box(&message).encode(out);
+        sum = sum.wrapping_add(text_weight(black_box(out)));
     }
     Ok(sum)
 }
@@ -343,37 +342,14 @@ fn copy_often(count: u64, text: &[u8]) -> u64 {
     sum
 }
 
-/// The bytes of a line of hexadecimal digits.
-fn bytes_of(line: &str) -> Option<Vec<u8>> {
-    let digit = |byte: u8| char::from(byte).to_digit(16);
-    let pair = |pair: &[u8]| match pair {
-        [high, low] => Some((digit(*high)? * 16 + digit(*low)?) as u8),
-        _ => None,
-    };
-    line.as_bytes().chunks(2).map(pair).collect()
-}
-
-/// The bytes that the line's message is written as, in hexadecimal, or the name of the fault that stands in the line.
-fn reencoded<M: Message>(line: &str) -> String {
-    let Some(bytes) = bytes_of(line) else {
-        return "NotHexadecimal".to_owned();
-    };
-    match M::decode(&bytes) {
-        Ok(message) => {
-            let mut out = Vec::new();
-            message.encode(&mut out);
-            out.iter().map(|byte| format!("{byte:02x}")).collect()
-        }
-        Err(fault) => format!("{fault:?}"),
-    }
-}
-
+/// Prints the message as it was written last, or its fault on standard error, with status 1.
 fn reencode_often<M: Message>(count: u64, text: &[u8]) -> io::Result<()> {
-    let text = std::str::from_utf8(text).map_err(io::Error::other)?;
-    for _ in 0..count {
-        text.lines().try_for_each(|line| writeln!(io::stdout().lock(), "{}", reencoded::<M>(line)))?;
+    let mut out = Vec::new();
+    if let Err(fault) = encode_often::<M>(count, text, &mut out) {
+        eprintln!("{fault:?}");
+        std::process::exit(1);
     }
-    Ok(())
+    io::stdout().write_all(&out)
 }
 
 fn pattern(length: usize) -> Vec<u8> {
@@ -434,10 +410,10 @@ fn main() -> io::Result<()> {
     let text = std::fs::read(file)?;
     match task.as_str() {
         "decode-data" => tally(count, decode_often(count, &text, data_weight)),
-        "encode-data" => tally(count, encode_often::<FlightData>(count, &text)),
+        "encode-data" => tally(count, encode_often::<FlightData>(count, &text, &mut Vec::new())),
         "reencode-data" => reencode_often::<FlightData>(count, &text),
         "decode-info" => tally(count, decode_often(count, &text, info_weight)),
-        "encode-info" => tally(count, encode_often::<FlightInfo>(count, &text)),
+        "encode-info" => tally(count, encode_often::<FlightInfo>(count, &text, &mut Vec::new())),
         "reencode-info" => reencode_often::<FlightInfo>(count, &text),
         "copy" => tally(count, Ok(copy_often(count, &text))),
         _ => Err(io::ErrorKind::InvalidInput.into()),

@@ -6,7 +6,7 @@ trap 'rm -rf "$work"' EXIT
 plain=$work/plain
 proved=$PWD/crates/flight_bench/out/flight_bench
 if (($#)); then rustc -O --edition 2021 -o "$plain" "bench/$1.rs"; fi
-if ! (cd crates/flight_bench && rt run -- --version) </dev/null >"$work/log" 2>&1; then
+if ! (cd crates/flight_bench && rt run -- decode-data 0 /dev/null) </dev/null >"$work/log" 2>&1; then
   cat "$work/log" >&2
   exit 1
 fi
@@ -18,9 +18,14 @@ agree() {
   cmp "$work/plain.printed" "$work/proved.printed"
 }
 
-# Both write the file's message as it stands, and tell the same fault of it cut short, and of a line that is no digits.
-agree_on_lines() {
-  (xxd -p -c 0 "$2" && head -c -1 "$2" | xxd -p -c 0 && echo x) >"$2.lines"
-  agree "$1" 1 "$2.lines"
-  cmp <(head -n 1 "$2.lines") <(head -n 1 "$work/proved.printed")
+# Both write the file's message as it stands, and report the same fault of it cut short.
+agree_on_message() {
+  agree "$1" 1 "$2"
+  cmp "$2" "$work/proved.printed"
+  head -c -1 "$2" >"$2.cut"
+  if "$plain" "$1" 1 "$2.cut" 2>"$work/plain.fault" || "$proved" "$1" 1 "$2.cut" 2>"$work/proved.fault"; then
+    echo "$1: no fault of a message cut short" >&2
+    exit 1
+  fi
+  cmp "$work/plain.fault" <(sed 's/^flight_bench: //' "$work/proved.fault")
 }

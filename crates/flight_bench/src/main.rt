@@ -2,22 +2,25 @@
 //! Paxos node, the tables that uploads make and runs of whole nodes, to be measured and compared from outside.
 //! `flight_bench TASK COUNT FILE` does its task so many times on what the file holds.
 //!
-//! A task that is timed takes the file's bytes as they are, and prints the count and a sum that depends on each
-//! repetition. A task `reencode-..` takes a line of hexadecimal digits a message, and prints a line for each: the bytes
-//! that the message is written as, in hexadecimal, or the name of the fault that stands in it.
+//! A task takes the file's bytes as they are, and prints the count and a sum that depends on each repetition. A task
+//! `reencode-..` reads the file's message once and writes it so many times as `encode-..` does, and prints the bytes that
+//! were written last.
 //!
 //! Nothing is claimed here but that each task is safe and ends: what is read and written is promised by the crates that
 //! do it.
 #![tactic(auto)]
 
-mod fault;
-mod tasks;
-mod words;
-
-use fault::RunFault;
-use std::io;
+use part_tasks::{
+    TaskFault, call_acceptor, call_learner, call_log, decode_data, decode_header, decode_info,
+    encode_data, encode_header, encode_info, read_batch_often, report_value, rewrite_batch_often,
+    write_batch_often,
+};
+use std::alloc::Global;
+use std::fs;
+use std::hash::RandomState;
+use std::io::{self, Write};
 use std::process::ExitCode;
-use tasks::run;
+use upload_tasks::{answer_often, decode_uploads, hold_all, run_often, take_often};
 
 /// The status of a run that met no fault.
 const SUCCESS: u8 = 0;
@@ -40,27 +43,70 @@ fn main(rt: HostRuntime) -> ExitCode {
     ExitCode::from(status)
 }
 
-// Reads the words and runs what they ask for.
-fn start(rt: &HostRuntime) -> Result<u8, RunFault> {
-    let alloc = rt.alloc();
-    let words: Vec<String> = std::env::args(rt)?.collect(alloc)?;
-    match words::parse(alloc, &words) {
-        Ok(matches) => obey(rt, &matches),
-        Err(error) => Ok(refuse(rt, &error)?),
+// Reads the words and does what they ask for.
+fn start(rt: &HostRuntime) -> Result<u8, TaskFault> {
+    let words: Vec<String> = std::env::args(rt)?.collect(rt.alloc())?;
+    match words.as_slice() {
+        [_, task, count, file] => match count.parse::<u64>() {
+            Ok(count) => perform(rt, task.as_str(), count, file.as_str()),
+            Err(_) => Ok(refuse(rt)?),
+        },
+        _ => Ok(refuse(rt)?),
     }
 }
 
-fn obey(rt: &HostRuntime, matches: &clap::ArgMatches<'_>) -> Result<u8, RunFault> {
-    match words::asked(matches) {
-        Some((task, count, file)) => {
-            run(rt, task, count, file)?;
-            Ok(SUCCESS)
-        }
-        None => Ok(USAGE),
-    }
+fn refuse(rt: &HostRuntime) -> io::Result<u8> {
+    eprintln!(rt; "usage: flight_bench TASK COUNT FILE")?;
+    Ok(USAGE)
 }
 
-fn refuse(rt: &HostRuntime, error: &clap::Error) -> io::Result<u8> {
-    error.print(rt)?;
-    Ok(error.exit_code() as u8)
+fn perform(rt: &HostRuntime, task: &str, count: u64, file: &str) -> Result<u8, TaskFault> {
+    let bytes = fs::read(rt, file)?;
+    let hashing = RandomState::new(rt)?;
+    let mut written = Vec::new(rt.alloc());
+    let Some(sum) = repeat(rt.alloc(), hashing, task, count, &bytes, &mut written) else {
+        return Ok(refuse(rt)?);
+    };
+    report(rt, task, count, sum?, &written)?;
+    Ok(SUCCESS)
+}
+
+// Does the task so many times, and gives the sum of the weights of all repetitions, modulo 2^64.
+fn repeat(
+    alloc: Global,
+    hashing: RandomState,
+    task: &str,
+    count: u64,
+    bytes: &[u8],
+    written: &mut Vec<u8>,
+) -> Option<Result<u64, TaskFault>> {
+    let sum = match task {
+        "decode-data" => decode_data(alloc, count, bytes),
+        "encode-data" | "reencode-data" => encode_data(alloc, count, bytes, written),
+        "decode-info" => decode_info(alloc, count, bytes),
+        "encode-info" | "reencode-info" => encode_info(alloc, count, bytes, written),
+        "decode-header" => decode_header(alloc, count, bytes),
+        "encode-header" | "reencode-header" => encode_header(alloc, count, bytes, written),
+        "read-batch" => read_batch_often(alloc, count, bytes),
+        "write-batch" => write_batch_often(alloc, count, bytes),
+        "rewrite-batch" => rewrite_batch_often(alloc, count, bytes),
+        "call-acceptor" => call_acceptor(alloc, count, bytes.len()),
+        "call-learner" => call_learner(alloc, count, bytes.len()),
+        "call-log" => call_log(alloc, count, bytes.len()),
+        "report-value" => report_value(alloc, count, bytes),
+        "take-uploads" => take_often(alloc, hashing, count, bytes),
+        "hold-uploads" => hold_all(alloc, hashing, count, bytes),
+        "decode-uploads" => decode_uploads(alloc, count, bytes),
+        "answer-tickets" => answer_often(alloc, hashing, count, bytes),
+        "run-events" => run_often(alloc, hashing, count, bytes),
+        _ => return None,
+    };
+    Some(sum)
+}
+
+fn report(rt: &HostRuntime, task: &str, count: u64, sum: u64, written: &[u8]) -> io::Result<()> {
+    if task.starts_with("reencode-") {
+        return rt.stdout().write_all(written);
+    }
+    println!(rt; "{count} {sum}")
 }

@@ -1,6 +1,7 @@
-//! Parts that are called for slot after slot.
+//! Parts of a node that are called for slot after slot.
 
-use crate::fault::PartTaskFault;
+use crate::fault::TaskFault;
+use crate::shared::push;
 use acceptor::{Acceptor, Answer};
 use ballots::{Acceptance, Ballot, Members, NodeId, Slot, Value};
 use decided_log::DecidedLog;
@@ -8,7 +9,7 @@ use learner::Learner;
 use std::alloc::{AllocError, Global};
 
 /// Makes an acceptor so many times, and has it accept for slot after slot. A repetition weighs its grants.
-pub fn call_acceptor(alloc: Global, count: u64, slots: usize) -> Result<u64, PartTaskFault> {
+pub fn call_acceptor(alloc: Global, count: u64, slots: usize) -> Result<u64, TaskFault> {
     let slots = first_slots(alloc, slots)?;
     let mut sum: u64 = 0;
     for _ in 0..count {
@@ -19,7 +20,7 @@ pub fn call_acceptor(alloc: Global, count: u64, slots: usize) -> Result<u64, Par
 
 /// Makes a learner so many times, and tells it that each of three members accepted for slot after slot. A repetition
 /// weighs the slots that it learned.
-pub fn call_learner(alloc: Global, count: u64, slots: usize) -> Result<u64, PartTaskFault> {
+pub fn call_learner(alloc: Global, count: u64, slots: usize) -> Result<u64, TaskFault> {
     let slots = first_slots(alloc, slots)?;
     let mut sum: u64 = 0;
     for _ in 0..count {
@@ -30,7 +31,7 @@ pub fn call_learner(alloc: Global, count: u64, slots: usize) -> Result<u64, Part
 
 /// Makes a log so many times, and inserts a value for slot after slot. A repetition weighs the values by which its
 /// prefix grew.
-pub fn call_log(alloc: Global, count: u64, slots: usize) -> Result<u64, PartTaskFault> {
+pub fn call_log(alloc: Global, count: u64, slots: usize) -> Result<u64, TaskFault> {
     let slots = first_slots(alloc, slots)?;
     let mut sum: u64 = 0;
     for _ in 0..count {
@@ -40,25 +41,23 @@ pub fn call_log(alloc: Global, count: u64, slots: usize) -> Result<u64, PartTask
 }
 
 // So many as slots are numbered, where there are some.
-fn slot_count(count: usize) -> Result<u32, PartTaskFault> {
-    match u32::try_from(count) {
-        Ok(count) if count != 0 => Ok(count),
-        _ => Err(PartTaskFault::Slots),
-    }
-}
-
-fn first_slots(alloc: Global, count: usize) -> Result<Vec<Slot>, PartTaskFault> {
-    let count = slot_count(count)?;
+fn first_slots(alloc: Global, count: usize) -> Result<Vec<Slot>, TaskFault> {
     let mut slots = Vec::new(alloc);
-    for number in 0..count {
-        push_slot(&mut slots, number)?;
+    match u32::try_from(count) {
+        Ok(count) if count != 0 => push_slots(&mut slots, count)?,
+        _ => return Err(TaskFault::Slots),
     }
     Ok(slots)
 }
 
-fn push_slot(slots: &mut Vec<Slot>, number: u32) -> Result<(), PartTaskFault> {
-    let slot = Slot::new(number).ok_or(PartTaskFault::Slots)?;
-    slots.push(slot).map_err(|_| PartTaskFault::OutOfMemory)
+fn push_slots(slots: &mut Vec<Slot>, count: u32) -> Result<(), TaskFault> {
+    for number in 0..count {
+        match Slot::new(number) {
+            Some(slot) => push(slots, slot)?,
+            None => return Err(TaskFault::Slots),
+        }
+    }
+    Ok(())
 }
 
 /// One of three members.
@@ -73,7 +72,9 @@ pub(crate) fn first_ballot() -> Ballot {
 
 fn grants(alloc: Global, slots: &[Slot]) -> Result<u64, AllocError> {
     let mut acceptor = Acceptor::new(alloc);
-    grants_by(&mut acceptor, slots)
+    let sum = grants_by(&mut acceptor, slots);
+    drop(acceptor);
+    sum
 }
 
 fn grants_by(acceptor: &mut Acceptor, slots: &[Slot]) -> Result<u64, AllocError> {
@@ -92,12 +93,16 @@ fn is_granted(acceptor: &mut Acceptor, slot: Slot) -> Result<bool, AllocError> {
         value: Value::Noop,
     };
     let answer = acceptor.on_accept(slot, proposal)?;
-    Ok(matches!(answer, Answer::Granted))
+    let granted = matches!(&answer, Answer::Granted);
+    drop(answer);
+    Ok(granted)
 }
 
 fn slots_learned(alloc: Global, slots: &[Slot]) -> Result<u64, AllocError> {
     let mut learner = Learner::new(alloc, Members::new(3).unwrap());
-    slots_learned_by(&mut learner, slots)
+    let sum = slots_learned_by(&mut learner, slots);
+    drop(learner);
+    sum
 }
 
 fn slots_learned_by(learner: &mut Learner, slots: &[Slot]) -> Result<u64, AllocError> {
@@ -122,14 +127,25 @@ fn votes_that_taught(learner: &mut Learner, slot: Slot) -> Result<u64, AllocErro
 // Tells one vote, and whether the slot was learned by it.
 fn is_taught(learner: &mut Learner, acceptor: NodeId, slot: Slot) -> Result<bool, AllocError> {
     let (ballot, value) = (first_ballot(), Value::Noop);
-    let told = learner.see_on_accepted(acceptor, slot, ballot, &value)?;
-    learner.on_accepted(acceptor, slot, ballot, value);
-    Ok(told.is_some())
+    match learner.see_on_accepted(acceptor, slot, ballot, &value) {
+        Ok(told) => {
+            learner.on_accepted(acceptor, slot, ballot, value);
+            let taught = told.is_some();
+            drop(told);
+            Ok(taught)
+        }
+        Err(refused) => {
+            drop(value);
+            Err(refused)
+        }
+    }
 }
 
 fn prefix_grown(alloc: Global, slots: &[Slot]) -> Result<u64, AllocError> {
     let mut log = DecidedLog::new(alloc, node(0));
-    prefix_grown_of(&mut log, slots)
+    let sum = prefix_grown_of(&mut log, slots);
+    drop(log);
+    sum
 }
 
 fn prefix_grown_of(log: &mut DecidedLog, slots: &[Slot]) -> Result<u64, AllocError> {
@@ -143,7 +159,16 @@ fn prefix_grown_of(log: &mut DecidedLog, slots: &[Slot]) -> Result<u64, AllocErr
 // Inserts a value, and counts those by which the prefix grew.
 fn values_gained(log: &mut DecidedLog, slot: Slot) -> Result<u64, AllocError> {
     let value = Value::Noop;
-    let values = log.gain(slot, &value)?;
-    log.insert(slot, value);
-    Ok(values.len() as u64)
+    match log.gain(slot, &value) {
+        Ok(values) => {
+            log.insert(slot, value);
+            let gained = values.len() as u64;
+            drop(values);
+            Ok(gained)
+        }
+        Err(refused) => {
+            drop(value);
+            Err(refused)
+        }
+    }
 }

@@ -1,19 +1,22 @@
 //! An acceptor that reports an upload's value in promises of rising ballots.
 
-use crate::fault::PartTaskFault;
+use crate::fault::TaskFault;
 use crate::parts::{first_ballot, node};
+use crate::shared::push;
 use acceptor::{Acceptor, Answer};
 use ballots::{Acceptance, Ballot, Slot, UploadBytes, Value};
 use bytes::Bytes;
-use std::alloc::{AllocError, Global};
+use std::alloc::Global;
 
 /// Has an acceptor accept these bytes as an upload's value, and then promise so many ballots for the same slot. Each
 /// promise reports the value, and all are kept until the last is given, so that their memory can be measured. The sum
 /// counts them.
-pub fn report_value(alloc: Global, count: u64, bytes: &[u8]) -> Result<u64, PartTaskFault> {
+pub fn report_value(alloc: Global, count: u64, bytes: &[u8]) -> Result<u64, TaskFault> {
     let proposal = proposal_of(alloc, bytes)?;
     let mut acceptor = Acceptor::new(alloc);
-    report_proposal(alloc, &mut acceptor, count, proposal)
+    let sum = report_proposal(alloc, &mut acceptor, count, proposal);
+    drop(acceptor);
+    sum
 }
 
 fn report_proposal(
@@ -21,8 +24,8 @@ fn report_proposal(
     acceptor: &mut Acceptor,
     count: u64,
     proposal: Acceptance,
-) -> Result<u64, PartTaskFault> {
-    acceptor.on_accept(first_slot(), proposal)?;
+) -> Result<u64, TaskFault> {
+    drop(acceptor.on_accept(first_slot(), proposal)?);
     let mut promises: Vec<Answer> = Vec::new(alloc);
     for further in 0..count {
         push_promise(acceptor, further, &mut promises)?;
@@ -34,27 +37,20 @@ fn push_promise(
     acceptor: &mut Acceptor,
     further: u64,
     promises: &mut Vec<Answer>,
-) -> Result<(), PartTaskFault> {
+) -> Result<(), TaskFault> {
     let ballot = rising_ballot(further)?;
     let promise = acceptor.on_prepare(first_slot(), ballot)?;
-    promises
-        .push(promise)
-        .map_err(|_| PartTaskFault::OutOfMemory)
+    Ok(push(promises, promise)?)
 }
 
-fn proposal_of(alloc: Global, bytes: &[u8]) -> Result<Acceptance, PartTaskFault> {
-    match UploadBytes::new(shared(alloc, bytes)?) {
+fn proposal_of(alloc: Global, bytes: &[u8]) -> Result<Acceptance, TaskFault> {
+    match UploadBytes::new(Bytes::copy_from_slice(alloc, bytes)?) {
         Some(upload) => Ok(Acceptance {
             ballot: first_ballot(),
             value: Value::Upload(upload),
         }),
-        None => Err(PartTaskFault::Upload),
+        None => Err(TaskFault::Upload),
     }
-}
-
-fn shared(alloc: Global, bytes: &[u8]) -> Result<Bytes, AllocError> {
-    let copy = Vec::from_slice(alloc, bytes)?;
-    Ok(Bytes::from_vec(copy)?)
 }
 
 fn first_slot() -> Slot {
@@ -62,11 +58,12 @@ fn first_slot() -> Slot {
 }
 
 // The ballot of a round behind the first. The highest number is no round, so that a sum may stop at it.
-fn rising_ballot(further: u64) -> Result<Ballot, PartTaskFault> {
-    match u32::try_from(further) {
-        Ok(further) => {
-            Ballot::new(further.saturating_add(2), node(0)).ok_or(PartTaskFault::Rounds)
-        }
-        Err(_) => Err(PartTaskFault::Rounds),
+fn rising_ballot(further: u64) -> Result<Ballot, TaskFault> {
+    let Ok(further) = u32::try_from(further) else {
+        return Err(TaskFault::Rounds);
+    };
+    match Ballot::new(further.saturating_add(2), node(0)) {
+        Some(ballot) => Ok(ballot),
+        None => Err(TaskFault::Rounds),
     }
 }

@@ -1,4 +1,0 @@
-use Rattle.message_tasks.proofs.batches.+columns_weight.Given as goal
-
-abbrev pub decreases-columns_weight : goal.decreases-columns_weight
-decreases-columns_weight l = l.levels
