@@ -18,7 +18,7 @@ use part_tasks::{
 use std::alloc::Global;
 use std::fs;
 use std::hash::RandomState;
-use std::io::{self, Write};
+use std::io::Write;
 use std::process::ExitCode;
 use upload_tasks::{answer_often, decode_uploads, hold_all, run_often, take_often};
 
@@ -49,26 +49,35 @@ fn start(rt: &HostRuntime) -> Result<u8, TaskFault> {
     match words.as_slice() {
         [_, task, count, file] => match count.parse::<u64>() {
             Ok(count) => perform(rt, task.as_str(), count, file.as_str()),
-            Err(_) => Ok(refuse(rt)?),
+            Err(_) => refuse(rt),
         },
-        _ => Ok(refuse(rt)?),
+        _ => refuse(rt),
     }
 }
 
-fn refuse(rt: &HostRuntime) -> io::Result<u8> {
+fn refuse(rt: &HostRuntime) -> Result<u8, TaskFault> {
     eprintln!(rt; "usage: flight_bench TASK COUNT FILE")?;
     Ok(USAGE)
 }
 
-fn perform(rt: &HostRuntime, task: &str, count: u64, file: &str) -> Result<u8, TaskFault> {
-    let bytes = fs::read(rt, file)?;
+fn perform(rt: &HostRuntime, task: &str, count: u64, path: &str) -> Result<u8, TaskFault> {
+    let bytes = fs::read(rt, path)?;
+    let status = perform_on(rt, task, count, &bytes);
+    drop(bytes);
+    status
+}
+
+fn perform_on(rt: &HostRuntime, task: &str, count: u64, bytes: &[u8]) -> Result<u8, TaskFault> {
     let hashing = RandomState::new(rt)?;
     let mut written = Vec::new(rt.alloc());
-    let Some(sum) = repeat(rt.alloc(), hashing, task, count, &bytes, &mut written) else {
-        return Ok(refuse(rt)?);
+    let sum = repeat(rt.alloc(), hashing, task, count, bytes, &mut written);
+    let status = match sum {
+        Some(Ok(sum)) => report(rt, task, count, sum, &written),
+        Some(Err(fault)) => Err(fault),
+        None => refuse(rt),
     };
-    report(rt, task, count, sum?, &written)?;
-    Ok(SUCCESS)
+    drop(written);
+    status
 }
 
 // Does the task so many times, and gives the sum of the weights of all repetitions, modulo 2^64.
@@ -104,9 +113,17 @@ fn repeat(
     Some(sum)
 }
 
-fn report(rt: &HostRuntime, task: &str, count: u64, sum: u64, written: &[u8]) -> io::Result<()> {
+fn report(
+    rt: &HostRuntime,
+    task: &str,
+    count: u64,
+    sum: u64,
+    written: &[u8],
+) -> Result<u8, TaskFault> {
     if task.starts_with("reencode-") {
-        return rt.stdout().write_all(written);
+        rt.stdout().write_all(written)?;
+    } else {
+        println!(rt; "{count} {sum}")?;
     }
-    println!(rt; "{count} {sum}")
+    Ok(SUCCESS)
 }
