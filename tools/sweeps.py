@@ -48,12 +48,16 @@ def drawn_after(drawn):
 
 
 class Told:
-    """What the program answered of a run: what each event gave, what is said of the messages, and these."""
+    """What the program answered of a run: what each event gave, what is said of the messages, and their bytes."""
 
     def __init__(self, steps, messages):
         self.steps = steps.split()
-        self.judged, *sent = messages.split(" ")
-        self.sent = [fields(bytes_in(it)) for it in sent]
+        self.judged, *self.texts = messages.split(" ")
+
+    @property
+    def sent(self):
+        """The fields of each message."""
+        return [fields(bytes_in(it)) for it in self.texts]
 
     def is_lawful(self):
         return self.judged == "lawful"
@@ -61,6 +65,10 @@ class Told:
     def following(self, name):
         """The words that follow each of this name."""
         return [self.steps[place + 1] for place, it in enumerate(self.steps) if it == name]
+
+    def counts(self):
+        """How many messages each tick and each delivery sent."""
+        return [int(self.steps[place + 2]) for place, it in enumerate(self.steps) if it == "sent"]
 
     def answers(self):
         return self.following("answer")
@@ -198,9 +206,10 @@ def led(count):
 
 def leader(program):
     events = led(LED) + asked_of([0], LED) + asked_of([0], LED + 1)
-    (told,) = played(program, [(3, LED, [upload(it) for it in range(LED)], events)])
+    requests = requests_of(3, LED, [upload(it) for it in range(LED)], events)
+    told = Told(answers_of(program, requests[:-1])[-1], "not asked")
     lines = told_steps(told.steps)
-    yield "2,000 uploads: messages", len(told.sent) == 6 * LED
+    yield "2,000 uploads: messages", sum(told.counts()) == 6 * LED
     yield "2,000 uploads: answers", " answer of " in lines[-2] and lines[-1].endswith(" unavailable")
 
 
@@ -275,9 +284,8 @@ def away(program):
     last = AWAY - 2 * AT_A_TIME
     events = led(AWAY) + question(240, AT_A_TIME) + question(257, AT_A_TIME) + question(274, last) + asked_of((0, 2), AWAY)
     (told,) = played(program, [(3, 100, [upload(it) for it in range(AWAY)], events)])
-    counts = [int(told.steps[place + 2]) for place, it in enumerate(told.steps) if it == "sent"]
     yield "away: versions", told.following("info") == ["16", "32", "40"]
-    yield "away: messages", [it for it in counts if it > 1] == [AT_A_TIME, AT_A_TIME, last] and told.is_lawful()
+    yield "away: messages", [it for it in told.counts() if it > 1] == [AT_A_TIME, AT_A_TIME, last] and told.is_lawful()
     yield "away: answers", len(told.answers()) == 2 and told.is_one_answer()
 
 
