@@ -1,4 +1,6 @@
 """Tells stories of the parts of a Paxos node, of its messages and records, and of lawful histories."""
+import json
+
 from paxos_model import KINDS, MESSAGE, RECORD, encoding, shown_value
 from repeated import tell_each
 
@@ -161,6 +163,32 @@ def history(call):
     return f"history {call}", str
 
 
+RULES = {
+    "Promise": ("not above", "unreported", "report not below", "report not proposed"),
+    "Accept": ("second value", "not promised", "not reported"),
+    "Accepted": ("not proposed", "below"),
+    "Decided": (),
+}
+
+
+def breach_lines(answer):
+    """The first breach: where it stands, and of each rule for such a message what is told of it."""
+    is_lawful, *breach = answer.split(" ")
+    if not breach:
+        return ["none" if is_lawful == "yes" else answer]
+    place, slot, kind, *told = breach
+    if is_lawful != "no":
+        return [answer]
+    article = "a" if kind in ("Promise", "Decided") else "an"
+    return [f"message {place} of slot {slot}, {article} {kind}", *(f"{rule}: {it}" for rule, it in zip(RULES[kind], told))]
+
+
+def audit_of(answer):
+    """The status of an audit, the lines that it writes, and those that it says of a fault."""
+    status, *texts = answer.split(" ")
+    return status, *("" if it == "-" else line_in(it) for it in texts)
+
+
 PARTS = {"acceptor": acceptor, "proposer": proposer, "learner": learner, "log": log, "history": history}
 
 
@@ -168,7 +196,7 @@ class Teller:
     """Tells a story of the parts that it makes."""
 
     def __init__(self):
-        self.records = []
+        self.records, self.members, self.said = [], 1, []
 
     def tell(self, command):
         name, _, rest = command.partition(" ")
@@ -184,6 +212,15 @@ class Teller:
             return self.tell_said(name, message_of(rest))
         if name == "if":
             return self.tell_asked(f"history if {message_of(rest)}", str)
+        if name in ("file", "file-bytes"):
+            return self.tell_file(rest if name == "file-bytes" else text(rest))
+        if name in ("line", "long-line"):
+            handed = message_of(rest) if name == "line" else message("Decided", value="05" * (int(rest) - 1) + "09")
+            return self.tell_asked(f"line {handed}", line_in)
+        if command == "history explain":
+            return self.tell_explained()
+        if command == "history breach":
+            return self.tell_breach()
         if name == "each":
             return tell_each(self, rest)
         words = rest.split(" ")
@@ -216,6 +253,8 @@ class Teller:
 
     def tell_new(self, part, *words):
         """Makes a part: an acceptor of records, first those that were put aside, and the others of numbers."""
+        if part == "history":
+            self.members, self.said = int(words[0]), []
         if part == "acceptor":
             words, self.records = [*self.records, *words], []
             words.insert(0, str(len(words)))
@@ -223,8 +262,34 @@ class Teller:
 
     def tell_said(self, name, said):
         """Says a message, and whether the history is lawful with it, unless it is only added."""
+        self.said.append(said)
         answers = yield [f"history say {said}", "history audit"][: 2 if name == "say" else 1]
         return [it for it in answers if it]
+
+    def tell_breach(self):
+        (answer,) = yield ["history breach"]
+        return breach_lines(answer)
+
+    def tell_explained(self):
+        """What is printed of the history as a file. The audit that is not explained has to give the same, up to the first line,
+        and the searches too."""
+        file = text(json.dumps({"members": self.members, "sent": self.said}))
+        explained, audited, found = yield [f"explain {file}", f"audit {file}", "history breach"]
+        status, printed, said = audit_of(explained)
+        judged = audit_of(audited)
+        verdict = "lawful" if breach_lines(found) == ["none"] else "unlawful"
+        if (status, f"{verdict}\n", said) != judged or said or not printed.startswith(judged[1]):
+            return [f"told otherwise: {explained}, {audited}, {found}"]
+        return printed.splitlines()
+
+    def tell_file(self, file):
+        """What is said of a file that tells no run, where the audit that is not explained says the first line alone."""
+        explained, audited = yield [f"explain {file}", f"audit {file}"]
+        status, printed, said = audit_of(explained)
+        lines = said.splitlines()
+        if status != "1" or printed or audit_of(audited) != ("1", "", f"{lines[0]}\n"):
+            return [f"told otherwise: {explained}, {audited}"]
+        return lines
 
     def tell_line(self, name, line):
         """What a line says, where it is read; it has to be written again as the same."""

@@ -1,5 +1,6 @@
 //! Histories of messages, and whether they are lawful (Lamport, *Paxos Made Simple*, section 2).
 
+use crate::explaining::breach;
 use crate::words;
 use ballots::{Members, Message};
 use lawful_histories::{Trace, audit};
@@ -23,6 +24,16 @@ impl History {
         }
     }
 
+    /// How many members agree.
+    pub(crate) fn members(&self) -> Members {
+        self.members
+    }
+
+    /// What was said.
+    pub(crate) fn said(&self) -> &[Message] {
+        &self.said
+    }
+
     fn push(&mut self, message: Message) -> Result<(), RequestFault> {
         match self.said.push(message) {
             Ok(()) => Ok(()),
@@ -43,6 +54,7 @@ pub(crate) fn answer(
         "say" => say(alloc, history, words),
         "if" => suppose(alloc, history, words, answer),
         "audit" => judge(history, answer),
+        "breach" => breach(alloc, history, answer),
         _ => Err(RequestFault::BadRequest),
     }
 }

@@ -1,5 +1,6 @@
 //! Answers requests about the parts of a Paxos node: its acceptor, its proposer, its learner, and its log of decided
-//! values; about what nodes send and keep, as lines and as bytes; and about which histories of messages are lawful.
+//! values; about what nodes send and keep, as lines and as bytes; and about which histories of messages are lawful, and
+//! why others are not.
 //!
 //! A request of a part has its name, and then the call. What is asked mostly comes as the encoding of a message: an
 //! acceptor is handed Prepares and Accepts, a proposer Promises and Nacks, a learner Accepteds and Decideds, and a log
@@ -11,6 +12,7 @@
 
 mod acceptors;
 mod encodings;
+mod explaining;
 mod histories;
 mod learners;
 mod logs;
@@ -68,6 +70,7 @@ impl Answers for Parts {
             "learner" => learners::answer(alloc, &mut self.learner, words, answer),
             "log" => logs::answer(alloc, &mut self.log, words, answer),
             "history" => histories::answer(alloc, &mut self.history, words, answer),
+            "explain" | "audit" | "line" => explaining::answer(alloc, asked, words, answer),
             _ => encodings::answer(alloc, asked, words, answer),
         }
     }
