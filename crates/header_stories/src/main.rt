@@ -1,6 +1,7 @@
-//! Answers requests about the headers of Arrow's messages, and about the places that they are read at: `uint`, `follow`,
-//! `slot`, `vector` and `text` with bytes, a place and what else is wanted; `message` and `rewritten` with the bytes of
-//! a message; `encapsulated` with two runs of bytes; `profile` and `written` with a schema, and `shapes` with two.
+//! Answers requests about the headers of Arrow's messages, and about the places that they are read at: `uint`,
+//! `follow`, `slot`, `vector` and `text` with bytes, a place and what else is wanted; `message` and `rewritten` with the
+//! bytes of a message; `encapsulated` with two runs of bytes; `profile` and `written` with a schema, and `shapes` with
+//! two.
 //!
 //! What is asked for is answered in words, or else the fault's name. A header is answered as `{:?}` prints it, in
 //! hexadecimal. `schemas` says how a schema is spelled.

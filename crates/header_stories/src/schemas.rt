@@ -1,10 +1,10 @@
 //! Schemas from words, also such as can't be written: how many entries of metadata there are, each of a key and a value
 //! of one letter, and then fields.
 //!
-//! Fields are put on a pile, one after the other, and their number comes first. A field is the bytes of a message with a
-//! schema of one field, whose name, type and nullability it has, or no bytes and `binary` or `list` with the size of a
-//! FixedSizeBinary or a FixedSizeList, which may be below zero; how many letters its name has beside; how many entries of
-//! metadata it has; and how many fields it takes from the pile, the topmost as its first.
+//! Fields are put on a pile, one after the other, and their number comes first. A field is the bytes of a message with
+//! a schema of one field, whose name, type and nullability it has, or no bytes and `binary` or `list` with the size of a
+//! FixedSizeBinary or a FixedSizeList, which may be below zero; how many letters its name has beside; how many entries
+//! of metadata it has; and how many fields it takes from the pile, the topmost as its first.
 
 use crate::headers::put_schema;
 use flatbuf_meta::{Field, Header, Schema, Ty, read_message};
@@ -160,8 +160,8 @@ fn answer_of_profile(
     })
 }
 
-/// `profile SCHEMA`: `outside` where the schema can't be written; else whether the `same` is read of what is written, or
-/// some `other` one.
+/// `profile SCHEMA`: `outside` where the schema can't be written; else whether the `same` is read of what is written,
+/// or some `other` one.
 pub(crate) fn answer_profile(
     alloc: Global,
     words: &mut Words<'_>,
