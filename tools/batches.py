@@ -1,7 +1,7 @@
 #!/usr/bin/env python3
 """Makes the stories of batches in crates/batch_stories/data: `flat.txt`, `nested.txt`, `depths.txt`, `layouts.txt` and
-`faults.txt` from the model in batch_model.py; `examples.txt` and `borders.txt` were worked out by hand. First the model
-is tried: what it lays out means the cells that were laid out, what is written of them means them too and is written so
+`faults.txt` from the model in batch_model.py; `examples.txt`, `borders.txt` and `heads.txt` were worked out by hand. First the
+model is tried: what it lays out means the cells that were laid out, what is written of them means them too and is written so
 again, and each story, also by hand, is told as it stands. With --check no file is changed, and those that differ are
 named."""
 import itertools
@@ -14,7 +14,7 @@ from pathlib import Path
 from batch_model import WAYS, Head, canonical, kinds, lay_out, meaning, type_of, whole_tree, width
 
 DATA = Path(__file__).resolve().parent.parent / "crates" / "batch_stories" / "data"
-BY_HAND = ("examples.txt", "borders.txt")
+BY_HAND = ("examples.txt", "borders.txt", "heads.txt")
 TEXTS = [text.encode() for text in ("", "a", "bc", "joe", "mark", "\u00e9", "\u20ac", "\U0001d11e")]
 PATTERNS = {
     "none": lambda row, rows: False,

@@ -1,4 +1,6 @@
-"""Tells the stories of batches."""
+"""Tells the stories of batches, and of the bitmaps and columns that they are made of."""
+from itertools import groupby
+
 from batch_model import type_of
 from batches import batch_of, pairs_shown, shown, spelled
 from debug_text import value_of
@@ -74,7 +76,9 @@ class Teller:
         if asked == "schema":
             self.types = list(map(type_of, words))
             return self.tell_schema()
-        return self.tell_read(*batch_of(command))
+        if asked == "read":
+            return self.tell_read(*batch_of(command))
+        return OTHERS[asked](*words)
 
     def schema_text(self):
         return schema_text(map(field_of, self.types))
@@ -94,9 +98,23 @@ class Teller:
         rows, *words = answer.split(" ")
         words = iter(words)
         lines = [f"rows {rows}"]
-        for column in columns(types, words):
-            lines += ["  " + " ".join(map(shown, column.cells()))] if column.words else []
-        return lines + written_shown(list(words), head, body)
+        found = [list(column.cells()) for column in columns(types, words)]
+        lines += ["  " + " ".join(map(shown, cells)) for cells in found if cells]
+        return lines + made_shown(found, next(words), next(words)) + written_shown(list(words), head, body)
+
+
+def plain(value):
+    """A cell of `batch_cells`."""
+    name, held = value
+    if name in ("List", "Tuple"):
+        return {"List": list, "Tuple": tuple}[name](map(plain, held[0]))
+    return {"Null": lambda: None, "Bit": lambda bit: bit, "Bytes": bytes}[name](*held)
+
+
+def made_shown(found, cells, made):
+    """Where the plain cells are not those that are found one by one, or don't make the batch again, that."""
+    lines = [] if [list(map(plain, column)) for column in value_in(cells)] == found else ["other plain cells"]
+    return lines + ([] if made == "same" else ["another batch is made of the cells"])
 
 
 def written_shown(words, head, body):
@@ -111,3 +129,73 @@ def written_shown(words, head, body):
         return ["canonical"]
     parts = ["nodes", *pairs_shown(written["nodes"])], ["buffers", *pairs_shown(written["buffers"])]
     return [" ".join(part) for part in parts] + [f"body {len(content)} {spelled(content)}".rstrip()]
+
+
+# ---- bitmaps, and columns of bits and nulls
+
+
+def bitmap_request(*steps):
+    """The steps that have a bit or a run to put."""
+    steps = [step for step in steps if not step.endswith(" -")]
+    return " ".join(["bitmap", str(len(steps)), *steps])
+
+
+def bitmap_shown(answer):
+    """How many bits there are, their bytes, and how many are not set. The looks at each bit, both counts, the copy and the
+    bytes that it leaves have to say the same, or the whole answer is told."""
+    emptiness, count, content, *counts, looks, copy, left = answer.split(" ")
+    bits = "".join(f"{byte:08b}"[::-1] for byte in bytes_in(content))[: int(count)]
+    agreed = ["filled" if bits else "empty", [str(bits.count("0"))] * 2, bits + "-" * 10, "copied", content]
+    return f"{count}:{content}:{counts[0]}" if [emptiness, counts, looks, copy, left] == agreed else answer
+
+
+def a_list(digits):
+    (answer,) = yield [bitmap_request(f"bits {digits}")]
+    return [bitmap_shown(answer)]
+
+
+def runs(front, content, start):
+    answers = yield [bitmap_request(f"bits {front}", f"part {content} {start} {count}") for count in range(41)]
+    return [" ".join(map(bitmap_shown, answers))]
+
+
+def equal(front, bit, count):
+    (answer,) = yield [bitmap_request(f"bits {front}", f"equal {bit} {count}", f"bits {1 - int(bit)}")]
+    return [bitmap_shown(answer)]
+
+
+def zeros(content):
+    """Which bits count from the first place on; and each place from which others do."""
+    answers = yield [f"zeros {content} 0 58", *(f"zeros {content} {start} 41" for start in range(18))]
+    counts = [list(map(int, answer.split())) for answer in answers]
+    first, *others = ["".join(str(more - less) for less, more in zip(run, run[1:])) for run in counts]
+    lines = [f"from {start}: {bits}" for start, bits in enumerate(others) if bits != first[start : start + 40]]
+    return [first, *lines, *([] if all(run[0] == 0 for run in counts) else ["an empty run has zeros"])]
+
+
+def column_shown(answer):
+    layout, emptiness, count, nulls, validity, second, third, inside, looks = answer.split(" ")
+    if layout == "Null":
+        looks = " ".join(f"{letter}*{len(list(run))}" for letter, run in groupby(looks))
+    line = f"{layout} of {count}, nulls {nulls}, buffers {validity} {second} {third}, inside {inside}, seen {looks}"
+    return line if (emptiness == "empty") == (count == "0") else f"{line}, {emptiness}"
+
+
+def column(cells=""):
+    (answer,) = yield [f"bits {cells}"]
+    return [column_shown(answer)]
+
+
+def nulls(count):
+    (answer,) = yield [f"nulls {count}"]
+    return [column_shown(answer)]
+
+
+def layout(word):
+    (answer,) = yield [f"layouts {schema_text([field_of(type_of(word))])}"]
+    return [bytes_in(answer.split(" ")[1]).decode()]
+
+
+OTHERS = {
+    "list": a_list, "runs": runs, "equal": equal, "zeros": zeros, "column": column, "nulls": nulls, "layout": layout,
+}

@@ -1,5 +1,6 @@
 //! Answers requests about batches: `read SCHEMA HEADER BODY` with the bytes of two messages and of a body reads a batch
-//! and writes it again, `layouts SCHEMA` says how values of the fields stand in buffers.
+//! and writes it again, `layouts SCHEMA` says how values of the fields stand in buffers; and about what batches are
+//! made of: `bits` and `nulls` make a column, `bitmap` a bitmap, and `zeros` counts the zeros of runs of bits.
 //!
 //! What can't be read is answered with the fault's name. What `{:?}` prints of a value is answered in hexadecimal.
 //!
@@ -7,7 +8,9 @@
 //! do it.
 #![tactic(auto)]
 
+mod bitmap_answers;
 mod cells;
+mod column_answers;
 mod layouts;
 mod reading;
 
@@ -34,6 +37,10 @@ impl Answers for BatchAnswers {
         match asked {
             "read" => reading::answer_read(alloc, words, answer),
             "layouts" => layouts::answer_layouts(alloc, words, answer),
+            "bits" => column_answers::answer_bits(alloc, words, answer),
+            "nulls" => column_answers::answer_nulls(alloc, words, answer),
+            "bitmap" => bitmap_answers::answer_bitmap(alloc, words, answer),
+            "zeros" => bitmap_answers::answer_zeros(alloc, words, answer),
             _ => Err(RequestFault::BadRequest),
         }
     }

@@ -1,9 +1,12 @@
 //! Batches read and written again.
 
 use crate::cells::put_columns;
+use batch_cells::{Cell, cells_of};
+use batch_columns::Column;
+use column_building::batch_of;
 use flatbuf_meta::{BatchHead, Header, MAX_DEPTH, Schema, read_message};
-use record_batches::{Batch, read_batch, write_body};
-use std::alloc::Global;
+use record_batches::{Batch, body_length, read_batch, write_body};
+use std::alloc::{AllocError, Global};
 use story_requests::{Answer, RequestFault, Words};
 
 /// The header of the message that comes next.
@@ -26,9 +29,46 @@ fn put_written(
         return answer.word("NotOfSchema");
     }
     let (head, body) = write_body(alloc, schema, batch)?;
+    if body_length(batch) != Some(body.len() as u64) {
+        return answer.word("OtherLength");
+    }
     let shown = format!(in alloc; "{head:?}")?;
     answer.bytes(shown.as_bytes())?;
     answer.bytes(&body)
+}
+
+fn put_cells(all: &mut Vec<Vec<Cell>>, cells: Vec<Cell>) -> Result<(), AllocError> {
+    all.push(cells)?;
+    Ok(())
+}
+
+fn plain_cells(alloc: Global, columns: &[Column]) -> Result<Vec<Vec<Cell>>, AllocError> {
+    let mut all = Vec::new(alloc);
+    for column in columns {
+        put_cells(&mut all, cells_of(alloc, column)?)?;
+    }
+    Ok(all)
+}
+
+fn makes(alloc: Global, schema: &Schema, batch: &Batch, cells: &[Vec<Cell>]) -> bool {
+    match batch_of(alloc, schema, batch.rows, cells) {
+        Ok(made) => made == *batch,
+        Err(_) => false,
+    }
+}
+
+// The plain cells of each column, and whether the same batch is made of them.
+fn put_made(
+    alloc: Global,
+    schema: &Schema,
+    batch: &Batch,
+    answer: &mut Answer,
+) -> Result<(), RequestFault> {
+    let cells = plain_cells(alloc, &batch.columns)?;
+    let shown = format!(in alloc; "{cells:?}")?;
+    answer.bytes(shown.as_bytes())?;
+    let is_made = makes(alloc, schema, batch, &cells);
+    answer.word(if is_made { "same" } else { "other" })
 }
 
 fn put_batch(
@@ -39,6 +79,7 @@ fn put_batch(
 ) -> Result<(), RequestFault> {
     answer.number(batch.rows)?;
     put_columns(&batch.columns, MAX_DEPTH, answer)?;
+    put_made(alloc, schema, batch, answer)?;
     put_written(alloc, schema, batch, answer)
 }
 

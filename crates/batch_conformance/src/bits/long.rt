@@ -3,9 +3,8 @@
 ghost use Rattle.std.specs.Prelude.{◌<◌};
 
 use super::plain::put_bits;
-use super::putting::{bitmap_of, compare, extend, push, push_run};
+use super::putting::{bitmap_of, extend, is_list, push_run};
 use std::alloc::{AllocError, Global};
-use std::process::Abort;
 use std::test::Fail;
 
 /// How many bits are put one by one.
@@ -40,64 +39,56 @@ fn bytes(alloc: Global) -> Result<Vec<u8>, AllocError> {
 fn holds_thousands_of_bits_one_by_one(rt: HostRuntime) -> Result<(), Fail> {
     let list = list(rt.alloc(), PUSHED)?;
     let bitmap = bitmap_of(rt.alloc(), list.as_slice())?;
-    compare(&rt, rt.alloc(), &bitmap, list.as_slice())
+    let is_list = is_list(rt.alloc(), &bitmap, list.as_slice())?;
+    assert!(rt; is_list);
+    Ok(())
 }
 
-/// The long run from this bit on, put behind so many bits.
-fn compare_run(
-    rt: &impl Abort,
-    alloc: Global,
-    bytes: &[u8],
-    length: u32,
-    start: usize,
-) -> Result<(), Fail>
+/// Whether the long run from this bit on is right, put behind so many bits.
+fn is_run(alloc: Global, bytes: &[u8], length: u32, start: usize) -> Result<bool, AllocError>
     requires { start < 8 }
 {
     let mut list = list(alloc, length)?;
     let mut bitmap = bitmap_of(alloc, list.as_slice())?;
     extend(&mut bitmap, bytes, start, RUN)?;
     put_bits(&mut list, bytes, start, RUN)?;
-    compare(rt, alloc, &bitmap, list.as_slice())
+    is_list(alloc, &bitmap, list.as_slice())
 }
 
 #[test]
 fn holds_a_run_of_a_hundred_thousand_bits(rt: HostRuntime) -> Result<(), Fail> {
     let bytes = bytes(rt.alloc())?;
-    compare_run(&rt, rt.alloc(), bytes.as_slice(), 0, 0)?;
-    compare_run(&rt, rt.alloc(), bytes.as_slice(), 0, 3)?;
-    compare_run(&rt, rt.alloc(), bytes.as_slice(), 5, 0)?;
-    compare_run(&rt, rt.alloc(), bytes.as_slice(), 5, 3)?;
-    compare_run(&rt, rt.alloc(), bytes.as_slice(), 8, 7)
-}
-
-/// Equal bits put behind so many bits, and one bit more behind them.
-fn compare_equal(
-    rt: &impl Abort,
-    alloc: Global,
-    bit: bool,
-    length: u32,
-    count: usize,
-) -> Result<(), Fail> {
-    let mut list = list(alloc, length)?;
-    let mut bitmap = bitmap_of(alloc, list.as_slice())?;
-    push_run(&mut bitmap, bit, count)?;
-    push(&mut bitmap, !bit)?;
-    for _ in 0..count {
-        list.push(bit)?;
+    for (length, start) in [(0, 0), (0, 3), (5, 0), (5, 3), (8, 7)] {
+        let is_run = is_run(rt.alloc(), bytes.as_slice(), length, start)?;
+        assert!(rt; is_run, "{length} {start}");
     }
-    list.push(!bit)?;
-    compare(rt, alloc, &bitmap, list.as_slice())
+    Ok(())
 }
 
 #[test]
-fn holds_runs_of_equal_bits(rt: HostRuntime) -> Result<(), Fail> {
-    for length in 0..10 {
-        for count in 0..20 {
-            compare_equal(&rt, rt.alloc(), true, length, count)?;
-            compare_equal(&rt, rt.alloc(), false, length, count)?;
-        }
-        compare_equal(&rt, rt.alloc(), true, length, 5_000)?;
-        compare_equal(&rt, rt.alloc(), false, length, 5_000)?;
+fn holds_a_run_of_thousands_of_equal_bits(rt: HostRuntime) -> Result<(), Fail> {
+    let mut list = list(rt.alloc(), 9)?;
+    let mut bitmap = bitmap_of(rt.alloc(), list.as_slice())?;
+    push_run(&mut bitmap, true, RUN)?;
+    for _ in 0..RUN {
+        list.push(true)?;
     }
+    let is_list = is_list(rt.alloc(), &bitmap, list.as_slice())?;
+    assert!(rt; is_list);
+    Ok(())
+}
+
+#[test]
+fn refuses_a_list_of_two_to_the_sixty_fourth_bits(rt: HostRuntime) -> Result<(), Fail> {
+    let list = list(rt.alloc(), 9)?;
+    let bytes = bytes(rt.alloc())?;
+    let mut bitmap = bitmap_of(rt.alloc(), list.as_slice())?;
+    let is_extended = bitmap
+        .extend_from(bytes.as_slice(), 0, usize::MAX - 8)
+        .is_ok();
+    let is_longer = bitmap.push_run(true, usize::MAX - 8).is_ok();
+    assert!(rt; !is_extended && !is_longer);
+    let is_list = is_list(rt.alloc(), &bitmap, list.as_slice())?;
+    assert!(rt; is_list);
     Ok(())
 }

@@ -17,7 +17,7 @@ fn byte_of(bits: &[bool]) -> u8 {
 }
 
 /// The bytes of a list of bits.
-pub(crate) fn packed(alloc: Global, bits: &[bool]) -> Result<Vec<u8>, AllocError> {
+pub(super) fn packed(alloc: Global, bits: &[bool]) -> Result<Vec<u8>, AllocError> {
     let mut bytes = Vec::new(alloc);
     for eight in bits.chunks(8) {
         bytes.push(byte_of(eight))?;
@@ -26,7 +26,7 @@ pub(crate) fn packed(alloc: Global, bits: &[bool]) -> Result<Vec<u8>, AllocError
 }
 
 /// Whether a bit is set; behind the last byte none is.
-pub(super) fn is_set(bytes: &[u8], index: usize) -> bool {
+fn is_set(bytes: &[u8], index: usize) -> bool {
     let byte = bytes.get(index / 8).copied().unwrap_or(0);
     let weight = WEIGHTS.get(index % 8).copied().unwrap_or(1);
     byte.checked_div(weight).unwrap_or(0) % 2 == 1

@@ -5,8 +5,6 @@ ghost use Rattle.std.specs.Prelude.{◌+◌, ◌<◌, ◌^◌};
 use super::plain::{packed, zeros_of};
 use bitmaps::{Bitmap, bit, count_zeros};
 use std::alloc::{AllocError, Global};
-use std::process::Abort;
-use std::test::Fail;
 
 /// Puts a bit. Where memory is refused it is put again: a refusal changes nothing.
 pub(super) fn push(bitmap: &mut Bitmap, bit: bool) -> Result<(), AllocError> {
@@ -59,39 +57,32 @@ fn is_found(bitmap: &Bitmap, list: &[bool]) -> bool {
     is_right
 }
 
-/// The bitmap has the bits of the list, and its bytes are those of the plain program. A clone has them too, and is
-/// equal to it until a bit is put behind them. One that is given up leaves these bytes.
-pub(super) fn compare(
-    rt: &impl Abort,
-    alloc: Global,
-    bitmap: &Bitmap,
-    list: &[bool],
-) -> Result<(), Fail> {
-    let bytes = packed(alloc, list)?;
+/// Whether the bitmap has as many bits as the list, and counts as many that are not set.
+fn is_counted(bitmap: &Bitmap, list: &[bool]) -> bool {
     let zeros = zeros_of(list);
-    let mut clone = bitmap.clone()?;
-    assert!(rt;
-        bitmap.as_bytes() == bytes.as_slice(),
-        "{bitmap:?} beside {bytes:?}"
-    );
-    assert!(rt;
-        clone.as_bytes() == bytes.as_slice() && clone.len() == list.len(),
-        "{clone:?}"
-    );
-    assert!(rt;
-        bitmap.len() == list.len() && bitmap.is_empty() == list.is_empty(),
-        "{bitmap:?}"
-    );
-    assert!(rt; clone == *bitmap, "{clone:?} beside {bitmap:?}");
-    push(&mut clone, false)?;
-    assert!(rt; clone != *bitmap, "{clone:?} beside {bitmap:?}");
-    assert!(rt; is_found(bitmap, list), "{bitmap:?}");
-    assert!(rt; bitmap.count_zeros() == zeros, "{bitmap:?}");
-    assert!(rt;
-        count_zeros(bitmap.as_bytes(), 0, list.len()) == zeros,
-        "{bytes:?}"
-    );
+    bitmap.len() == list.len()
+        && bitmap.is_empty() == list.is_empty()
+        && bitmap.count_zeros() == zeros
+        && count_zeros(bitmap.as_bytes(), 0, list.len()) == zeros
+}
+
+/// Whether a copy is equal to the bitmap until a bit is put behind it, and leaves these bytes if it is given up.
+fn is_copied(bitmap: &Bitmap, bytes: &[u8]) -> Result<bool, AllocError> {
+    let mut copy = bitmap.clone()?;
+    let is_equal = copy == *bitmap && copy.as_bytes() == bytes;
+    push(&mut copy, false)?;
     let given = bitmap.clone()?.into_bytes();
-    assert!(rt; given == bytes, "{given:?} beside {bytes:?}");
-    Ok(())
+    Ok(is_equal && copy != *bitmap && given.as_slice() == bytes)
+}
+
+/// Whether the bitmap has the bits of the list, and its bytes are those of the plain program.
+pub(super) fn is_list(alloc: Global, bitmap: &Bitmap, list: &[bool]) -> Result<bool, AllocError> {
+    let bytes = packed(alloc, list)?;
+    let is_copied = is_copied(bitmap, bytes.as_slice())?;
+    Ok(
+        is_copied
+            && bitmap.as_bytes() == bytes.as_slice()
+            && is_counted(bitmap, list)
+            && is_found(bitmap, list),
+    )
 }
