@@ -33,14 +33,18 @@ fn shared(bytes: Vec<u8>) -> Result<Bytes, AllocError> {
     Ok(Bytes::from_vec(bytes)?)
 }
 
-/// The upload that the next bytes are.
-pub(crate) fn upload_of(alloc: Global, words: &mut Words<'_>) -> Result<Upload, RequestFault> {
-    let bytes = shared(words.bytes(alloc)?)?;
+fn decoded(alloc: Global, bytes: Bytes) -> Result<Upload, RequestFault> {
     match Upload::decode(alloc, bytes) {
         Ok(upload) => Ok(upload),
         Err(DecodeFault::NotAnUpload) => Err(RequestFault::BadRequest),
         Err(DecodeFault::OutOfMemory) => Err(RequestFault::OutOfMemory),
     }
+}
+
+/// The upload that the next bytes are.
+pub(crate) fn upload_of(alloc: Global, words: &mut Words<'_>) -> Result<Upload, RequestFault> {
+    let bytes = shared(words.bytes(alloc)?)?;
+    decoded(alloc, bytes)
 }
 
 fn upload_at(uploads: &[Upload], words: &mut Words<'_>) -> Result<Upload, RequestFault> {

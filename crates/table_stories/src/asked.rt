@@ -29,17 +29,21 @@ fn shared(bytes: Vec<u8>) -> Result<Bytes, AllocError> {
     Ok(Bytes::from_vec(bytes)?)
 }
 
+fn decoded(alloc: Global, bytes: Bytes) -> Result<Option<Upload>, RequestFault> {
+    match Upload::decode(alloc, bytes) {
+        Ok(upload) => Ok(Some(upload)),
+        Err(DecodeFault::NotAnUpload) => Ok(None),
+        Err(DecodeFault::OutOfMemory) => Err(RequestFault::OutOfMemory),
+    }
+}
+
 /// The upload that the next bytes are, if they are one.
 pub(crate) fn upload_of(
     alloc: Global,
     words: &mut Words<'_>,
 ) -> Result<Option<Upload>, RequestFault> {
     let bytes = shared(words.bytes(alloc)?)?;
-    match Upload::decode(alloc, bytes) {
-        Ok(upload) => Ok(Some(upload)),
-        Err(DecodeFault::NotAnUpload) => Ok(None),
-        Err(DecodeFault::OutOfMemory) => Err(RequestFault::OutOfMemory),
-    }
+    decoded(alloc, bytes)
 }
 
 fn value_of(alloc: Global, words: &mut Words<'_>) -> Result<Value, RequestFault> {
