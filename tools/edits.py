@@ -77,7 +77,8 @@ def changes(edit):
 def check(folder):
     """Checks the crate: whether it is proved, the processor seconds, and what is printed."""
     before = resource.getrusage(resource.RUSAGE_CHILDREN)
-    ran = subprocess.run(["rt", "check", "--jobs", "1"], cwd=folder, stdout=subprocess.PIPE, stderr=subprocess.STDOUT, check=False)
+    how = {"stdout": subprocess.PIPE, "stderr": subprocess.STDOUT, "check": False}
+    ran = subprocess.run(["rt", "check", "--jobs", "1"], cwd=folder, **how)
     after = resource.getrusage(resource.RUSAGE_CHILDREN)
     taken = after.ru_utime + after.ru_stime - before.ru_utime - before.ru_stime
     return ran.returncode == 0, taken, ran.stdout.decode(errors="replace")
