@@ -15,8 +15,9 @@ import subprocess
 import sys
 from pathlib import Path
 
+from repeated import ended
+
 TOP = Path(__file__).resolve().parent.parent
-sys.path.insert(0, str(TOP / "tools"))
 
 
 def crates(words):
@@ -63,17 +64,8 @@ def told(program, teller, text):
         lines.append(line)
         if line and not line.startswith("#"):
             telling, start, end = next(coming)
-            lines += [f"  {line}" for line in sent(telling, answers[start:end])]
+            lines += [f"  {line}" for line in ended(telling, answers[start:end])]
     return lines
-
-
-def sent(telling, answers):
-    """The lines that a telling gives for these answers."""
-    try:
-        telling.send(answers)
-    except StopIteration as end:
-        return end.value
-    raise AssertionError("a telling asks once")
 
 
 def differs(name, lines, text):
