@@ -28,16 +28,26 @@ fn backend_of(
     Ok(backend)
 }
 
+// Serves a call, and leaves what stands behind it.
+fn serve(
+    alloc: Global,
+    backend: &mut TableBackend,
+    rest: &mut &[u8],
+    output: &mut Vec<u8>,
+) -> Result<(), CallFault> {
+    serve_call(alloc, rest, output, backend)
+}
+
 // Serves a call, and gives how many bytes of its input were left.
 fn served(
     alloc: Global,
     backend: &mut TableBackend,
     input: &[u8],
     output: &mut Vec<u8>,
-) -> Result<usize, RequestFault> {
+) -> Result<u64, RequestFault> {
     let mut rest = input;
-    match serve_call(alloc, &mut rest, output, backend) {
-        Ok(()) => Ok(rest.len()),
+    match serve(alloc, backend, &mut rest, output) {
+        Ok(()) => Ok(rest.len() as u64),
         Err(CallFault::OutOfMemory) => Err(RequestFault::OutOfMemory),
         Err(_) => Err(RequestFault::Io),
     }
@@ -61,7 +71,7 @@ fn call(
     let mut output = Vec::new(alloc);
     let left = served(alloc, backend, input.as_slice(), &mut output)?;
     answer.bytes(output.as_slice())?;
-    answer.number(left as u64)?;
+    answer.number(left)?;
     tell_names(backend.handed().get(before..).unwrap_or(&[]), answer)
 }
 
