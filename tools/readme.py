@@ -1,7 +1,7 @@
 #!/usr/bin/env python3
 """Runs every command of README.md as it stands there, from the top of the repository, and compares what it prints with what the
 README shows. ./test is the gate itself, and is not run again here. The first run proves and builds the program, which takes
-up to half an hour on four cores."""
+more than half an hour on four cores."""
 import re
 import subprocess
 import sys
