@@ -1,6 +1,8 @@
 -- What an acceptor's answer makes its node send is what is due.
-use Rattle.std.proofs.Common.{◌≡◌, ℕ, max, Bool, cond, nat_eq, Option, Some, Ok, List, [], ◌∷◌, refl, ap, subst, ◌∙◌, eq-eqb, ne_eqb}
+use Rattle.std.proofs.Common.{◌≡◌, ℕ, max, Bool, cond, nat_eq, Option, Some, Ok, List, [], ◌∷◌, ◌++◌, refl, sym, ap, subst, ◌∙◌, eq-eqb, ne_eqb}
+use Rattle.std.proofs.lemmas.List.{append-nil}
 use Rattle.ballots.specs.Ballot.{Ballot, IsBelow, IsAbove, IsAtLeast}
+use Rattle.ballots.specs.declared.value.Value.{Value}
 use Rattle.ballots.specs.declared.acceptance.Acceptance.{Acceptance}
 use Rattle.ballots.specs.declared.message.Message.{Message}
 use Rattle.ballots.specs.declared.message.Body.TheVariants as body
@@ -9,13 +11,14 @@ use Rattle.ballots.specs.Message.{message}
 use Rattle.acceptor.specs.Standing.{Standing, Sets, IsSame}
 use Rattle.acceptor.specs.AcceptorState.{standing, promised_at, accepted_at}
 use Rattle.acceptor.specs.declared.answer.Answer.TheVariants as answer
-use Rattle.histories.specs.Views.{Views}
-use Rattle.histories.specs.Due.{Plan, IsMessageOf, round_in}
+use Rattle.learner.specs.Calls.{Call as LearnerCall}
+use Rattle.agreement_rules.specs.Views.{Views, with_seen_round, HasPrefix}
+use Rattle.agreement_rules.specs.Due.{Plan, IsMessageOf, round_in}
 use Rattle.agreement.specs.declared.step.Change.{Change}
 use Rattle.agreement.specs.declared.step.Change.TheVariants.{Nothing, Answered}
 use Rattle.agreement.specs.declared.step.Step.{Step}
 use Rattle.agreement.specs.State.{AgreementState}
-use Rattle.agreement.specs.Step.{Sends, BodyGives, StepGives, MessageGives, kept_of, left_by, sees, plan_of}
+use Rattle.agreement.specs.Step.{Sends, BodyGives, StepIsDue, MessageGives, kept_of, left_by, told_with, Grows, plan_of}
 
 -- ---- a slot that is set
 
@@ -62,11 +65,24 @@ plan_is views step change sends seen same-change same-sends same-seen =
     ∙ ap (λ (l : List Message). planned views change l step.seen_round) same-sends
     ∙ ap (λ (n : ℕ). planned views change sends n) same-seen
 
+-- ---- how the prefix grows
+
+pub grows_by_none : (members : ℕ) (before after : List LearnerCall) (grown : List Value) → after ≡ before → grown ≡ [] → Grows members before after grown
+grows_by_none members before after grown same none values prefix =
+    subst (λ (l : List Value). HasPrefix members after (values ++ l)) (sym none)
+    (subst (HasPrefix members after) (sym (append-nil values)) (subst (λ (l : List LearnerCall). HasPrefix members l values) (sym same) prefix))
+
+-- a step whose change makes no call of the learner leaves the prefix as it is
+pub grows_nothing : (members : ℕ) (views : Views) (step : Step) (change : Change) → step.change ≡ change → told_with views change ≡ views.learner_calls
+    → step.grown.items ≡ [] → Grows members views.learner_calls (plan_of views step).after.learner_calls step.grown.items
+grows_nothing members views step change is quiet none =
+    grows_by_none members views.learner_calls (told_with views step.change) step.grown.items (ap (λ (c : Change). told_with views c) is ∙ quiet) none
+
 -- ---- what is due
 
 pub promise_gives : (state : AgreementState) (seen sender slot : ℕ) (ballot : Ballot) (report : Option Acceptance) (step : Step)
     → IsAbove ballot (promised_at state.acceptor slot) → report ≡ accepted_at state.acceptor slot
-    → Sends step (message state.me slot (body.Promise ballot report) ∷ []) seen (Answered (kept_as.Promised slot ballot)) → StepGives state seen sender slot (body.Prepare ballot) step
+    → Sends step (message state.me slot (body.Promise ballot report) ∷ []) seen (Answered (kept_as.Promised slot ballot)) → StepIsDue state seen sender slot (body.Prepare ballot) step
 promise_gives state seen sender slot ballot report step above is it = (
   it.seen_is,
   λ views has. (
@@ -78,13 +94,13 @@ promise_gives state seen sender slot ballot report step above is it = (
       (above, is, promise_sets (standing state.acceptor) slot ballot),
       plan_is views step (Answered (kept_as.Promised slot ballot)) (message state.me slot (body.Promise ballot report) ∷ []) seen it.change_is it.sends_are it.seen_is,
     ),
-    it.grown_is,
+    grows_nothing state.config.members (with_seen_round views seen) step (Answered (kept_as.Promised slot ballot)) it.change_is refl it.grown_is,
   ),
 )
 
 pub grant_gives : (state : AgreementState) (seen sender slot : ℕ) (proposal : Acceptance) (step : Step)
     → IsAtLeast proposal.ballot (promised_at state.acceptor slot)
-    → Sends step (message state.me slot (body.Accepted proposal) ∷ []) seen (Answered (kept_as.Accepted slot proposal)) → StepGives state seen sender slot (body.Accept proposal) step
+    → Sends step (message state.me slot (body.Accepted proposal) ∷ []) seen (Answered (kept_as.Accepted slot proposal)) → StepIsDue state seen sender slot (body.Accept proposal) step
 grant_gives state seen sender slot proposal step at_least it = (
   it.seen_is,
   λ views has. (
@@ -96,13 +112,13 @@ grant_gives state seen sender slot proposal step at_least it = (
       (at_least, grant_sets (standing state.acceptor) slot proposal),
       plan_is views step (Answered (kept_as.Accepted slot proposal)) (message state.me slot (body.Accepted proposal) ∷ []) seen it.change_is it.sends_are it.seen_is,
     ),
-    it.grown_is,
+    grows_nothing state.config.members (with_seen_round views seen) step (Answered (kept_as.Accepted slot proposal)) it.change_is refl it.grown_is,
   ),
 )
 
 pub refusal_of_prepare_gives : (state : AgreementState) (seen sender slot : ℕ) (ballot promised : Ballot) (step : Step)
     → promised_at state.acceptor slot ≡ Some promised → IsAtLeast promised (Some ballot)
-    → Sends step (message state.me slot (body.Nack ballot promised) ∷ []) seen Nothing → StepGives state seen sender slot (body.Prepare ballot) step
+    → Sends step (message state.me slot (body.Nack ballot promised) ∷ []) seen Nothing → StepIsDue state seen sender slot (body.Prepare ballot) step
 refusal_of_prepare_gives state seen sender slot ballot promised step is at_least it = (
   it.seen_is,
   λ views has. (
@@ -114,13 +130,13 @@ refusal_of_prepare_gives state seen sender slot ballot promised step is at_least
       (is, at_least, stays (standing state.acceptor)),
       plan_is views step Nothing (message state.me slot (body.Nack ballot promised) ∷ []) seen it.change_is it.sends_are it.seen_is,
     ),
-    it.grown_is,
+    grows_nothing state.config.members (with_seen_round views seen) step Nothing it.change_is refl it.grown_is,
   ),
 )
 
 pub refusal_of_accept_gives : (state : AgreementState) (seen sender slot : ℕ) (proposal : Acceptance) (promised : Ballot) (step : Step)
     → promised_at state.acceptor slot ≡ Some promised → IsBelow proposal.ballot promised
-    → Sends step (message state.me slot (body.Nack proposal.ballot promised) ∷ []) seen Nothing → StepGives state seen sender slot (body.Accept proposal) step
+    → Sends step (message state.me slot (body.Nack proposal.ballot promised) ∷ []) seen Nothing → StepIsDue state seen sender slot (body.Accept proposal) step
 refusal_of_accept_gives state seen sender slot proposal promised step is below it = (
   it.seen_is,
   λ views has. (
@@ -132,7 +148,7 @@ refusal_of_accept_gives state seen sender slot proposal promised step is below i
       (is, below, stays (standing state.acceptor)),
       plan_is views step Nothing (message state.me slot (body.Nack proposal.ballot promised) ∷ []) seen it.change_is it.sends_are it.seen_is,
     ),
-    it.grown_is,
+    grows_nothing state.config.members (with_seen_round views seen) step Nothing it.change_is refl it.grown_is,
   ),
 )
 
@@ -140,9 +156,9 @@ refusal_of_accept_gives state seen sender slot proposal promised step is below i
 
 -- a step of a node that has seen the message's round
 pub message_gives : (state : AgreementState) (m : Message) (step : Step) → IsMessageOf state.config m
-    → StepGives state (max state.seen_round (round_in m.body)) m.sender m.slot m.body step → MessageGives state m (Ok step)
+    → StepIsDue state (max state.seen_round (round_in m.body)) m.sender m.slot m.body step → MessageGives state m (Ok step)
 message_gives state m step is gives = (
   is,
   λ views has.
-      subst (λ (n : ℕ). BodyGives state.config state.me (sees views (max n (round_in m.body))) m.sender m.slot m.body (plan_of views step) step.grown.items) has.seen (gives.1 views has),
+      subst (λ (n : ℕ). BodyGives state.config state.me (with_seen_round views (max n (round_in m.body))) m.sender m.slot m.body (plan_of views step) step.grown.items) has.seen (gives.1 views has),
 )

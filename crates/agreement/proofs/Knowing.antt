@@ -10,7 +10,7 @@ use Rattle.learner.specs.State.{LearnerState, decided_at as learned_at}
 use Rattle.learner.specs.Learned.{StateAfter as LearnerAfter, HasLearned}
 use Rattle.decided_log.specs.Decided.{IsPrefix, IsKnownBehind}
 use Rattle.decided_log.specs.LogState.{decided_at}
-use Rattle.histories.specs.Views.{Views, IsFree, HasPrefix, HasGap}
+use Rattle.agreement_rules.specs.Views.{Views, IsFree, HasPrefix, HasGap}
 use Rattle.agreement.specs.State.{AgreementState, Has}
 
 -- ---- of calls, by a look-up that has what was learned of them
@@ -62,14 +62,14 @@ abbrev pub OnePrefix : Type 0
 OnePrefix = (at : ℕ → Option Value) (xs ys : List Value) → IsPrefix at xs → IsPrefix at ys → xs ≡ ys
 
 module _ (just : LearnsJust) (state : AgreementState) (views : Views) (has : Has state views) where
-  pub learner_knows : HasLearned state.config.members views.told (learned_at state.learner)
-  learner_knows slot value = just state.config.members views.told state.learner slot value has.told
+  pub learner_knows : HasLearned state.config.members views.learner_calls (learned_at state.learner)
+  learner_knows slot value = just state.config.members views.learner_calls state.learner slot value has.learner_calls
 
-  pub log_knows : HasLearned state.config.members views.told (decided_at state.log)
+  pub log_knows : HasLearned state.config.members views.learner_calls (decided_at state.log)
   log_knows slot value = (λ e. (learner_knows slot value).0 (sym (has.logged slot) ∙ e), λ learned. has.logged slot ∙ (learner_knows slot value).1 learned)
 
-  pub prefix_has : (values : List Value) → IsPrefix (decided_at state.log) values → HasPrefix state.config.members views.told values
-  prefix_has values is = prefix_of_known state.config.members views.told (decided_at state.log) log_knows values is
+  pub prefix_has : (values : List Value) → IsPrefix (decided_at state.log) values → HasPrefix state.config.members views.learner_calls values
+  prefix_has values is = prefix_of_known state.config.members views.learner_calls (decided_at state.log) log_knows values is
 
   -- it is no longer than there are slots
   pub prefix_within : (values : List Value) → IsPrefix (decided_at state.log) values → length values ≤ state.config.slot_limit
@@ -83,23 +83,23 @@ module _ (just : LearnsJust) (state : AgreementState) (views : Views) (has : Has
   ]
 
   pub has_gap_where : (values : List Value) (r : Bool) → ((prefix : List Value) → IsPrefix (decided_at state.log) prefix → IsTrue r ↔ IsKnownBehind (decided_at state.log) (length prefix))
-      → HasPrefix state.config.members views.told values → IsTrue r ↔ HasGap state.config.members views.told (length values)
+      → HasPrefix state.config.members views.learner_calls values → IsTrue r ↔ HasGap state.config.members views.learner_calls (length values)
   has_gap_where values r tells prefix =
-      let known = tells values (known_of_prefix state.config.members views.told (decided_at state.log) log_knows values prefix) in
-      let gap = gap_where_known state.config.members views.told (decided_at state.log) log_knows (length values) in
+      let known = tells values (known_of_prefix state.config.members views.learner_calls (decided_at state.log) log_knows values prefix) in
+      let gap = gap_where_known state.config.members views.learner_calls (decided_at state.log) log_knows (length values) in
       (λ t. gap.0 (known.0 t), λ g. known.1 (gap.1 g))
 
   -- ---- look-ups
 
   pub learned_where : (slot : ℕ) (r : Option (Bor Value)) → option_map (λ v. v.now) r ≡ learned_at state.learner slot
-      → MatchOption r (IsFree state.config.members views.told slot) (λ v. IsLearned state.config.members views.told slot v.now)
-  learned_where slot None is = free_of_none state.config.members views.told (learned_at state.learner) learner_knows slot (sym is)
+      → MatchOption r (IsFree state.config.members views.learner_calls slot) (λ v. IsLearned state.config.members views.learner_calls slot v.now)
+  learned_where slot None is = free_of_none state.config.members views.learner_calls (learned_at state.learner) learner_knows slot (sym is)
   learned_where slot (Some v) is = (learner_knows slot v.now).0 (sym is)
 
   -- the first slot behind the prefix, of which there is one number
-  module _ (one : OnePrefix) (prefix values : List Value) (is : IsPrefix (decided_at state.log) prefix) (has-prefix : HasPrefix state.config.members views.told values) where
+  module _ (one : OnePrefix) (prefix values : List Value) (is : IsPrefix (decided_at state.log) prefix) (has-prefix : HasPrefix state.config.members views.learner_calls values) where
     same_length : length values ≡ length prefix
-    same_length = ap length (one (decided_at state.log) values prefix (known_of_prefix state.config.members views.told (decided_at state.log) log_knows values has-prefix) is)
+    same_length = ap length (one (decided_at state.log) values prefix (known_of_prefix state.config.members views.learner_calls (decided_at state.log) log_knows values has-prefix) is)
 
     pub all_learned : state.config.slot_limit ≤ length prefix → length values ≡ state.config.slot_limit
     all_learned all = omega (arith, same_length, prefix_within prefix is, all)

@@ -14,12 +14,12 @@ use Rattle.learner.specs.Learned.{StateAfter as LearnerAfter, HasLearned, IsSame
 use Rattle.learner.specs.Changes.{LearnsNow, DecidedNow}
 use Rattle.decided_log.specs.Decided.{IsPrefix, IsSame as LogStays}
 use Rattle.decided_log.specs.LogState.{LogState, decided_at}
-use Rattle.histories.specs.Views.{Config, Views}
-use Rattle.histories.specs.Due.{Plan}
+use Rattle.agreement_rules.specs.Views.{Config, Views}
+use Rattle.agreement.specs.declared.step.Change.{Change}
 use Rattle.agreement.specs.declared.step.Change.TheVariants.{Accepted, Decided}
 use Rattle.agreement.specs.declared.step.Step.{Step}
 use Rattle.agreement.specs.State.{AgreementState, Has}
-use Rattle.agreement.specs.Step.{Gains, Grows, StepGives, StaysAsItWas, HasRoomForLearned, CanHear, CanLearn, kept_of}
+use Rattle.agreement.specs.Step.{Gains, Grows, StepIsDue, StaysAsItWas, HasRoomForLearned, CanCountVote, CanLearn, told_with}
 use Rattle.agreement.proofs.Answering.{plan_is}
 use Rattle.agreement.proofs.Knowing.{known_of_prefix, prefix_of_known}
 
@@ -49,8 +49,8 @@ stays_on_look looks a learner log learner-stays log-stays node = λ views has. r
   restored = has.restored;
   begun = has.begun;
   first_round = has.first_round;
-  asked = has.asked;
-  told = looks a.config.members views.told a.learner learner learner-stays has.told;
+  proposer_calls = has.proposer_calls;
+  learner_calls = looks a.config.members views.learner_calls a.learner learner learner-stays has.learner_calls;
   logged = λ slot. log-stays slot ∙ has.logged slot ∙ sym (learner-stays.decided slot);
   log_is = node ∙ has.log_is;
   beyond = λ slot le. learner-stays.decided slot ∙ has.beyond slot le;
@@ -109,38 +109,36 @@ grows_there adds members calls call slot learned at grown knows there learns gro
 -- ---- what is due
 
 module _ (old mid : AgreementState) (seen sender slot : ℕ) (learned : Option Value) (grown : List Value) (step : Step) (config : mid.config ≡ old.config) (stays : StaysAsItWas old mid)
-    (grows : (views : Views) (call : Told) → Has mid views → slot_of call ≡ slot → Learns mid.config.members views.told call slot learned
-    → Grows mid.config.members views.told (views.told ++ call ∷ []) grown) where
-  told_grows : (views : Views) (call : Told) → Has old views → slot_of call ≡ slot → Learns old.config.members views.told call slot learned → step.grown.items ≡ grown
-      → Grows old.config.members views.told (views.told ++ call ∷ []) step.grown.items
+    (grows : (views : Views) (call : Told) → Has mid views → slot_of call ≡ slot → Learns mid.config.members views.learner_calls call slot learned
+    → Grows mid.config.members views.learner_calls (views.learner_calls ++ call ∷ []) grown) where
+  told_grows : (views : Views) (call : Told) → Has old views → slot_of call ≡ slot → Learns old.config.members views.learner_calls call slot learned → step.grown.items ≡ grown
+      → Grows old.config.members views.learner_calls (views.learner_calls ++ call ∷ []) step.grown.items
   told_grows views call has there learns is =
       let members : mid.config.members ≡ old.config.members = ap (λ (x : Config). x.members) config in
-      subst (λ (l : List Value). Grows old.config.members views.told (views.told ++ call ∷ []) l) (sym is)
-      (subst (λ (m : ℕ). Grows m views.told (views.told ++ call ∷ []) grown) members
-      (grows views call (stays views has) there (subst (λ (m : ℕ). Learns m views.told call slot learned) (sym members) learns)))
+      subst (λ (l : List Value). Grows old.config.members views.learner_calls (views.learner_calls ++ call ∷ []) l) (sym is)
+      (subst (λ (m : ℕ). Grows m views.learner_calls (views.learner_calls ++ call ∷ []) grown) members
+      (grows views call (stays views has) there (subst (λ (m : ℕ). Learns m views.learner_calls call slot learned) (sym members) learns)))
 
-  pub accepted_gives : (acceptance : Acceptance) → ((views : Views) → Has old views → Learns old.config.members views.told (told.Accepted sender slot acceptance.ballot acceptance.value) slot learned)
-      → Gains step grown seen (Accepted sender slot acceptance learned) → StepGives old seen sender slot (body.Accepted acceptance) step
+  pub accepted_gives : (acceptance : Acceptance) → ((views : Views) → Has old views → Learns old.config.members views.learner_calls (told.Accepted sender slot acceptance.ballot acceptance.value) slot learned)
+      → Gains step grown seen (Accepted sender slot acceptance learned) → StepIsDue old seen sender slot (body.Accepted acceptance) step
   accepted_gives acceptance learns it = (
     it.seen_is,
-    λ views has. record {
-      kept = ap kept_of it.change_is;
-      sends = it.sends_none;
-      after = ap (λ (p : Plan). p.after) (plan_is views step (Accepted sender slot acceptance learned) [] seen it.change_is it.sends_none it.seen_is);
-      grows = told_grows views (told.Accepted sender slot acceptance.ballot acceptance.value) has refl (learns views has) it.grown_is;
-    },
+    λ views has. (
+      plan_is views step (Accepted sender slot acceptance learned) [] seen it.change_is it.sends_none it.seen_is,
+      subst (λ (l : List Told). Grows old.config.members views.learner_calls l step.grown.items)
+          (sym (ap (λ (c : Change). told_with views c) it.change_is)) (told_grows views (told.Accepted sender slot acceptance.ballot acceptance.value) has refl (learns views has) it.grown_is),
+    ),
   )
 
-  pub decided_gives : (value : Value) → ((views : Views) → Has old views → Learns old.config.members views.told (told.Decided slot value) slot learned)
-      → Gains step grown seen (Decided slot value learned) → StepGives old seen sender slot (body.Decided value) step
+  pub decided_gives : (value : Value) → ((views : Views) → Has old views → Learns old.config.members views.learner_calls (told.Decided slot value) slot learned)
+      → Gains step grown seen (Decided slot value learned) → StepIsDue old seen sender slot (body.Decided value) step
   decided_gives value learns it = (
     it.seen_is,
-    λ views has. record {
-      kept = ap kept_of it.change_is;
-      sends = it.sends_none;
-      after = ap (λ (p : Plan). p.after) (plan_is views step (Decided slot value learned) [] seen it.change_is it.sends_none it.seen_is);
-      grows = told_grows views (told.Decided slot value) has refl (learns views has) it.grown_is;
-    },
+    λ views has. (
+      plan_is views step (Decided slot value learned) [] seen it.change_is it.sends_none it.seen_is,
+      subst (λ (l : List Told). Grows old.config.members views.learner_calls l step.grown.items)
+          (sym (ap (λ (c : Change). told_with views c) it.change_is)) (told_grows views (told.Decided slot value) has refl (learns views has) it.grown_is),
+    ),
   )
 
 -- ---- what can be taken
@@ -151,7 +149,7 @@ module _ (old mid new : AgreementState) (slot : ℕ) (learned : Option Value) (c
   still_within = subst (λ (x : Config). slot < x.slot_limit) (sym (config' ∙ config)) within
 
   pub can_hear : (sender : ℕ) (acceptance : Acceptance) → HasRoomForVote mid.learner sender slot acceptance.ballot → LearnsNow mid.learner sender slot acceptance.ballot acceptance.value learned
-      → CanHear new sender slot acceptance learned
+      → CanCountVote new sender slot acceptance learned
   can_hear sender acceptance vote now = record {
     vote = subst (λ (l : LearnerState). HasRoomForVote l sender slot acceptance.ballot) (sym learner) vote;
     now = subst (λ (l : LearnerState). LearnsNow l sender slot acceptance.ballot acceptance.value learned) (sym learner) now;

@@ -9,7 +9,7 @@ use Rattle.proposer.specs.State.{ProposerState, StateAfter as ProposerAfter}
 use Rattle.learner.specs.State.{LearnerState, decided_at as learned_at}
 use Rattle.learner.specs.Learned.{StateAfter as LearnerAfter}
 use Rattle.decided_log.specs.LogState.{LogState, decided_at}
-use Rattle.histories.specs.Views.{Config, Views}
+use Rattle.agreement_rules.specs.Views.{Config, Views}
 
 pub record AgreementState : Type 0 where
   pub me : ℕ
@@ -46,9 +46,9 @@ pub record Has (state : AgreementState) (views : Views) : Type 0 where
   pub restored : IsRestored views.records (standing state.acceptor)
   pub begun : IsHighestRound views.records state.proposer.highest_round
   pub first_round : ℕ
-  pub asked : ProposerAfter (record { me = state.me; members = state.config.members; highest_round = first_round })
-      views.asked state.proposer
-  pub told : LearnerAfter state.config.members views.told state.learner
+  pub proposer_calls : ProposerAfter (record { me = state.me; members = state.config.members; highest_round = first_round })
+      views.proposer_calls state.proposer
+  pub learner_calls : LearnerAfter state.config.members views.learner_calls state.learner
   pub logged : (slot : ℕ) → decided_at state.log slot ≡ learned_at state.learner slot
   pub log_is : state.log.node ≡ state.me
   pub beyond : (slot : ℕ) → state.config.slot_limit ≤ slot → learned_at state.learner slot ≡ None

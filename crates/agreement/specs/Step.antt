@@ -17,9 +17,9 @@ use Rattle.learner.specs.Calls as told
 use Rattle.learner.specs.State.{HasRoomToLearn, HasRoomForVote, decided_at}
 use Rattle.learner.specs.Changes.{LearnsNow, DecidedNow}
 use Rattle.decided_log.specs.LogState.{LogState}
-use Rattle.histories.specs.Views.{Config, Views, HasPrefix}
-use Rattle.histories.specs.Due.{Plan, BodyIsDue, AimIsDue, AsksAt, IsMessageOf, has_seen, Attempts, Plans, Refuses}
-use Rattle.histories.specs.Due as due
+use Rattle.agreement_rules.specs.Views.{Config, Views, with_seen_round, HasPrefix}
+use Rattle.agreement_rules.specs.Due.{Plan, PartIsDue, AimIsDue, AsksAt, IsMessageOf, has_seen, Attempts, Plans, Refuses}
+use Rattle.agreement_rules.specs.Due as due
 use Rattle.agreement.specs.declared.refusal.Refusal.{Refusal}
 use Rattle.agreement.specs.declared.refusal.Refusal.TheVariants.{OutOfRange, SlotsSpent, RoundsSpent, OutOfMemory}
 use Rattle.agreement.specs.declared.step.Step.{Step}
@@ -49,37 +49,37 @@ records_with views (Accepted sender slot acceptance learned) = views.records
 records_with views (Decided slot value learned) = views.records
 
 abbrev pub asked_with : Views → Change → List Asked
-asked_with views Nothing = views.asked
-asked_with views (Answered kept) = views.asked
-asked_with views (Began slot candidate ballot began) = views.asked ++ Begins (record {
+asked_with views Nothing = views.proposer_calls
+asked_with views (Answered kept) = views.proposer_calls
+asked_with views (Began slot candidate ballot began) = views.proposer_calls ++ Begins (record {
   slot = slot;
   seen_round = views.seen_round;
   candidate = candidate;
   ballot = ballot;
 }) ∷ []
 asked_with views (Promised sender slot ballot report) =
-    views.asked ++ Promises (record { sender = sender; slot = slot; ballot = ballot; report = report }) ∷ []
-asked_with views (Refused slot ballot) = views.asked ++ Nacks slot ballot ∷ []
-asked_with views (Accepted sender slot acceptance learned) = views.asked
-asked_with views (Decided slot value learned) = views.asked
+    views.proposer_calls ++ Promises (record { sender = sender; slot = slot; ballot = ballot; report = report }) ∷ []
+asked_with views (Refused slot ballot) = views.proposer_calls ++ Nacks slot ballot ∷ []
+asked_with views (Accepted sender slot acceptance learned) = views.proposer_calls
+asked_with views (Decided slot value learned) = views.proposer_calls
 
 abbrev pub told_with : Views → Change → List Told
-told_with views Nothing = views.told
-told_with views (Answered kept) = views.told
-told_with views (Began slot candidate ballot began) = views.told
-told_with views (Promised sender slot ballot report) = views.told
-told_with views (Refused slot ballot) = views.told
+told_with views Nothing = views.learner_calls
+told_with views (Answered kept) = views.learner_calls
+told_with views (Began slot candidate ballot began) = views.learner_calls
+told_with views (Promised sender slot ballot report) = views.learner_calls
+told_with views (Refused slot ballot) = views.learner_calls
 told_with views (Accepted sender slot acceptance learned) =
-    views.told ++ told.Accepted sender slot acceptance.ballot acceptance.value ∷ []
-told_with views (Decided slot value learned) = views.told ++ told.Decided slot value ∷ []
+    views.learner_calls ++ told.Accepted sender slot acceptance.ballot acceptance.value ∷ []
+told_with views (Decided slot value learned) = views.learner_calls ++ told.Decided slot value ∷ []
 
 abbrev pub left_by : Views → ℕ → Change → Views
 left_by views seen change = record {
   records = records_with views change;
   seen_round = seen;
   waiting = views.waiting;
-  asked = asked_with views change;
-  told = told_with views change;
+  proposer_calls = asked_with views change;
+  learner_calls = told_with views change;
 }
 
 -- ---- what is due
@@ -89,36 +89,12 @@ abbrev pub Grows : ℕ → List Told → List Told → List Value → Type 0
 Grows members before after grown =
     (values : List Value) → HasPrefix members before values → HasPrefix members after (values ++ grown)
 
--- nothing is kept or sent, and the learner is told this
-pub record IsTold (config : Config) (views : Views) (call : Told) (plan : Plan) (grown : List Value) : Type 0 where
-  pub kept : plan.kept ≡ None
-  pub sends : plan.sends ≡ []
-  pub after : plan.after ≡ record {
-    records = views.records;
-    seen_round = views.seen_round;
-    waiting = views.waiting;
-    asked = views.asked;
-    told = views.told ++ call ∷ [];
-  }
-  pub grows : Grows config.members views.told (views.told ++ call ∷ []) grown
-
--- What a body makes a node do that has seen its round: what is due; what is told to its learner may grow the prefix, which is
--- all that matters to those who wait.
+-- What a body makes a node do that has seen its round: what is due, and these are the values by which the prefix grows then,
+-- which is all that matters to what waits.
 abbrev pub BodyGives : Config → ℕ → Views → (sender slot : ℕ) → Body → Plan → List Value → Type 0
-BodyGives config me views sender slot (body.Accepted acceptance) plan grown =
-    IsTold config views (told.Accepted sender slot acceptance.ballot acceptance.value) plan grown
-BodyGives config me views sender slot (body.Decided value) plan grown =
-    IsTold config views (told.Decided slot value) plan grown
-BodyGives config me views sender slot (body.Prepare ballot) plan grown =
-    BodyIsDue config me views sender slot (body.Prepare ballot) plan × (grown ≡ [])
-BodyGives config me views sender slot (body.Accept proposal) plan grown =
-    BodyIsDue config me views sender slot (body.Accept proposal) plan × (grown ≡ [])
-BodyGives config me views sender slot (body.Promise ballot report) plan grown =
-    BodyIsDue config me views sender slot (body.Promise ballot report) plan × (grown ≡ [])
-BodyGives config me views sender slot (body.Nack ballot promised) plan grown =
-    BodyIsDue config me views sender slot (body.Nack ballot promised) plan × (grown ≡ [])
-BodyGives config me views sender slot body.Ask plan grown =
-    BodyIsDue config me views sender slot body.Ask plan × (grown ≡ [])
+BodyGives config me views sender slot b plan grown =
+    PartIsDue config me views sender slot b plan
+    × Grows config.members views.learner_calls plan.after.learner_calls grown
 
 -- ---- what can be taken without memory
 
@@ -139,7 +115,7 @@ pub record CanBegin (state : AgreementState) (ballot : Ballot) (began : Record) 
   pub rounds_left : max state.seen_round state.proposer.highest_round < max_round
   pub next : ballot ≡ next_ballot state.proposer.me state.proposer.highest_round state.seen_round
 
-pub record CanHear (state : AgreementState) (sender slot : ℕ) (acceptance : Acceptance) (learned : Option Value) : Type 0 where
+pub record CanCountVote (state : AgreementState) (sender slot : ℕ) (acceptance : Acceptance) (learned : Option Value) : Type 0 where
   pub vote : HasRoomForVote state.learner sender slot acceptance.ballot
   pub now : LearnsNow state.learner sender slot acceptance.ballot acceptance.value learned
   pub room : HasRoomForLearned state.log learned
@@ -158,20 +134,10 @@ CanTake state (Answered kept) = IsAnswer kept × HasRoomFor state.acceptor kept
 CanTake state (Began slot candidate ballot began) = CanBegin state ballot began
 CanTake state (Promised sender slot ballot report) = Unit {0}
 CanTake state (Refused slot ballot) = Unit {0}
-CanTake state (Accepted sender slot acceptance learned) = CanHear state sender slot acceptance learned
+CanTake state (Accepted sender slot acceptance learned) = CanCountVote state sender slot acceptance learned
 CanTake state (Decided slot value learned) = CanLearn state slot value learned
 
 -- ---- what a step is
-
--- what the node has with this round as the greatest that it has seen
-abbrev pub sees : Views → ℕ → Views
-sees views seen = record {
-  records = views.records;
-  seen_round = seen;
-  waiting = views.waiting;
-  asked = views.asked;
-  told = views.told;
-}
 
 -- the step as a plan
 abbrev pub plan_of : Views → Step → Plan
@@ -196,11 +162,11 @@ pub record Gains (step : Step) (grown : List Value) (seen : ℕ) (change : Chang
   pub change_is : step.change ≡ change
 
 -- the step is what this body of this sender and slot gives, whatever records and calls the node stands by
-abbrev pub StepGives : AgreementState → ℕ → (sender slot : ℕ) → Body → Step → Type 0
-StepGives state seen sender slot b step =
+abbrev pub StepIsDue : AgreementState → ℕ → (sender slot : ℕ) → Body → Step → Type 0
+StepIsDue state seen sender slot b step =
     (step.seen_round ≡ seen)
     × ((views : Views) → Has state views
-    → BodyGives state.config state.me (sees views seen) sender slot b (plan_of views step) step.grown.items)
+    → BodyGives state.config state.me (with_seen_round views seen) sender slot b (plan_of views step) step.grown.items)
 
 -- the node stands by the same records and calls
 abbrev pub StaysAsItWas : AgreementState → AgreementState → Type 0
@@ -228,9 +194,9 @@ MessageGives state m (Err OutOfMemory) = IsMessageOf state.config m
 -- ---- a question
 
 -- What is due where the node asks for what is decided from the first free slot on.
-abbrev pub QuestionGives : AgreementState → Step → Type 0
-QuestionGives state step =
-    (views : Views) (values : List Value) → Has state views → HasPrefix state.config.members views.told values
+abbrev pub AskGives : AgreementState → Step → Type 0
+AskGives state step =
+    (views : Views) (values : List Value) → Has state views → HasPrefix state.config.members views.learner_calls values
     → AsksAt state.config state.me views (length values) (plan_of views step)
 
 -- ---- an attempt

@@ -9,10 +9,10 @@ ghost use Rattle.ballots.specs.declared.value.Value.{Value as Held};
 ghost use Rattle.ballots.specs.declared.record.Record.TheVariants as kept_as;
 ghost use Rattle.proposer.specs.Attempting.{next_ballot};
 ghost use Rattle.decided_log.specs.LogState.{decided_at};
-ghost use Rattle.histories.specs.Views.{Views, started_with};
+ghost use Rattle.agreement_rules.specs.Views.{Views, started_with};
 ghost use Rattle.agreement.specs.declared.step.Change.TheVariants.{Began, Promised, Accepted, Decided};
 ghost use Rattle.agreement.specs.State.{Has};
-ghost use Rattle.agreement.specs.Step.{left_by, HasRoomForLearned, CanTake, CanHear, CanLearn};
+ghost use Rattle.agreement.specs.Step.{left_by, HasRoomForLearned, CanTake, CanCountVote, CanLearn};
 
 use crate::step::{Change, Step};
 use acceptor::laws::applied_is_restored;
@@ -130,7 +130,7 @@ impl Agreement {
                 slot,
                 acceptance,
                 learned,
-            } => self.hear(sender, slot, acceptance, learned),
+            } => self.count_vote(sender, slot, acceptance, learned),
             Change::Decided {
                 slot,
                 value,
@@ -163,8 +163,14 @@ impl Agreement {
     }
 
     // Counts what an acceptor accepted, and keeps what the slot learns by it.
-    fn hear(&mut self, sender: NodeId, slot: Slot, acceptance: Acceptance, learned: Option<Value>)
-        requires { CanHear self.old sender slot acceptance learned }
+    fn count_vote(
+        &mut self,
+        sender: NodeId,
+        slot: Slot,
+        acceptance: Acceptance,
+        learned: Option<Value>,
+    )
+        requires { CanCountVote self.old sender slot acceptance learned }
         ensures stands { (views : Views) → Has self.old views
             → Has self.new (left_by views views.seen_round (Accepted sender slot acceptance learned)) }
         ensures me { self.new.me ≡ self.old.me }

@@ -4,7 +4,7 @@ ghost use Rattle.std.specs.Prelude.{◌≡◌, ◌↔◌, ℕ, ◌<◌, ◌≤�
 ghost use Rattle.std.specs.Option.{MatchOption};
 ghost use Rattle.ballots.specs.declared.value.Value.{Value as Held};
 ghost use Rattle.learner.specs.Calls.{IsLearned};
-ghost use Rattle.histories.specs.Views.{Views, IsFree, HasPrefix, HasGap};
+ghost use Rattle.agreement_rules.specs.Views.{Views, IsFree, HasPrefix, HasGap};
 ghost use Rattle.agreement.specs.State.{Has};
 
 use crate::agreement::Agreement;
@@ -38,7 +38,7 @@ impl Agreement {
     /// most.
     pub fn prefix(&self) -> &[Value]
         ensures prefix { (views : Views) → Has self.now views
-            → HasPrefix self.now.config.members views.told result.now }
+            → HasPrefix self.now.config.members views.learner_calls result.now }
         ensures within { (views : Views) → Has self.now views → length result.now ≤ self.now.config.slot_limit }
     {
         states_are_what_was_learned();
@@ -48,8 +48,8 @@ impl Agreement {
     /// The value that the slot has learned, `None` where it has learned none.
     pub fn learned(&self, slot: Slot) -> Option<&Value>
         ensures { (views : Views) → Has self.now views
-            → MatchOption result (IsFree self.now.config.members views.told slot)
-            (λ value. IsLearned self.now.config.members views.told slot value.now) }
+            → MatchOption result (IsFree self.now.config.members views.learner_calls slot)
+            (λ value. IsLearned self.now.config.members views.learner_calls slot value.now) }
     {
         states_are_what_was_learned();
         self.learner.decided(slot)
@@ -58,7 +58,7 @@ impl Agreement {
     /// Whether the slot has learned no value.
     pub fn is_free(&self, slot: Slot) -> bool
         ensures { (views : Views) → Has self.now views
-            → IsTrue result ↔ IsFree self.now.config.members views.told slot }
+            → IsTrue result ↔ IsFree self.now.config.members views.learner_calls slot }
     {
         self.learned(slot).is_none()
     }
@@ -66,7 +66,7 @@ impl Agreement {
     /// The first slot that has learned no value, behind the prefix: `None` where every slot has learned one.
     pub fn first_free(&self) -> Option<Slot>
         ensures { (views : Views) (values : List Held) → Has self.now views
-            → HasPrefix self.now.config.members views.told values
+            → HasPrefix self.now.config.members views.learner_calls values
             → MatchOption result (length values ≡ self.now.config.slot_limit)
             (λ slot. (slot ≡ length values) × (slot < self.now.config.slot_limit)) }
     {
@@ -82,8 +82,8 @@ impl Agreement {
     /// Whether a slot behind the first free one has learned a value (section 3).
     pub fn has_gap(&self) -> bool
         ensures { (views : Views) (values : List Held) → Has self.now views
-            → HasPrefix self.now.config.members views.told values
-            → IsTrue result ↔ HasGap self.now.config.members views.told (length values) }
+            → HasPrefix self.now.config.members views.learner_calls values
+            → IsTrue result ↔ HasGap self.now.config.members views.learner_calls (length values) }
     {
         states_are_what_was_learned();
         self.log.has_gap()

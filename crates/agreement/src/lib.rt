@@ -18,7 +18,7 @@
 
 mod agreement;
 mod attempts;
-mod hearing;
+mod handling;
 mod learned;
 mod messages;
 mod proposals;

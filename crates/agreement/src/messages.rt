@@ -2,7 +2,7 @@
 
 ghost use Rattle.std.specs.Prelude.{◌≡◌, ℕ, ◌<◌, max, IfOk, OnErr};
 ghost use Rattle.ballots.specs.declared.message.Body.{Body as Says};
-ghost use Rattle.agreement.specs.Step.{StepGives, MessageGives, IsReady, StaysAsItWas};
+ghost use Rattle.agreement.specs.Step.{StepIsDue, MessageGives, IsReady, StaysAsItWas};
 
 use crate::agreement::Agreement;
 use crate::range::greatest_round;
@@ -37,7 +37,7 @@ impl Agreement {
         body: Body,
     ) -> Result<Step, OutOfMemory>
         requires { slot < self.old.config.slot_limit }
-        ensures gives { IfOk result (StepGives self.old seen_round sender slot body) }
+        ensures gives { IfOk result (StepIsDue self.old seen_round sender slot body) }
         ensures ready { IfOk result (IsReady self.old self.new) }
         ensures err { OnErr result (StaysAsItWas self.old self.new) }
         ensures me { self.new.me ≡ self.old.me }
@@ -50,9 +50,11 @@ impl Agreement {
             }
             Body::Nack { ballot, .. } => Ok(self.reply_to_nack(seen_round, slot, ballot)),
             Body::Accept(proposal) => self.reply_to_accept(seen_round, slot, proposal),
-            Body::Accepted(acceptance) => self.hear_accepted(seen_round, sender, slot, acceptance),
+            Body::Accepted(acceptance) => self.handle_accepted(
+                seen_round, sender, slot, acceptance,
+            ),
             Body::Ask => self.reply_to_ask(seen_round, slot),
-            Body::Decided { value } => self.hear_decided(seen_round, slot, value),
+            Body::Decided { value } => self.handle_decided(seen_round, slot, value),
         }
     }
 }

@@ -3,9 +3,9 @@
 ghost use Rattle.std.specs.Prelude.{◌≡◌, ℕ, [], IfOk};
 ghost use Rattle.ballots.specs.declared.message.Body.TheVariants as body;
 ghost use Rattle.ballots.specs.Ballot.{Ballot as Pair};
-ghost use Rattle.histories.specs.Due.{accept_of};
+ghost use Rattle.agreement_rules.specs.Due.{accept_of};
 ghost use Rattle.agreement.specs.declared.step.Change.TheVariants.{Nothing};
-ghost use Rattle.agreement.specs.Step.{Sends, StepGives, CanTake};
+ghost use Rattle.agreement.specs.Step.{Sends, StepIsDue, CanTake};
 
 use crate::agreement::Agreement;
 use crate::replies::sending;
@@ -68,7 +68,7 @@ impl Agreement {
         ballot: Ballot,
         report: Option<Acceptance>,
     ) -> Result<Step, OutOfMemory>
-        ensures gives { IfOk result (StepGives self.now seen_round sender slot (body.Promise ballot report)) }
+        ensures gives { IfOk result (StepIsDue self.now seen_round sender slot (body.Promise ballot report)) }
         ensures can { IfOk result (λ step. CanTake self.now step.change) }
     {
         let accept = self.proposer.see_on_promise(sender, slot, ballot, &report)?;
@@ -84,7 +84,7 @@ impl Agreement {
     /// What is due to a Nack: it ends the attempt that it refuses, and nothing goes out.
     pub fn reply_to_nack(&self, seen_round: u32, slot: Slot, ballot: Ballot) -> Step
         ensures gives { (sender : ℕ) (promised : Pair)
-            → StepGives self.now seen_round sender slot (body.Nack ballot promised) result }
+            → StepIsDue self.now seen_round sender slot (body.Nack ballot promised) result }
         ensures can { CanTake self.now result.change }
     {
         quiet(self.alloc, seen_round, Change::Refused { slot, ballot })
@@ -92,7 +92,7 @@ impl Agreement {
 
     /// What is due to an Ask: a Decided for each slot of the prefix from this one on, sixteen at most (section 2.3).
     pub fn reply_to_ask(&self, seen_round: u32, slot: Slot) -> Result<Step, OutOfMemory>
-        ensures gives { IfOk result (λ step. (sender : ℕ) → StepGives self.now seen_round sender slot body.Ask step) }
+        ensures gives { IfOk result (λ step. (sender : ℕ) → StepIsDue self.now seen_round sender slot body.Ask step) }
         ensures can { IfOk result (λ step. CanTake self.now step.change) }
     {
         states_are_what_was_learned();

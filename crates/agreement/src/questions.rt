@@ -4,10 +4,10 @@ ghost use Rattle.std.specs.Prelude.{◌≡◌, ℕ, ◌<◌, [], ◌∷◌, List
 ghost use Rattle.ballots.specs.Message.{message};
 ghost use Rattle.ballots.specs.declared.message.Body.TheVariants as body;
 ghost use Rattle.ballots.specs.declared.value.Value.{Value as Held};
-ghost use Rattle.histories.specs.Views.{Views, HasPrefix};
+ghost use Rattle.agreement_rules.specs.Views.{Views, HasPrefix};
 ghost use Rattle.agreement.specs.declared.step.Change.TheVariants.{Nothing};
 ghost use Rattle.agreement.specs.State.{Has};
-ghost use Rattle.agreement.specs.Step.{Sends, QuestionGives, CanTake};
+ghost use Rattle.agreement.specs.Step.{Sends, AskGives, CanTake};
 
 use crate::agreement::Agreement;
 use crate::proposals::quiet;
@@ -19,11 +19,11 @@ impl Agreement {
     /// Asks for what is decided from the first free slot on (section 2.3), or does nothing where every slot has learned a
     /// value. Memory can be refused only where there is such a slot.
     pub fn plan_question(&self) -> Result<Step, OutOfMemory>
-        ensures gives { IfOk result (QuestionGives self.now) }
+        ensures gives { IfOk result (AskGives self.now) }
         ensures grows { IfOk result (λ step. step.grown.items ≡ []) }
         ensures can { IfOk result (λ step. CanTake self.now step.change) }
         ensures memory { OnErr result ((views : Views) (values : List Held) → Has self.now views
-            → HasPrefix self.now.config.members views.told values → length values < self.now.config.slot_limit) }
+            → HasPrefix self.now.config.members views.learner_calls values → length values < self.now.config.slot_limit) }
     {
         match self.first_free() {
             Some(slot) => self.ask_from(slot),

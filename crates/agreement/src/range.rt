@@ -1,7 +1,7 @@
 //! Which messages are of a configuration, and the greatest round that they name.
 
 ghost use Rattle.std.specs.Prelude.{◌≡◌, ◌↔◌, IsTrue};
-ghost use Rattle.histories.specs.Due.{IsReportOf, IsBodyOf, IsMessageOf, round_in, round_of_report};
+ghost use Rattle.agreement_rules.specs.Due.{IsReportOf, IsBodyOf, IsMessageOf, round_in, round_of_report};
 
 use crate::agreement::Agreement;
 use ballots::{Acceptance, Body, Members, Message};
@@ -61,8 +61,9 @@ pub(crate) fn greatest_round(body: &Body) -> u32
 }
 
 impl Agreement {
-    // Whether the message's sender, its slot and its ballots' nodes are of the configuration.
-    pub(crate) fn takes(&self, message: &Message) -> bool
+    /// Whether the message's sender and its ballots' nodes are members, and its slot is below the limit. It takes no
+    /// memory.
+    pub fn takes(&self, message: &Message) -> bool
         ensures { IsTrue result ↔ IsMessageOf self.now.config message.now }
     {
         self.members.have(message.sender)

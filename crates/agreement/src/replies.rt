@@ -6,7 +6,7 @@ ghost use Rattle.ballots.specs.Message.{message};
 ghost use Rattle.ballots.specs.declared.message.Body.TheVariants as body;
 ghost use Rattle.acceptor.specs.AcceptorState.{accepted_at, promised_at};
 ghost use Rattle.agreement.specs.declared.step.Change.TheVariants.{Nothing};
-ghost use Rattle.agreement.specs.Step.{Sends, StepGives, IsReady, StaysAsItWas};
+ghost use Rattle.agreement.specs.Step.{Sends, StepIsDue, IsReady, StaysAsItWas};
 
 use crate::agreement::Agreement;
 use crate::step::{Change, Step};
@@ -54,7 +54,7 @@ impl Agreement {
         ballot: Ballot,
     ) -> Result<Step, OutOfMemory>
         ensures gives { IfOk result
-            (λ step. (sender : ℕ) → StepGives self.old seen_round sender slot (body.Prepare ballot) step) }
+            (λ step. (sender : ℕ) → StepIsDue self.old seen_round sender slot (body.Prepare ballot) step) }
         ensures ready { IfOk result (IsReady self.old self.new) }
         ensures err { OnErr result (StaysAsItWas self.old self.new) }
         ensures me { self.new.me ≡ self.old.me }
@@ -78,7 +78,7 @@ impl Agreement {
         proposal: Acceptance,
     ) -> Result<Step, OutOfMemory>
         ensures gives { IfOk result
-            (λ step. (sender : ℕ) → StepGives self.old seen_round sender slot (body.Accept proposal) step) }
+            (λ step. (sender : ℕ) → StepIsDue self.old seen_round sender slot (body.Accept proposal) step) }
         ensures ready { IfOk result (IsReady self.old self.new) }
         ensures err { OnErr result (StaysAsItWas self.old self.new) }
         ensures me { self.new.me ≡ self.old.me }
@@ -95,7 +95,7 @@ impl Agreement {
     fn promise(&mut self, seen_round: u32, slot: Slot, ballot: Ballot) -> Result<Step, OutOfMemory>
         requires { IsAbove ballot (promised_at self.old.acceptor slot) }
         ensures gives { IfOk result
-            (λ step. (sender : ℕ) → StepGives self.old seen_round sender slot (body.Prepare ballot) step) }
+            (λ step. (sender : ℕ) → StepIsDue self.old seen_round sender slot (body.Prepare ballot) step) }
         ensures ready { IfOk result (IsReady self.old self.new) }
         ensures err { OnErr result (StaysAsItWas self.old self.new) }
         ensures me { self.new.me ≡ self.old.me }
@@ -120,7 +120,7 @@ impl Agreement {
     ) -> Result<Step, OutOfMemory>
         requires { IsAtLeast proposal.ballot (promised_at self.old.acceptor slot) }
         ensures gives { IfOk result
-            (λ step. (sender : ℕ) → StepGives self.old seen_round sender slot (body.Accept proposal) step) }
+            (λ step. (sender : ℕ) → StepIsDue self.old seen_round sender slot (body.Accept proposal) step) }
         ensures ready { IfOk result (IsReady self.old self.new) }
         ensures err { OnErr result (StaysAsItWas self.old self.new) }
         ensures me { self.new.me ≡ self.old.me }

@@ -24,8 +24,9 @@ use Rattle.learner.specs.Calls.{Call as Told}
 use Rattle.learner.specs.Calls as told
 use Rattle.decided_log.specs.Asked.{asked_of}
 use Rattle.lawful_histories.specs.Messages.{promise, accept, decided, Sent, SentBefore}
-use Rattle.histories.specs.Views.{Config, Views, HasPrefix}
-use Rattle.histories.specs.Due.{Plan, Due, Refuses, Plans, Aim, Attempts, AsksFrom, quietly, begins, answers_with, sends_alone, asked_too, has_seen, accept_of, LearnsOf, ReplyToPrepare, ReplyToAccept, BodyIsDue, AimIsDue, TickIsDue, PutIsDue, waits_too, MessageIsDue}
+use Rattle.agreement_rules.specs.Views.{Config, Views, HasPrefix}
+use Rattle.agreement_rules.specs.Due.{Plan, Due, Refuses, Plans, Aim, Attempts, AsksFrom, quietly, begins, answers_with, sends_alone, also_proposes, has_seen, accept_of, ReplyToPrepare, ReplyToAccept, AimIsDue, TickIsDue}
+use Rattle.histories.specs.Due.{LearnsOf, BodyIsDue, PutIsDue, waits_too, MessageIsDue}
 use Rattle.histories.proofs.Lists.{nothing_in, only_one, last_in, last_or_before, into_map}
 use Rattle.histories.proofs.Rules.{Allows, one_value_before, accepted_was_proposed, decided_was_chosen}
 use Rattle.histories.proofs.Knowing.{IsOwn, Covers, MayBeKept, MayBeDue, WasTold, KnowsRecords, KnowsCalls, KnowsViews}
@@ -57,7 +58,7 @@ pub record Keeps (members : ℕ) (sent : List Message) (next me : ℕ) (records 
   pub covered : (m : Message) → Contains plan.sends m → Covers me plan.after.records m
   pub own : (m : Message) → Contains plan.sends m → IsOwn me m
   pub calls : KnowsViews members (SentBefore sent next) me plan.after
-  pub apart : (b : Begun) (since : List Asked) → IsOpen plan.after.asked b since → (p s : ℕ) (v : Value)
+  pub apart : (b : Begun) (since : List Asked) → IsOpen plan.after.proposer_calls b since → (p s : ℕ) (v : Value)
       → Contains plan.sends (accept p s b.ballot v) → HasMajority members (answering members b since)
   pub allowed : MayBeSent members sent next plan.sends
 
@@ -86,7 +87,7 @@ module _ (laws : Laws) (config : Config) (sent : List Message) (next me : ℕ)
   -- one message goes out, and no record is kept
   module _ (after : Views) (m : Message) (same : after.records ≡ views.records) (covered : Covers me views.records m) (own : IsOwn me m) (may : Allows config.members Was m)
       (known : KnowsViews config.members Was me after)
-      (apart : (b : Begun) (since : List Asked) → IsOpen after.asked b since → (p s : ℕ) (v : Value) → accept p s b.ballot v ≡ m → HasMajority config.members (answering config.members b since)) where
+      (apart : (b : Begun) (since : List Asked) → IsOpen after.proposer_calls b since → (p s : ℕ) (v : Value) → accept p s b.ballot v ≡ m → HasMajority config.members (answering config.members b since)) where
     one_alone : Keeps config.members sent next me views.records (sends_alone after (m ∷ []))
     one_alone = record {
       due = tt;
@@ -120,7 +121,7 @@ module _ (laws : Laws) (config : Config) (sent : List Message) (next me : ℕ)
       records_are = refl;
       covered = λ n has. subst (λ (x : Message). Covers me (views.records ++ r ∷ []) x) (sym (only_one m n has)) covered;
       own = λ n has. subst (λ (x : Message). IsOwn me x) (sym (only_one m n has)) own;
-      calls = calls_with_record config.members Was me views.records r views.asked views.told calls;
+      calls = calls_with_record config.members Was me views.records r views.proposer_calls views.learner_calls calls;
       apart = λ b since is_open p s v has. absurd (no_accept m not p s b.ballot v (only_one m (accept p s b.ballot v) has));
       allowed = inl (m, refl, may);
     }
@@ -156,24 +157,24 @@ module _ (laws : Laws) (config : Config) (sent : List Message) (next me : ℕ)
 
   -- ---- a Promise
 
-  of_promise : (q : Promise) (accept_is : Option (ℕ × Ballot × Value)) → Was (promise q.sender q.slot q.ballot q.report) → Answers config.members views.asked q accept_is
-      → Kept (sends_alone (asked_too views (Promises q)) (accept_of me accept_is))
-  of_promise q None was answers = quiet (asked_too views (Promises q)) refl (promised_too config.members Was me views.records views.asked views.told calls q was)
+  of_promise : (q : Promise) (accept_is : Option (ℕ × Ballot × Value)) → Was (promise q.sender q.slot q.ballot q.report) → Answers config.members views.proposer_calls q accept_is
+      → Kept (sends_alone (also_proposes views (Promises q)) (accept_of me accept_is))
+  of_promise q None was answers = quiet (also_proposes views (Promises q)) refl (promised_too config.members Was me views.records views.proposer_calls views.learner_calls calls q was)
   of_promise q (Some x) was answers =
-      let own = accept_is_own laws.proposer config.members Was me views.records views.asked views.told calls q was x answers in
-      one_alone (asked_too views (Promises q)) (message me x.0 (body.Accept (acceptance x.1 x.2))) refl (λ e. own.1) (refl, own.0)
-      (accept_is_allowed laws.proposer config.members Was me views.records views.asked views.told calls q was x answers)
-      (promised_too config.members Was me views.records views.asked views.told calls q was)
-      (λ b since is_open p s v is. complete_now laws.proposer config.members Was me views.records views.asked views.told calls q was x answers b since is_open)
+      let own = accept_is_own laws.proposer config.members Was me views.records views.proposer_calls views.learner_calls calls q was x answers in
+      one_alone (also_proposes views (Promises q)) (message me x.0 (body.Accept (acceptance x.1 x.2))) refl (λ e. own.1) (refl, own.0)
+      (accept_is_allowed laws.proposer config.members Was me views.records views.proposer_calls views.learner_calls calls q was x answers)
+      (promised_too config.members Was me views.records views.proposer_calls views.learner_calls calls q was)
+      (λ b since is_open p s v is. complete_now laws.proposer config.members Was me views.records views.proposer_calls views.learner_calls calls q was x answers b since is_open)
 
   -- ---- what its learner is told
 
-  heard_too : (call : Told) → WasTold Was call → KnowsCalls config.members Was me views.records views.asked (views.told ++ call ∷ [])
+  heard_too : (call : Told) → WasTold Was call → KnowsCalls config.members Was me views.records views.proposer_calls (views.learner_calls ++ call ∷ [])
   heard_too call was = record {
     promises = calls.promises;
     begun = calls.begun;
     complete = calls.complete;
-    told_of = λ c has. elim (last_or_before views.told call c has) as (λ _. WasTold Was c) [
+    told_of = λ c has. elim (last_or_before views.learner_calls call c has) as (λ _. WasTold Was c) [
       | inl there ↦ calls.told_of c there
       | inr last ↦ subst (λ (x : Told). WasTold Was x) (sym last) was
     ];
@@ -181,7 +182,7 @@ module _ (laws : Laws) (config : Config) (sent : List Message) (next me : ℕ)
 
   of_told : (call : Told) (plan : Plan) → WasTold Was call → LearnsOf config views call plan → Kept plan
   of_told call plan was (uploads, left, has_uploads, waiting, is) =
-      subst Kept (sym is) (quiet (record { records = views.records; seen_round = views.seen_round; waiting = left; asked = views.asked; told = views.told ++ call ∷ [] }) refl (heard_too call was))
+      subst Kept (sym is) (quiet (record { records = views.records; seen_round = views.seen_round; waiting = left; proposer_calls = views.proposer_calls; learner_calls = views.learner_calls ++ call ∷ [] }) refl (heard_too call was))
 
   -- ---- a question
 
@@ -190,7 +191,7 @@ module _ (laws : Laws) (config : Config) (sent : List Message) (next me : ℕ)
       (λ a s b v was. accepted_was_proposed config.members sent next lawful a s b v was)
       (λ p q s b v w one other. one_value_before config.members sent next lawful p q s b v w one other)
       (λ p s v was. decided_was_chosen config.members sent next lawful p s v was)
-      views.told calls.told_of me m
+      views.learner_calls calls.told_of me m
 
   told_covers : (m : Message) → Tells m → Covers me views.records m
   told_covers m it = subst (λ (x : Message). Covers me views.records x) (sym it.is) tt
@@ -206,7 +207,7 @@ module _ (laws : Laws) (config : Config) (sent : List Message) (next me : ℕ)
       subst (λ (x : Message). Allows config.members (SentBefore sent k) x) (sym it.is)
       (chosen_still config.members Was (SentBefore sent k) it.slot it.value (λ x h. (h.0, omega (arith, h.1, le), h.2)) it.chosen_is)
 
-  of_ask : (slot : ℕ) (values : List Value) → HasPrefix config.members views.told values → Kept (sends_alone views (asked_of me values slot))
+  of_ask : (slot : ℕ) (values : List Value) → HasPrefix config.members views.learner_calls values → Kept (sends_alone views (asked_of me values slot))
   of_ask slot values prefix = record {
     due = tt;
     records_are = refl;
@@ -222,7 +223,7 @@ module _ (laws : Laws) (config : Config) (sent : List Message) (next me : ℕ)
           (λ a s b v was. accepted_was_proposed config.members sent next lawful a s b v was)
           (λ p q s b v w one other. one_value_before config.members sent next lawful p q s b v w one other)
           (λ p s v was. decided_was_chosen config.members sent next lawful p s v was)
-          views.told calls.told_of laws.asked me slot values prefix m has
+          views.learner_calls calls.told_of laws.asked me slot values prefix m has
 
   -- ---- any message that was sent
 
@@ -231,7 +232,7 @@ module _ (laws : Laws) (config : Config) (sent : List Message) (next me : ℕ)
   of_body sender slot (body.Promise ballot report) plan was (x, answers, is) =
       subst Kept (sym is) (of_promise (record { sender = sender; slot = slot; ballot = ballot; report = report }) x was answers)
   of_body sender slot (body.Nack ballot promised) plan was is =
-      subst Kept (sym is) (quiet (asked_too views (Nacks slot ballot)) refl (nacked_too config.members Was me views.records views.asked views.told calls slot ballot))
+      subst Kept (sym is) (quiet (also_proposes views (Nacks slot ballot)) refl (nacked_too config.members Was me views.records views.proposer_calls views.learner_calls calls slot ballot))
   of_body sender slot (body.Accept x) plan was (old, new, reply, restored, accepts, replies) = of_accept sender slot x old new reply plan was restored accepts replies
   of_body sender slot (body.Accepted x) plan was learns = of_told (told.Accepted sender slot x.ballot x.value) plan was learns
   of_body sender slot body.Ask plan was (values, prefix, is) = subst Kept (sym is) (of_ask slot values prefix)
@@ -258,7 +259,7 @@ module _ (laws : Laws) (config : Config) (sent : List Message) (next me : ℕ)
       records_are = refl;
       covered = λ m has. subst (λ (x : Message). Covers me (views.records ++ Began ballot ∷ []) x) (sym (only_one asks m has)) tt;
       own = λ m has. subst (λ (x : Message). IsOwn me x) (sym (only_one asks m has)) (refl, tt);
-      calls = begun_too config.members Was me views.records views.asked views.told calls (record { slot = slot; seen_round = views.seen_round; candidate = value; ballot = ballot }) own fresh;
+      calls = begun_too config.members Was me views.records views.proposer_calls views.learner_calls calls (record { slot = slot; seen_round = views.seen_round; candidate = value; ballot = ballot }) own fresh;
       apart = λ b since is_open p s v has. absurd (no_accept asks (λ no. no) p s b.ballot v (only_one asks (accept p s b.ballot v) has));
       allowed = inl (asks, refl, tt);
     }

@@ -14,8 +14,8 @@ use Rattle.proposer.specs.Attempting.{IsOpen, answering}
 use Rattle.learner.specs.Calls.{Call as Told}
 use Rattle.learner.specs.Calls as told
 use Rattle.lawful_histories.specs.Messages.{promise, accept, accepted, decided}
-use Rattle.histories.specs.Views.{Views}
-use Rattle.histories.specs.Following.{Seat, IsUp, IsDown, with_due, found_in}
+use Rattle.agreement_rules.specs.Views.{Views}
+use Rattle.histories.specs.Following.{Seat, IsUp, IsDown, with_due, recovered_in}
 use Rattle.histories.proofs.Lists.{last_or_before, before_last}
 
 -- ---- who sends it
@@ -84,14 +84,14 @@ pub record KnowsCalls (members : ℕ) (Was : Message → Type 0) (me : ℕ) (rec
   pub told_of : (call : Told) → Contains heard call → WasTold Was call
 
 abbrev pub KnowsViews : ℕ → (Message → Type 0) → ℕ → Views → Type 0
-KnowsViews members Was me views = KnowsCalls members Was me views.records views.asked views.told
+KnowsViews members Was me views = KnowsCalls members Was me views.records views.proposer_calls views.learner_calls
 
 abbrev pub KnowsIfUp : ℕ → (Message → Type 0) → ℕ → Seat → Type 0
 KnowsIfUp members Was me (IsUp views) = KnowsViews members Was me views
 KnowsIfUp members Was me (IsDown records due) = Unit {0}
 
 pub record KnowsSeat (members : ℕ) (Was : Message → Type 0) (me : ℕ) (seat : Seat) : Type 0 where
-  pub records : (found : Bool) → KnowsRecords Was me (found_in found seat)
+  pub records : (found : Bool) → KnowsRecords Was me (recovered_in found seat)
   pub up : KnowsIfUp members Was me seat
 
 -- ---- one record more

@@ -10,7 +10,7 @@ use Rattle.learner.specs.Calls.{Call as Told, IsLearned}
 use Rattle.learner.specs.Calls as told
 use Rattle.learner.specs.Votes.{IsDecidedOrChosen, IsChosen}
 use Rattle.lawful_histories.specs.Messages.{accept, accepted, decided}
-use Rattle.histories.specs.Views.{HasPrefix}
+use Rattle.agreement_rules.specs.Views.{HasPrefix}
 use Rattle.histories.proofs.Rules.{AllowsDecided}
 use Rattle.histories.proofs.Knowing.{WasTold}
 

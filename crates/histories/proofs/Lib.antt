@@ -11,3 +11,7 @@ pub mod Reached
 pub mod Own
 pub mod Learning
 pub mod Again
+pub mod Keeping
+pub mod OneDue
+pub mod Within
+pub mod SomeDue

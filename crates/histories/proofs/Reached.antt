@@ -2,15 +2,15 @@
 use Rattle.std.proofs.Common.{◌≡◌, ◌≢◌, ℕ, zero, suc, ◌+◌, ◌<◌, inl, inr, Bool, List, [], ◌∷◌, ◌++◌, length, take, drop, slice_get, Some, None, refl, sym, ap, subst, arith, length-append, eq-eqb, if◌then◌else◌}
 use Rattle.std.proofs.lemmas.Bool.{ne_eqb}
 use Rattle.ballots.specs.declared.message.Message.{Message}
-use Rattle.histories.specs.Views.{Config, Views}
-use Rattle.histories.specs.Due.{Input, Due, Refuses, Plans, IsDue}
+use Rattle.agreement_rules.specs.Views.{Config, Views}
+use Rattle.agreement_rules.specs.Due.{Due, Refuses, Plans}
+use Rattle.histories.specs.Due.{Input, IsDue}
 use Rattle.histories.specs.Due as input
 use Rattle.histories.specs.Event.{Event, node_of}
 use Rattle.histories.specs.Event as event
-use Rattle.histories.specs.Gave.{Gave, count_of}
+use Rattle.histories.specs.EventResult.{EventResult, count_of}
 use Rattle.histories.specs.History.{Step}
-use Rattle.histories.specs.Following.{Seat, IsUp, IsDown, StepGives, InputGives, CutGives, Delivers, UpGives, SeatGives, StepFollows, StepsFollow}
-use Rattle.histories.specs.Reaching.{StepsReach, with_seat}
+use Rattle.histories.specs.Following.{Seat, IsUp, IsDown, SendsGives, InputGives, CutGives, Delivers, UpGives, SeatGives, StepFollows, IsAsked, StepsReach, with_seat}
 
 -- ---- when more is sent later
 
@@ -35,26 +35,26 @@ taken_with_more (x ∷ xs) more (m ∷ ms) zero is =
 taken_with_more (x ∷ xs) more (m ∷ ms) (suc n) is = taken_with_more xs more (m ∷ ms) n is
 
 module _ (config : Config) (sent more : List Message) (next : ℕ) where
-  step_gives : (views : Views) (due : Due) (given : Gave) (seat : Seat) → StepGives sent next views due given seat → StepGives (sent ++ more) next views due given seat
+  step_gives : (views : Views) (due : Due) (given : EventResult) (seat : Seat) → SendsGives sent next views due given seat → SendsGives (sent ++ more) next views due given seat
   step_gives views (Refuses refusal) given seat gives = gives
   step_gives views (Plans plan) given seat (is, placed, same) = (is, taken_with_more sent more plan.sends next placed, same)
 
-  input_gives : (node : ℕ) (views : Views) (asked : Input) (given : Gave) (seat : Seat) → InputGives config node views asked (StepGives sent next views) given seat
-      → InputGives config node views asked (StepGives (sent ++ more) next views) given seat
+  input_gives : (node : ℕ) (views : Views) (asked : Input) (given : EventResult) (seat : Seat) → InputGives config node views asked (SendsGives sent next views) given seat
+      → InputGives config node views asked (SendsGives (sent ++ more) next views) given seat
   input_gives node views asked given seat (inl (due, is, gives)) = inl (due, is, step_gives views due given seat gives)
   input_gives node views asked given seat (inr wants) = inr wants
 
-  delivers : (number : ℕ) (Before After : Message → Gave → Seat → Type 0) (views : Views) (given : Gave) (seat : Seat)
+  delivers : (number : ℕ) (Before After : Message → EventResult → Seat → Type 0) (views : Views) (given : EventResult) (seat : Seat)
       → ((m : Message) → Before m given seat → After m given seat) → Delivers sent next number Before views given seat → Delivers (sent ++ more) next number After views given seat
   delivers number Before After views given seat later (inl (m, lt, is, gives)) = inl (m, lt, get_with_more sent more number m is, later m gives)
   delivers number Before After views given seat later (inr late) = inr late
 
-  up_gives : (found : Bool) (views : Views) (e : Event) (given : Gave) (seat : Seat) → UpGives config sent next found views e given seat → UpGives config (sent ++ more) next found views e given seat
+  up_gives : (found : Bool) (views : Views) (e : Event) (given : EventResult) (seat : Seat) → UpGives config sent next found views e given seat → UpGives config (sent ++ more) next found views e given seat
   up_gives found views (event.Put node text) given seat gives = gives
   up_gives found views (event.Tick node left) given seat gives = input_gives node views (input.Tick left) given seat gives
   up_gives found views (event.Deliver node number) given seat gives =
-      delivers number (λ m. InputGives config node views (input.Deliver m) (StepGives sent next views))
-      (λ m. InputGives config node views (input.Deliver m) (StepGives (sent ++ more) next views)) views given seat
+      delivers number (λ m. InputGives config node views (input.Deliver m) (SendsGives sent next views))
+      (λ m. InputGives config node views (input.Deliver m) (SendsGives (sent ++ more) next views)) views given seat
       (λ m. input_gives node views (input.Deliver m) given seat) gives
   up_gives found views (event.TickCut node left) given seat gives = gives
   up_gives found views (event.DeliverCut node number) given seat gives =
@@ -64,7 +64,7 @@ module _ (config : Config) (sent more : List Message) (next : ℕ) where
   up_gives found views (event.Info node table) given seat gives = gives
   up_gives found views (event.Outcome node text) given seat gives = gives
 
-  seat_gives : (found : Bool) (old : Seat) (e : Event) (given : Gave) (seat : Seat) → SeatGives config sent next found old e given seat
+  seat_gives : (found : Bool) (old : Seat) (e : Event) (given : EventResult) (seat : Seat) → SeatGives config sent next found old e given seat
       → SeatGives config (sent ++ more) next found old e given seat
   seat_gives found (IsUp views) e given seat gives = up_gives found views e given seat gives
   seat_gives found (IsDown records due) e given seat gives = gives
@@ -72,7 +72,7 @@ module _ (config : Config) (sent more : List Message) (next : ℕ) where
   pub follows_with_more : (old : ℕ → Seat) (step : Step) (found : Bool) (new : ℕ → Seat) → StepFollows config sent next old step found new
       → StepFollows config (sent ++ more) next old step found new
   follows_with_more old step found new (inl (member, gives, others)) =
-      inl (member, seat_gives found (old (node_of step.event)) step.event step.gave (new (node_of step.event)) gives, others)
+      inl (member, seat_gives found (old (node_of step.event)) step.event step.result (new (node_of step.event)) gives, others)
   follows_with_more old step found new (inr outside) = inr outside
 
 -- ---- a node's own step
@@ -84,20 +84,21 @@ pub other_seat : (seats : ℕ → Seat) (node other : ℕ) (seat : Seat) → oth
 other_seat seats node other seat differs = ap (λ (b : Bool). if b then seat else seats other) (ne_eqb other node differs)
 
 pub steps_alone : (config : Config) (sent : List Message) (next : ℕ) (seats : ℕ → Seat) (step : Step) (found : Bool) (seat : Seat) → node_of step.event < config.members
-    → SeatGives config sent next found (seats (node_of step.event)) step.event step.gave seat
+    → SeatGives config sent next found (seats (node_of step.event)) step.event step.result seat
     → StepFollows config sent next seats step found (with_seat seats (node_of step.event) seat)
 steps_alone config sent next seats step found seat member gives =
     inl (
       member,
-      subst (λ (s : Seat). SeatGives config sent next found (seats (node_of step.event)) step.event step.gave s) (sym (own_seat seats (node_of step.event) seat)) gives,
+      subst (λ (s : Seat). SeatGives config sent next found (seats (node_of step.event)) step.event step.result s) (sym (own_seat seats (node_of step.event) seat)) gives,
       λ other differs. other_seat seats (node_of step.event) other seat differs,
     )
 
 -- ---- a step more
 
 module _ (config : Config) (sent more : List Message) (last : ℕ → Seat) (step : Step) (was : Bool) (new : ℕ → Seat)
-    (follows : StepFollows config (sent ++ more) (length sent) last step was new) (count : length more ≡ count_of step.gave) where
-  ends : (next : ℕ) → next ≡ length sent → next + count_of step.gave ≡ length (sent ++ more)
+    (follows : StepFollows config (sent ++ more) (length sent) last step was new) (asked : IsAsked step.event was)
+    (count : length more ≡ count_of step.result) where
+  ends : (next : ℕ) → next ≡ length sent → next + count_of step.result ≡ length (sent ++ more)
   ends next is = omega (arith, is, count, length-append sent more)
 
   begins : (seats : ℕ → Seat) (next : ℕ) → next ≡ length sent → last ≡ seats → StepFollows config (sent ++ more) next seats step was new
@@ -107,26 +108,8 @@ module _ (config : Config) (sent more : List Message) (last : ℕ → Seat) (ste
 
   pub reach_more : (steps : List Step) (found : List Bool) (seats : ℕ → Seat) (next : ℕ) → StepsReach config sent seats next steps found last
       → StepsReach config (sent ++ more) seats next (steps ++ step ∷ []) (found ++ was ∷ []) new
-  reach_more [] [] seats next (none, end, same) = (new, begins seats next end same, (refl, ends next end, refl))
+  reach_more [] [] seats next (none, end, same) = (new, begins seats next end same, asked, (refl, ends next end, refl))
   reach_more [] (f ∷ found) seats next (none, end, same) = absurd (cc)
   reach_more (s ∷ steps) [] seats next reaches = absurd reaches
-  reach_more (s ∷ steps) (f ∷ found) seats next (after, one, rest) =
-      (after, follows_with_more config sent more next seats s f after one, reach_more steps found after (next + count_of s.gave) rest)
-
--- ---- reached and following
-
-module _ (config : Config) (sent : List Message) where
-  pub follow_where_reached : (steps : List Step) (found : List Bool) (seats last : ℕ → Seat) (next : ℕ) → StepsReach config sent seats next steps found last
-      → StepsFollow config sent seats next steps found
-  follow_where_reached [] found seats last next (none, end, same) = (none, end)
-  follow_where_reached (s ∷ steps) [] seats last next reaches = absurd reaches
-  follow_where_reached (s ∷ steps) (f ∷ found) seats last next (after, one, rest) =
-      (after, one, follow_where_reached steps found after last (next + count_of s.gave) rest)
-
-  pub reached_where_followed : (steps : List Step) (found : List Bool) (seats : ℕ → Seat) (next : ℕ) → StepsFollow config sent seats next steps found
-      → (last : ℕ → Seat) × StepsReach config sent seats next steps found last
-  reached_where_followed [] found seats next (none, end) = (seats, (none, end, refl))
-  reached_where_followed (s ∷ steps) [] seats next follows = absurd follows
-  reached_where_followed (s ∷ steps) (f ∷ found) seats next (after, one, rest) =
-      let later = reached_where_followed steps found after (next + count_of s.gave) rest in
-      (later.0, (after, one, later.1))
+  reach_more (s ∷ steps) (f ∷ found) seats next (after, one, was_asked, rest) =
+      (after, follows_with_more config sent more next seats s f after one, was_asked, reach_more steps found after (next + count_of s.result) rest)

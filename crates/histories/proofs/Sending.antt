@@ -11,8 +11,8 @@ use Rattle.proposer.specs.Call.{Begun, Call as Asked, Begins}
 use Rattle.proposer.specs.Choosing.{HasMajority}
 use Rattle.proposer.specs.Attempting.{IsOpen, answering}
 use Rattle.lawful_histories.specs.Messages.{accept, Sent, SentBefore}
-use Rattle.histories.specs.Views.{Views}
-use Rattle.histories.specs.Following.{Seat, IsUp, IsDown, found_in}
+use Rattle.agreement_rules.specs.Views.{Views}
+use Rattle.histories.specs.Following.{Seat, IsUp, IsDown, recovered_in}
 use Rattle.histories.proofs.Lists.{only_one, in_middle}
 use Rattle.histories.proofs.Rules.{Allows}
 use Rattle.histories.proofs.Knowing.{IsOwn, IsOwnBody, Covers, CoversBody, KnowsSeat, KnowsIfUp, records_later, calls_later}
@@ -58,7 +58,7 @@ module _ (sent : List Message) (next : ℕ) (ms : List Message) (placed : take (
 
 -- an Accept among these at the open attempt's ballot has its majority
 abbrev pub Apart : ℕ → List Message → Views → Type 0
-Apart members ms views = (b : Begun) (since : List Asked) → IsOpen views.asked b since → (p s : ℕ) (v : Value) → Contains ms (accept p s b.ballot v)
+Apart members ms views = (b : Begun) (since : List Asked) → IsOpen views.proposer_calls b since → (p s : ℕ) (v : Value) → Contains ms (accept p s b.ballot v)
     → HasMajority members (answering members b since)
 
 abbrev pub ApartIfUp : ℕ → List Message → Seat → Type 0
@@ -70,13 +70,13 @@ begun_in asked b since is_open = subst (λ (l : List Asked). Contains l (Begins 
 
 module _ (members : ℕ) (Was Now : Message → Type 0) (ms : List Message) (keeps : (m : Message) → Was m → Now m) (comes : (m : Message) → Now m → Was m ⊎ Contains ms m) where
   up_later : (me : ℕ) (seat : Seat) → KnowsIfUp members Was me seat → ApartIfUp members ms seat → KnowsIfUp members Now me seat
-  up_later me (IsUp views) knows apart = calls_later members Was Now ms keeps comes me views.records views.asked views.told knows apart
+  up_later me (IsUp views) knows apart = calls_later members Was Now ms keeps comes me views.records views.proposer_calls views.learner_calls knows apart
   up_later me (IsDown records due) knows apart = tt
 
-  pub seat_later : (me : ℕ) (seat : Seat) → KnowsSeat members Was me seat → ((found : Bool) (m : Message) → Contains ms m → Covers me (found_in found seat) m)
+  pub seat_later : (me : ℕ) (seat : Seat) → KnowsSeat members Was me seat → ((found : Bool) (m : Message) → Contains ms m → Covers me (recovered_in found seat) m)
       → ApartIfUp members ms seat → KnowsSeat members Now me seat
   seat_later me seat knows covered apart = record {
-    records = λ found. records_later members Was Now ms keeps comes me (found_in found seat) (knows.records found) (covered found);
+    records = λ found. records_later members Was Now ms keeps comes me (recovered_in found seat) (knows.records found) (covered found);
     up = up_later me seat knows.up apart;
   }
 
@@ -93,10 +93,10 @@ module _ (members : ℕ) (Was Now : Message → Type 0) (ms : List Message) (kee
 
     others_apart : (seat : Seat) → KnowsIfUp members Was me seat → ApartIfUp members ms seat
     others_apart (IsUp views) knows = λ b since is_open p s v has.
-        absurd (other (sym (knows.begun b (begun_in views.asked b since is_open)).0 ∙ (own (accept p s b.ballot v) has).1))
+        absurd (other (sym (knows.begun b (begun_in views.proposer_calls b since is_open)).0 ∙ (own (accept p s b.ballot v) has).1))
     others_apart (IsDown records due) knows = tt
 
     pub other_later : (seat : Seat) → KnowsSeat members Was me seat → KnowsSeat members Now me seat
     other_later seat knows =
-        seat_later me seat knows (λ found m has. others_covered (found_in found seat) m.sender m.slot m.body (own m has).0 (own m has).1)
+        seat_later me seat knows (λ found m has. others_covered (recovered_in found seat) m.sender m.slot m.body (own m has).0 (own m has).1)
         (others_apart seat knows.up)

@@ -5,20 +5,25 @@ use Rattle.std.proofs.lemmas.Bool.{cases_lt, cases_eq}
 use Rattle.std.proofs.lemmas.Option.{slice_get_within, get_or_from_slice_get}
 use Rattle.ballots.specs.declared.record.Record.{Record}
 use Rattle.ballots.specs.declared.message.Message.{Message}
+use Rattle.ballots.specs.declared.message.Body.{Body}
+use Rattle.ballots.specs.declared.message.Body.TheVariants as body
+use Rattle.ballots.specs.Message.{message}
 use Rattle.proposer.specs.Call.{Begun, Call as Asked, Begins}
 use Rattle.table_types.specs.Uploads.{Upload}
 use Rattle.lawful_histories.specs.Lawful.{IsLawful}
 use Rattle.lawful_histories.specs.HistoryLaws.{LawfulByMessages}
 use Rattle.lawful_histories.specs.Messages.{accept, Sent, SentBefore}
-use Rattle.histories.specs.Views.{Config, Views, started_with}
-use Rattle.histories.specs.Due.{Input, Plan, Due, Refuses, Plans, IsDue}
+use Rattle.agreement_rules.specs.Views.{Config, Views, started_with}
+use Rattle.agreement_rules.specs.Due.{Plan, Due, Refuses, Plans, record_due, BodyKeeps, MessageKeeps, TickKeeps}
+use Rattle.histories.specs.Due.{Input, IsDue, InputKeeps}
+use Rattle.agreement_rules.specs.Due as due
 use Rattle.histories.specs.Due as input
 use Rattle.histories.specs.Event.{Event, node_of}
 use Rattle.histories.specs.Event as event
-use Rattle.histories.specs.Gave.{Gave, count_of}
-use Rattle.histories.specs.Gave as gave
+use Rattle.histories.specs.EventResult.{EventResult, count_of}
+use Rattle.histories.specs.EventResult as results
 use Rattle.histories.specs.History.{Step, History}
-use Rattle.histories.specs.Following.{Seat, IsUp, IsDown, found_in, down, reason_of, WantsMemory, PutGives, StepGives, record_due, InputGives, CutGives, Delivers, GetGives, InfoGives, OutcomeGives, QuestionGives, StartGives, UpGives, RefusesAsDown, DownGives, SeatGives, StepFollows, StepsFollow, at_first, Follows}
+use Rattle.histories.specs.Following.{Seat, IsUp, IsDown, recovered_in, down, reason_of, WantsMemory, PutGives, SendsGives, InputGives, CutGives, Delivers, GetGives, InfoGives, GetGivesIfAble, InfoGivesIfAble, OutcomeGives, QuestionGives, RestartGives, UpGives, RefusesAsDown, DownGives, SeatGives, StepFollows, StepsReach, at_first, Follows}
 use Rattle.histories.proofs.Lists.{nothing_in}
 use Rattle.histories.proofs.Rules.{Allows, rules_are_kept}
 use Rattle.histories.proofs.Knowing.{IsOwn, MayBeDue, KnowsRecords, KnowsSeat, one_record_more, knows_with_due}
@@ -49,7 +54,7 @@ module _ (config : Config) (sent : List Message) (next me : ℕ) where
   Was m = SentBefore sent next m
 
   -- the messages that go out, all its own and allowed, and what the node knows then
-  pub record Moves (given : Gave) (new : Seat) : Type 0 where
+  pub record Moves (given : EventResult) (new : Seat) : Type 0 where
     pub ms : List Message
     pub count : count_of given ≡ length ms
     pub placed : take (length ms) (drop next sent) ≡ ms
@@ -62,7 +67,7 @@ module _ (config : Config) (sent : List Message) (next me : ℕ) where
   apart_of_none (IsUp views) = λ b since is_open p s v has. absurd (nothing_in (accept p s b.ballot v) has)
   apart_of_none (IsDown records due) = tt
 
-  rests : (given : Gave) (new : Seat) → count_of given ≡ 0 → KnowsSeat config.members Was me new → Moves given new
+  rests : (given : EventResult) (new : Seat) → count_of given ≡ 0 → KnowsSeat config.members Was me new → Moves given new
   rests given new none knows = record {
     ms = [];
     count = none;
@@ -73,7 +78,7 @@ module _ (config : Config) (sent : List Message) (next me : ℕ) where
         (λ found m has. absurd (nothing_in m has)) (apart_of_none new);
   }
 
-  given_rests : (given other : Gave) (new seat : Seat) → given ≡ other → count_of other ≡ 0 → new ≡ seat → KnowsSeat config.members Was me seat → Moves given new
+  given_rests : (given other : EventResult) (new seat : Seat) → given ≡ other → count_of other ≡ 0 → new ≡ seat → KnowsSeat config.members Was me seat → Moves given new
   given_rests given other new seat is none same knows =
       rests given new (ap count_of is ∙ none) (subst (λ (s : Seat). KnowsSeat config.members Was me s) (sym same) knows)
 
@@ -87,7 +92,7 @@ module _ (config : Config) (sent : List Message) (next me : ℕ) where
     abbrev KeepsDue : Due → Type 0
     KeepsDue due = KeepsIfPlanned config.members sent next me views.records due
 
-    stays : (given other : Gave) (new : Seat) → given ≡ other → count_of other ≡ 0 → new ≡ IsUp views → Moves given new
+    stays : (given other : EventResult) (new : Seat) → given ≡ other → count_of other ≡ 0 → new ≡ IsUp views → Moves given new
     stays given other new is none same = given_rests given other new (IsUp views) is none same knows
 
     -- what is due leaves the node, before the messages go out
@@ -102,7 +107,7 @@ module _ (config : Config) (sent : List Message) (next me : ℕ) where
     }
 
     -- and then
-    goes_out : (plan : Plan) (given : Gave) (new : Seat) → Keeps config.members sent next me views.records plan → given ≡ gave.Sent next (length plan.sends)
+    goes_out : (plan : Plan) (given : EventResult) (new : Seat) → Keeps config.members sent next me views.records plan → given ≡ results.Sent next (length plan.sends)
         → take (length plan.sends) (drop next sent) ≡ plan.sends → new ≡ IsUp plan.after → Moves given new
     goes_out plan given new keeps is placed same = record {
       ms = plan.sends;
@@ -115,43 +120,66 @@ module _ (config : Config) (sent : List Message) (next me : ℕ) where
           (planned_seat plan keeps) (λ found m has. keeps.covered m has) keeps.apart);
     }
 
-    no_count : (refusal : input.Refusal) → count_of (gave.Refused (reason_of refusal)) ≡ 0
+    no_count : (refusal : due.Refusal) → count_of (results.Refused (reason_of refusal)) ≡ 0
     no_count refusal = refl
 
-    of_step : (due : Due) (given : Gave) (new : Seat) → KeepsDue due → StepGives sent next views due given new → Moves given new
-    of_step (Refuses refusal) given new keeps (is, same) = stays given (gave.Refused (reason_of refusal)) new is (no_count refusal) same
+    of_step : (due : Due) (given : EventResult) (new : Seat) → KeepsDue due → SendsGives sent next views due given new → Moves given new
+    of_step (Refuses refusal) given new keeps (is, same) = stays given (results.Refused (reason_of refusal)) new is (no_count refusal) same
     of_step (Plans plan) given new keeps (is, placed, same) = goes_out plan given new keeps is placed same
 
-    of_taking : (due : Due) (given : Gave) (new : Seat) → KeepsDue due → PutGives views due given new → Moves given new
-    of_taking (Refuses refusal) given new keeps (is, same) = stays given (gave.Refused (reason_of refusal)) new is (no_count refusal) same
-    of_taking (Plans plan) given new keeps (is, same) = given_rests given gave.Done new (IsUp plan.after) is refl same (planned_seat plan keeps)
+    of_taking : (due : Due) (given : EventResult) (new : Seat) → KeepsDue due → PutGives views due given new → Moves given new
+    of_taking (Refuses refusal) given new keeps (is, same) = stays given (results.Refused (reason_of refusal)) new is (no_count refusal) same
+    of_taking (Plans plan) given new keeps (is, same) = given_rests given results.Done new (IsUp plan.after) is refl same (planned_seat plan keeps)
 
-    wants : (given : Gave) (new : Seat) → WantsMemory views given new → Moves given new
-    wants given new (is, same) = stays given (gave.Refused gave.OutOfMemory) new is refl same
+    wants : (given : EventResult) (new : Seat) → WantsMemory views given new → Moves given new
+    wants given new (is, same) = stays given (results.Refused results.OutOfMemory) new is refl same
 
     -- a cut: the record that is due is kept, or it is not
     record_may : (due : Due) → KeepsDue due → MayBeDue Was (record_due due)
     record_may (Refuses refusal) keeps = tt
     record_may (Plans plan) keeps = keeps.due
 
+    -- a record of no message was proposed by nobody, and that of an acceptance by who sent the Accept
+    may_be_none : (kept : Option Record) → kept ≡ None → MayBeDue Was kept
+    may_be_none kept is = subst (MayBeDue Was) (sym is) tt
+
+    body_may : (sender slot : ℕ) (b : Body) (kept : Option Record) → Was (message sender slot b) → BodyKeeps views.records slot b kept → MayBeDue Was kept
+    body_may sender slot (body.Prepare ballot) kept was (standing, restored, inl (above, is)) = subst (MayBeDue Was) (sym is) tt
+    body_may sender slot (body.Prepare ballot) kept was (standing, restored, inr (not, is)) = may_be_none kept is
+    body_may sender slot (body.Accept proposal) kept was (standing, restored, inl (above, is)) = subst (MayBeDue Was) (sym is) (sender, was)
+    body_may sender slot (body.Accept proposal) kept was (standing, restored, inr (not, is)) = may_be_none kept is
+    body_may sender slot (body.Promise ballot report) kept was is = may_be_none kept is
+    body_may sender slot (body.Nack ballot promised) kept was is = may_be_none kept is
+    body_may sender slot (body.Accepted acceptance) kept was is = may_be_none kept is
+    body_may sender slot (body.Decided value) kept was is = may_be_none kept is
+    body_may sender slot body.Ask kept was is = may_be_none kept is
+
+    message_may : (m : Message) (kept : Option Record) → Was m → MessageKeeps config views m kept → MayBeDue Was kept
+    message_may m kept was (inl (is_of, keeps)) = body_may m.sender m.slot m.body kept was keeps
+    message_may m kept was (inr (stranger, is)) = may_be_none kept is
+
     down_with : (due : Option Record) → MayBeDue Was due → KnowsSeat config.members Was me (IsDown views.records due)
     down_with due may = record { records = λ found. knows_with_due Was me found views.records due of_records may; up = tt }
 
-    of_cut : (asked : Input) (given : Gave) (new : Seat) → ((due : Due) → IsDue config me views asked due → KeepsDue due) → CutGives config me views asked given new → Moves given new
-    of_cut asked given new keeps (is, inl (due, is_due, same)) =
-        given_rests given gave.Done new (IsDown views.records (record_due due)) is refl same (down_with (record_due due) (record_may due (keeps due is_due)))
-    of_cut asked given new keeps (is, inr same) = given_rests given gave.Done new (IsDown views.records None) is refl same (down_with None tt)
+    of_cut : (asked : Input) (given : EventResult) (new : Seat) → ((kept : Option Record) → InputKeeps config me views asked kept → MayBeDue Was kept)
+        → CutGives config me views asked given new → Moves given new
+    of_cut asked given new may (is, (kept, keeps, same)) =
+        given_rests given results.Done new (IsDown views.records kept) is refl same (down_with kept (may kept keeps))
+
+    tick_may : (left : ℕ) → ((due : Due) → IsDue config me views (input.Tick left) due → KeepsDue due) → (kept : Option Record)
+        → TickKeeps config me views left kept → MayBeDue Was kept
+    tick_may left keeps kept (due, is_due, is) = subst (MayBeDue Was) (sym is) (record_may due (keeps due is_due))
 
     -- what is due to an input
-    of_due_step : (asked : Input) (given : Gave) (new : Seat) → ((due : Due) → IsDue config me views asked due → KeepsDue due)
-        → InputGives config me views asked (StepGives sent next views) given new → Moves given new
+    of_due_step : (asked : Input) (given : EventResult) (new : Seat) → ((due : Due) → IsDue config me views asked due → KeepsDue due)
+        → InputGives config me views asked (SendsGives sent next views) given new → Moves given new
     of_due_step asked given new keeps (inl (due, is_due, gives)) = of_step due given new (keeps due is_due) gives
-    of_due_step asked given new keeps (inr out) = wants given new out
+    of_due_step asked given new keeps (inr (allowed, out)) = wants given new out
 
-    of_due_put : (asked : Input) (given : Gave) (new : Seat) → ((due : Due) → IsDue config me views asked due → KeepsDue due)
+    of_due_put : (asked : Input) (given : EventResult) (new : Seat) → ((due : Due) → IsDue config me views asked due → KeepsDue due)
         → InputGives config me views asked (PutGives views) given new → Moves given new
     of_due_put asked given new keeps (inl (due, is_due, gives)) = of_taking due given new (keeps due is_due) gives
-    of_due_put asked given new keeps (inr out) = wants given new out
+    of_due_put asked given new keeps (inr (allowed, out)) = wants given new out
 
     -- a message that is delivered was sent
     delivered : (number : ℕ) (m : Message) → number < next → slice_get sent number ≡ Some m → SentBefore sent next m
@@ -166,29 +194,38 @@ module _ (config : Config) (sent : List Message) (next me : ℕ) where
     due_of_put : (text : List ℕ) (due : Due) → IsDue config me views (input.Put text) due → KeepsDue due
     due_of_put text due is_due = of_put laws config sent next me lawful views of_records knows.up text due is_due
 
-    of_delivery : (number : ℕ) (given : Gave) (new : Seat)
-        → Delivers sent next number (λ m. InputGives config me views (input.Deliver m) (StepGives sent next views)) views given new → Moves given new
+    of_delivery : (number : ℕ) (given : EventResult) (new : Seat)
+        → Delivers sent next number (λ m. InputGives config me views (input.Deliver m) (SendsGives sent next views)) views given new → Moves given new
     of_delivery number given new (inl (m, lt, is, gives)) = of_due_step (input.Deliver m) given new (due_of_message number m lt is) gives
-    of_delivery number given new (inr (late, is, same)) = stays given (gave.Refused gave.NotSent) new is refl same
+    of_delivery number given new (inr (late, is, same)) = stays given (results.Refused results.NotSent) new is refl same
 
-    of_delivery_cut : (number : ℕ) (given : Gave) (new : Seat)
+    of_delivery_cut : (number : ℕ) (given : EventResult) (new : Seat)
         → Delivers sent next number (λ m. CutGives config me views (input.Deliver m)) views given new → Moves given new
-    of_delivery_cut number given new (inl (m, lt, is, gives)) = of_cut (input.Deliver m) given new (due_of_message number m lt is) gives
-    of_delivery_cut number given new (inr (late, is, same)) = stays given (gave.Refused gave.NotSent) new is refl same
+    of_delivery_cut number given new (inl (m, lt, is, gives)) =
+        of_cut (input.Deliver m) given new (λ kept. message_may m kept (delivered number m lt is)) gives
+    of_delivery_cut number given new (inr (late, is, same)) = stays given (results.Refused results.NotSent) new is refl same
 
     -- a question
-    get_counts : (uploads : List Upload) (table : List ℕ) (version : ℕ) (given : Gave) → GetGives uploads table version given → count_of given ≡ 0
+    get_counts : (uploads : List Upload) (table : List ℕ) (version : ℕ) (given : EventResult) → GetGives uploads table version given → count_of given ≡ 0
     get_counts uploads table version given (inl (found, is, e)) = ap count_of e
     get_counts uploads table version given (inr (none, e)) = ap count_of e
 
-    info_counts : (uploads : List Upload) (table : List ℕ) (given : Gave) → InfoGives uploads table given → count_of given ≡ 0
+    info_counts : (uploads : List Upload) (table : List ℕ) (given : EventResult) → InfoGives uploads table given → count_of given ≡ 0
     info_counts uploads table given (inl (some, e)) = ap count_of e
     info_counts uploads table given (inr (none, e)) = ap count_of e
 
-    outcome_counts : (uploads : List Upload) (text : List ℕ) (given : Gave) → OutcomeGives uploads text given → count_of given ≡ 0
+    outcome_counts : (uploads : List Upload) (text : List ℕ) (given : EventResult) → OutcomeGives uploads text given → count_of given ≡ 0
     outcome_counts uploads text given (upload, is_text, e) = ap count_of e
 
-    of_question : (Gives : List Upload → Gave → Type 0) (given : Gave) (new : Seat) → ((uploads : List Upload) → Gives uploads given → count_of given ≡ 0)
+    get_counts_too : (uploads : List Upload) (table : List ℕ) (version : ℕ) (given : EventResult) → GetGivesIfAble uploads table version given → count_of given ≡ 0
+    get_counts_too uploads table version given (inl gives) = get_counts uploads table version given gives
+    get_counts_too uploads table version given (inr (some, e)) = ap count_of e
+
+    info_counts_too : (uploads : List Upload) (table : List ℕ) (given : EventResult) → InfoGivesIfAble uploads table given → count_of given ≡ 0
+    info_counts_too uploads table given (inl gives) = info_counts uploads table given gives
+    info_counts_too uploads table given (inr (some, e)) = ap count_of e
+
+    of_question : (Gives : List Upload → EventResult → Type 0) (given : EventResult) (new : Seat) → ((uploads : List Upload) → Gives uploads given → count_of given ≡ 0)
         → QuestionGives config views Gives given new → Moves given new
     of_question Gives given new counts (uploads, has, gives, same) =
         rests given new (counts uploads gives) (subst (λ (s : Seat). KnowsSeat config.members Was me s) (sym same) knows)
@@ -199,23 +236,23 @@ module _ (config : Config) (sent : List Message) (next me : ℕ) where
   down_knows (IsUp views) knows = record { records = λ found. knows.records true; up = tt }
   down_knows (IsDown records due) knows = knows
 
-  of_start : (found : Bool) (old : Seat) (given : Gave) (new : Seat) → KnowsSeat config.members Was me old → StartGives found old given new → Moves given new
-  of_start found old given new knows (inl (is, same)) =
-      given_rests given gave.Done new (IsUp (started_with (found_in found old))) is refl same (knows_at_start config.members Was me (found_in found old) (knows.records found))
-  of_start found old given new knows (inr (is, same)) = given_rests given (gave.Refused gave.OutOfMemory) new (down old) is refl same (down_knows old knows)
+  of_restart : (found : Bool) (old : Seat) (given : EventResult) (new : Seat) → KnowsSeat config.members Was me old → RestartGives found old given new → Moves given new
+  of_restart found old given new knows (inl (is, same)) =
+      given_rests given results.Done new (IsUp (started_with (recovered_in found old))) is refl same (knows_at_start config.members Was me (recovered_in found old) (knows.records found))
+  of_restart found old given new knows (inr (is, same)) = given_rests given (results.Refused results.OutOfMemory) new (down old) is refl same (down_knows old knows)
 
   -- ---- a node that is down
 
-  refuses : (old : Seat) (given : Gave) (new : Seat) → KnowsSeat config.members Was me old → RefusesAsDown old given new → Moves given new
-  refuses old given new knows (is, same) = given_rests given (gave.Refused gave.Down) new old is refl same knows
+  refuses : (old : Seat) (given : EventResult) (new : Seat) → KnowsSeat config.members Was me old → RefusesAsDown old given new → Moves given new
+  refuses old given new knows (is, same) = given_rests given (results.Refused results.Down) new old is refl same knows
 
-  of_down : (found : Bool) (old : Seat) (e : Event) (given : Gave) (new : Seat) → KnowsSeat config.members Was me old → DownGives found old e given new → Moves given new
+  of_down : (found : Bool) (old : Seat) (e : Event) (given : EventResult) (new : Seat) → KnowsSeat config.members Was me old → DownGives found old e given new → Moves given new
   of_down found old (event.Put node text) given new knows gives = refuses old given new knows gives
   of_down found old (event.Tick node left) given new knows gives = refuses old given new knows gives
   of_down found old (event.Deliver node number) given new knows gives = refuses old given new knows gives
   of_down found old (event.TickCut node left) given new knows gives = refuses old given new knows gives
   of_down found old (event.DeliverCut node number) given new knows gives = refuses old given new knows gives
-  of_down found old (event.Restart node) given new knows gives = of_start found old given new knows gives
+  of_down found old (event.Restart node) given new knows gives = of_restart found old given new knows gives
   of_down found old (event.Get node table version) given new knows gives = refuses old given new knows gives
   of_down found old (event.Info node table) given new knows gives = refuses old given new knows gives
   of_down found old (event.Outcome node text) given new knows gives = refuses old given new knows gives
@@ -226,7 +263,7 @@ module _ (laws : Laws) (config : Config) (sent : List Message) (next : ℕ) (law
   abbrev KnowsNow : ℕ → Seat → Type 0
   KnowsNow me seat = KnowsSeat config.members (λ m. SentBefore sent next m) me seat
 
-  of_up : (found : Bool) (views : Views) (e : Event) (given : Gave) (new : Seat) → KnowsNow (node_of e) (IsUp views)
+  of_up : (found : Bool) (views : Views) (e : Event) (given : EventResult) (new : Seat) → KnowsNow (node_of e) (IsUp views)
       → UpGives config sent next found views e given new → Moves config sent next (node_of e) given new
   of_up found views (event.Put node text) given new knows gives =
       of_due_put config sent next node laws lawful views knows (input.Put text) given new (due_of_put config sent next node laws lawful views knows text) gives
@@ -234,22 +271,21 @@ module _ (laws : Laws) (config : Config) (sent : List Message) (next : ℕ) (law
       of_due_step config sent next node laws lawful views knows (input.Tick left) given new (due_of_tick config sent next node laws lawful views knows left) gives
   of_up found views (event.Deliver node number) given new knows gives = of_delivery config sent next node laws lawful views knows number given new gives
   of_up found views (event.TickCut node left) given new knows gives =
-      of_cut config sent next node laws lawful views knows (input.Tick left) given new (due_of_tick config sent next node laws lawful views knows left) gives
+      of_cut config sent next node laws lawful views knows (input.Tick left) given new
+      (tick_may config sent next node laws lawful views knows left (due_of_tick config sent next node laws lawful views knows left)) gives
   of_up found views (event.DeliverCut node number) given new knows gives = of_delivery_cut config sent next node laws lawful views knows number given new gives
-  of_up found views (event.Restart node) given new knows gives = of_start config sent next node found (IsUp views) given new knows gives
-  of_up found views (event.Get node table version) given new knows (inl gives) =
-      of_question config sent next node laws lawful views knows (λ uploads. GetGives uploads table version) given new
-      (λ uploads g. get_counts config sent next node laws lawful views knows uploads table version given g) gives
-  of_up found views (event.Get node table version) given new knows (inr out) = wants config sent next node laws lawful views knows given new out
-  of_up found views (event.Info node table) given new knows (inl gives) =
-      of_question config sent next node laws lawful views knows (λ uploads. InfoGives uploads table) given new
-      (λ uploads g. info_counts config sent next node laws lawful views knows uploads table given g) gives
-  of_up found views (event.Info node table) given new knows (inr out) = wants config sent next node laws lawful views knows given new out
+  of_up found views (event.Restart node) given new knows gives = of_restart config sent next node found (IsUp views) given new knows gives
+  of_up found views (event.Get node table version) given new knows gives =
+      of_question config sent next node laws lawful views knows (λ uploads. GetGivesIfAble uploads table version) given new
+      (λ uploads g. get_counts_too config sent next node laws lawful views knows uploads table version given g) gives
+  of_up found views (event.Info node table) given new knows gives =
+      of_question config sent next node laws lawful views knows (λ uploads. InfoGivesIfAble uploads table) given new
+      (λ uploads g. info_counts_too config sent next node laws lawful views knows uploads table given g) gives
   of_up found views (event.Outcome node text) given new knows gives =
       of_question config sent next node laws lawful views knows (λ uploads. OutcomeGives uploads text) given new
       (λ uploads g. outcome_counts config sent next node laws lawful views knows uploads text given g) gives
 
-  pub of_event : (found : Bool) (old : Seat) (e : Event) (given : Gave) (new : Seat) → KnowsNow (node_of e) old → SeatGives config sent next found old e given new
+  pub of_event : (found : Bool) (old : Seat) (e : Event) (given : EventResult) (new : Seat) → KnowsNow (node_of e) old → SeatGives config sent next found old e given new
       → Moves config sent next (node_of e) given new
   of_event found (IsUp views) e given new knows gives = of_up found views e given new knows gives
   of_event found (IsDown records due) e given new knows gives = of_down config sent next (node_of e) found (IsDown records due) e given new knows gives
@@ -262,7 +298,7 @@ pub record Holds (config : Config) (sent : List Message) (next : ℕ) (seats : �
   pub each_knows : (a : ℕ) → KnowsSeat config.members (λ m. SentBefore sent next m) a (seats a)
 
 module _ (laws : Laws) (config : Config) (sent : List Message) where
-  module _ (next : ℕ) (old new : ℕ → Seat) (holds : Holds config sent next old) (me : ℕ) (given : Gave) (moves : Moves config sent next me given (new me))
+  module _ (next : ℕ) (old new : ℕ → Seat) (holds : Holds config sent next old) (me : ℕ) (given : EventResult) (moves : Moves config sent next me given (new me))
       (others : (other : ℕ) → other ≢ me → new other ≡ old other) where
     abbrev End : ℕ
     End = next + length moves.ms
@@ -289,7 +325,7 @@ module _ (laws : Laws) (config : Config) (sent : List Message) where
     holds_then =
         subst (λ (n : ℕ). Holds config sent (next + n) new) (sym moves.count) (let it : Holds config sent End new = record { lawful = lawful_then; each_knows = knows_then } in it)
 
-  outside : (next : ℕ) (old new : ℕ → Seat) (given : Gave) → Holds config sent next old → given ≡ gave.Refused gave.OutOfRange → ((other : ℕ) → new other ≡ old other)
+  outside : (next : ℕ) (old new : ℕ → Seat) (given : EventResult) → Holds config sent next old → given ≡ results.Refused results.OutOfRange → ((other : ℕ) → new other ≡ old other)
       → Holds config sent (next + count_of given) new
   outside next old new given holds is same =
       let end : next + count_of given ≡ next = omega (arith, ap count_of is) in
@@ -299,18 +335,18 @@ module _ (laws : Laws) (config : Config) (sent : List Message) where
       })
 
   one_step : (next : ℕ) (old : ℕ → Seat) (step : Step) (found : Bool) (new : ℕ → Seat) → Holds config sent next old → StepFollows config sent next old step found new
-      → Holds config sent (next + count_of step.gave) new
+      → Holds config sent (next + count_of step.result) new
   one_step next old step found new holds (inl (member, gives, others)) =
-      holds_then next old new holds (node_of step.event) step.gave
-      (of_event laws config sent next holds.lawful found (old (node_of step.event)) step.event step.gave (new (node_of step.event)) (holds.each_knows (node_of step.event)) gives) others
-  one_step next old step found new holds (inr (no_member, is, same)) = outside next old new step.gave holds is same
+      holds_then next old new holds (node_of step.event) step.result
+      (of_event laws config sent next holds.lawful found (old (node_of step.event)) step.event step.result (new (node_of step.event)) (holds.each_knows (node_of step.event)) gives) others
+  one_step next old step found new holds (inr (no_member, is, same)) = outside next old new step.result holds is same
 
-  all_steps : (steps : List Step) (found : List Bool) (next : ℕ) (seats : ℕ → Seat) → Holds config sent next seats → StepsFollow config sent seats next steps found
+  all_steps : (steps : List Step) (found : List Bool) (next : ℕ) (seats last : ℕ → Seat) → Holds config sent next seats → StepsReach config sent seats next steps found last
       → (k : ℕ) (m : Message) → k < length sent → Sent sent k m → Allows config.members (SentBefore sent k) m
-  all_steps [] found next seats holds (none, end) k m lt h = holds.lawful k m (omega (arith, lt, end)) h
-  all_steps (step ∷ steps) [] next seats holds follows k m lt h = absurd follows
-  all_steps (step ∷ steps) (f ∷ found) next seats holds (after, follows, rest) k m lt h =
-      all_steps steps found (next + count_of step.gave) after (one_step next seats step f after holds follows) rest k m lt h
+  all_steps [] found next seats last holds (none, end, same) k m lt h = holds.lawful k m (omega (arith, lt, end)) h
+  all_steps (step ∷ steps) [] next seats last holds reaches k m lt h = absurd reaches
+  all_steps (step ∷ steps) (f ∷ found) next seats last holds (after, follows, asked, rest) k m lt h =
+      all_steps steps found (next + count_of step.result) after last (one_step next seats step f after holds follows) rest k m lt h
 
   nothing_sent : (m : Message) → SentBefore sent 0 m → ⊥
   nothing_sent m h = absurd (omega (arith, h.1))
@@ -330,4 +366,5 @@ pub follows_is_lawful : Laws → LawfulByMessages → (history : History) → Fo
 follows_is_lawful laws by_messages history follows =
     (by_messages history.config.members history.sent).1
     (rules_are_kept history.config.members history.sent
-    (all_steps laws history.config history.sent history.steps follows.found 0 at_first (holds_at_first laws history.config history.sent) follows.steps))
+    (all_steps laws history.config history.sent history.steps follows.recovered 0 at_first follows.seats (holds_at_first laws history.config history.sent)
+    follows.reached))

@@ -1,6 +1,6 @@
 -- What can happen: one event of one node. A message is lost where it is never delivered; it is repeated and overtaken where
 -- deliveries name messages as they like.
-use Rattle.std.specs.Prelude.{ℕ, List}
+use Rattle.std.specs.Prelude.{ℕ, Bool, true, false, List}
 
 pub data Event : Type 0 where
   -- a client hands the node an upload, which is told by its encoding
@@ -32,3 +32,15 @@ node_of (Restart node) = node
 node_of (Get node table version) = node
 node_of (Info node table) = node
 node_of (Outcome node text) = node
+
+-- it asks the node to start again
+abbrev pub is_restart : Event → Bool
+is_restart (Put node text) = false
+is_restart (Tick node left) = false
+is_restart (Deliver node number) = false
+is_restart (TickCut node left) = false
+is_restart (DeliverCut node number) = false
+is_restart (Restart node) = true
+is_restart (Get node table version) = false
+is_restart (Info node table) = false
+is_restart (Outcome node text) = false

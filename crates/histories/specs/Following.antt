@@ -1,20 +1,22 @@
 -- Which histories follow the rules of the nodes: each step is what is due of its node alone, by what the steps before left
 -- that node. So any list of events is a history: deliveries in any order, as often as it likes, or never; nodes that go down
 -- between a record and all that follows from it; nodes that start again.
-use Rattle.std.specs.Prelude.{◌≡◌, ◌≢◌, ◌⊎◌, ℕ, ◌+◌, ◌<◌, ◌≤◌, Bool, true, false, Option, None, Some, List, [], ◌∷◌, ◌++◌, length, take, drop, slice_get}
+use Rattle.std.specs.Prelude.{◌≡◌, ◌≢◌, ◌⊎◌, ℕ, ◌+◌, ◌<◌, ◌≤◌, ◌==◌, if◌then◌else◌, Bool, true, false, Option, None, Some, IsSome, List, [], ◌∷◌, ◌++◌, length, take, drop, slice_get}
 use Rattle.ballots.specs.declared.message.Message.{Message}
 use Rattle.ballots.specs.declared.record.Record.{Record}
 use Rattle.table_types.specs.Uploads.{Upload}
 use Rattle.table_types.specs.Tables.{Version, version_of, effective, outcome_of}
 use Rattle.table_types.specs.Answers.{answer_of}
-use Rattle.histories.specs.Texts.{IsTextOf}
-use Rattle.histories.specs.Views.{Config, Views, started_with, HasUploads}
-use Rattle.histories.specs.Due.{Input, Refusal, Plan, Due, Refuses, Plans, IsDue}
+use Rattle.agreement_rules.specs.Views.{Config, Views, started_with}
+use Rattle.agreement_rules.specs.Due.{Refusal, Plan, Due, Refuses, Plans}
+use Rattle.agreement_rules.specs.Due as due
+use Rattle.histories.specs.Texts.{IsTextOf, HasUploads}
+use Rattle.histories.specs.Due.{Input, IsDue, InputKeeps}
 use Rattle.histories.specs.Due as input
 use Rattle.histories.specs.Event.{Event, node_of}
 use Rattle.histories.specs.Event as event
-use Rattle.histories.specs.Gave.{Reason, Gave, count_of}
-use Rattle.histories.specs.Gave as gave
+use Rattle.histories.specs.EventResult.{Reason, EventResult, count_of}
+use Rattle.histories.specs.EventResult as results
 use Rattle.histories.specs.History.{Step, History}
 
 -- ---- a node
@@ -25,16 +27,16 @@ pub data Seat : Type 0 where
   IsUp : Views → Seat
   IsDown : List Record → Option Record → Seat
 
--- the record that was due is found, or it is not
+-- the record that was due is recovered, or it is not
 abbrev pub with_due : Bool → List Record → Option Record → List Record
-with_due found records None = records
+with_due recovered records None = records
 with_due true records (Some due) = records ++ due ∷ []
 with_due false records (Some due) = records
 
--- the records that a start finds
-abbrev pub found_in : Bool → Seat → List Record
-found_in found (IsUp views) = views.records
-found_in found (IsDown records due) = with_due found records due
+-- the records that a restart has
+abbrev pub recovered_in : Bool → Seat → List Record
+recovered_in recovered (IsUp views) = views.records
+recovered_in recovered (IsDown records due) = with_due recovered records due
 
 -- it went down, or was down
 abbrev pub down : Seat → Seat
@@ -45,144 +47,180 @@ down (IsDown records due) = IsDown records due
 
 -- the name of a refusal in a history
 abbrev pub reason_of : Refusal → Reason
-reason_of input.OutOfRange = gave.OutOfRange
-reason_of input.SlotsSpent = gave.SlotsSpent
-reason_of input.RoundsSpent = gave.RoundsSpent
-reason_of input.OutOfMemory = gave.OutOfMemory
+reason_of due.OutOfRange = results.OutOfRange
+reason_of due.SlotsSpent = results.SlotsSpent
+reason_of due.RoundsSpent = results.RoundsSpent
+reason_of due.OutOfMemory = results.OutOfMemory
 
 -- memory was refused, and the node is as before
-abbrev pub WantsMemory : Views → Gave → Seat → Type 0
-WantsMemory views given seat = (given ≡ gave.Refused gave.OutOfMemory) × (seat ≡ IsUp views)
+abbrev pub WantsMemory : Views → EventResult → Seat → Type 0
+WantsMemory views given seat = (given ≡ results.Refused results.OutOfMemory) × (seat ≡ IsUp views)
 
 -- a put that is due
-abbrev pub PutGives : Views → Due → Gave → Seat → Type 0
-PutGives views (Refuses refusal) given seat = (given ≡ gave.Refused (reason_of refusal)) × (seat ≡ IsUp views)
-PutGives views (Plans plan) given seat = (given ≡ gave.Done) × (seat ≡ IsUp plan.after)
+abbrev pub PutGives : Views → Due → EventResult → Seat → Type 0
+PutGives views (Refuses refusal) given seat = (given ≡ results.Refused (reason_of refusal)) × (seat ≡ IsUp views)
+PutGives views (Plans plan) given seat = (given ≡ results.Done) × (seat ≡ IsUp plan.after)
 
 -- a tick or a delivery that is due; the messages that go out are the next ones of the history
-abbrev pub StepGives : List Message → ℕ → Views → Due → Gave → Seat → Type 0
-StepGives sent next views (Refuses refusal) given seat =
-    (given ≡ gave.Refused (reason_of refusal)) × (seat ≡ IsUp views)
-StepGives sent next views (Plans plan) given seat =
-    (given ≡ gave.Sent next (length plan.sends)) × (take (length plan.sends) (drop next sent) ≡ plan.sends)
+abbrev pub SendsGives : List Message → ℕ → Views → Due → EventResult → Seat → Type 0
+SendsGives sent next views (Refuses refusal) given seat =
+    (given ≡ results.Refused (reason_of refusal)) × (seat ≡ IsUp views)
+SendsGives sent next views (Plans plan) given seat =
+    (given ≡ results.Sent next (length plan.sends)) × (take (length plan.sends) (drop next sent) ≡ plan.sends)
     × (seat ≡ IsUp plan.after)
 
--- the record that is due, if the node plans one
-abbrev pub record_due : Due → Option Record
-record_due (Refuses refusal) = None
-record_due (Plans plan) = plan.kept
+-- no refusal is due to the input
+abbrev pub IsAllowed : Config → ℕ → Views → Input → Type 0
+IsAllowed config node views input = (refusal : Refusal) → IsDue config node views input (Refuses refusal) → ⊥
 
--- what is due to the input, memory apart
-abbrev pub InputGives : Config → ℕ → Views → Input → (Due → Gave → Seat → Type 0) → Gave → Seat → Type 0
+-- what is due to the input; memory may be refused where no refusal is due
+abbrev pub InputGives : Config → ℕ → Views → Input → (Due → EventResult → Seat → Type 0) → EventResult → Seat → Type 0
 InputGives config node views input Gives given seat =
-    ((due : Due) × IsDue config node views input due × Gives due given seat) ⊎ WantsMemory views given seat
+    ((due : Due) × IsDue config node views input due × Gives due given seat)
+    ⊎ (IsAllowed config node views input × WantsMemory views given seat)
 
--- the node goes down behind its record; where the plan was refused, for memory too, there is none
-abbrev pub CutGives : Config → ℕ → Views → Input → Gave → Seat → Type 0
+-- the node goes down where its record is due, if one is; whether it was kept the next restart tells
+abbrev pub CutGives : Config → ℕ → Views → Input → EventResult → Seat → Type 0
 CutGives config node views input given seat =
-    (given ≡ gave.Done)
-    × (((due : Due) × IsDue config node views input due × (seat ≡ IsDown views.records (record_due due)))
-    ⊎ (seat ≡ IsDown views.records None))
+    (given ≡ results.Done)
+    × ((kept : Option Record) × InputKeeps config node views input kept × (seat ≡ IsDown views.records kept))
 
 -- the message of a delivery was sent before, or was not
-abbrev pub Delivers : List Message → ℕ → ℕ → (Message → Gave → Seat → Type 0) → Views → Gave → Seat → Type 0
+abbrev pub Delivers : List Message → ℕ → ℕ → (Message → EventResult → Seat → Type 0) → Views → EventResult → Seat → Type 0
 Delivers sent next number Gives views given seat =
     ((m : Message) × (number < next) × (slice_get sent number ≡ Some m) × Gives m given seat)
-    ⊎ ((next ≤ number) × (given ≡ gave.Refused gave.NotSent) × (seat ≡ IsUp views))
+    ⊎ ((next ≤ number) × (given ≡ results.Refused results.NotSent) × (seat ≡ IsUp views))
 
 -- an answer is that of the version in the tables of the node's prefix, and there is none exactly where they have none
-abbrev pub GetGives : List Upload → List ℕ → ℕ → Gave → Type 0
+abbrev pub GetGives : List Upload → List ℕ → ℕ → EventResult → Type 0
 GetGives uploads table version given =
-    ((found : Version) × (version_of table version uploads ≡ Some found) × (given ≡ gave.Answer (answer_of found)))
-    ⊎ ((version_of table version uploads ≡ None) × (given ≡ gave.Unavailable))
+    ((found : Version) × (version_of table version uploads ≡ Some found) × (given ≡ results.Answer (answer_of found)))
+    ⊎ ((version_of table version uploads ≡ None) × (given ≡ results.Unavailable))
 
-abbrev pub InfoGives : List Upload → List ℕ → Gave → Type 0
+abbrev pub InfoGives : List Upload → List ℕ → EventResult → Type 0
 InfoGives uploads table given =
-    ((0 < length (effective table uploads)) × (given ≡ gave.Info (length (effective table uploads))))
-    ⊎ ((effective table uploads ≡ []) × (given ≡ gave.NoTable))
+    ((0 < length (effective table uploads)) × (given ≡ results.Info (length (effective table uploads))))
+    ⊎ ((effective table uploads ≡ []) × (given ≡ results.NoTable))
 
-abbrev pub OutcomeGives : List Upload → List ℕ → Gave → Type 0
+abbrev pub OutcomeGives : List Upload → List ℕ → EventResult → Type 0
 OutcomeGives uploads text given =
-    (upload : Upload) × IsTextOf text upload × (given ≡ gave.Outcome (outcome_of uploads upload))
+    (upload : Upload) × IsTextOf text upload × (given ≡ results.Outcome (outcome_of uploads upload))
+
+-- likewise, and where there is an answer, memory for it may be refused
+abbrev pub GetGivesIfAble : List Upload → List ℕ → ℕ → EventResult → Type 0
+GetGivesIfAble uploads table version given =
+    GetGives uploads table version given
+    ⊎ (IsSome (version_of table version uploads) × (given ≡ results.Refused results.OutOfMemory))
+
+abbrev pub InfoGivesIfAble : List Upload → List ℕ → EventResult → Type 0
+InfoGivesIfAble uploads table given =
+    InfoGives uploads table given
+    ⊎ ((effective table uploads ≢ []) × (given ≡ results.Refused results.OutOfMemory))
 
 -- a question is answered from the tables of the node's prefix, and changes nothing
-abbrev pub QuestionGives : Config → Views → (List Upload → Gave → Type 0) → Gave → Seat → Type 0
+abbrev pub QuestionGives : Config → Views → (List Upload → EventResult → Type 0) → EventResult → Seat → Type 0
 QuestionGives config views Gives given seat =
-    (uploads : List Upload) × HasUploads config.members views.told uploads × Gives uploads given × (seat ≡ IsUp views)
+    (uploads : List Upload) × HasUploads config.members views.learner_calls uploads × Gives uploads given
+    × (seat ≡ IsUp views)
 
--- a start gives a node with what was found and nothing else; where it wants memory, the node is down. `found` says whether
--- the record was found that was due where the node went down.
-abbrev pub StartGives : Bool → Seat → Gave → Seat → Type 0
-StartGives found old given seat =
-    ((given ≡ gave.Done) × (seat ≡ IsUp (started_with (found_in found old))))
-    ⊎ ((given ≡ gave.Refused gave.OutOfMemory) × (seat ≡ down old))
+-- A restart gives a node with the records that it has and nothing else; where it wants memory, the node is down.
+-- `recovered` says whether the record that was due where the node went down is among them.
+abbrev pub RestartGives : Bool → Seat → EventResult → Seat → Type 0
+RestartGives recovered old given seat =
+    ((given ≡ results.Done) × (seat ≡ IsUp (started_with (recovered_in recovered old))))
+    ⊎ ((given ≡ results.Refused results.OutOfMemory) × (seat ≡ down old))
 
-abbrev pub UpGives : Config → List Message → ℕ → Bool → Views → Event → Gave → Seat → Type 0
-UpGives config sent next found views (event.Put node text) given seat =
+abbrev pub UpGives : Config → List Message → ℕ → Bool → Views → Event → EventResult → Seat → Type 0
+UpGives config sent next recovered views (event.Put node text) given seat =
     InputGives config node views (input.Put text) (PutGives views) given seat
-UpGives config sent next found views (event.Tick node left) given seat =
-    InputGives config node views (input.Tick left) (StepGives sent next views) given seat
-UpGives config sent next found views (event.Deliver node number) given seat =
+UpGives config sent next recovered views (event.Tick node left) given seat =
+    InputGives config node views (input.Tick left) (SendsGives sent next views) given seat
+UpGives config sent next recovered views (event.Deliver node number) given seat =
     Delivers sent next number
-    (λ m. InputGives config node views (input.Deliver m) (StepGives sent next views)) views given seat
-UpGives config sent next found views (event.TickCut node left) given seat =
+    (λ m. InputGives config node views (input.Deliver m) (SendsGives sent next views)) views given seat
+UpGives config sent next recovered views (event.TickCut node left) given seat =
     CutGives config node views (input.Tick left) given seat
-UpGives config sent next found views (event.DeliverCut node number) given seat =
+UpGives config sent next recovered views (event.DeliverCut node number) given seat =
     Delivers sent next number (λ m. CutGives config node views (input.Deliver m)) views given seat
-UpGives config sent next found views (event.Restart node) given seat = StartGives found (IsUp views) given seat
-UpGives config sent next found views (event.Get node table version) given seat =
-    QuestionGives config views (λ uploads. GetGives uploads table version) given seat ⊎ WantsMemory views given seat
-UpGives config sent next found views (event.Info node table) given seat =
-    QuestionGives config views (λ uploads. InfoGives uploads table) given seat ⊎ WantsMemory views given seat
-UpGives config sent next found views (event.Outcome node text) given seat =
+UpGives config sent next recovered views (event.Restart node) given seat =
+    RestartGives recovered (IsUp views) given seat
+UpGives config sent next recovered views (event.Get node table version) given seat =
+    QuestionGives config views (λ uploads. GetGivesIfAble uploads table version) given seat
+UpGives config sent next recovered views (event.Info node table) given seat =
+    QuestionGives config views (λ uploads. InfoGivesIfAble uploads table) given seat
+UpGives config sent next recovered views (event.Outcome node text) given seat =
     QuestionGives config views (λ uploads. OutcomeGives uploads text) given seat
 
 -- ---- one step
 
 -- the node is down, and stays so
-abbrev pub RefusesAsDown : Seat → Gave → Seat → Type 0
-RefusesAsDown old given seat = (given ≡ gave.Refused gave.Down) × (seat ≡ old)
+abbrev pub RefusesAsDown : Seat → EventResult → Seat → Type 0
+RefusesAsDown old given seat = (given ≡ results.Refused results.Down) × (seat ≡ old)
 
--- a node that is down refuses all but a start
-abbrev pub DownGives : Bool → Seat → Event → Gave → Seat → Type 0
-DownGives found old (event.Put node text) given seat = RefusesAsDown old given seat
-DownGives found old (event.Tick node left) given seat = RefusesAsDown old given seat
-DownGives found old (event.Deliver node number) given seat = RefusesAsDown old given seat
-DownGives found old (event.TickCut node left) given seat = RefusesAsDown old given seat
-DownGives found old (event.DeliverCut node number) given seat = RefusesAsDown old given seat
-DownGives found old (event.Restart node) given seat = StartGives found old given seat
-DownGives found old (event.Get node table version) given seat = RefusesAsDown old given seat
-DownGives found old (event.Info node table) given seat = RefusesAsDown old given seat
-DownGives found old (event.Outcome node text) given seat = RefusesAsDown old given seat
+-- a node that is down refuses all but a restart
+abbrev pub DownGives : Bool → Seat → Event → EventResult → Seat → Type 0
+DownGives recovered old (event.Put node text) given seat = RefusesAsDown old given seat
+DownGives recovered old (event.Tick node left) given seat = RefusesAsDown old given seat
+DownGives recovered old (event.Deliver node number) given seat = RefusesAsDown old given seat
+DownGives recovered old (event.TickCut node left) given seat = RefusesAsDown old given seat
+DownGives recovered old (event.DeliverCut node number) given seat = RefusesAsDown old given seat
+DownGives recovered old (event.Restart node) given seat = RestartGives recovered old given seat
+DownGives recovered old (event.Get node table version) given seat = RefusesAsDown old given seat
+DownGives recovered old (event.Info node table) given seat = RefusesAsDown old given seat
+DownGives recovered old (event.Outcome node text) given seat = RefusesAsDown old given seat
 
-abbrev pub SeatGives : Config → List Message → ℕ → Bool → Seat → Event → Gave → Seat → Type 0
-SeatGives config sent next found (IsUp views) e given seat = UpGives config sent next found views e given seat
-SeatGives config sent next found (IsDown records due) e given seat = DownGives found (IsDown records due) e given seat
+abbrev pub SeatGives : Config → List Message → ℕ → Bool → Seat → Event → EventResult → Seat → Type 0
+SeatGives config sent next recovered (IsUp views) e given seat = UpGives config sent next recovered views e given seat
+SeatGives config sent next recovered (IsDown records due) e given seat =
+    DownGives recovered (IsDown records due) e given seat
+
+-- whether a record was recovered is asked at a restart, and of no other event
+abbrev pub IsAsked : Event → Bool → Type 0
+IsAsked (event.Put node text) recovered = recovered ≡ false
+IsAsked (event.Tick node left) recovered = recovered ≡ false
+IsAsked (event.Deliver node number) recovered = recovered ≡ false
+IsAsked (event.TickCut node left) recovered = recovered ≡ false
+IsAsked (event.DeliverCut node number) recovered = recovered ≡ false
+IsAsked (event.Restart node) recovered = Unit {0}
+IsAsked (event.Get node table version) recovered = recovered ≡ false
+IsAsked (event.Info node table) recovered = recovered ≡ false
+IsAsked (event.Outcome node text) recovered = recovered ≡ false
 
 -- The step is an event of a member, and all other nodes are as before; or of a node that is none, and nothing changes.
 abbrev pub StepFollows : Config → List Message → ℕ → (ℕ → Seat) → Step → Bool → (ℕ → Seat) → Type 0
-StepFollows config sent next old step found new =
+StepFollows config sent next old step recovered new =
     ((node_of step.event < config.members)
-    × SeatGives config sent next found (old (node_of step.event)) step.event step.gave (new (node_of step.event))
+    × SeatGives config sent next recovered (old (node_of step.event)) step.event step.result (new (node_of step.event))
     × ((other : ℕ) → other ≢ node_of step.event → new other ≡ old other))
-    ⊎ ((config.members ≤ node_of step.event) × (step.gave ≡ gave.Refused gave.OutOfRange)
+    ⊎ ((config.members ≤ node_of step.event) × (step.result ≡ results.Refused results.OutOfRange)
     × ((other : ℕ) → new other ≡ old other))
 
 -- ---- all steps
 
--- these steps follow from here on, one after the other; the messages from `next` on are those that they send
-abbrev pub StepsFollow : Config → List Message → (ℕ → Seat) → ℕ → List Step → List Bool → Type 0
-StepsFollow config sent seats next [] found = (found ≡ []) × (next ≡ length sent)
-StepsFollow config sent seats next (step ∷ steps) [] = ⊥
-StepsFollow config sent seats next (step ∷ steps) (found ∷ more) =
-    (after : ℕ → Seat) × StepFollows config sent next seats step found after
-    × StepsFollow config sent after (next + count_of step.gave) steps more
+-- these steps follow from here on, one after the other, and leave the nodes so; the messages from `next` on are those that
+-- they send
+abbrev pub StepsReach : Config → List Message → (ℕ → Seat) → ℕ → List Step → List Bool → (ℕ → Seat) → Type 0
+StepsReach config sent seats next [] recovered last = (recovered ≡ []) × (next ≡ length sent) × (last ≡ seats)
+StepsReach config sent seats next (step ∷ steps) [] last = ⊥
+StepsReach config sent seats next (step ∷ steps) (recovered ∷ more) last =
+    (after : ℕ → Seat) × StepFollows config sent next seats step recovered after × IsAsked step.event recovered
+    × StepsReach config sent after (next + count_of step.result) steps more last
 
 -- at first every node is up and has nothing
 abbrev pub at_first : ℕ → Seat
 at_first node = IsUp (started_with [])
 
--- For each start somebody says whether the record that was due was found, and every step follows.
+-- These steps follow one another from the first on, send these messages and no others, and leave the nodes so. For each
+-- restart `recovered` says whether the record that was due where its node went down was recovered.
+abbrev pub Reaches : Config → List Message → List Step → List Bool → (ℕ → Seat) → Type 0
+Reaches config sent steps recovered seats = StepsReach config sent at_first 0 steps recovered seats
+
+-- For each restart somebody says whether the record that was due was recovered, and every step follows.
 pub record Follows (history : History) : Type 0 where
-  pub found : List Bool
-  pub steps : StepsFollow history.config history.sent at_first 0 history.steps found
+  pub recovered : List Bool
+  pub seats : ℕ → Seat
+  pub reached : Reaches history.config history.sent history.steps recovered seats
+
+-- the node is so, and all others are as before
+abbrev pub with_seat : (ℕ → Seat) → ℕ → Seat → (ℕ → Seat)
+with_seat seats node seat other = if other == node then seat else seats other

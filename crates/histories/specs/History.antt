@@ -2,12 +2,12 @@
 use Rattle.std.specs.Prelude.{List}
 use Rattle.ballots.specs.declared.message.Message.{Message}
 use Rattle.histories.specs.Event.{Event}
-use Rattle.histories.specs.Gave.{Gave}
-use Rattle.histories.specs.Views.{Config}
+use Rattle.histories.specs.EventResult.{EventResult}
+use Rattle.agreement_rules.specs.Views.{Config}
 
 pub record Step : Type 0 where
   pub event : Event
-  pub gave : Gave
+  pub result : EventResult
 
 pub record History : Type 0 where
   pub config : Config

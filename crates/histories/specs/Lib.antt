@@ -1,9 +1,8 @@
 pub mod Texts
-pub mod Views
 pub mod Due
 pub mod Event
-pub mod Gave
+pub mod EventResult
 pub mod History
 pub mod Following
-pub mod Reaching
 pub mod Owning
+pub mod Keeping

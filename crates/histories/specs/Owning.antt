@@ -3,18 +3,18 @@
 use Rattle.std.specs.Prelude.{◌≡◌, ℕ, ◌==◌, ◌&&◌, not, Bool, true, false, if◌then◌else◌, Option, None, Some, List, [], ◌∷◌, take, drop, slice_get}
 use Rattle.std.specs.Option.{option_and_then}
 use Rattle.ballots.specs.declared.message.Message.{Message}
-use Rattle.histories.specs.Views.{Config}
+use Rattle.agreement_rules.specs.Views.{Config}
 use Rattle.histories.specs.Event.{Event, node_of}
 use Rattle.histories.specs.Event as event
-use Rattle.histories.specs.Gave.{Gave, Reason}
-use Rattle.histories.specs.Gave as gave
+use Rattle.histories.specs.EventResult.{EventResult, Reason}
+use Rattle.histories.specs.EventResult as results
 use Rattle.histories.specs.History.{Step}
-use Rattle.histories.specs.Following.{Seat, SeatGives}
+use Rattle.histories.specs.Following.{Seat, SeatGives, IsAsked}
 
 pub record Entry : Type 0 where
   pub step : Step
-  -- whether the record was found that was due where the node went down
-  pub found : Bool
+  -- of a restart: whether the record was recovered that was due where the node went down
+  pub recovered : Bool
   -- the message that it was handed
   pub handed : Option Message
   -- the messages that it sent
@@ -49,65 +49,68 @@ number_in (event.Outcome node text) = None
 
 -- the node was down, or the message was not sent yet
 abbrev pub turned_away_for : Reason → Bool
-turned_away_for gave.OutOfRange = false
-turned_away_for gave.SlotsSpent = false
-turned_away_for gave.RoundsSpent = false
-turned_away_for gave.OutOfMemory = false
-turned_away_for gave.Down = true
-turned_away_for gave.NotSent = true
+turned_away_for results.OutOfRange = false
+turned_away_for results.SlotsSpent = false
+turned_away_for results.RoundsSpent = false
+turned_away_for results.OutOfMemory = false
+turned_away_for results.Down = true
+turned_away_for results.NotSent = true
 
-abbrev pub is_turned_away : Gave → Bool
-is_turned_away (gave.Sent first count) = false
-is_turned_away gave.Done = false
-is_turned_away (gave.Answer bytes) = false
-is_turned_away gave.Unavailable = false
-is_turned_away (gave.Info version) = false
-is_turned_away gave.NoTable = false
-is_turned_away (gave.Outcome outcome) = false
-is_turned_away (gave.Refused reason) = turned_away_for reason
+abbrev pub is_turned_away : EventResult → Bool
+is_turned_away (results.Sent first count) = false
+is_turned_away results.Done = false
+is_turned_away (results.Answer bytes) = false
+is_turned_away results.Unavailable = false
+is_turned_away (results.Info version) = false
+is_turned_away results.NoTable = false
+is_turned_away (results.Outcome outcome) = false
+is_turned_away (results.Refused reason) = turned_away_for reason
 
 -- the message that the node was handed in the step, if it looked at one
 abbrev pub handed_in : List Message → Step → Option Message
 handed_in sent step =
-    if is_turned_away step.gave then None else option_and_then (λ number. slice_get sent number) (number_in step.event)
+    if is_turned_away step.result then None else option_and_then (λ number. slice_get sent number) (number_in step.event)
 
 -- the messages that went out
-abbrev pub sends_in : List Message → Gave → List Message
-sends_in sent (gave.Sent first count) = take count (drop first sent)
-sends_in sent gave.Done = []
-sends_in sent (gave.Answer bytes) = []
-sends_in sent gave.Unavailable = []
-sends_in sent (gave.Info version) = []
-sends_in sent gave.NoTable = []
-sends_in sent (gave.Outcome outcome) = []
-sends_in sent (gave.Refused reason) = []
+abbrev pub sends_in : List Message → EventResult → List Message
+sends_in sent (results.Sent first count) = take count (drop first sent)
+sends_in sent results.Done = []
+sends_in sent (results.Answer bytes) = []
+sends_in sent results.Unavailable = []
+sends_in sent (results.Info version) = []
+sends_in sent results.NoTable = []
+sends_in sent (results.Outcome outcome) = []
+sends_in sent (results.Refused reason) = []
 
 abbrev pub entry_of : List Message → Step → Bool → Entry
-entry_of sent step found = record {
+entry_of sent step recovered = record {
   step = step;
-  found = found;
+  recovered = recovered;
   handed = handed_in sent step;
-  sends = sends_in sent step.gave;
+  sends = sends_in sent step.result;
 }
 
 -- the entries of one step: one, or none where it does not concern the node
 abbrev pub entries_of : ℕ → List Message → Step → Bool → List Entry
-entries_of node sent step found = if concerns node step.event then entry_of sent step found ∷ [] else []
+entries_of node sent step recovered =
+    if concerns node step.event then entry_of sent step recovered ∷ [] else []
 
 -- the node's own entries in a history of these messages and steps
 abbrev pub own : ℕ → List Message → List Step → List Bool → List Entry
-own node sent [] found = []
+own node sent [] recovered = []
 own node sent (step ∷ steps) [] = []
-own node sent (step ∷ steps) (found ∷ more) =
-    if concerns node step.event then entry_of sent step found ∷ own node sent steps more else own node sent steps more
+own node sent (step ∷ steps) (recovered ∷ more) =
+    if concerns node step.event then entry_of sent step recovered ∷ own node sent steps more
+    else own node sent steps more
 
 -- In some history of messages the node's rules make the entry of the node that was so, and leave it so.
 pub record Leads (config : Config) (old : Seat) (entry : Entry) (new : Seat) : Type 0 where
   pub sent : List Message
   pub next : ℕ
-  pub gives : SeatGives config sent next entry.found old entry.step.event entry.step.gave new
+  pub gives : SeatGives config sent next entry.recovered old entry.step.event entry.step.result new
+  pub asked : IsAsked entry.step.event entry.recovered
   pub handed_is : handed_in sent entry.step ≡ entry.handed
-  pub sends_are : sends_in sent entry.step.gave ≡ entry.sends
+  pub sends_are : sends_in sent entry.step.result ≡ entry.sends
 
 -- these entries, one after the other, leave the node so
 abbrev pub OwnReaches : Config → Seat → List Entry → Seat → Type 0

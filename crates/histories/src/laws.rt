@@ -2,21 +2,55 @@
 
 ghost use Rattle.std.specs.Prelude.{◌≡◌, ℕ, ◌<◌, Bool, List, [], ◌∷◌, ◌++◌, length};
 ghost use Rattle.ballots.specs.declared.message.Message.{Message};
+ghost use Rattle.std.specs.List.{Contains};
+ghost use Rattle.learner.specs.Calls.{Call as LearnerCall, slot_of};
 ghost use Rattle.lawful_histories.specs.Lawful.{IsLawful};
+ghost use Rattle.histories.specs.Texts.{IsUploadText};
 ghost use Rattle.histories.specs.History.{Step, History};
 ghost use Rattle.histories.specs.Event.{node_of};
-ghost use Rattle.histories.specs.Gave.{count_of};
-ghost use Rattle.histories.specs.Views.{Config, started_with};
-ghost use Rattle.histories.specs.Following.{Seat, IsUp, SeatGives, StepFollows, at_first, Follows};
-ghost use Rattle.histories.specs.Reaching.{Reaches, with_seat};
+ghost use Rattle.histories.specs.EventResult.{count_of};
+ghost use Rattle.agreement_rules.specs.Views.{Config, Views, started_with};
+ghost use Rattle.agreement_rules.specs.Due.{Due};
+ghost use Rattle.histories.specs.Due.{Input, IsDue, IsWellFormed};
+ghost use Rattle.histories.specs.Following.{Seat, IsUp, SeatGives, IsAsked, StepFollows, at_first, Reaches, with_seat, Follows};
 ghost use Rattle.histories.specs.Owning.{entries_of, own, OwnReaches};
+ghost use Rattle.histories.specs.Keeping.{AreKept, records_in};
 
+use agreement_rules::laws::{
+    due_is_one as part_is_one, messages_are_told_to_their_part, plans_keep_what_they_send,
+    prefixes_are_one, something_is_due as part_owes_something,
+};
 use decided_log::laws::asked_is_a_run_of_the_prefix;
 use lawful_histories::laws::lawful_by_messages;
 use learner::laws::learned_is_decided_or_chosen;
 use proposer::laws::{
     answers_are_one, attempts_open_and_end, choices_are_one, majorities_are_of_members,
 };
+use table_types::laws::{texts_hold_one_list_of_uploads, uploads_have_one_encoding};
+
+/// What is due to an input is one thing, by what the node has: one refusal, or one plan.
+pub fn due_is_one()
+    ensures { (config : Config) (me : ℕ) (views : Views) (input : Input) (a b : Due)
+        → IsDue config me views input a → IsDue config me views input b → a ≡ b }
+{
+    part_is_one();
+    prefixes_are_one();
+    texts_hold_one_list_of_uploads();
+    uploads_have_one_encoding();
+}
+
+/// It cannot be that nothing is due to an input, where a history left the node as it is: an upload that a client hands in,
+/// a tick, or any message.
+pub fn something_is_due()
+    ensures { (config : Config) (sent : List Message) (steps : List Step) (recovered : List Bool) (seats : ℕ → Seat)
+        (node : ℕ) (views : Views) (input : Input) → Reaches config sent steps recovered seats
+        → seats node ≡ IsUp views → IsWellFormed input
+        → ((due : Due) → IsDue config node views input due → ⊥) → ⊥ }
+{
+    part_owes_something();
+    messages_are_told_to_their_part();
+    learned_is_decided_or_chosen();
+}
 
 /// A history in which nothing happened follows the rules.
 pub fn nothing_follows()
@@ -41,16 +75,16 @@ pub fn what_follows_is_lawful()
 /// A step that follows still follows when more messages are sent later: what is due to a node is asked of what was sent
 /// before the step, and of what it sends itself. So what a run has shown of its steps stays true while it goes on.
 pub fn what_follows_still_follows()
-    ensures { (config : Config) (sent more : List Message) (next : ℕ) (old new : ℕ → Seat) (step : Step) (found : Bool)
-        → StepFollows config sent next old step found new → StepFollows config (sent ++ more) next old step found new }
+    ensures { (config : Config) (sent more : List Message) (next : ℕ) (old new : ℕ → Seat) (step : Step) (recovered : Bool)
+        → StepFollows config sent next old step recovered new → StepFollows config (sent ++ more) next old step recovered new }
 {}
 
 /// What a member's node gives, by its own views, is a step of all nodes that leaves the others as they are.
 pub fn a_member_steps_alone()
-    ensures { (config : Config) (sent : List Message) (next : ℕ) (seats : ℕ → Seat) (step : Step) (found : Bool)
+    ensures { (config : Config) (sent : List Message) (next : ℕ) (seats : ℕ → Seat) (step : Step) (recovered : Bool)
         (seat : Seat) → node_of step.event < config.members
-        → SeatGives config sent next found (seats (node_of step.event)) step.event step.gave seat
-        → StepFollows config sent next seats step found (with_seat seats (node_of step.event) seat) }
+        → SeatGives config sent next recovered (seats (node_of step.event)) step.event step.result seat
+        → StepFollows config sent next seats step recovered (with_seat seats (node_of step.event) seat) }
 {}
 
 /// Where nothing has happened, every node is as at first.
@@ -61,45 +95,61 @@ pub fn nothing_reaches_the_start()
 /// One step more goes on from where the steps before have come to: it follows them, behind all messages that were sent
 /// before, and sends the rest. With this a run of nodes keeps what it has come to while events come.
 pub fn one_step_more_reaches()
-    ensures { (config : Config) (sent more : List Message) (steps : List Step) (found : List Bool)
-        (seats new : ℕ → Seat) (step : Step) (was : Bool) → Reaches config sent steps found seats
-        → StepFollows config (sent ++ more) (length sent) seats step was new → length more ≡ count_of step.gave
-        → Reaches config (sent ++ more) (steps ++ step ∷ []) (found ++ was ∷ []) new }
-{}
-
-/// The histories that have come to somewhere are those that follow the rules.
-pub fn what_is_reached_follows()
-    ensures follows { (config : Config) (sent : List Message) (steps : List Step) (found : List Bool)
-        (seats : ℕ → Seat) → Reaches config sent steps found seats
-        → Follows (record { config = config; sent = sent; steps = steps }) }
-    ensures reached { (history : History) → Follows history → (found : List Bool) × (seats : ℕ → Seat)
-        × Reaches history.config history.sent history.steps found seats }
+    ensures { (config : Config) (sent more : List Message) (steps : List Step) (recovered : List Bool)
+        (seats new : ℕ → Seat) (step : Step) (was : Bool) → Reaches config sent steps recovered seats
+        → StepFollows config (sent ++ more) (length sent) seats step was new → IsAsked step.event was
+        → length more ≡ count_of step.result
+        → Reaches config (sent ++ more) (steps ++ step ∷ []) (recovered ++ was ∷ []) new }
 {}
 
 /// With a step more a node's own entries are those of before, and behind them the step's, if it concerns the node: what is
 /// sent later changes none of them. So a node can hold its entries by itself, and compare them with the history's.
 pub fn own_entries_grow()
-    ensures { (config : Config) (sent more : List Message) (steps : List Step) (found : List Bool)
+    ensures { (config : Config) (sent more : List Message) (steps : List Step) (recovered : List Bool)
         (seats : ℕ → Seat) (step : Step) (was : Bool) (node : ℕ) → node < config.members
-        → Reaches config sent steps found seats
-        → own node (sent ++ more) (steps ++ step ∷ []) (found ++ was ∷ [])
-        ≡ own node sent steps found ++ entries_of node (sent ++ more) step was }
+        → Reaches config sent steps recovered seats
+        → own node (sent ++ more) (steps ++ step ∷ []) (recovered ++ was ∷ [])
+        ≡ own node sent steps recovered ++ entries_of node (sent ++ more) step was }
 {}
 
 /// Where a history leaves a member, its own entries leave it too: what it does is by what it was given, and by nothing
 /// that the history has besides.
 pub fn own_entries_leave_the_node()
-    ensures { (config : Config) (sent : List Message) (steps : List Step) (found : List Bool) (seats : ℕ → Seat)
-        (node : ℕ) → node < config.members → Reaches config sent steps found seats
-        → OwnReaches config (IsUp (started_with [])) (own node sent steps found) (seats node) }
+    ensures { (config : Config) (sent : List Message) (steps : List Step) (recovered : List Bool) (seats : ℕ → Seat)
+        (node : ℕ) → node < config.members → Reaches config sent steps recovered seats
+        → OwnReaches config (IsUp (started_with [])) (own node sent steps recovered) (seats node) }
 {}
 
 /// A history that leaves a member in one way may as well leave it in each way that the member's own entries do, with all
 /// other nodes as they are. So a node that holds its own entries goes on with what they left it, whatever a history that
 /// has the same entries would have left it.
 pub fn own_entries_decide_the_node()
-    ensures { (config : Config) (sent : List Message) (steps : List Step) (found : List Bool) (seats : ℕ → Seat)
-        (node : ℕ) (seat : Seat) → node < config.members → Reaches config sent steps found seats
-        → OwnReaches config (IsUp (started_with [])) (own node sent steps found) seat
-        → Reaches config sent steps found (with_seat seats node seat) }
+    ensures { (config : Config) (sent : List Message) (steps : List Step) (recovered : List Bool) (seats : ℕ → Seat)
+        (node : ℕ) (seat : Seat) → node < config.members → Reaches config sent steps recovered seats
+        → OwnReaches config (IsUp (started_with [])) (own node sent steps recovered) seat
+        → Reaches config sent steps recovered (with_seat seats node seat) }
 {}
+
+/// Where a history leaves a node up, its learner was called for slots below the limit alone, and what waits there are
+/// uploads.
+pub fn views_are_of_the_configuration()
+    ensures slots { (config : Config) (sent : List Message) (steps : List Step) (recovered : List Bool)
+        (seats : ℕ → Seat) (node : ℕ) (views : Views) (call : LearnerCall) → Reaches config sent steps recovered seats
+        → seats node ≡ IsUp views → Contains views.learner_calls call → slot_of call < config.slot_limit }
+    ensures waiting { (config : Config) (sent : List Message) (steps : List Step) (recovered : List Bool)
+        (seats : ℕ → Seat) (node : ℕ) (views : Views) (text : List ℕ) → Reaches config sent steps recovered seats
+        → seats node ≡ IsUp views → Contains views.waiting text → IsUploadText text }
+{
+    messages_are_told_to_their_part();
+}
+
+/// The records that a history leaves a member are those that it kept (Lamport, *Paxos Made Simple*, section 2.5): of each
+/// message that it sent the one behind the message, and of each cut the one that was due there, where the restart behind
+/// the cut recovered it. So they follow from the member's own entries, with their yes or no at each restart.
+pub fn records_are_kept()
+    ensures { (config : Config) (sent : List Message) (steps : List Step) (recovered : List Bool) (seats : ℕ → Seat)
+        (node : ℕ) → node < config.members → Reaches config sent steps recovered seats
+        → AreKept config (IsUp (started_with [])) (own node sent steps recovered) (records_in (seats node)) }
+{
+    plans_keep_what_they_send();
+}

@@ -8,15 +8,16 @@ use Rattle.ballots.specs.Limits.{max_round}
 use Rattle.ballots.specs.declared.value.Value.{Value}
 use Rattle.ballots.specs.declared.value.Value.TheVariants.{Noop, Upload as UploadValue}
 use Rattle.proposer.specs.Attempting.{next_ballot}
-use Rattle.histories.specs.Views.{Config, Views, IsFreeAfter, HasPrefix, HasGap}
+use Rattle.agreement_rules.specs.Views.{Config, Views, IsFreeAfter, HasPrefix, HasGap}
 use Rattle.ballots.specs.Message.{message}
 use Rattle.ballots.specs.declared.message.Body.TheVariants.{Ask}
-use Rattle.histories.specs.Due.{Aim, Attempts, AsksFrom, IsAim, AimIsDue, TickIsDue, IsDue, Plan, Plans, Tick, most_left, begins}
+use Rattle.agreement_rules.specs.Due.{Aim, Attempts, AsksFrom, IsAim, AimIsDue, TickIsDue, Plan, Plans, most_left, begins}
+use Rattle.histories.specs.Due.{IsDue, Tick}
 use Rattle.agreement.specs.declared.refusal.Refusal.{Refusal}
 use Rattle.agreement.specs.declared.refusal.Refusal.TheVariants.{OutOfRange, SlotsSpent, RoundsSpent, OutOfMemory}
 use Rattle.agreement.specs.declared.step.Step.{Step}
 use Rattle.agreement.specs.State.{AgreementState, Has}
-use Rattle.agreement.specs.Step.{AttemptGives, QuestionGives, CanTake, plan_of}
+use Rattle.agreement.specs.Step.{AttemptGives, AskGives, CanTake, plan_of}
 use Rattle.node_core.specs.declared.plan.Planned.TheVariants.{Steps}
 use Rattle.node_core.specs.State.{NodeState, NodeHas}
 use Rattle.node_core.proofs.Messages.{grows_by_none}
@@ -85,9 +86,9 @@ module _ (state : NodeState) (left : ℕ) (within : left ≤ most_left) (value :
 
 -- an attempt for nothing, at the first free slot
 pub noop_aims : (state : NodeState) (left : ℕ) (within : left ≤ most_left) → state.waiting.texts ≡ []
-    → ((views : Views) (values : List Value) → NodeHas state views → HasPrefix state.agreement.config.members views.told values
-    → HasGap state.agreement.config.members views.told (length values)) → (slot : Option ℕ)
-    → ((views : Views) (values : List Value) → Has state.agreement views → HasPrefix state.agreement.config.members views.told values
+    → ((views : Views) (values : List Value) → NodeHas state views → HasPrefix state.agreement.config.members views.learner_calls values
+    → HasGap state.agreement.config.members views.learner_calls (length values)) → (slot : Option ℕ)
+    → ((views : Views) (values : List Value) → Has state.agreement views → HasPrefix state.agreement.config.members views.learner_calls values
     → MatchOption slot (length values ≡ state.agreement.config.slot_limit) (λ s. (s ≡ length values) × (s < state.agreement.config.slot_limit)))
     → AimsAtIt state left within Noop slot
 noop_aims state left within none gap None first = λ views has.
@@ -102,14 +103,14 @@ noop_aims state left within none gap (Some slot) first = λ views has.
         refl,
         has.prefix,
         at.0,
-        subst (HasGap state.agreement.config.members views.told) (sym at.0) (gap views has.values has has.prefix),
+        subst (HasGap state.agreement.config.members views.learner_calls) (sym at.0) (gap views has.values has has.prefix),
       ),
     )
 
 -- an attempt for the upload that has waited longest, at the slot that is left for it
 pub upload_aims : (state : NodeState) (left : ℕ) (within : left ≤ most_left) (text : List ℕ) (others : List (List ℕ))
     → state.waiting.texts ≡ text ∷ others → (slot : Option ℕ)
-    → ((views : Views) (values : List Value) → Has state.agreement views → HasPrefix state.agreement.config.members views.told values
+    → ((views : Views) (values : List Value) → Has state.agreement views → HasPrefix state.agreement.config.members views.learner_calls values
     → IsSlotLeft state.agreement.config views left slot)
     → AimsAtIt state left within (UploadValue text) slot
 upload_aims state left within text others is None found = λ views has.
@@ -122,8 +123,8 @@ upload_aims state left within text others is (Some slot) found = λ views has.
 -- ---- what is asked of a node
 
 abbrev pub RequiresGap : NodeState → Type 0
-RequiresGap state = (views : Views) (values : List Value) → NodeHas state views → HasPrefix state.agreement.config.members views.told values
-    → HasGap state.agreement.config.members views.told (length values)
+RequiresGap state = (views : Views) (values : List Value) → NodeHas state views → HasPrefix state.agreement.config.members views.learner_calls values
+    → HasGap state.agreement.config.members views.learner_calls (length values)
 
 abbrev pub CanAttempt : NodeState → Option ℕ → Refusal → Type 0
 CanAttempt state slot refusal = CannotBegin state.agreement slot refusal
@@ -134,13 +135,13 @@ RoundIsLeft state = HasRoundLeft state.agreement
 -- ---- where a tick leads
 
 told_stays : (config : Config) (me : ℕ) (views : Views) (aim : Aim) (plan : Plan) → AimIsDue config me views aim (Plans plan)
-    → plan.after.told ≡ views.told
-told_stays config me views (Attempts slot value) plan due = ap (λ (p : Plan). p.after.told) due.4
-told_stays config me views (AsksFrom slot) plan (inl due) = ap (λ (p : Plan). p.after.told) due.1
-told_stays config me views (AsksFrom slot) plan (inr due) = ap (λ (p : Plan). p.after.told) due.1
+    → plan.after.learner_calls ≡ views.learner_calls
+told_stays config me views (Attempts slot value) plan due = ap (λ (p : Plan). p.after.learner_calls) due.4
+told_stays config me views (AsksFrom slot) plan (inl due) = ap (λ (p : Plan). p.after.learner_calls) due.1
+told_stays config me views (AsksFrom slot) plan (inr due) = ap (λ (p : Plan). p.after.learner_calls) due.1
 
 pub tick_told : (config : Config) (me : ℕ) (views : Views) (left : ℕ) (plan : Plan) → TickIsDue config me views left (Plans plan)
-    → plan.after.told ≡ views.told
+    → plan.after.learner_calls ≡ views.learner_calls
 tick_told config me views left plan (inl due) = absurd (cc)
 tick_told config me views left plan (inr due) = told_stays config me views due.0 plan due.3
 
@@ -153,7 +154,7 @@ tick_planned state views has left step due = record {
   kept = refl;
   sends = refl;
   leads = (
-    grows_by_none state.agreement.config.members views.told (plan_of views step).after.told []
+    grows_by_none state.agreement.config.members views.learner_calls (plan_of views step).after.learner_calls []
         (tick_told state.agreement.config state.agreement.me views left (plan_of views step) due) refl,
     refl,
   );
@@ -161,9 +162,9 @@ tick_planned state views has left step due = record {
 
 -- what is asked where nothing is attempted
 pub question_due : (state : NodeState) (left : ℕ) → left ≤ most_left → state.waiting.texts ≡ []
-    → ((views : Views) (values : List Value) → NodeHas state views → HasPrefix state.agreement.config.members views.told values
-    → HasGap state.agreement.config.members views.told (length values) → ⊥)
-    → (step : Step) → QuestionGives state.agreement step → TickGives state left (Ok step)
+    → ((views : Views) (values : List Value) → NodeHas state views → HasPrefix state.agreement.config.members views.learner_calls values
+    → HasGap state.agreement.config.members views.learner_calls (length values) → ⊥)
+    → (step : Step) → AskGives state.agreement step → TickGives state left (Ok step)
 question_due state left within none no-gap step gives views has =
     inr (
       AsksFrom (length has.values),
@@ -173,9 +174,9 @@ question_due state left within none no-gap step gives views has =
     )
 
 pub question_refused : (state : NodeState) (left : ℕ) → left ≤ most_left → state.waiting.texts ≡ []
-    → ((views : Views) (values : List Value) → NodeHas state views → HasPrefix state.agreement.config.members views.told values
-    → HasGap state.agreement.config.members views.told (length values) → ⊥)
-    → ((views : Views) (values : List Value) → Has state.agreement views → HasPrefix state.agreement.config.members views.told values
+    → ((views : Views) (values : List Value) → NodeHas state views → HasPrefix state.agreement.config.members views.learner_calls values
+    → HasGap state.agreement.config.members views.learner_calls (length values) → ⊥)
+    → ((views : Views) (values : List Value) → Has state.agreement views → HasPrefix state.agreement.config.members views.learner_calls values
     → length values < state.agreement.config.slot_limit) → TickGives state left (Err OutOfMemory)
 question_refused state left within none no-gap memory views has =
     let slot = length has.values in (
@@ -191,12 +192,12 @@ question_refused state left within none no-gap memory views has =
 -- ---- whether there is a gap
 
 abbrev pub HasNoGap : NodeState → Type 0
-HasNoGap state = (views : Views) (values : List Value) → NodeHas state views → HasPrefix state.agreement.config.members views.told values
-    → HasGap state.agreement.config.members views.told (length values) → ⊥
+HasNoGap state = (views : Views) (values : List Value) → NodeHas state views → HasPrefix state.agreement.config.members views.learner_calls values
+    → HasGap state.agreement.config.members views.learner_calls (length values) → ⊥
 
 abbrev pub TellsGap : AgreementState → Bool → Type 0
-TellsGap agreement answer = (views : Views) (values : List Value) → Has agreement views → HasPrefix agreement.config.members views.told values
-    → IsTrue answer ↔ HasGap agreement.config.members views.told (length values)
+TellsGap agreement answer = (views : Views) (values : List Value) → Has agreement views → HasPrefix agreement.config.members views.learner_calls values
+    → IsTrue answer ↔ HasGap agreement.config.members views.learner_calls (length values)
 
 pub gap_told : (state : NodeState) (answer : Bool) → TellsGap state.agreement answer → answer ≡ true → RequiresGap state
 gap_told state answer tells holds = λ views values has prefix. (tells views values has.agrees prefix).0 holds

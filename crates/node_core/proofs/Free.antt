@@ -5,7 +5,7 @@ use Rattle.ballots.specs.Majority.{tally}
 use Rattle.ballots.specs.declared.value.Value.{Value}
 use Rattle.learner.specs.Calls.{Call as Told, IsLearned}
 use Rattle.learner.specs.State.{decided_at}
-use Rattle.histories.specs.Views.{Config, Views, IsFree, IsFreeAfter, HasPrefix}
+use Rattle.agreement_rules.specs.Views.{Config, Views, IsFree, IsFreeAfter, HasPrefix}
 use Rattle.agreement.specs.State.{AgreementState, Has}
 use Rattle.node_core.specs.Plans.{IsSlotLeft}
 use Rattle.node_core.proofs.Within.{HeldIsLearned, free_behind}
@@ -24,16 +24,16 @@ nothing_is_free members told slot None iff = ((λ is v learned. let some = (iff 
 nothing_is_free members told slot (Some v) iff = ((λ is. cc), (λ free. absurd (free v ((iff v).0 refl))))
 
 module _ (held : HeldIsLearned) (state : AgreementState) (views : Views) (has : Has state views) where
-  pub tells_free : (slot : ℕ) → IsTrue (free_at state slot) ↔ IsFree state.config.members views.told slot
-  tells_free slot = nothing_is_free state.config.members views.told slot (decided_at state.learner slot)
-      (λ v. held state.config.members views.told state.learner slot v has.told)
+  pub tells_free : (slot : ℕ) → IsTrue (free_at state slot) ↔ IsFree state.config.members views.learner_calls slot
+  tells_free slot = nothing_is_free state.config.members views.learner_calls slot (decided_at state.learner slot)
+      (λ v. held state.config.members views.learner_calls state.learner slot v has.learner_calls)
 
   -- no slot of a prefix is free
-  pub taken_before : (values : List Value) → HasPrefix state.config.members views.told values → (slot : ℕ) → slot < length values
+  pub taken_before : (values : List Value) → HasPrefix state.config.members views.learner_calls values → (slot : ℕ) → slot < length values
       → free_at state slot ≡ false
   taken_before values prefix slot within = elim (slice_get_cases values slot).1 as (λ _. free_at state slot ≡ false) [
     | inl there ↦
-        let some = (held state.config.members views.told state.learner slot there.0 has.told).1 (prefix.learned slot there.0 there.2) in
+        let some = (held state.config.members views.learner_calls state.learner slot there.0 has.learner_calls).1 (prefix.learned slot there.0 there.2) in
         ap is_nothing some
     | inr past ↦ absurd (omega (arith, past.0, within))
   ]
@@ -42,7 +42,7 @@ module _ (held : HeldIsLearned) (state : AgreementState) (views : Views) (has : 
   pub free_after : (slot : ℕ) → state.config.slot_limit ≤ slot → free_at state slot ≡ true
   free_after slot le = ap is_nothing (has.beyond slot le)
 
-  pub is_slot_left : (left slot : ℕ) → slot < state.config.slot_limit → IsFree state.config.members views.told slot
+  pub is_slot_left : (left slot : ℕ) → slot < state.config.slot_limit → IsFree state.config.members views.learner_calls slot
       → tally slot (free_at state) ≡ left → IsSlotLeft state.config views left (Some slot)
   is_slot_left left slot within free below =
       (within, record { free = free; is_free = free_at state; tells = λ other lt. tells_free other; below = below })
@@ -67,7 +67,7 @@ tally_more n (suc k) m is test all =
 
 -- none is free before the first
 pub none_passed : HeldIsLearned → (state : AgreementState) (views : Views) → Has state views → (values : List Value)
-    → HasPrefix state.config.members views.told values → (first : ℕ) → first ≡ length values → tally first (free_at state) ≡ 0
+    → HasPrefix state.config.members views.learner_calls values → (first : ℕ) → first ≡ length values → tally first (free_at state) ≡ 0
 none_passed held state views has values prefix first is =
     tally_none first (free_at state) (λ m lt. taken_before held state views has values prefix m (subst (λ (n : ℕ). m < n) is lt))
 
@@ -104,12 +104,12 @@ none_is_left held state views has left number passed past most count =
 -- so many slots below this one are free
 abbrev pub Passed : AgreementState → ℕ → ℕ → Type 0
 Passed state number passed =
-    (views : Views) (values : List Value) → Has state views → HasPrefix state.config.members views.told values
+    (views : Views) (values : List Value) → Has state views → HasPrefix state.config.members views.learner_calls values
     → tally number (free_at state) ≡ passed
 
 -- what is told of one slot
 abbrev pub TellsOf : AgreementState → ℕ → Bool → Type 0
-TellsOf state slot answer = (views : Views) → Has state views → IsTrue answer ↔ IsFree state.config.members views.told slot
+TellsOf state slot answer = (views : Views) → Has state views → IsTrue answer ↔ IsFree state.config.members views.learner_calls slot
 
 pub goes_past : HeldIsLearned → (state : AgreementState) (number slot passed : ℕ) (answer : Bool) → slot ≡ number → TellsOf state slot answer
     → answer ≡ true → Passed state number passed → Passed state (number + 1) (passed + 1)
@@ -134,13 +134,13 @@ stays_past held state number slot passed answer is tells fails count views value
 
 pub this_one : HeldIsLearned → (state : AgreementState) (number slot passed left : ℕ) (answer : Bool) → slot ≡ number → TellsOf state slot answer
     → answer ≡ true → number < state.config.slot_limit → passed ≡ left → Passed state number passed → (views : Views) (values : List Value)
-    → Has state views → HasPrefix state.config.members views.told values → IsSlotLeft state.config views left (Some slot)
+    → Has state views → HasPrefix state.config.members views.learner_calls values → IsSlotLeft state.config views left (Some slot)
 this_one held state number slot passed left answer is tells holds within enough count views values has prefix =
     let below = subst (λ (n : ℕ). tally n (free_at state) ≡ passed) (sym is) (count views values has prefix) in
     is_slot_left held state views has left slot (subst (λ (n : ℕ). n < state.config.slot_limit) (sym is) within) ((tells views has).0 holds) (below ∙ enough)
 
 pub past_all : HeldIsLearned → (state : AgreementState) (number passed left : ℕ) → state.config.slot_limit ≤ number → passed ≤ left
     → Passed state number passed → (views : Views) (values : List Value) → Has state views
-    → HasPrefix state.config.members views.told values → IsSlotLeft state.config views left None
+    → HasPrefix state.config.members views.learner_calls values → IsSlotLeft state.config views left None
 past_all held state number passed left past most count views values has prefix =
     none_is_left held state views has left number passed past most (count views values has prefix)

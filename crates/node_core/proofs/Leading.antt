@@ -6,7 +6,7 @@ use Rattle.ballots.specs.declared.value.Value.{Value}
 use Rattle.table_types.specs.Uploads.{Upload}
 use Rattle.table_types.specs.Texts.{IsTextOf, AreUploadsOf}
 use Rattle.table_types.specs.Tables.{outcome_of, unknown}
-use Rattle.histories.specs.Views.{Config, Views, HasPrefix}
+use Rattle.agreement_rules.specs.Views.{Config, Views, with_waiting, HasPrefix}
 use Rattle.histories.specs.Due.{AreStillWaiting}
 use Rattle.table_versions.specs.State.{TablesState, HasTaken, ReadyState, IsReadyFor}
 use Rattle.table_versions.specs.Values.{AreUploadsIn}
@@ -16,7 +16,7 @@ use Rattle.agreement.specs.declared.step.Step.{Step}
 use Rattle.node_core.specs.declared.plan.Planned.TheVariants.{Waits, Steps, Learns}
 use Rattle.waiting_uploads.specs.Waiting.{Waiting}
 use Rattle.node_core.specs.State.{NodeState, NodeHas}
-use Rattle.node_core.specs.Plans.{waits_on, LeadsTo}
+use Rattle.node_core.specs.Plans.{LeadsTo}
 use Rattle.node_core.proofs.Waiting.{OneEncoding, still_one, still_still, still_behind}
 use Rattle.node_core.proofs.Prefixes.{OnePrefix, OneLearned, prefix_is_one, same_uploads}
 
@@ -25,13 +25,13 @@ abbrev pub OneList : Type 0
 OneList = (texts : List (List ℕ)) (xs ys : List Upload) → AreUploadsOf texts xs → AreUploadsOf texts ys → xs ≡ ys
 
 -- whatever waits, a part in agreement stands where it stood
-has_whatever : (state : AgreementState) (views : Views) (left : List (List ℕ)) → Has state views → Has state (waits_on views left)
+has_whatever : (state : AgreementState) (views : Views) (left : List (List ℕ)) → Has state views → Has state (with_waiting views left)
 has_whatever state views left has = record {
   restored = has.restored;
   begun = has.begun;
   first_round = has.first_round;
-  asked = has.asked;
-  told = has.told;
+  proposer_calls = has.proposer_calls;
+  learner_calls = has.learner_calls;
   logged = has.logged;
   log_is = has.log_is;
   beyond = has.beyond;
@@ -52,7 +52,7 @@ pub then_waits : OnePrefix → OneLearned → OneEncoding → OneList → (agree
     → LeadsTo agreement.config views (Waits text) after → NodeHas (node_of agreement tables new) after
 then_waits one learned encoding list agreement tables old new text waiting views after has leads =
     let is = leads.0 in
-    let are = same_uploads one learned agreement.config.members views.told has.values is.1 has.prefix is.3 in
+    let are = same_uploads one learned agreement.config.members views.learner_calls has.values is.1 has.prefix is.3 in
     let unknown = told_of_it encoding is.1 has.taken.uploads text (list (map value_bytes has.values) is.1 has.taken.uploads are has.taken.are) (is.0, is.2, is.4) in
     subst (NodeHas (node_of agreement tables new)) (sym leads.1) (record {
       agrees = has_whatever agreement views (views.waiting ++ text ∷ []) has.agrees;

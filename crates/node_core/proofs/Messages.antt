@@ -1,103 +1,85 @@
 -- What is due to a message that makes the node's part in agreement take a step.
-use Rattle.std.proofs.Common.{◌≡◌, inl, inr, arith, ℕ, suc, ◌+◌, ◌≤◌, length, ◌==◌, Bool, true, false, Option, None, List, [], ◌∷◌, ◌++◌, map, refl, sym, ap, subst, ◌∙◌}
+use Rattle.std.proofs.Common.{◌≡◌, inl, inr, arith, ℕ, suc, ◌+◌, ◌≤◌, length, slice_get, ◌==◌, Bool, true, false, Option, None, Some, List, [], ◌∷◌, ◌++◌, map, refl, sym, ap, subst, ◌∙◌}
 use Rattle.std.proofs.Math.Dec.{eqb-suc-zero}
 use Rattle.std.proofs.lemmas.List.{append-nil, map-append}
 use Rattle.std.specs.List.{AllByRecursion}
 use Rattle.ballots.specs.Limits.{max_slot}
-use Rattle.ballots.specs.Ballot.{Ballot}
 use Rattle.ballots.specs.Message.{value_bytes}
 use Rattle.ballots.specs.declared.value.Value.{Value}
-use Rattle.ballots.specs.declared.acceptance.Acceptance.{Acceptance}
 use Rattle.ballots.specs.declared.record.Record.{Record}
 use Rattle.ballots.specs.declared.message.Message.{Message}
 use Rattle.ballots.specs.declared.message.Body.{Body}
 use Rattle.ballots.specs.declared.message.Body.TheVariants as body
-use Rattle.acceptor.specs.declared.answer.Answer.{Answer}
-use Rattle.acceptor.specs.declared.answer.Answer.TheVariants as answer
 use Rattle.learner.specs.Calls.{Call as Told}
 use Rattle.learner.specs.Calls as told
 use Rattle.table_types.specs.Uploads.{Upload}
 use Rattle.table_types.specs.Texts.{AreUploadsOf}
-use Rattle.histories.specs.Views.{Config, Views, HasPrefix, HasUploads}
-use Rattle.histories.specs.Due.{Deliver, Plan, quietly, ReplyToPrepare, ReplyToAccept, LearnsOf, BodyIsDue, IsMessageOf, AreStillWaiting, has_seen}
+use Rattle.agreement_rules.specs.Views.{Config, Views, with_waiting, HasPrefix}
+use Rattle.histories.specs.Texts.{HasUploads}
+use Rattle.agreement_rules.specs.Due.{Plan, quietly, also_learns, IsMessageOf, has_seen}
+use Rattle.histories.specs.Due.{Deliver, LearnsOf, BodyIsDue, AreStillWaiting}
 use Rattle.table_versions.specs.State.{ReadyState, IsReadyFor, values_limit}
 use Rattle.table_versions.specs.Values.{AreUploadsIn}
 use Rattle.agreement.specs.declared.step.Step.{Step}
-use Rattle.agreement.specs.Step.{plan_of, Grows, IsTold, BodyGives}
+use Rattle.agreement.specs.Step.{plan_of, Grows, BodyGives}
 use Rattle.node_core.specs.declared.plan.Planned.TheVariants.{Steps, Learns}
 use Rattle.node_core.specs.State.{NodeState, NodeHas}
-use Rattle.node_core.specs.Plans.{waits_on, IsPlanned}
+use Rattle.node_core.specs.Plans.{IsPlanned}
 use Rattle.node_core.proofs.Waiting.{some_still, uploads_wait}
-use Rattle.node_core.proofs.Within.{LearnedWhereSettled, SettledWhereLearned, HeldIsLearned, body_fits}
-
-plan_is : (p : Plan) (after : Views) → p.kept ≡ None → p.sends ≡ [] → p.after ≡ after → p ≡ quietly after
-plan_is p after kept sends is =
-    subst (λ (v : Views). p ≡ record { kept = None; sends = []; after = v }) is
-    (subst (λ (l : List Message). p ≡ record { kept = None; sends = l; after = p.after }) sends
-    (subst (λ (o : Option Record). p ≡ record { kept = o; sends = p.sends; after = p.after }) kept refl))
-
--- ---- how the prefix grows
+use Rattle.node_core.proofs.Within.{LearnedWhereSettled, SettledWhereLearned, HeldIsLearned, prepared, accepted, body_fits}
 
 pub grows_by_none : (members : ℕ) (before after : List Told) (grown : List Value) → after ≡ before → grown ≡ [] → Grows members before after grown
 grows_by_none members before after grown same none values prefix =
     subst (λ (l : List Value). HasPrefix members after (values ++ l)) (sym none)
     (subst (HasPrefix members after) (sym (append-nil values)) (subst (λ (l : List Told). HasPrefix members l values) (sym same) prefix))
 
-prepared : (me : ℕ) (views : Views) (slot : ℕ) (ballot : Ballot) (reply : Answer) (plan : Plan)
-    → ReplyToPrepare me views slot ballot reply plan → plan.after.told ≡ views.told
-prepared me views slot ballot (answer.Promise report) plan is = ap (λ (p : Plan). p.after.told) is
-prepared me views slot ballot (answer.Nack promised) plan is = ap (λ (p : Plan). p.after.told) is
-prepared me views slot ballot answer.Granted plan is = absurd is
+at_seam : (xs : List Value) (x : Value) (ys : List Value) → slice_get (xs ++ x ∷ ys) (length xs) ≡ Some x
+at_seam [] x ys = refl
+at_seam (y ∷ xs) x ys = at_seam xs x ys
 
-accepted : (me : ℕ) (views : Views) (slot : ℕ) (proposal : Acceptance) (reply : Answer) (plan : Plan)
-    → ReplyToAccept me views slot proposal reply plan → plan.after.told ≡ views.told
-accepted me views slot proposal (answer.Promise report) plan is = absurd is
-accepted me views slot proposal (answer.Nack promised) plan is = ap (λ (p : Plan). p.after.told) is
-accepted me views slot proposal answer.Granted plan is = ap (λ (p : Plan). p.after.told) is
+-- the same calls have no longer prefix
+grown_twice : (members : ℕ) (calls : List Told) (values grown : List Value) → HasPrefix members calls values → HasPrefix members calls (values ++ grown)
+    → (grown ≡ [] → ⊥) → ⊥
+grown_twice members calls values [] prefix longer some = some refl
+grown_twice members calls values (value ∷ grown) prefix longer some =
+    prefix.gap value (longer.learned (length values) value (at_seam values value grown))
 
 module _ (config : Config) (me : ℕ) (seen : Views) (sender slot : ℕ) where
-  told_grows : (call : Told) (plan : Plan) (grown : List Value) → IsTold config seen call plan grown
-      → Grows config.members seen.told plan.after.told grown
-  told_grows call plan grown is =
-      subst (λ (l : List Told). Grows config.members seen.told l grown) (sym (ap (λ (v : Views). v.told) is.after)) is.grows
-
-  pub body_grows : (said : Body) (plan : Plan) (grown : List Value) → BodyGives config me seen sender slot said plan grown
-      → Grows config.members seen.told plan.after.told grown
-  body_grows (body.Accepted acceptance) plan grown gives = told_grows _ plan grown gives
-  body_grows (body.Decided value) plan grown gives = told_grows _ plan grown gives
-  body_grows (body.Prepare ballot) plan grown gives =
-      grows_by_none config.members seen.told plan.after.told grown (prepared me seen slot ballot gives.0.2 plan gives.0.5) gives.1
-  body_grows (body.Accept proposal) plan grown gives =
-      grows_by_none config.members seen.told plan.after.told grown (accepted me seen slot proposal gives.0.2 plan gives.0.5) gives.1
-  body_grows (body.Promise ballot report) plan grown gives =
-      grows_by_none config.members seen.told plan.after.told grown (ap (λ (p : Plan). p.after.told) gives.0.2) gives.1
-  body_grows (body.Nack ballot promised) plan grown gives =
-      grows_by_none config.members seen.told plan.after.told grown (ap (λ (p : Plan). p.after.told) gives.0) gives.1
-  body_grows body.Ask plan grown gives =
-      grows_by_none config.members seen.told plan.after.told grown (ap (λ (p : Plan). p.after.told) gives.0.2) gives.1
+  abbrev BodyGrows : Plan → List Value → Type 0
+  BodyGrows plan grown = Grows config.members seen.learner_calls plan.after.learner_calls grown
 
   -- ---- what is due, where the prefix stays
 
-  told_due : (values : List Value) (uploads : List Upload) → HasPrefix config.members seen.told values
-      → AreUploadsIn values uploads → AreStillWaiting uploads seen.waiting seen.waiting → (call : Told) (plan : Plan)
-      (grown : List Value) → grown ≡ [] → IsTold config seen call plan grown → LearnsOf config seen call plan
-  told_due values uploads prefix are still call plan grown none is =
-      let same = subst (λ (l : List Value). HasPrefix config.members (seen.told ++ call ∷ []) (values ++ l)) none (is.grows values prefix) in (
-        uploads,
-        seen.waiting,
-        (record { values = values; prefix = subst (HasPrefix config.members (seen.told ++ call ∷ [])) (append-nil values) same; are = are }),
-        still,
-        plan_is plan _ is.kept is.sends is.after,
-      )
+  -- the prefix that these calls leave
+  same_prefix : (values : List Value) (plan : Plan) (grown : List Value) → HasPrefix config.members seen.learner_calls values → grown ≡ []
+      → BodyGrows plan grown → HasPrefix config.members plan.after.learner_calls values
+  same_prefix values plan grown prefix none grows =
+      subst (HasPrefix config.members plan.after.learner_calls) (append-nil values)
+      (subst (λ (l : List Value). HasPrefix config.members plan.after.learner_calls (values ++ l)) none (grows values prefix))
 
-  body_due : (values : List Value) (uploads : List Upload) → HasPrefix config.members seen.told values
+  told_due : (values : List Value) (uploads : List Upload) → HasPrefix config.members seen.learner_calls values
+      → AreUploadsIn values uploads → AreStillWaiting uploads seen.waiting seen.waiting → (call : Told) (plan : Plan)
+      (grown : List Value) → grown ≡ [] → plan ≡ quietly (also_learns seen call) → BodyGrows plan grown → LearnsOf config seen call plan
+  told_due values uploads prefix are still call plan grown none is grows = (
+    uploads,
+    seen.waiting,
+    record {
+      values = values;
+      prefix = subst (λ (p : Plan). HasPrefix config.members p.after.learner_calls values) is (same_prefix values plan grown prefix none grows);
+      are = are;
+    },
+    still,
+    is,
+  )
+
+  body_due : (values : List Value) (uploads : List Upload) → HasPrefix config.members seen.learner_calls values
       → AreUploadsIn values uploads → AreStillWaiting uploads seen.waiting seen.waiting → (said : Body) (plan : Plan)
       (grown : List Value) → grown ≡ [] → BodyGives config me seen sender slot said plan grown
       → BodyIsDue config me seen sender slot said plan
   body_due values uploads prefix are still (body.Accepted acceptance) plan grown none gives =
-      told_due values uploads prefix are still _ plan grown none gives
+      told_due values uploads prefix are still _ plan grown none gives.0 gives.1
   body_due values uploads prefix are still (body.Decided value) plan grown none gives =
-      told_due values uploads prefix are still _ plan grown none gives
+      told_due values uploads prefix are still _ plan grown none gives.0 gives.1
   body_due values uploads prefix are still (body.Prepare ballot) plan grown none gives = gives.0
   body_due values uploads prefix are still (body.Accept proposal) plan grown none gives = gives.0
   body_due values uploads prefix are still (body.Promise ballot report) plan grown none gives = gives.0
@@ -106,35 +88,53 @@ module _ (config : Config) (me : ℕ) (seen : Views) (sender slot : ℕ) where
 
   -- ---- what is due, where it grows
 
-  told_learns : (uploads : List Upload) (left : List (List ℕ)) (call : Told) (plan : Plan) (grown : List Value)
-      → IsTold config seen call plan grown → HasUploads config.members plan.after.told uploads
-      → AreStillWaiting uploads seen.waiting left → LearnsOf config seen call (quietly (waits_on plan.after left))
-  told_learns uploads left call plan grown is of still = (
+  told_learns : (uploads : List Upload) (left : List (List ℕ)) (call : Told) (plan : Plan)
+      → plan ≡ quietly (also_learns seen call) → HasUploads config.members plan.after.learner_calls uploads
+      → AreStillWaiting uploads seen.waiting left → LearnsOf config seen call (quietly (with_waiting plan.after left))
+  told_learns uploads left call plan is of still = (
     uploads,
     left,
-    subst (λ (l : List Told). HasUploads config.members l uploads) (ap (λ (v : Views). v.told) is.after) of,
+    subst (λ (p : Plan). HasUploads config.members p.after.learner_calls uploads) is of,
     still,
-    ap (λ (v : Views). quietly (waits_on v left)) is.after,
+    ap (λ (p : Plan). quietly (with_waiting p.after left)) is,
   )
 
   -- it is quiet, and what is due
   pub record Learnt (said : Body) (plan : Plan) (left : List (List ℕ)) : Type 0 where
     pub kept : plan.kept ≡ None
     pub sends : plan.sends ≡ []
-    pub due : BodyIsDue config me seen sender slot said (quietly (waits_on plan.after left))
+    pub due : BodyIsDue config me seen sender slot said (quietly (with_waiting plan.after left))
 
-  body_learns : (uploads : List Upload) (left : List (List ℕ)) (said : Body) (plan : Plan) (grown : List Value)
-      → (grown ≡ [] → ⊥) → BodyGives config me seen sender slot said plan grown
-      → HasUploads config.members plan.after.told uploads → AreStillWaiting uploads seen.waiting left → Learnt said plan left
-  body_learns uploads left (body.Accepted acceptance) plan grown some gives of still =
-      record { kept = gives.kept; sends = gives.sends; due = told_learns uploads left _ plan grown gives of still }
-  body_learns uploads left (body.Decided value) plan grown some gives of still =
-      record { kept = gives.kept; sends = gives.sends; due = told_learns uploads left _ plan grown gives of still }
-  body_learns uploads left (body.Prepare ballot) plan grown some gives of still = absurd (some gives.1)
-  body_learns uploads left (body.Accept proposal) plan grown some gives of still = absurd (some gives.1)
-  body_learns uploads left (body.Promise ballot report) plan grown some gives of still = absurd (some gives.1)
-  body_learns uploads left (body.Nack ballot promised) plan grown some gives of still = absurd (some gives.1)
-  body_learns uploads left body.Ask plan grown some gives of still = absurd (some gives.1)
+  -- a body that makes no call of the learner makes the prefix no longer
+  none_grows : (values : List Value) (plan : Plan) (grown : List Value) → HasPrefix config.members seen.learner_calls values → (grown ≡ [] → ⊥)
+      → plan.after.learner_calls ≡ seen.learner_calls → BodyGrows plan grown → ⊥
+  none_grows values plan grown prefix some same grows =
+      grown_twice config.members seen.learner_calls values grown prefix
+      (subst (λ (l : List Told). HasPrefix config.members l (values ++ grown)) same (grows values prefix)) some
+
+  body_learns : (values : List Value) (uploads : List Upload) (left : List (List ℕ)) (said : Body) (plan : Plan) (grown : List Value)
+      → HasPrefix config.members seen.learner_calls values → (grown ≡ [] → ⊥) → BodyGives config me seen sender slot said plan grown
+      → HasUploads config.members plan.after.learner_calls uploads → AreStillWaiting uploads seen.waiting left → Learnt said plan left
+  body_learns values uploads left (body.Accepted acceptance) plan grown prefix some gives of still = record {
+    kept = ap (λ (p : Plan). p.kept) gives.0;
+    sends = ap (λ (p : Plan). p.sends) gives.0;
+    due = told_learns uploads left _ plan gives.0 of still;
+  }
+  body_learns values uploads left (body.Decided value) plan grown prefix some gives of still = record {
+    kept = ap (λ (p : Plan). p.kept) gives.0;
+    sends = ap (λ (p : Plan). p.sends) gives.0;
+    due = told_learns uploads left _ plan gives.0 of still;
+  }
+  body_learns values uploads left (body.Prepare ballot) plan grown prefix some gives of still =
+      absurd (none_grows values plan grown prefix some (prepared me seen slot ballot gives.0.2 plan gives.0.5) gives.1)
+  body_learns values uploads left (body.Accept proposal) plan grown prefix some gives of still =
+      absurd (none_grows values plan grown prefix some (accepted me seen slot proposal gives.0.2 plan gives.0.5) gives.1)
+  body_learns values uploads left (body.Promise ballot report) plan grown prefix some gives of still =
+      absurd (none_grows values plan grown prefix some (ap (λ (p : Plan). p.after.learner_calls) gives.0.2) gives.1)
+  body_learns values uploads left (body.Nack ballot promised) plan grown prefix some gives of still =
+      absurd (none_grows values plan grown prefix some (ap (λ (p : Plan). p.after.learner_calls) gives.0) gives.1)
+  body_learns values uploads left body.Ask plan grown prefix some gives of still =
+      absurd (none_grows values plan grown prefix some (ap (λ (p : Plan). p.after.learner_calls) gives.0.2) gives.1)
 
 -- ---- a step as a plan
 
@@ -156,8 +156,7 @@ step_planned state views has m step is gives none =
       kept = refl;
       sends = refl;
       leads = (
-        subst (Grows config.members views.told (plan_of views step).after.told) none
-            (body_grows config me seen m.sender m.slot m.body (plan_of views step) step.grown.items gives),
+        subst (Grows config.members views.learner_calls (plan_of views step).after.learner_calls) none gives.1,
         refl,
       );
     }
@@ -182,16 +181,16 @@ learning_planned join state views has m step ready is gives some is-ready =
     let plan = plan_of views step in
     let grown = step.grown.items in
     let uploads = has.taken.uploads ++ is-ready.uploads in
-    let grows = body_grows config me seen m.sender m.slot m.body plan grown gives in
-    let of : HasUploads config.members plan.after.told uploads = record {
+    let grows = gives.1 in
+    let of : HasUploads config.members plan.after.learner_calls uploads = record {
       values = has.values ++ grown;
       prefix = grows has.values has.prefix;
       are = both_in join has.values grown has.taken.uploads is-ready.uploads has.taken.are is-ready.are;
     } in
     let still = some_still uploads views.waiting (uploads_wait has.taken.uploads views.waiting views.waiting has.unknown) in
-    let learnt = body_learns config me seen m.sender m.slot uploads still.0 m.body plan grown some gives of still.1 in
+    let learnt = body_learns config me seen m.sender m.slot has.values uploads still.0 m.body plan grown has.prefix some gives of still.1 in
     record {
-      plan = quietly (waits_on plan.after still.0);
+      plan = quietly (with_waiting plan.after still.0);
       due = (is, learnt.due);
       kept = sym learnt.kept;
       sends = sym learnt.sends;
@@ -204,8 +203,8 @@ pub ready_fits : LearnedWhereSettled → SettledWhereLearned → HeldIsLearned �
     → (m : Message) (step : Step) → IsMessageOf state.agreement.config m → StepOf state views m step
     → state.tables.taken + length step.grown.items ≤ values_limit
 ready_fits learned settled held state views has m step is gives =
-    let fits = body_fits learned settled held state.agreement views has.agrees state.agreement.config state.agreement.me (has_seen views m) m.sender m.slot
-    m.body (plan_of views step) step.grown.items refl refl is.slot gives has.values has.prefix in
+    let fits = body_fits learned settled held state.agreement views has.agrees state.agreement.me (has_seen views m) m.sender m.slot
+    m.body (plan_of views step) step.grown.items refl is.slot gives has.values has.prefix in
     let taken = has.taken.taken_is in
     let slots = has.agrees.slots in
     let top : suc max_slot ≡ values_limit = refl in

@@ -7,7 +7,8 @@ use Rattle.learner.specs.Calls.{Call as Told, IsLearned}
 use Rattle.decided_log.specs.Decided.{IsPrefix}
 use Rattle.table_types.specs.Uploads.{Upload}
 use Rattle.table_versions.specs.Values.{AreUploadsIn}
-use Rattle.histories.specs.Views.{HasPrefix, HasUploads}
+use Rattle.agreement_rules.specs.Views.{HasPrefix}
+use Rattle.histories.specs.Texts.{HasUploads}
 
 -- what is known has one prefix
 abbrev pub OnePrefix : Type 0

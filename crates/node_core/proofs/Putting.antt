@@ -11,8 +11,10 @@ use Rattle.table_versions.specs.declared.outcome.Outcome.TheVariants.{Applied, S
 use Rattle.table_versions.specs.Outcomes.{told}
 use Rattle.table_versions.specs.State.{HasTaken}
 use Rattle.table_versions.specs.Values.{AreUploadsIn}
-use Rattle.histories.specs.Views.{Config, Views, HasPrefix, HasUploads}
-use Rattle.histories.specs.Due.{Put, quietly, waits_too}
+use Rattle.agreement_rules.specs.Views.{Config, Views, HasPrefix}
+use Rattle.histories.specs.Texts.{HasUploads}
+use Rattle.agreement_rules.specs.Due.{quietly}
+use Rattle.histories.specs.Due.{Put, waits_too}
 use Rattle.agreement.specs.declared.refusal.Refusal.{Refusal}
 use Rattle.agreement.specs.declared.refusal.Refusal.TheVariants.{SlotsSpent, OutOfMemory}
 use Rattle.agreement.specs.State.{Has}
@@ -27,7 +29,7 @@ Tells state text said = (values : List Value) (uploads : List Upload) (upload : 
     → AreUploadsIn values uploads → IsTextOf text upload → told said ≡ outcome_of uploads upload
 
 module _ (state : NodeState) (views : Views) (has : NodeHas state views) (text : List ℕ) where
-  uploads_of : HasUploads state.agreement.config.members views.told has.taken.uploads
+  uploads_of : HasUploads state.agreement.config.members views.learner_calls has.taken.uploads
   uploads_of = record { values = has.values; prefix = has.prefix; are = has.taken.are }
 
   pub is_unknown : (waits : Bool) → (IsTrue waits ↔ Contains state.waiting.texts text) → waits ≡ false → IsUploadText text
@@ -69,7 +71,7 @@ Knows state text answer = (views : Views) → NodeHas state views → TellsKnown
 -- the first free slot, where there is one
 abbrev pub IsFirstFree : NodeState → Option ℕ → Type 0
 IsFirstFree state slot = (views : Views) (values : List Value) → Has state.agreement views
-    → HasPrefix state.agreement.config.members views.told values
+    → HasPrefix state.agreement.config.members views.learner_calls values
     → MatchOption slot (length values ≡ state.agreement.config.slot_limit)
     (λ s. (s ≡ length values) × (s < state.agreement.config.slot_limit))
 

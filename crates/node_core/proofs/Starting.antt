@@ -3,7 +3,7 @@ use Rattle.std.proofs.Common.{◌≡◌, ℕ, List, [], ◌∷◌, ◌++◌, ref
 use Rattle.ballots.specs.declared.value.Value.{Value}
 use Rattle.ballots.specs.declared.record.Record.{Record}
 use Rattle.learner.specs.Calls.{Call as Told, IsLearned}
-use Rattle.histories.specs.Views.{Config, Views, started_with, HasPrefix}
+use Rattle.agreement_rules.specs.Views.{Config, Views, started_with, HasPrefix}
 use Rattle.table_versions.specs.State.{TablesState, HasTaken}
 use Rattle.waiting_uploads.specs.Waiting.{Waiting}
 use Rattle.agreement.specs.State.{AgreementState, Has}

@@ -1,5 +1,5 @@
 -- No slot at the limit or behind it learns anything, and so a prefix is no longer than there are slots.
-use Rattle.std.proofs.Common.{◌≡◌, inl, inr, ℕ, zero, suc, ◌+◌, ◌<◌, ◌≤◌, ◌↔◌, Bool, true, false, ◌&&◌, ◌||◌, if◌then◌else◌, IsTrue, Option, None, Some, List, [], ◌∷◌, ◌++◌, length, slice_get, refl, sym, ap, subst, ◌∙◌, arith, ne_eqb, eqb, nat_eq, ◌==◌}
+use Rattle.std.proofs.Common.{◌≡◌, inl, inr, ℕ, zero, suc, ◌+◌, ◌<◌, ◌≤◌, ◌↔◌, ◌⊎◌, Bool, true, false, ◌&&◌, ◌||◌, if◌then◌else◌, IsTrue, Option, None, Some, List, [], ◌∷◌, ◌++◌, length, slice_get, refl, sym, ap, subst, ◌∙◌, arith, ne_eqb, eqb, nat_eq, ◌==◌}
 use Rattle.std.specs.List.{list_any}
 use Rattle.std.proofs.lemmas.Bool.{cases_lt}
 use Rattle.std.proofs.lemmas.List.{length-append}
@@ -7,16 +7,19 @@ use Rattle.std.proofs.lemmas.Option.{slice_get_cases}
 use Rattle.ballots.specs.Majority.{tally, IsMajority}
 use Rattle.ballots.specs.Ballot.{Ballot, is_same_ballot}
 use Rattle.ballots.specs.declared.value.Value.{Value}
+use Rattle.ballots.specs.declared.acceptance.Acceptance.{Acceptance}
 use Rattle.ballots.specs.declared.message.Body.{Body}
 use Rattle.ballots.specs.declared.message.Body.TheVariants as body
+use Rattle.acceptor.specs.declared.answer.Answer.{Answer}
+use Rattle.acceptor.specs.declared.answer.Answer.TheVariants as answer
 use Rattle.learner.specs.Calls.{Call as Told, slot_of, is_decision_for, is_vote_of, has_voted, IsChosenOrDecided, IsLearned}
 use Rattle.learner.specs.Calls as told
 use Rattle.learner.specs.State.{LearnerState, decided_at}
 use Rattle.learner.specs.Learned.{StateAfter}
-use Rattle.histories.specs.Views.{Config, Views, IsFree, HasPrefix}
-use Rattle.histories.specs.Due.{Plan}
+use Rattle.agreement_rules.specs.Views.{Config, Views, IsFree, HasPrefix}
+use Rattle.agreement_rules.specs.Due.{Plan, quietly, also_learns, ReplyToPrepare, ReplyToAccept, PartIsDue}
 use Rattle.agreement.specs.State.{AgreementState, Has}
-use Rattle.agreement.specs.Step.{Grows, BodyGives}
+use Rattle.agreement.specs.Step.{BodyGives}
 
 -- a slot has learned a value exactly where one was chosen or decided for it
 abbrev pub LearnedWhereSettled : Type 0
@@ -75,9 +78,9 @@ still_free learned settled members calls call slot other free v is =
 -- ---- prefixes
 
 pub free_behind : HeldIsLearned → (state : AgreementState) (views : Views) → Has state views → (slot : ℕ)
-    → state.config.slot_limit ≤ slot → IsFree state.config.members views.told slot
+    → state.config.slot_limit ≤ slot → IsFree state.config.members views.learner_calls slot
 free_behind held state views has slot le v is =
-    let some = (held state.config.members views.told state.learner slot v has.told).1 is in
+    let some = (held state.config.members views.learner_calls state.learner slot v has.learner_calls).1 is in
     let none = has.beyond slot le in
     let both = sym none ∙ some in cc
 
@@ -92,42 +95,80 @@ no_longer members calls values limit free prefix = elim (cases_lt limit (length 
 ]
 
 pub prefix_fits : HeldIsLearned → (state : AgreementState) (views : Views) → Has state views → (values : List Value)
-    → HasPrefix state.config.members views.told values → length values ≤ state.config.slot_limit
+    → HasPrefix state.config.members views.learner_calls values → length values ≤ state.config.slot_limit
 prefix_fits held state views has values prefix =
-    no_longer state.config.members views.told values state.config.slot_limit (free_behind held state views has state.config.slot_limit (omega arith)) prefix
+    no_longer state.config.members views.learner_calls values state.config.slot_limit (free_behind held state views has state.config.slot_limit (omega arith)) prefix
+
+-- ---- what a body makes of the calls of the learner
+
+pub prepared : (me : ℕ) (views : Views) (slot : ℕ) (ballot : Ballot) (reply : Answer) (plan : Plan)
+    → ReplyToPrepare me views slot ballot reply plan → plan.after.learner_calls ≡ views.learner_calls
+prepared me views slot ballot (answer.Promise report) plan is = ap (λ (p : Plan). p.after.learner_calls) is
+prepared me views slot ballot (answer.Nack promised) plan is = ap (λ (p : Plan). p.after.learner_calls) is
+prepared me views slot ballot answer.Granted plan is = absurd is
+
+pub accepted : (me : ℕ) (views : Views) (slot : ℕ) (proposal : Acceptance) (reply : Answer) (plan : Plan)
+    → ReplyToAccept me views slot proposal reply plan → plan.after.learner_calls ≡ views.learner_calls
+accepted me views slot proposal (answer.Promise report) plan is = absurd is
+accepted me views slot proposal (answer.Nack promised) plan is = ap (λ (p : Plan). p.after.learner_calls) is
+accepted me views slot proposal answer.Granted plan is = ap (λ (p : Plan). p.after.learner_calls) is
+
+-- its learner is called once more, for the slot of the message
+pub record CallsOnce (views : Views) (slot : ℕ) (plan : Plan) : Type 0 where
+  pub call : Told
+  pub of_slot : slot_of call ≡ slot
+  pub is : plan ≡ quietly (also_learns views call)
+
+-- or it is not called
+pub part_calls : (config : Config) (me : ℕ) (views : Views) (sender slot : ℕ) (said : Body) (plan : Plan)
+    → PartIsDue config me views sender slot said plan → (plan.after.learner_calls ≡ views.learner_calls) ⊎ CallsOnce views slot plan
+part_calls config me views sender slot (body.Prepare ballot) plan due = inl (prepared me views slot ballot due.2 plan due.5)
+part_calls config me views sender slot (body.Accept proposal) plan due = inl (accepted me views slot proposal due.2 plan due.5)
+part_calls config me views sender slot (body.Promise ballot report) plan due = inl (ap (λ (p : Plan). p.after.learner_calls) due.2)
+part_calls config me views sender slot (body.Nack ballot promised) plan due = inl (ap (λ (p : Plan). p.after.learner_calls) due)
+part_calls config me views sender slot (body.Accepted acceptance) plan due =
+    inr (record { call = told.Accepted sender slot acceptance.ballot acceptance.value; of_slot = refl; is = due })
+part_calls config me views sender slot (body.Decided value) plan due =
+    inr (record { call = told.Decided slot value; of_slot = refl; is = due })
+part_calls config me views sender slot body.Ask plan due = inl (ap (λ (p : Plan). p.after.learner_calls) due.2)
 
 module _ (learned : LearnedWhereSettled) (settled : SettledWhereLearned) (held : HeldIsLearned) (state : AgreementState) (views : Views) (has : Has state views) where
-  told_fits : (call : Told) (grown : List Value) → slot_of call < state.config.slot_limit
-      → Grows state.config.members views.told (views.told ++ call ∷ []) grown → (values : List Value)
-      → HasPrefix state.config.members views.told values → length values + length grown ≤ state.config.slot_limit
-  told_fits call grown within grows values prefix =
+  -- a prefix that calls leave is no longer than there are slots, where the limit has learned nothing of them
+  longer_fits : (calls : List Told) (grown : List Value) → IsFree state.config.members calls state.config.slot_limit → (values : List Value)
+      → HasPrefix state.config.members calls (values ++ grown) → length values + length grown ≤ state.config.slot_limit
+  longer_fits calls grown free values prefix =
       let limit = state.config.slot_limit in
-      subst (λ (n : ℕ). n ≤ limit) (length-append values grown)
-      (no_longer state.config.members (views.told ++ call ∷ []) (values ++ grown) limit
-      (still_free learned settled state.config.members views.told call limit (λ same. absurd (omega (arith, within, same)))
-      (free_behind held state views has limit (omega arith))) (grows values prefix))
+      subst (λ (n : ℕ). n ≤ limit) (length-append values grown) (no_longer state.config.members calls (values ++ grown) limit free prefix)
 
-  none_fits : (grown : List Value) → grown ≡ [] → (values : List Value)
-      → HasPrefix state.config.members views.told values → length values + length grown ≤ state.config.slot_limit
-  none_fits grown none values prefix =
-      let fits = prefix_fits held state views has values prefix in
-      subst (λ (l : List Value). length values + length l ≤ state.config.slot_limit) (sym none) (omega (arith, fits))
+  same_fits : (grown values : List Value) → HasPrefix state.config.members views.learner_calls (values ++ grown)
+      → length values + length grown ≤ state.config.slot_limit
+  same_fits grown values prefix =
+      longer_fits views.learner_calls grown (free_behind held state views has state.config.slot_limit (omega arith)) values prefix
+
+  told_fits : (call : Told) (grown : List Value) → slot_of call < state.config.slot_limit → (values : List Value)
+      → HasPrefix state.config.members (views.learner_calls ++ call ∷ []) (values ++ grown)
+      → length values + length grown ≤ state.config.slot_limit
+  told_fits call grown within values prefix =
+      let limit = state.config.slot_limit in
+      longer_fits (views.learner_calls ++ call ∷ []) grown
+      (still_free learned settled state.config.members views.learner_calls call limit (λ same. absurd (omega (arith, within, same)))
+      (free_behind held state views has limit (omega arith))) values prefix
+
+  -- where the calls that a plan leaves are these
+  after_calls : (plan : Plan) (calls : List Told) (values : List Value) → plan.after.learner_calls ≡ calls
+      → HasPrefix state.config.members plan.after.learner_calls values → HasPrefix state.config.members calls values
+  after_calls plan calls values is prefix = subst (λ (l : List Told). HasPrefix state.config.members l values) is prefix
 
   -- by what a body makes the prefix grow it is no longer than there are slots
-  pub body_fits : (config : Config) (me : ℕ) (seen : Views) (sender slot : ℕ) (said : Body) (plan : Plan) (grown : List Value)
-      → seen.told ≡ views.told → config.members ≡ state.config.members → slot < state.config.slot_limit
-      → BodyGives config me seen sender slot said plan grown → (values : List Value)
-      → HasPrefix state.config.members views.told values → length values + length grown ≤ state.config.slot_limit
-  body_fits config me seen sender slot (body.Prepare ballot) plan grown same members within gives = none_fits grown gives.1
-  body_fits config me seen sender slot (body.Accept proposal) plan grown same members within gives = none_fits grown gives.1
-  body_fits config me seen sender slot (body.Promise ballot report) plan grown same members within gives = none_fits grown gives.1
-  body_fits config me seen sender slot (body.Nack ballot promised) plan grown same members within gives = none_fits grown gives.1
-  body_fits config me seen sender slot body.Ask plan grown same members within gives = none_fits grown gives.1
-  body_fits config me seen sender slot (body.Accepted acceptance) plan grown same members within gives =
-      let call = told.Accepted sender slot acceptance.ballot acceptance.value in
-      told_fits call grown within (subst (λ (n : ℕ). Grows n views.told (views.told ++ call ∷ []) grown) members
-      (subst (λ (l : List Told). Grows config.members l (l ++ call ∷ []) grown) same gives.grows))
-  body_fits config me seen sender slot (body.Decided value) plan grown same members within gives =
-      let call = told.Decided slot value in
-      told_fits call grown within (subst (λ (n : ℕ). Grows n views.told (views.told ++ call ∷ []) grown) members
-      (subst (λ (l : List Told). Grows config.members l (l ++ call ∷ []) grown) same gives.grows))
+  pub body_fits : (me : ℕ) (seen : Views) (sender slot : ℕ) (said : Body) (plan : Plan) (grown : List Value)
+      → seen.learner_calls ≡ views.learner_calls → slot < state.config.slot_limit
+      → BodyGives state.config me seen sender slot said plan grown → (values : List Value)
+      → HasPrefix state.config.members views.learner_calls values → length values + length grown ≤ state.config.slot_limit
+  body_fits me seen sender slot said plan grown same within gives values prefix =
+      let longer = gives.1 values (subst (λ (l : List Told). HasPrefix state.config.members l values) (sym same) prefix) in
+      elim (part_calls state.config me seen sender slot said plan gives.0) as (λ _. length values + length grown ≤ state.config.slot_limit) [
+        | inl none ↦ same_fits grown values (after_calls plan views.learner_calls (values ++ grown) (none ∙ same) longer)
+        | inr once ↦ told_fits once.call grown (subst (λ (s : ℕ). s < state.config.slot_limit) (sym once.of_slot) within) values
+            (after_calls plan (views.learner_calls ++ once.call ∷ []) (values ++ grown)
+            (ap (λ (p : Plan). p.after.learner_calls) once.is ∙ ap (λ (l : List Told). l ++ once.call ∷ []) same) longer)
+      ]

@@ -10,8 +10,10 @@ use Rattle.agreement.specs.declared.step.Step.{Step}
 use Rattle.agreement.specs.State.{AgreementState}
 use Rattle.agreement.specs.Step.{kept_of, told_with, left_by, plan_of, Grows}
 use Rattle.agreement.specs.Step as step
-use Rattle.histories.specs.Views.{Config, Views, IsFreeAfter, HasUploads}
-use Rattle.histories.specs.Due.{Input, Put, Tick, Deliver, IsDue, Plan, Plans, Refuses, IsMessageOf, AreStillWaiting, waits_too, Waits as WaitsAlready, IsKnown, IsUnknown}
+use Rattle.agreement_rules.specs.Views.{Config, Views, with_waiting, IsFreeAfter}
+use Rattle.histories.specs.Texts.{HasUploads}
+use Rattle.agreement_rules.specs.Due.{Plan, Plans, Refuses, IsMessageOf}
+use Rattle.histories.specs.Due.{Input, Put, Tick, Deliver, IsDue, AreStillWaiting, waits_too, Waits as WaitsAlready, IsKnown, IsUnknown}
 use Rattle.table_versions.specs.State.{IsReadyFor}
 use Rattle.table_versions.specs.State as tables
 use Rattle.node_core.specs.declared.plan.Planned.{Planned}
@@ -37,33 +39,23 @@ sent_by (Learns taken ready) = taken.sends.items
 
 -- ---- where it leads
 
--- with these that wait
-abbrev pub waits_on : Views → List (List ℕ) → Views
-waits_on views left = record {
-  records = views.records;
-  seen_round = views.seen_round;
-  waiting = left;
-  asked = views.asked;
-  told = views.told;
-}
-
 -- An upload waits, of which nothing is known. A step leads where it leaves the node, and the prefix grows by what the step
 -- tells; where it grows, the uploads of which something is then known wait no more.
 abbrev pub LeadsTo : Config → Views → Planned → Views → Type 0
 LeadsTo config views Stays after = after ≡ views
-LeadsTo config views (Waits upload) after = IsUnknown config views.told upload × (after ≡ waits_too views upload)
+LeadsTo config views (Waits upload) after = IsUnknown config views.learner_calls upload × (after ≡ waits_too views upload)
 LeadsTo config views (Steps taken) after =
-    Grows config.members views.told (told_with views taken.change) []
+    Grows config.members views.learner_calls (told_with views taken.change) []
     × (after ≡ left_by views taken.seen_round taken.change)
 LeadsTo config views (Learns taken ready) after =
-    Grows config.members views.told (told_with views taken.change) taken.grown.items
+    Grows config.members views.learner_calls (told_with views taken.change) taken.grown.items
     × ((uploads : List Upload) × (left : List (List ℕ)) × HasUploads config.members (told_with views taken.change) uploads
     × AreStillWaiting uploads views.waiting left
-    × (after ≡ waits_on (left_by views taken.seen_round taken.change) left))
+    × (after ≡ with_waiting (left_by views taken.seen_round taken.change) left))
 
 -- ---- when it can be committed without memory
 
-pub record CanLearn (state : NodeState) (taken : Step) (ready : tables.ReadyState) : Type 0 where
+pub record CanGrow (state : NodeState) (taken : Step) (ready : tables.ReadyState) : Type 0 where
   pub steps : step.CanTake state.agreement taken.change
   pub takes : tables.CanTake state.tables ready
   pub is_ready : IsReadyFor ready taken.grown.items
@@ -73,7 +65,7 @@ abbrev pub HasRoom : NodeState → Planned → Type 0
 HasRoom state Stays = Unit {0}
 HasRoom state (Waits upload) = 0 < state.waiting.room
 HasRoom state (Steps taken) = step.CanTake state.agreement taken.change
-HasRoom state (Learns taken ready) = CanLearn state taken ready
+HasRoom state (Learns taken ready) = CanGrow state taken ready
 
 -- and the plan is one of this node
 pub record CanCommit (state : NodeState) (planned : Planned) : Type 0 where
@@ -116,10 +108,16 @@ PlanGives state input (Err refusal) = (views : Views) → NodeHas state views �
 
 -- ---- a put
 
+-- the refusal that is due to an upload, or none is and there is a plan
+abbrev pub JudgesPut : NodeState → Views → List ℕ → Option Refusal → Type 0
+JudgesPut state views text None = IsTaken state.agreement.config state.agreement.me views (Put text)
+JudgesPut state views text (Some refusal) =
+    IsDue state.agreement.config state.agreement.me views (Put text) (Refuses (refusal_of refusal))
+
 -- an upload waits already, or something is known of it; or neither
 abbrev pub TellsKnown : Config → Views → List ℕ → Bool → Type 0
-TellsKnown config views text true = WaitsAlready views text ⊎ IsKnown config views.told text
-TellsKnown config views text false = (WaitsAlready views text → ⊥) × IsUnknown config views.told text
+TellsKnown config views text true = WaitsAlready views text ⊎ IsKnown config views.learner_calls text
+TellsKnown config views text false = (WaitsAlready views text → ⊥) × IsUnknown config views.learner_calls text
 
 -- ---- a tick
 
@@ -144,6 +142,6 @@ CannotBegin state slot refusal =
 
 -- the slot that leaves so many free ones below it to others; there is none below the limit where that one is not
 abbrev pub IsSlotLeft : Config → Views → ℕ → Option ℕ → Type 0
-IsSlotLeft config views left (Some slot) = (slot < config.slot_limit) × IsFreeAfter config.members views.told left slot
+IsSlotLeft config views left (Some slot) = (slot < config.slot_limit) × IsFreeAfter config.members views.learner_calls left slot
 IsSlotLeft config views left None =
-    (slot : ℕ) × (config.slot_limit ≤ slot) × IsFreeAfter config.members views.told left slot
+    (slot : ℕ) × (config.slot_limit ≤ slot) × IsFreeAfter config.members views.learner_calls left slot

@@ -8,7 +8,7 @@ use Rattle.ballots.specs.declared.record.Record.TheVariants.{Began, Promised, Ac
 use Rattle.agreement.specs.State.{AgreementState, Has}
 use Rattle.agreement.specs.declared.refusal.Refusal.{Refusal}
 use Rattle.agreement.specs.declared.refusal.Refusal.TheVariants.{OutOfRange, SlotsSpent, RoundsSpent, OutOfMemory}
-use Rattle.histories.specs.Views.{Config, Views, started_with, HasPrefix}
+use Rattle.agreement_rules.specs.Views.{Config, Views, started_with, HasPrefix}
 use Rattle.histories.specs.Due.{AreStillWaiting}
 use Rattle.table_versions.specs.State.{TablesState, HasTaken}
 use Rattle.waiting_uploads.specs.Waiting.{Waiting}
@@ -23,7 +23,7 @@ pub record NodeState : Type 0 where
 pub record NodeHas (state : NodeState) (views : Views) : Type 0 where
   pub agrees : Has state.agreement views
   pub values : List Value
-  pub prefix : HasPrefix state.agreement.config.members views.told values
+  pub prefix : HasPrefix state.agreement.config.members views.learner_calls values
   pub taken : HasTaken state.tables values
   pub waits : state.waiting.texts ≡ views.waiting
   pub unknown : AreStillWaiting taken.uploads views.waiting views.waiting
@@ -52,9 +52,9 @@ pub record Starts (config : Config) (me : ℕ) (records : List Record) (state : 
   pub has : NodeHas state (started_with records)
 
 -- what a start gives, memory apart
-abbrev pub StartGives : Config → ℕ → List Record → Result NodeState Refusal → Type 0
-StartGives config me records (Ok state) = Starts config me records state
-StartGives config me records (Err OutOfRange) = CanStart config me records → ⊥
-StartGives config me records (Err SlotsSpent) = ⊥
-StartGives config me records (Err RoundsSpent) = ⊥
-StartGives config me records (Err OutOfMemory) = CanStart config me records
+abbrev pub OpenGives : Config → ℕ → List Record → Result NodeState Refusal → Type 0
+OpenGives config me records (Ok state) = Starts config me records state
+OpenGives config me records (Err OutOfRange) = CanStart config me records → ⊥
+OpenGives config me records (Err SlotsSpent) = ⊥
+OpenGives config me records (Err RoundsSpent) = ⊥
+OpenGives config me records (Err OutOfMemory) = CanStart config me records

@@ -4,8 +4,8 @@ ghost use Rattle.std.specs.Prelude.{◌≡◌, ℕ, ◌≤◌, List, [], ◌∷�
 ghost use Rattle.ballots.specs.declared.value.Value.{Value as Held};
 ghost use Rattle.ballots.specs.declared.value.Value.TheVariants as held;
 ghost use Rattle.agreement.specs.Step.{CanTake};
-ghost use Rattle.histories.specs.Views.{Views, HasPrefix, HasGap};
-ghost use Rattle.histories.specs.Due.{most_left};
+ghost use Rattle.agreement_rules.specs.Views.{Views, HasPrefix, HasGap};
+ghost use Rattle.agreement_rules.specs.Due.{most_left};
 ghost use Rattle.node_core.specs.State.{NodeHas};
 ghost use Rattle.node_core.specs.Plans.{TickGives, HasRoundLeft, CannotBegin};
 
@@ -43,8 +43,8 @@ impl Node {
     pub(crate) fn attempt_noop(&self) -> Result<Step, Refusal>
         requires none { self.now.waiting.texts ≡ [] }
         requires gap { (views : Views) (values : List Held) → NodeHas self.now views
-            → HasPrefix self.now.agreement.config.members views.told values
-            → HasGap self.now.agreement.config.members views.told (length values) }
+            → HasPrefix self.now.agreement.config.members views.learner_calls values
+            → HasGap self.now.agreement.config.members views.learner_calls (length values) }
         ensures gives { (left : ℕ) → left ≤ most_left → TickGives self.now left result }
         ensures can { IfOk result (λ step. CanTake self.now.agreement step.change) }
     {

@@ -1,6 +1,7 @@
 //! What is due to a message.
 
-ghost use Rattle.std.specs.Prelude.{◌≡◌, IfOk};
+ghost use Rattle.std.specs.Prelude.{◌≡◌, ◌↔◌, IsTrue, IfOk};
+ghost use Rattle.agreement_rules.specs.Due.{IsMessageOf};
 ghost use Rattle.histories.specs.Due.{Deliver};
 ghost use Rattle.node_core.specs.State.{StandsAsBefore};
 ghost use Rattle.node_core.specs.Plans.{PlanGives, CanCommit};
@@ -13,6 +14,14 @@ use learner::laws::{learned_where_chosen_or_decided, states_are_what_was_learned
 use table_types::laws::texts_hold_one_list_of_uploads;
 
 impl Node {
+    /// Whether no refusal is due to a message: its sender and the node of each ballot in it are members, and its slot is
+    /// below the limit. It takes no memory.
+    pub fn takes(&self, message: &Message) -> bool
+        ensures { IsTrue result ↔ IsMessageOf self.now.agreement.config message.now }
+    {
+        self.agreement.takes(message)
+    }
+
     /// What is due to a message. Room is made for what it makes the node learn.
     pub(crate) fn plan_message(&mut self, message: Message) -> Result<Planned, Refusal>
         ensures gives { PlanGives self.old (Deliver message) result }

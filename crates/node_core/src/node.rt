@@ -1,7 +1,7 @@
 //! A node, and how a plan is committed.
 
 ghost use Rattle.std.specs.Prelude.{◌≡◌};
-ghost use Rattle.histories.specs.Views.{Views};
+ghost use Rattle.agreement_rules.specs.Views.{Views};
 ghost use Rattle.node_core.specs.State.{NodeHas};
 ghost use Rattle.node_core.specs.Plans.{LeadsTo, CanCommit};
 ghost use Rattle.node_core.specs.declared.plan.Planned.TheVariants.{Waits, Steps, Learns};
@@ -36,7 +36,7 @@ impl Model for Node {
 
     ghost coded = { Prim.hlevel (codes, agreement_part.the_row.coded, tables_part.the_row.coded, waiting_part.the_row.coded) };
 
-    ghost use Rattle.histories.specs.Views.{Views};
+    ghost use Rattle.agreement_rules.specs.Views.{Views};
     ghost use Rattle.node_core.specs.State.{NodeHas};
 
     ghost view = { λ n. record { agreement = n.agreement; tables = n.tables; waiting = n.waiting } };

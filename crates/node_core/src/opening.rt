@@ -3,7 +3,7 @@
 ghost use Rattle.std.specs.Prelude.{◌↔◌, ◌+◌, ◌≤◌, IsTrue};
 ghost use Rattle.std.specs.List.{AllByRecursion};
 ghost use Rattle.ballots.specs.Limits.{max_slot};
-ghost use Rattle.node_core.specs.State.{IsRecordOf, StartGives};
+ghost use Rattle.node_core.specs.State.{IsRecordOf, OpenGives};
 
 use crate::node::Node;
 use agreement::{Agreement, Refusal};
@@ -54,7 +54,7 @@ impl Node {
         records: &[Record],
     ) -> Result<Node, Refusal>
         requires slots { slot_limit ≤ max_slot + 1 }
-        ensures { StartGives (record { members = members; slot_limit = slot_limit }) me records.now result }
+        ensures { OpenGives (record { members = members; slot_limit = slot_limit }) me records.now result }
     {
         if !members.have(me) || !are_records_of(members, slot_limit, records) {
             return Err(Refusal::OutOfRange);

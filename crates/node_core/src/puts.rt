@@ -1,10 +1,10 @@
 //! What is due to an upload that a client hands in.
 
 ghost use Rattle.std.specs.Prelude.{◌≡◌, IfOk};
-ghost use Rattle.histories.specs.Views.{Views};
+ghost use Rattle.agreement_rules.specs.Views.{Views};
 ghost use Rattle.histories.specs.Due.{Put};
 ghost use Rattle.node_core.specs.State.{NodeHas, StandsAsBefore};
-ghost use Rattle.node_core.specs.Plans.{PlanGives, CanCommit, TellsKnown};
+ghost use Rattle.node_core.specs.Plans.{PlanGives, CanCommit, JudgesPut, TellsKnown};
 
 use crate::node::Node;
 use crate::plan::Planned;
@@ -29,6 +29,19 @@ impl Node {
         }
         self.waiting.make_room()?;
         Ok(Planned::Waits(upload))
+    }
+
+    /// The refusal that is due to an upload that a client hands in, `None` exactly where none is. It takes no memory.
+    pub fn refuses_put(&self, upload: &Upload) -> Option<Refusal>
+        ensures { (views : Views) → NodeHas self.now views → JudgesPut self.now views upload.now result }
+    {
+        if self.knows(upload) {
+            return None;
+        }
+        if self.agreement.first_free().is_none() {
+            return Some(Refusal::SlotsSpent);
+        }
+        None
     }
 
     // Whether the upload waits already, or something is known of it.

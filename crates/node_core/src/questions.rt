@@ -9,7 +9,8 @@ ghost use Rattle.table_types.specs.Tables.{effective, version_of, outcome_of};
 ghost use Rattle.table_versions.specs.Outcomes.{told};
 ghost use Rattle.table_versions.specs.Info.{IsLatest};
 ghost use Rattle.table_versions.specs.Ledger.{table_names};
-ghost use Rattle.histories.specs.Views.{Views, HasUploads};
+ghost use Rattle.agreement_rules.specs.Views.{Views};
+ghost use Rattle.histories.specs.Texts.{HasUploads};
 ghost use Rattle.node_core.specs.State.{NodeHas};
 
 use crate::node::Node;
@@ -25,11 +26,11 @@ impl Node {
     /// `None` exactly where it has none; and memory can be refused only where it has one. Nothing changes.
     pub fn get(&self, ticket: &Ticket) -> Result<Option<Vec<u8>>, OutOfMemory>
         ensures answer { (views : Views) (uploads : List Uploaded) → NodeHas self.now views
-            → HasUploads self.now.agreement.config.members views.told uploads
+            → HasUploads self.now.agreement.config.members views.learner_calls uploads
             → IfOk result (λ answer. option_map (λ bytes. bytes.items) answer
             ≡ option_map answer_of (version_of ticket.now.table ticket.now.version uploads)) }
         ensures memory { OnErr result ((views : Views) (uploads : List Uploaded) → NodeHas self.now views
-            → HasUploads self.now.agreement.config.members views.told uploads
+            → HasUploads self.now.agreement.config.members views.learner_calls uploads
             → IsSome (version_of ticket.now.table ticket.now.version uploads)) }
     {
         learned_is_one();
@@ -41,10 +42,10 @@ impl Node {
     /// does. Nothing changes.
     pub fn info(&self, table: &str) -> Result<Option<TableInfo>, OutOfMemory>
         ensures latest { (views : Views) (uploads : List Uploaded) → NodeHas self.now views
-            → HasUploads self.now.agreement.config.members views.told uploads
+            → HasUploads self.now.agreement.config.members views.learner_calls uploads
             → IfOk result (λ info. IsLatest info table.now (effective table.now uploads)) }
         ensures memory { OnErr result ((views : Views) (uploads : List Uploaded) → NodeHas self.now views
-            → HasUploads self.now.agreement.config.members views.told uploads → effective table.now uploads ≢ []) }
+            → HasUploads self.now.agreement.config.members views.learner_calls uploads → effective table.now uploads ≢ []) }
     {
         learned_is_one();
         prefixes_are_one();
@@ -55,10 +56,10 @@ impl Node {
     /// table. Nothing changes.
     pub fn tables(&self) -> Result<Vec<String>, OutOfMemory>
         ensures names { (views : Views) (uploads : List Uploaded) → NodeHas self.now views
-            → HasUploads self.now.agreement.config.members views.told uploads
+            → HasUploads self.now.agreement.config.members views.learner_calls uploads
             → IfOk result (λ names. map string_bytes names.items ≡ table_names uploads) }
         ensures memory { OnErr result ((views : Views) (uploads : List Uploaded) → NodeHas self.now views
-            → HasUploads self.now.agreement.config.members views.told uploads → table_names uploads ≢ []) }
+            → HasUploads self.now.agreement.config.members views.learner_calls uploads → table_names uploads ≢ []) }
     {
         learned_is_one();
         prefixes_are_one();
@@ -68,7 +69,7 @@ impl Node {
     /// What is told of an upload, by the node's prefix. It takes no memory, and nothing changes.
     pub fn outcome(&self, upload: &Upload) -> Outcome
         ensures { (views : Views) (uploads : List Uploaded) (uploaded : Uploaded) → NodeHas self.now views
-            → HasUploads self.now.agreement.config.members views.told uploads → IsTextOf upload.now uploaded
+            → HasUploads self.now.agreement.config.members views.learner_calls uploads → IsTextOf upload.now uploaded
             → told result ≡ outcome_of uploads uploaded }
     {
         learned_is_one();

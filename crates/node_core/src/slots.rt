@@ -2,7 +2,7 @@
 
 ghost use Rattle.std.specs.Prelude.{List};
 ghost use Rattle.ballots.specs.declared.value.Value.{Value as Held};
-ghost use Rattle.histories.specs.Views.{Views, HasPrefix};
+ghost use Rattle.agreement_rules.specs.Views.{Views, HasPrefix};
 ghost use Rattle.agreement.specs.State.{Has};
 ghost use Rattle.node_core.specs.Plans.{IsSlotLeft};
 
@@ -14,7 +14,7 @@ use learner::laws::states_are_what_was_learned;
 /// below the limit. Its time is that of a walk from the first free slot on.
 pub(crate) fn slot_left(agreement: &Agreement, left: u8) -> Option<Slot>
     ensures { (views : Views) (values : List Held) → Has agreement.now views
-        → HasPrefix agreement.now.config.members views.told values
+        → HasPrefix agreement.now.config.members views.learner_calls values
         → IsSlotLeft agreement.now.config views left result }
 {
     states_are_what_was_learned();

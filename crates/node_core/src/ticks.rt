@@ -1,7 +1,8 @@
 //! What is due to a tick.
 
 ghost use Rattle.std.specs.Prelude.{◌≤◌, IfOk};
-ghost use Rattle.histories.specs.Due.{Tick, most_left};
+ghost use Rattle.agreement_rules.specs.Due.{most_left};
+ghost use Rattle.histories.specs.Due.{Tick};
 ghost use Rattle.node_core.specs.Plans.{PlanGives, TickGives, CanCommit};
 ghost use Rattle.agreement.specs.Step.{CanTake};
 

@@ -5,14 +5,14 @@ use Rattle.table_versions.specs.declared.outcome.Outcome as outcome_type
 use Rattle.table_versions.specs.declared.outcome.Outcome.TheVariants as outcome
 use Rattle.table_versions.specs.Outcomes.{told}
 use Rattle.histories.specs.Event as event
-use Rattle.histories.specs.Gave as gave
+use Rattle.histories.specs.EventResult as results
 use Rattle.node_events.specs.declared.event.Event.{Event}
 use Rattle.node_events.specs.declared.event.Event.TheVariants.{Put, Tick, Deliver, TickCut, DeliverCut, Restart, Get, Info, Outcome}
-use Rattle.node_events.specs.declared.gave.Gave.{Gave}
-use Rattle.node_events.specs.declared.gave.Gave.TheVariants as given
-use Rattle.node_events.specs.declared.gave.Reason.{Reason}
-use Rattle.node_events.specs.declared.gave.Reason.TheVariants.{OutOfRange, SlotsSpent, RoundsSpent, OutOfMemory, Down, NotSent}
-use Rattle.node_events.specs.Told.{event_of, reason_of, gave_of}
+use Rattle.node_events.specs.declared.event_result.EventResult.{EventResult}
+use Rattle.node_events.specs.declared.event_result.EventResult.TheVariants as given
+use Rattle.node_events.specs.declared.event_result.Reason.{Reason}
+use Rattle.node_events.specs.declared.event_result.Reason.TheVariants.{OutOfRange, SlotsSpent, RoundsSpent, OutOfMemory, Down, NotSent}
+use Rattle.node_events.specs.Told.{event_of, reason_of, result_of}
 
 -- ---- back from what is told
 
@@ -39,13 +39,13 @@ event_back (Get node ticket) = refl
 event_back (Info node table) = refl
 event_back (Outcome node upload) = refl
 
-reason_from : gave.Reason → Reason
-reason_from gave.OutOfRange = OutOfRange
-reason_from gave.SlotsSpent = SlotsSpent
-reason_from gave.RoundsSpent = RoundsSpent
-reason_from gave.OutOfMemory = OutOfMemory
-reason_from gave.Down = Down
-reason_from gave.NotSent = NotSent
+reason_from : results.Reason → Reason
+reason_from results.OutOfRange = OutOfRange
+reason_from results.SlotsSpent = SlotsSpent
+reason_from results.RoundsSpent = RoundsSpent
+reason_from results.OutOfMemory = OutOfMemory
+reason_from results.Down = Down
+reason_from results.NotSent = NotSent
 
 reason_back : (x : Reason) → reason_from (reason_of x) ≡ x
 unfolding reason_from
@@ -69,17 +69,17 @@ outcome_back outcome.SchemaMismatch = refl
 outcome_back outcome.Conflict = refl
 outcome_back outcome.Unknown = refl
 
-gave_from : gave.Gave → Gave
-gave_from (gave.Sent first count) = given.Sent first count
-gave_from gave.Done = given.Done
-gave_from (gave.Answer bytes) = given.Answer bytes
-gave_from gave.Unavailable = given.Unavailable
-gave_from (gave.Info version) = given.Info version
-gave_from gave.NoTable = given.NoTable
-gave_from (gave.Outcome told_outcome) = given.Outcome (outcome_from told_outcome)
-gave_from (gave.Refused reason) = given.Refused (reason_from reason)
+gave_from : results.EventResult → EventResult
+gave_from (results.Sent first count) = given.Sent first count
+gave_from results.Done = given.Done
+gave_from (results.Answer bytes) = given.Answer bytes
+gave_from results.Unavailable = given.Unavailable
+gave_from (results.Info version) = given.Info version
+gave_from results.NoTable = given.NoTable
+gave_from (results.Outcome told_outcome) = given.Outcome (outcome_from told_outcome)
+gave_from (results.Refused reason) = given.Refused (reason_from reason)
 
-gave_back : (x : Gave) → gave_from (gave_of x) ≡ x
+gave_back : (x : EventResult) → gave_from (result_of x) ≡ x
 unfolding gave_from
 gave_back (given.Sent first count) = refl
 gave_back given.Done = refl
@@ -93,5 +93,5 @@ gave_back (given.Refused reason) = ap given.Refused (reason_back reason)
 pub one_event : (x y : Event) → event_of x ≡ event_of y → x ≡ y
 one_event x y same = sym (event_back x) ∙ ap event_from same ∙ event_back y
 
-pub one_gave : (x y : Gave) → gave_of x ≡ gave_of y → x ≡ y
+pub one_gave : (x y : EventResult) → result_of x ≡ result_of y → x ≡ y
 one_gave x y same = sym (gave_back x) ∙ ap gave_from same ∙ gave_back y

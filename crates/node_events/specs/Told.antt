@@ -1,13 +1,13 @@
 -- The program's events, and what they gave, told as those of histories.
 use Rattle.table_versions.specs.Outcomes.{told}
 use Rattle.histories.specs.Event as event
-use Rattle.histories.specs.Gave as gave
+use Rattle.histories.specs.EventResult as results
 use Rattle.node_events.specs.declared.event.Event.{Event}
 use Rattle.node_events.specs.declared.event.Event.TheVariants.{Put, Tick, Deliver, TickCut, DeliverCut, Restart, Get, Info, Outcome}
-use Rattle.node_events.specs.declared.gave.Gave.{Gave}
-use Rattle.node_events.specs.declared.gave.Gave.TheVariants as given
-use Rattle.node_events.specs.declared.gave.Reason.{Reason}
-use Rattle.node_events.specs.declared.gave.Reason.TheVariants.{OutOfRange, SlotsSpent, RoundsSpent, OutOfMemory, Down, NotSent}
+use Rattle.node_events.specs.declared.event_result.EventResult.{EventResult}
+use Rattle.node_events.specs.declared.event_result.EventResult.TheVariants as given
+use Rattle.node_events.specs.declared.event_result.Reason.{Reason}
+use Rattle.node_events.specs.declared.event_result.Reason.TheVariants.{OutOfRange, SlotsSpent, RoundsSpent, OutOfMemory, Down, NotSent}
 
 -- an upload is told by its encoding, and a ticket by the version that it is for
 abbrev pub event_of : Event → event.Event
@@ -21,20 +21,20 @@ event_of (Get node ticket) = event.Get node ticket.table ticket.version
 event_of (Info node table) = event.Info node table
 event_of (Outcome node upload) = event.Outcome node upload
 
-abbrev pub reason_of : Reason → gave.Reason
-reason_of OutOfRange = gave.OutOfRange
-reason_of SlotsSpent = gave.SlotsSpent
-reason_of RoundsSpent = gave.RoundsSpent
-reason_of OutOfMemory = gave.OutOfMemory
-reason_of Down = gave.Down
-reason_of NotSent = gave.NotSent
+abbrev pub reason_of : Reason → results.Reason
+reason_of OutOfRange = results.OutOfRange
+reason_of SlotsSpent = results.SlotsSpent
+reason_of RoundsSpent = results.RoundsSpent
+reason_of OutOfMemory = results.OutOfMemory
+reason_of Down = results.Down
+reason_of NotSent = results.NotSent
 
-abbrev pub gave_of : Gave → gave.Gave
-gave_of (given.Sent first count) = gave.Sent first count
-gave_of given.Done = gave.Done
-gave_of (given.Answer bytes) = gave.Answer bytes
-gave_of given.Unavailable = gave.Unavailable
-gave_of (given.Info version) = gave.Info version
-gave_of given.NoTable = gave.NoTable
-gave_of (given.Outcome outcome) = gave.Outcome (told outcome)
-gave_of (given.Refused reason) = gave.Refused (reason_of reason)
+abbrev pub result_of : EventResult → results.EventResult
+result_of (given.Sent first count) = results.Sent first count
+result_of given.Done = results.Done
+result_of (given.Answer bytes) = results.Answer bytes
+result_of given.Unavailable = results.Unavailable
+result_of (given.Info version) = results.Info version
+result_of given.NoTable = results.NoTable
+result_of (given.Outcome outcome) = results.Outcome (told outcome)
+result_of (given.Refused reason) = results.Refused (reason_of reason)

@@ -1,14 +1,14 @@
 -- What a node answers, as what a question gives.
-use Rattle.std.proofs.Common.{◌≡◌, ◌⊎◌, refl, sym, ap, ◌∙◌, inl, inr, ℕ, ◌<◌, arith, [], ◌∷◌, length, Option, None, Some, List}
+use Rattle.std.proofs.Common.{◌≡◌, ◌≢◌, ◌⊎◌, refl, sym, ap, subst, ◌∙◌, inl, inr, ℕ, ◌<◌, arith, true, false, [], ◌∷◌, length, Option, None, Some, IsSome, List}
 use Rattle.std.specs.Option.{option_map}
 use Rattle.table_types.specs.Uploads.{Upload}
 use Rattle.table_types.specs.Tables.{Version, version_of, effective}
 use Rattle.table_types.specs.Answers.{answer_of}
 use Rattle.table_versions.specs.declared.info.TableInfo.{TableInfo}
 use Rattle.table_versions.specs.Info.{IsLatest}
-use Rattle.histories.specs.Gave.{Gave}
-use Rattle.histories.specs.Gave as gave
-use Rattle.histories.specs.Following.{GetGives, InfoGives}
+use Rattle.histories.specs.EventResult.{EventResult}
+use Rattle.histories.specs.EventResult as results
+use Rattle.histories.specs.Following.{GetGivesIfAble, InfoGivesIfAble}
 
 none_is_some : {X : Type 0} (x : X) → None ≡ Some x → ⊥
 none_is_some x same = cc
@@ -30,25 +30,34 @@ long_of : (table : List ℕ) (info : TableInfo) (counted : List Upload) → IsLa
 long_of table info [] is = absurd is
 long_of table info (first ∷ rest) is = (omega arith, is.version)
 
-pub an_answer : (uploads : List Upload) (table : List ℕ) (version : ℕ) (bytes : List ℕ) (given : Gave) → Some bytes ≡ option_map answer_of (version_of table version uploads)
-    → (given ≡ gave.Answer bytes) ⊎ (given ≡ gave.Refused gave.OutOfMemory)
-    → GetGives uploads table version given ⊎ (given ≡ gave.Refused gave.OutOfMemory)
+pub an_answer : (uploads : List Upload) (table : List ℕ) (version : ℕ) (bytes : List ℕ) (given : EventResult) → Some bytes ≡ option_map answer_of (version_of table version uploads)
+    → (given ≡ results.Answer bytes) ⊎ (given ≡ results.Refused results.OutOfMemory) → GetGivesIfAble uploads table version given
 an_answer uploads table version bytes given is (inl tells) =
     let found = found_of bytes (version_of table version uploads) is in
-    inl (inl (found.0, found.1, tells ∙ ap (λ (bs : List ℕ). gave.Answer bs) found.2))
-an_answer uploads table version bytes given is (inr wants) = inr wants
+    inl (inl (found.0, found.1, tells ∙ ap (λ (bs : List ℕ). results.Answer bs) found.2))
+an_answer uploads table version bytes given is (inr wants) =
+    let found = found_of bytes (version_of table version uploads) is in
+    inr (subst (λ (o : Option Version). IsSome o) (sym found.1) refl, wants)
 
-pub no_answer : (uploads : List Upload) (table : List ℕ) (version : ℕ) (given : Gave) → None ≡ option_map answer_of (version_of table version uploads)
-    → given ≡ gave.Unavailable → GetGives uploads table version given ⊎ (given ≡ gave.Refused gave.OutOfMemory)
+pub no_answer : (uploads : List Upload) (table : List ℕ) (version : ℕ) (given : EventResult) → None ≡ option_map answer_of (version_of table version uploads)
+    → given ≡ results.Unavailable → GetGivesIfAble uploads table version given
 no_answer uploads table version given is tells = inl (inr (none_of (version_of table version uploads) is, tells))
 
+pub no_memory : (uploads : List Upload) (table : List ℕ) (version : ℕ) (given : EventResult) → IsSome (version_of table version uploads)
+    → given ≡ results.Refused results.OutOfMemory → GetGivesIfAble uploads table version given
+no_memory uploads table version given is wants = inr (is, wants)
+
 -- the latest version of a table, or none
-pub the_latest : (uploads : List Upload) (table : List ℕ) (info : TableInfo) (given : Gave) → IsLatest (Some info) table (effective table uploads) → given ≡ gave.Info info.version
-    → InfoGives uploads table given ⊎ (given ≡ gave.Refused gave.OutOfMemory)
+pub the_latest : (uploads : List Upload) (table : List ℕ) (info : TableInfo) (given : EventResult) → IsLatest (Some info) table (effective table uploads) → given ≡ results.Info info.version
+    → InfoGivesIfAble uploads table given
 the_latest uploads table info given is tells =
     let of = long_of table info (effective table uploads) is in
-    inl (inl (of.0, tells ∙ ap (λ n. gave.Info n) of.1))
+    inl (inl (of.0, tells ∙ ap (λ n. results.Info n) of.1))
 
-pub no_latest : (uploads : List Upload) (table : List ℕ) (given : Gave) → IsLatest None table (effective table uploads) → given ≡ gave.NoTable
-    → InfoGives uploads table given ⊎ (given ≡ gave.Refused gave.OutOfMemory)
+pub no_latest : (uploads : List Upload) (table : List ℕ) (given : EventResult) → IsLatest None table (effective table uploads) → given ≡ results.NoTable
+    → InfoGivesIfAble uploads table given
 no_latest uploads table given is tells = inl (inr (is, tells))
+
+pub no_memory_for_latest : (uploads : List Upload) (table : List ℕ) (given : EventResult) → effective table uploads ≢ []
+    → given ≡ results.Refused results.OutOfMemory → InfoGivesIfAble uploads table given
+no_memory_for_latest uploads table given some wants = inr (some, wants)

@@ -6,8 +6,9 @@ use Rattle.ballots.specs.declared.message.Body.{Body}
 use Rattle.ballots.specs.declared.message.Body.TheVariants as body
 use Rattle.acceptor.specs.declared.answer.Answer.{Answer}
 use Rattle.acceptor.specs.declared.answer.Answer.TheVariants as answer
-use Rattle.histories.specs.Views.{Config, Views}
-use Rattle.histories.specs.Due.{Input, Put, Tick, Deliver, Plan, Plans, IsDue, BodyIsDue, AimIsDue, Aim, Attempts, AsksFrom, ReplyToPrepare, ReplyToAccept, has_seen}
+use Rattle.agreement_rules.specs.Views.{Config, Views}
+use Rattle.agreement_rules.specs.Due.{Plan, Plans, AimIsDue, Aim, Attempts, AsksFrom, ReplyToPrepare, ReplyToAccept, has_seen}
+use Rattle.histories.specs.Due.{Input, Put, Tick, Deliver, IsDue, BodyIsDue}
 use Rattle.histories.specs.Following.{with_due}
 
 abbrev pub Keeps : Views → Plan → Type 0

@@ -1,31 +1,44 @@
 -- What is done about an input, as a step of a history.
-use Rattle.std.proofs.Common.{◌≡◌, refl, sym, ap, subst, ◌∙◌, inl, inr, ℕ, ◌<◌, arith, true, Option, Some, Result, Ok, Err, OnOk, OnErr, List, [], ◌++◌, length, take, drop}
+use Rattle.std.proofs.Common.{◌≡◌, ◌≢◌, refl, sym, ap, subst, ◌∙◌, inl, inr, ℕ, ◌<◌, arith, true, false, Option, None, Some, Result, Ok, Err, OnOk, OnErr, List, [], ◌++◌, length, take, drop}
+use Rattle.std.specs.Result.{is_ok}
 use Rattle.std.specs.List.{AllByRecursion}
 use Rattle.std.proofs.lemmas.List.{append-nil, take_all}
 use Rattle.std.proofs.Math.Seq.{drop-append_seam}
 use Rattle.ballots.specs.declared.record.Record.{Record}
 use Rattle.ballots.specs.declared.message.Message.{Message}
+use Rattle.acceptor.specs.AcceptorState.{standing}
 use Rattle.agreement.specs.declared.refusal.Refusal.{Refusal}
 use Rattle.agreement.specs.declared.refusal.Refusal.TheVariants as refusal
-use Rattle.histories.specs.Views.{Config, Views}
-use Rattle.histories.specs.Due.{Input, Due, Refuses, Plan, Plans, IsDue}
-use Rattle.histories.specs.Due as due
-use Rattle.histories.specs.Gave.{Gave, count_of}
-use Rattle.histories.specs.Gave as gave
-use Rattle.histories.specs.Following.{Seat, IsUp, with_due, reason_of, StepGives, InputGives}
+use Rattle.agreement_rules.specs.Views.{Config, Views}
+use Rattle.agreement_rules.specs.Due.{Refusal as DueRefusal, Due, Refuses, Plan, Plans}
+use Rattle.agreement_rules.specs.Due as due
+use Rattle.histories.specs.Due.{Input, IsDue}
+use Rattle.histories.specs.Due as owed
+use Rattle.histories.specs.EventResult.{EventResult, count_of}
+use Rattle.histories.specs.EventResult as results
+use Rattle.histories.specs.Following.{Seat, IsUp, with_due, reason_of, SendsGives, IsAllowed, InputGives}
 use Rattle.node_core.specs.Inputs.{refusal_of}
 use Rattle.node_core.specs.State.{NodeState, NodeHas, IsRecordOf}
 use Rattle.node_core.specs.declared.plan.Planned.{Planned}
-use Rattle.node_core.specs.Plans.{IsRefused, IsPlanned, LeadsTo, kept_by, sent_by}
-use Rattle.node_seats.specs.State.{SeatState, IsPlaced, StandsUp, Stands, Leaves}
+use Rattle.node_core.specs.Plans.{IsTaken, IsRefused, JudgesPut, IsPlanned, LeadsTo, kept_by, sent_by}
+use Rattle.node_events.specs.declared.event_result.EventResult.{EventResult as Told}
+use Rattle.node_events.specs.Told.{result_of}
+use Rattle.node_seats.specs.State.{SeatState, IsPlaced, StandsUp, Stands, Leaves, SendsFor, IsAsBefore}
 use Rattle.node_seats.specs.Steps.{IsDone, IsLeft, TakeGives, KeepsAlone}
 use Rattle.node_seats.proofs.Dues.{due_keeps}
-use Rattle.node_seats.proofs.Placing.{due_is_of, found_are_of}
+use Rattle.node_seats.proofs.Placing.{due_is_of, recovered_are_of}
+use Rattle.node_seats.proofs.Keeping.{plan_keeps, refusal_keeps, taken_has}
+use Rattle.node_seats.proofs.Allowing.{DueIsOne, allowed}
 
 -- ---- parts
 
+-- the record that is due is not recovered
+pub without_due : (records : List Record) (due : Option Record) → with_due false records due ≡ records
+without_due records None = refl
+without_due records (Some due) = refl
+
 -- nothing goes out
-pub quiet : (old new : SeatState) (before : List Message) (given : Gave) (Gives : Seat → Type 0) (left : Seat)
+pub quiet : (old new : SeatState) (before : List Message) (given : EventResult) (Gives : Seat → Type 0) (left : Seat)
     → count_of given ≡ 0 → Gives left → Stands new left → IsPlaced new → new.me ≡ old.me → new.config ≡ old.config
     → Leaves old new before before given Gives
 quiet old new before given Gives left none gives stands placed me config = record {
@@ -58,6 +71,16 @@ due_there old views up input due is =
     subst (λ (m : ℕ). IsDue old.config m views input due) up.me_is
     (subst (λ (c : Config). IsDue c up.node.agreement.me views input due) up.config_is is)
 
+pub taken_there : (old : SeatState) (views : Views) (up : StandsUp old views) (input : Input)
+    → IsTaken up.node.agreement.config up.node.agreement.me views input → IsTaken old.config old.me views input
+taken_there old views up input is =
+    subst (λ (m : ℕ). IsTaken old.config m views input) up.me_is
+    (subst (λ (c : Config). IsTaken c up.node.agreement.me views input) up.config_is is)
+
+sends_there : (old : SeatState) (views : Views) (up : StandsUp old views) (input : Input)
+    → SendsFor up.node.agreement.config up.node.agreement.me views input → SendsFor old.config old.me views input
+sends_there old views up input is = (is.0, due_there old views up input (Plans is.0) is.1, is.2)
+
 -- ---- an input
 
 -- how the node is left, and its seat with it
@@ -84,10 +107,10 @@ next_sent before sends after is =
     subst (λ (ms : List Message). take (length sends) (drop (length before) ms) ≡ sends) (sym is)
     (subst (λ (ms : List Message). take (length sends) ms ≡ sends) (sym (drop-append_seam before sends)) (take_all (length sends) sends (omega arith)))
 
-pub step_done : (old new : SeatState) (views : Views) (input : Input) (before after : List Message) (count : ℕ) (given : Gave)
+pub step_done : (old new : SeatState) (views : Views) (input : Input) (before after : List Message) (count : ℕ) (given : EventResult)
     → IsPlaced old → (up : StandsUp old views) (node : NodeState) → IsLeftAs old new views up node
-    → IsDone up.node node views input old.records new.records before after count → given ≡ gave.Sent (length before) count
-    → Leaves old new before after given (InputGives old.config old.me views input (StepGives after (length before) views) given)
+    → IsDone up.node node views input old.records new.records before after count → given ≡ results.Sent (length before) count
+    → Leaves old new before after given (InputGives old.config old.me views input (SendsGives after (length before) views) given)
 step_done old new views input before after count given placed up node is_left done is =
     let is_due = due_there old views up input (Plans done.plan) done.due in
     let recorded : new.records ≡ with_due true views.records done.plan.kept =
@@ -97,38 +120,49 @@ step_done old new views input before after count given placed up node is_left do
       behind = done.sent;
       counted = sym (ap count_of is ∙ done.counted);
       left = IsUp done.plan.after;
-      gives = inl (Plans done.plan, is_due, (is ∙ ap (λ n. gave.Sent (length before) n) done.counted, next_sent before done.plan.sends after done.sent, refl));
+      gives = inl (Plans done.plan, is_due, (is ∙ ap (λ n. results.Sent (length before) n) done.counted, next_sent before done.plan.sends after done.sent, refl));
       stands = stands_as old new views done.plan.after up node is_left done.has (recorded ∙ sym (due_keeps old.config old.me views input done.plan is_due));
       placed = placed_too old new placed is_left.me is_left.config
           (subst (λ (rs : List Record). AllByRecursion (IsRecordOf old.config) rs) (sym done.recorded)
-          (found_are_of old.config true old.records done.plan.kept placed.records_are (due_is_of old.config old.me views input done.plan placed.member is_due)));
+          (recovered_are_of old.config true old.records done.plan.kept placed.records_are (due_is_of old.config old.me views input done.plan placed.member is_due)));
       me_is = is_left.me;
       config_is = is_left.config;
     }
 
--- a refusal, as what the input gives
-refusal_gives : (old : SeatState) (views : Views) (up : StandsUp old views) (input : Input) (sent : List Message) (next : ℕ) (why : Refusal) (given : Gave)
-    → IsRefused up.node views input why → given ≡ gave.Refused (reason_of (refusal_of why))
-    → InputGives old.config old.me views input (StepGives sent next views) given (IsUp views)
-refusal_gives old views up input sent next refusal.OutOfRange given refused is = inl (Refuses due.OutOfRange, due_there old views up input (Refuses due.OutOfRange) refused, (is, refl))
-refusal_gives old views up input sent next refusal.SlotsSpent given refused is = inl (Refuses due.SlotsSpent, due_there old views up input (Refuses due.SlotsSpent) refused, (is, refl))
-refusal_gives old views up input sent next refusal.RoundsSpent given refused is = inl (Refuses due.RoundsSpent, due_there old views up input (Refuses due.RoundsSpent) refused, (is, refl))
-refusal_gives old views up input sent next refusal.OutOfMemory given refused is = inr (is, refl)
+-- a refusal, as what the input gives; memory is wanted only where no refusal is due
+pub refusal_gives : DueIsOne → (old : SeatState) (views : Views) (up : StandsUp old views) (input : Input) (Gives : Due → EventResult → Seat → Type 0)
+    → ((refusal : DueRefusal) → Gives (Refuses refusal) (results.Refused (reason_of refusal)) (IsUp views)) → (why : Refusal)
+    → IsRefused up.node views input why → InputGives old.config old.me views input Gives (results.Refused (reason_of (refusal_of why))) (IsUp views)
+refusal_gives one old views up input Gives refuses refusal.OutOfRange refused = inl (Refuses due.OutOfRange, due_there old views up input (Refuses due.OutOfRange) refused, refuses due.OutOfRange)
+refusal_gives one old views up input Gives refuses refusal.SlotsSpent refused = inl (Refuses due.SlotsSpent, due_there old views up input (Refuses due.SlotsSpent) refused, refuses due.SlotsSpent)
+refusal_gives one old views up input Gives refuses refusal.RoundsSpent refused = inl (Refuses due.RoundsSpent, due_there old views up input (Refuses due.RoundsSpent) refused, refuses due.RoundsSpent)
+refusal_gives one old views up input Gives refuses refusal.OutOfMemory refused =
+    inr (allowed one old.config old.me views input (taken_there old views up input refused), (refl, refl))
 
-refused_sends_none : (why : Refusal) (given : Gave) → given ≡ gave.Refused (reason_of (refusal_of why)) → count_of given ≡ 0
-refused_sends_none why given is = ap count_of is
+-- the seat that is left as it was, whatever room its node has made
+left_so : (old new : SeatState) (views : Views) (before after : List Message) → IsPlaced old → (up : StandsUp old views) (node : NodeState)
+    → IsLeftAs old new views up node → IsLeft node views old.records new.records before after → IsAsBefore old new (IsUp views) before after
+left_so old new views before after placed up node is_left left = record {
+  stands = stands_as old new views views up node is_left left.has (left.unrecorded ∙ up.kept);
+  records_are = left.unrecorded;
+  placed = same_records old new placed is_left.me is_left.config left.unrecorded;
+  me_is = is_left.me;
+  config_is = is_left.config;
+  unsent = left.unsent;
+}
 
-pub step_left : (old new : SeatState) (views : Views) (input : Input) (before after : List Message) (why : Refusal) (given : Gave)
+pub step_left : DueIsOne → (old new : SeatState) (views : Views) (input : Input) (before after : List Message) (why : Refusal) (given : EventResult)
     → IsPlaced old → (up : StandsUp old views) (node : NodeState) → IsLeftAs old new views up node
-    → IsLeft up.node node views input old.records new.records before after why → given ≡ gave.Refused (reason_of (refusal_of why))
-    → Leaves old new before after given (InputGives old.config old.me views input (StepGives after (length before) views) given)
-step_left old new views input before after why given placed up node is_left left is =
-    subst (λ (ms : List Message). Leaves old new before ms given (InputGives old.config old.me views input (StepGives ms (length before) views) given)) (sym left.unsent)
-    (quiet old new before given (InputGives old.config old.me views input (StepGives before (length before) views) given) (IsUp views)
-    (refused_sends_none why given is)
-    (refusal_gives old views up input before (length before) why given left.refused is)
-    (stands_as old new views views up node is_left left.has (left.unrecorded ∙ up.kept))
-    (same_records old new placed is_left.me is_left.config left.unrecorded) is_left.me is_left.config)
+    → IsRefused up.node views input why → IsLeft node views old.records new.records before after → given ≡ results.Refused (reason_of (refusal_of why))
+    → Leaves old new before after given (InputGives old.config old.me views input (SendsGives after (length before) views) given)
+step_left one old new views input before after why given placed up node is_left refused left is =
+    let same = left_so old new views before after placed up node is_left left in
+    subst (λ (g : EventResult). Leaves old new before after g (InputGives old.config old.me views input (SendsGives after (length before) views) g)) (sym is)
+    (subst (λ (ms : List Message). Leaves old new before ms (results.Refused (reason_of (refusal_of why))) (InputGives old.config old.me views input (SendsGives ms (length before) views) (results.Refused (reason_of (refusal_of why))))) (sym left.unsent)
+    (quiet old new before (results.Refused (reason_of (refusal_of why))) (InputGives old.config old.me views input (SendsGives before (length before) views) (results.Refused (reason_of (refusal_of why)))) (IsUp views)
+    refl
+    (refusal_gives one old views up input (SendsGives before (length before) views) (λ r. (refl, refl)) why refused)
+    same.stands same.placed is_left.me is_left.config))
 
 -- ---- a node that does what was planned
 
@@ -149,16 +183,23 @@ done_by old mid new views input planned records kept before after count is has c
 -- an input for which something is planned may want memory
 pub may_want_memory : (node : NodeState) (views : Views) (input : Input) (planned : Planned) → IsPlanned node views input planned
     → IsRefused node views input refusal.OutOfMemory
-may_want_memory node views (due.Put text) planned is = (is.plan, is.due)
-may_want_memory node views (due.Tick left) planned is = (is.plan, is.due)
-may_want_memory node views (due.Deliver message) planned is = is.due.0
+may_want_memory node views (owed.Put text) planned is = (is.plan, is.due)
+may_want_memory node views (owed.Tick left) planned is = (is.plan, is.due)
+may_want_memory node views (owed.Deliver message) planned is = is.due.0
+
+-- the refusal that is due to a put
+pub judged_refused : (node : NodeState) (views : Views) (text : List ℕ) (why : Refusal) → JudgesPut node views text (Some why) → IsRefused node views (owed.Put text) why
+judged_refused node views text refusal.OutOfRange is = is
+judged_refused node views text refusal.SlotsSpent is = is
+judged_refused node views text refusal.RoundsSpent is = is
+judged_refused node views text refusal.OutOfMemory is = absurd (let no : due.OutOfMemory ≡ due.SlotsSpent = is.0 in cc)
+
+-- the messages of what was planned are due
+pub planned_sends : (node : NodeState) (views : Views) (input : Input) (planned : Planned) → IsPlanned node views input planned → sent_by planned ≢ []
+    → SendsFor node.agreement.config node.agreement.me views input
+planned_sends node views input planned is some = (is.plan, is.due, λ none. some (sym is.sends ∙ none))
 
 -- ---- a seat that takes an input
-
--- what is told of how many messages went out, or of a refusal
-abbrev pub Tells : List Message → Result ℕ Refusal → Gave → Type 0
-Tells before (Ok count) given = given ≡ gave.Sent (length before) count
-Tells before (Err why) given = given ≡ gave.Refused (reason_of (refusal_of why))
 
 some_same : {X : Type 0} (x y : X) → Some x ≡ Some y → x ≡ y
 some_same x y same = cc
@@ -166,7 +207,7 @@ some_same x y same = cc
 pub same_node : (state : SeatState) (views : Views) (up : StandsUp state views) (node : NodeState) → state.node ≡ Some node → node ≡ up.node
 same_node state views up node is = some_same node up.node (sym is ∙ up.up)
 
-module _ (old new : SeatState) (views : Views) (input : Input) (before after : List Message) (given : Gave) (placed : IsPlaced old) (up : StandsUp old views)
+module _ (one : DueIsOne) (old new : SeatState) (views : Views) (input : Input) (before after : List Message) (placed : IsPlaced old) (up : StandsUp old views)
     (node changed : NodeState) (here : old.node ≡ Some node) (there : new.node ≡ Some changed) (node-me : changed.agreement.me ≡ node.agreement.me)
     (node-config : changed.agreement.config ≡ node.agreement.config) (me : new.me ≡ old.me) (config : new.config ≡ old.config) where
   is_left_so : IsLeftAs old new views up changed
@@ -178,25 +219,67 @@ module _ (old new : SeatState) (views : Views) (input : Input) (before after : L
     config = config;
   }
 
-  pub step_gives : (result : Result ℕ Refusal) → (NodeHas node views → TakeGives node changed views input old.records new.records before after result)
-      → Tells before result given
-      → Leaves old new before after given (InputGives old.config old.me views input (StepGives after (length before) views) given)
-  step_gives (Ok count) gives tells =
-      let same = same_node old views up node here in
+  has_here : NodeHas node views
+  has_here = subst (λ (n : NodeState). NodeHas n views) (sym (same_node old views up node here)) up.has
+
+  pub step_sent : (count : ℕ) (given : EventResult) → (NodeHas node views → IsDone node changed views input old.records new.records before after count)
+      → given ≡ results.Sent (length before) count
+      → Leaves old new before after given (InputGives old.config old.me views input (SendsGives after (length before) views) given)
+  step_sent count given gives is =
       step_done old new views input before after count given placed up changed is_left_so
-      (subst (λ (n : NodeState). IsDone n changed views input old.records new.records before after count) same
-      (gives (subst (λ (n : NodeState). NodeHas n views) (sym same) up.has))) tells
-  step_gives (Err why) gives tells =
-      let same = same_node old views up node here in
-      step_left old new views input before after why given placed up changed is_left_so
-      (subst (λ (n : NodeState). IsLeft n changed views input old.records new.records before after why) same
-      (gives (subst (λ (n : NodeState). NodeHas n views) (sym same) up.has))) tells
+      (subst (λ (n : NodeState). IsDone n changed views input old.records new.records before after count) (same_node old views up node here) (gives has_here)) is
+
+  pub step_refused : (why : Refusal) (given : EventResult) → (NodeHas node views → IsRefused node views input why × IsLeft changed views old.records new.records before after)
+      → given ≡ results.Refused (reason_of (refusal_of why))
+      → Leaves old new before after given (InputGives old.config old.me views input (SendsGives after (length before) views) given)
+  step_refused why given gives is =
+      let did = gives has_here in
+      step_left one old new views input before after why given placed up changed is_left_so
+      (subst (λ (n : NodeState). IsRefused n views input why) (same_node old views up node here) did.0) did.1 is
+
+  pub step_wants : (NodeHas node views → SendsFor node.agreement.config node.agreement.me views input × IsLeft changed views old.records new.records before after)
+      → IsAsBefore old new (IsUp views) before after × SendsFor old.config old.me views input
+  step_wants gives =
+      let did = gives has_here in (
+        left_so old new views before after placed up changed is_left_so did.1,
+        sends_there old views up input (subst (λ (n : NodeState). SendsFor n.agreement.config n.agreement.me views input) (same_node old views up node here) did.0),
+      )
 
 -- ---- a node that keeps its record, and no more
 
 pub kept_alone : {E : Type 0} (node : NodeState) (views : Views) (input : Input) (planned : Planned) (records kept : List Record) (due : Option Record) (result : Result (Unit {0}) E)
     → IsPlanned node views input planned → due ≡ kept_by planned → OnOk result (kept ≡ with_due true records due) → OnErr result (kept ≡ records)
-    → KeepsAlone node views input records kept
+    → KeepsAlone node views input records kept (is_ok result)
 kept_alone node views input planned records kept due (Ok done) is same ok err =
-    inl (is.plan, true, is.due, ok ∙ ap (λ (d : Option Record). with_due true records d) (same ∙ sym is.kept))
-kept_alone node views input planned records kept due (Err fault) is same ok err = inr err
+    (is.plan.kept, plan_keeps node.agreement.config node.agreement.me views input is.plan is.due, ok ∙ ap (λ (d : Option Record). with_due true records d) (same ∙ sym is.kept))
+kept_alone node views input planned records kept due (Err fault) is same ok err =
+    (is.plan.kept, plan_keeps node.agreement.config node.agreement.me views input is.plan is.due, err ∙ sym (without_due records is.plan.kept))
+
+-- no record is due where it is refused
+refused_so : (node : NodeState) (views : Views) (input : Input) (refusal : DueRefusal) (records kept : List Record) → kept ≡ records
+    → IsDue node.agreement.config node.agreement.me views input (Refuses refusal) → KeepsAlone node views input records kept true
+refused_so node views input refusal records kept same is = (None, refusal_keeps node.agreement.config node.agreement.me views input refusal is, same)
+
+refused_alone : (node : NodeState) (views : Views) (input : Input) (why : Refusal) (records kept : List Record) → (why ≡ refusal.OutOfMemory → ⊥) → kept ≡ records
+    → IsRefused node views input why → KeepsAlone node views input records kept true
+refused_alone node views input refusal.OutOfRange records kept not same refused = refused_so node views input due.OutOfRange records kept same refused
+refused_alone node views input refusal.SlotsSpent records kept not same refused = refused_so node views input due.SlotsSpent records kept same refused
+refused_alone node views input refusal.RoundsSpent records kept not same refused = refused_so node views input due.RoundsSpent records kept same refused
+refused_alone node views input refusal.OutOfMemory records kept not same refused = absurd (not refl)
+
+-- one may be due where memory is refused, and is not kept
+unplanned_alone : (node : NodeState) (views : Views) (input : Input) (records kept : List Record) → NodeHas node views → kept ≡ records
+    → IsTaken node.agreement.config node.agreement.me views input → KeepsAlone node views input records kept false
+unplanned_alone node views input records kept has same taken =
+    let some = taken_has node.agreement.config node.agreement.me views (standing node.agreement.acceptor) has.agrees.restored input taken in
+    (some.0, some.1, same ∙ sym (without_due records some.0))
+
+wants_taken : (node : NodeState) (views : Views) (input : Input) → IsRefused node views input refusal.OutOfMemory → IsTaken node.agreement.config node.agreement.me views input
+wants_taken node views input refused = refused
+
+pub not_kept : {E : Type 0} (node : NodeState) (views : Views) (input : Input) (why : Refusal) (records : List Record) (result : Result (Unit {0}) E) → NodeHas node views
+    → IsRefused node views input why → OnOk result (why ≡ refusal.OutOfMemory → ⊥) → OnErr result (why ≡ refusal.OutOfMemory)
+    → KeepsAlone node views input records records (is_ok result)
+not_kept node views input why records (Ok done) has refused ok err = refused_alone node views input why records records ok refl refused
+not_kept node views input why records (Err wants) has refused ok err =
+    unplanned_alone node views input records records has refl (wants_taken node views input (subst (λ (w : Refusal). IsRefused node views input w) err refused))

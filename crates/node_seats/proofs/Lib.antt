@@ -1,6 +1,8 @@
 mod Dues
 mod Placing
+mod Keeping
+mod Allowing
 mod Leaving
-mod Happening
+mod Applying
 mod Arms
 mod Answering

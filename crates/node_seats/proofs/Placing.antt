@@ -8,8 +8,9 @@ use Rattle.ballots.specs.declared.message.Body.{Body}
 use Rattle.ballots.specs.declared.message.Body.TheVariants as body
 use Rattle.acceptor.specs.declared.answer.Answer.{Answer}
 use Rattle.acceptor.specs.declared.answer.Answer.TheVariants as answer
-use Rattle.histories.specs.Views.{Config, Views}
-use Rattle.histories.specs.Due.{Input, Put, Tick, Deliver, Plan, Plans, IsDue, BodyIsDue, AimIsDue, Aim, Attempts, AsksFrom, ReplyToPrepare, ReplyToAccept, IsBodyOf, has_seen}
+use Rattle.agreement_rules.specs.Views.{Config, Views}
+use Rattle.agreement_rules.specs.Due.{Refuses, Plan, Plans, AimIsDue, Aim, Attempts, AsksFrom, ReplyToPrepare, ReplyToAccept, IsBodyOf, has_seen, BodyKeeps}
+use Rattle.histories.specs.Due.{Input, Put, Tick, Deliver, IsDue, BodyIsDue, InputKeeps}
 use Rattle.histories.specs.Following.{with_due}
 use Rattle.node_core.specs.State.{IsRecordOf}
 
@@ -57,15 +58,43 @@ due_is_of config me views (Tick left) plan member (inr due) = aim_of config me v
 due_is_of config me views (Deliver m) plan member due =
     body_of config me (has_seen views m) m.sender m.slot m.body plan due.0.slot due.0.body due.1
 
+-- and so is the record that is due, whether or not there was a plan for it
+none_is_of : (config : Config) (kept : Option Record) → kept ≡ None → IsOf config kept
+none_is_of config kept is = subst (λ (k : Option Record). IsOf config k) (sym is) tt
+
+some_is_of : (config : Config) (kept : Option Record) (due : Record) → kept ≡ Some due → IsRecordOf config due → IsOf config kept
+some_is_of config kept due is of = subst (λ (k : Option Record). IsOf config k) (sym is) of
+
+body_kept_is_of : (config : Config) (records : List Record) (slot : ℕ) (said : Body) (kept : Option Record)
+    → slot < config.slot_limit → IsBodyOf config.members said → BodyKeeps records slot said kept → IsOf config kept
+body_kept_is_of config records slot (body.Prepare ballot) kept within of (standing, restored, inl (above, is)) = some_is_of config kept _ is (within, of)
+body_kept_is_of config records slot (body.Prepare ballot) kept within of (standing, restored, inr (not, is)) = none_is_of config kept is
+body_kept_is_of config records slot (body.Accept proposal) kept within of (standing, restored, inl (above, is)) = some_is_of config kept _ is (within, of)
+body_kept_is_of config records slot (body.Accept proposal) kept within of (standing, restored, inr (not, is)) = none_is_of config kept is
+body_kept_is_of config records slot (body.Promise ballot report) kept within of is = none_is_of config kept is
+body_kept_is_of config records slot (body.Nack ballot promised) kept within of is = none_is_of config kept is
+body_kept_is_of config records slot (body.Accepted acceptance) kept within of is = none_is_of config kept is
+body_kept_is_of config records slot (body.Decided value) kept within of is = none_is_of config kept is
+body_kept_is_of config records slot body.Ask kept within of is = none_is_of config kept is
+
+pub kept_is_of : (config : Config) (me : ℕ) (views : Views) (input : Input) (kept : Option Record) → me < config.members
+    → InputKeeps config me views input kept → IsOf config kept
+kept_is_of config me views (Put text) kept member is = none_is_of config kept is
+kept_is_of config me views (Tick left) kept member (Refuses refusal, due, is) = none_is_of config kept is
+kept_is_of config me views (Tick left) kept member (Plans plan, due, is) =
+    subst (λ (k : Option Record). IsOf config k) (sym is) (due_is_of config me views (Tick left) plan member due)
+kept_is_of config me views (Deliver m) kept member (inl (of, keeps)) = body_kept_is_of config views.records m.slot m.body kept of.slot of.body keeps
+kept_is_of config me views (Deliver m) kept member (inr (not, is)) = none_is_of config kept is
+
 -- records of the configuration, with the one that is due or without it, are of the configuration
 records_and : (config : Config) (records : List Record) (kept : Record) → AllByRecursion (IsRecordOf config) records
     → IsRecordOf config kept → AllByRecursion (IsRecordOf config) (records ++ kept ∷ [])
 records_and config [] kept all of = (of, tt)
 records_and config (first ∷ others) kept all of = (all.0, records_and config others kept all.1 of)
 
-pub found_are_of : (config : Config) (found : Bool) (records : List Record) (kept : Option Record)
-    → AllByRecursion (IsRecordOf config) records → IsOf config kept → AllByRecursion (IsRecordOf config) (with_due found records kept)
-found_are_of config true records None all of = all
-found_are_of config false records None all of = all
-found_are_of config true records (Some kept) all of = records_and config records kept all of
-found_are_of config false records (Some kept) all of = all
+pub recovered_are_of : (config : Config) (recovered : Bool) (records : List Record) (kept : Option Record)
+    → AllByRecursion (IsRecordOf config) records → IsOf config kept → AllByRecursion (IsRecordOf config) (with_due recovered records kept)
+recovered_are_of config true records None all of = all
+recovered_are_of config false records None all of = all
+recovered_are_of config true records (Some kept) all of = records_and config records kept all of
+recovered_are_of config false records (Some kept) all of = all

@@ -1,15 +1,21 @@
 -- A node with the store of its records, and how it stands for a node of a history: Lamport, "Paxos Made Simple", section 2.5,
--- where a node that starts again has the records that it kept. That it goes down between a record and all else is this
+-- where a node that restarts has the records that it kept. That it goes down between a record and all else is this
 -- service's own.
-use Rattle.std.specs.Prelude.{◌≡◌, ℕ, ◌<◌, Bool, Option, None, Some, List, ◌++◌, length}
+use Rattle.std.specs.Prelude.{◌≡◌, ◌≢◌, ℕ, ◌<◌, Bool, Option, None, Some, List, [], ◌++◌, length, slice_get, Result, Ok, Err}
 use Rattle.std.specs.List.{AllByRecursion}
 use Rattle.ballots.specs.declared.record.Record.{Record}
 use Rattle.ballots.specs.declared.message.Message.{Message}
-use Rattle.histories.specs.Views.{Config, Views}
-use Rattle.histories.specs.Event.{Event}
-use Rattle.histories.specs.Gave.{Gave, count_of}
-use Rattle.histories.specs.Following.{Seat, IsUp, IsDown, with_due, SeatGives}
+use Rattle.agreement_rules.specs.Views.{Config, Views}
+use Rattle.agreement_rules.specs.Due.{Plan, Plans}
+use Rattle.histories.specs.Due.{Input, IsDue}
+use Rattle.histories.specs.Due as input
+use Rattle.histories.specs.Event.{Event, node_of}
+use Rattle.histories.specs.Event as event
+use Rattle.histories.specs.EventResult.{EventResult, count_of}
+use Rattle.histories.specs.Following.{Seat, IsUp, IsDown, with_due, SeatGives, IsAsked}
 use Rattle.node_core.specs.State.{NodeState, NodeHas, IsRecordOf}
+use Rattle.node_events.specs.declared.event_result.EventResult.{EventResult as Told}
+use Rattle.node_events.specs.Told.{result_of}
 
 pub record SeatState : Type 0 where
   pub me : ℕ
@@ -36,15 +42,17 @@ pub record StandsUp (state : SeatState) (views : Views) : Type 0 where
 -- the store has the records that were kept, with the one that was due where the node went down, or without it
 pub record StandsDown (state : SeatState) (records : List Record) (due : Option Record) : Type 0 where
   pub down : state.node ≡ None
-  pub found : Bool
-  pub kept : state.records ≡ with_due found records due
+  pub recovered : Bool
+  pub kept : state.records ≡ with_due recovered records due
 
 abbrev pub Stands : SeatState → Seat → Type 0
 Stands state (IsUp views) = StandsUp state views
 Stands state (IsDown records due) = StandsDown state records due
 
+-- ---- an event that is applied
+
 -- Where these messages were sent before, as many more go out as is told, and the seat stands as its rules say.
-pub record Leaves (old new : SeatState) (before after : List Message) (given : Gave) (Gives : Seat → Type 0) : Type 0 where
+pub record Leaves (old new : SeatState) (before after : List Message) (given : EventResult) (Gives : Seat → Type 0) : Type 0 where
   pub more : List Message
   pub behind : after ≡ before ++ more
   pub counted : length more ≡ count_of given
@@ -57,7 +65,46 @@ pub record Leaves (old new : SeatState) (before after : List Message) (given : G
 
 -- Of a node that stood as this seat, where these messages were sent before: the event gives this by the node's rules, as many
 -- messages more go out as it tells, and the node stands as the event leaves the seat.
-abbrev pub SeatHappens : (old new : SeatState) → Seat → (before after : List Message) → Event → Gave → Type 0
-SeatHappens old new seat before after happened given =
-    (found : Bool)
-    × Leaves old new before after given (SeatGives old.config after (length before) found seat happened given)
+abbrev pub SeatApplies : (old new : SeatState) → Seat → (before after : List Message) → Event → EventResult → Type 0
+SeatApplies old new seat before after e given =
+    (recovered : Bool) × IsAsked e recovered
+    × Leaves old new before after given (SeatGives old.config after (length before) recovered seat e given)
+
+-- ---- an event that is not, for want of memory
+
+-- messages are due to the input
+abbrev pub SendsFor : Config → ℕ → Views → Input → Type 0
+SendsFor config me views of = (plan : Plan) × IsDue config me views of (Plans plan) × (plan.sends ≢ [])
+
+-- messages are due to the event of a node that is up, where these were sent before
+abbrev pub UpSends : Config → List Message → Views → Event → Type 0
+UpSends config sent views (event.Put node text) = ⊥
+UpSends config sent views (event.Tick node left) = SendsFor config node views (input.Tick left)
+UpSends config sent views (event.Deliver node number) =
+    (m : Message) × (slice_get sent number ≡ Some m) × SendsFor config node views (input.Deliver m)
+UpSends config sent views (event.TickCut node left) = ⊥
+UpSends config sent views (event.DeliverCut node number) = ⊥
+UpSends config sent views (event.Restart node) = ⊥
+UpSends config sent views (event.Get node table version) = ⊥
+UpSends config sent views (event.Info node table) = ⊥
+UpSends config sent views (event.Outcome node text) = ⊥
+
+-- and of any node: one that is down sends none
+abbrev pub SeatSends : Config → List Message → Seat → Event → Type 0
+SeatSends config sent (IsUp views) e = UpSends config sent views e
+SeatSends config sent (IsDown records due) e = ⊥
+
+-- the seat stands as it stood, with the same records, and nothing more was sent
+pub record IsAsBefore (old new : SeatState) (seat : Seat) (before after : List Message) : Type 0 where
+  pub stands : Stands new seat
+  pub records_are : new.records ≡ old.records
+  pub placed : IsPlaced new
+  pub me_is : new.me ≡ old.me
+  pub config_is : new.config ≡ old.config
+  pub unsent : after ≡ before
+
+-- The event is applied; or memory is refused for messages that are due, and all is as before.
+abbrev pub SeatAnswers : {E : Type 0} → (old new : SeatState) → Seat → (before after : List Message) → Event → Result Told E → Type 0
+SeatAnswers old new seat before after e (Ok given) = SeatApplies old new seat before after e (result_of given)
+SeatAnswers old new seat before after e (Err _) =
+    IsAsBefore old new seat before after × SeatSends old.config before seat e

@@ -2,49 +2,50 @@
 
 ghost use Rattle.std.specs.Prelude.{◌≡◌, ◌⊎◌, List};
 ghost use Rattle.table_types.specs.Uploads.{Upload as Uploaded};
-ghost use Rattle.histories.specs.Views.{Views, HasUploads};
-ghost use Rattle.histories.specs.Following.{GetGives, InfoGives};
-ghost use Rattle.histories.specs.Gave.{Answer, Refused, OutOfMemory};
+ghost use Rattle.agreement_rules.specs.Views.{Views};
+ghost use Rattle.histories.specs.Texts.{HasUploads};
+ghost use Rattle.histories.specs.Following.{GetGivesIfAble, InfoGivesIfAble};
+ghost use Rattle.histories.specs.EventResult.{Answer, Refused, OutOfMemory};
 ghost use Rattle.node_core.specs.State.{NodeHas};
-ghost use Rattle.node_events.specs.Told.{gave_of};
+ghost use Rattle.node_events.specs.Told.{result_of};
 
 use bytes::Bytes;
 use node_core::Node;
-use node_events::{Gave, Reason};
+use node_events::{EventResult, Reason};
 use table_types::Ticket;
 
 // The bytes as an answer.
-fn answer(bytes: Vec<u8>) -> Gave
-    ensures { (gave_of result ≡ Answer bytes.items) ⊎ (gave_of result ≡ Refused OutOfMemory) }
+fn answer(bytes: Vec<u8>) -> EventResult
+    ensures { (result_of result ≡ Answer bytes.items) ⊎ (result_of result ≡ Refused OutOfMemory) }
 {
     match Bytes::from_vec(bytes) {
-        Ok(bytes) => Gave::Answer(bytes),
-        Err(_) => Gave::Refused(Reason::OutOfMemory),
+        Ok(bytes) => EventResult::Answer(bytes),
+        Err(_) => EventResult::Refused(Reason::OutOfMemory),
     }
 }
 
 /// What a client gets that asks for a version of a table.
-pub(crate) fn version_asked(node: &Node, ticket: &Ticket) -> Gave
+pub(crate) fn version_asked(node: &Node, ticket: &Ticket) -> EventResult
     ensures { (views : Views) (uploads : List Uploaded) → NodeHas node.now views
-        → HasUploads node.now.agreement.config.members views.told uploads
-        → GetGives uploads ticket.now.table ticket.now.version (gave_of result) ⊎ (gave_of result ≡ Refused OutOfMemory) }
+        → HasUploads node.now.agreement.config.members views.learner_calls uploads
+        → GetGivesIfAble uploads ticket.now.table ticket.now.version (result_of result) }
 {
     match node.get(ticket) {
         Ok(Some(bytes)) => answer(bytes),
-        Ok(None) => Gave::Unavailable,
-        Err(_) => Gave::Refused(Reason::OutOfMemory),
+        Ok(None) => EventResult::Unavailable,
+        Err(_) => EventResult::Refused(Reason::OutOfMemory),
     }
 }
 
 /// What a client gets that asks for the latest version of a table.
-pub(crate) fn latest_asked(node: &Node, table: &str) -> Gave
+pub(crate) fn latest_asked(node: &Node, table: &str) -> EventResult
     ensures { (views : Views) (uploads : List Uploaded) → NodeHas node.now views
-        → HasUploads node.now.agreement.config.members views.told uploads
-        → InfoGives uploads table.now (gave_of result) ⊎ (gave_of result ≡ Refused OutOfMemory) }
+        → HasUploads node.now.agreement.config.members views.learner_calls uploads
+        → InfoGivesIfAble uploads table.now (result_of result) }
 {
     match node.info(table) {
-        Ok(Some(info)) => Gave::Info(info.version),
-        Ok(None) => Gave::NoTable,
-        Err(_) => Gave::Refused(Reason::OutOfMemory),
+        Ok(Some(info)) => EventResult::Info(info.version),
+        Ok(None) => EventResult::NoTable,
+        Err(_) => EventResult::Refused(Reason::OutOfMemory),
     }
 }

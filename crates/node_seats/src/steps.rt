@@ -1,16 +1,16 @@
 //! What is due to an input, done by a node with its store.
 
-ghost use Rattle.std.specs.Prelude.{◌≡◌, ◌+◌, ◌≤◌, ◌++◌, true, length, vec_len, vec_capacity, IfOk, OnOk, OnErr};
+ghost use Rattle.std.specs.Prelude.{◌≡◌, ◌≢◌, ◌+◌, ◌≤◌, ◌++◌, [], true, length, vec_len, vec_capacity, is_ok, IfOk, OnOk, OnErr};
 ghost use Rattle.std.specs.Option.{option_map};
-ghost use Rattle.histories.specs.Views.{Views};
+ghost use Rattle.agreement.specs.declared.refusal.Refusal.TheVariants as refusal_kind;
+ghost use Rattle.agreement_rules.specs.Views.{Views};
 ghost use Rattle.histories.specs.Following.{with_due};
 ghost use Rattle.node_core.specs.State.{NodeHas};
 ghost use Rattle.node_core.specs.Inputs.{input_of};
-ghost use Rattle.node_core.specs.Plans.{kept_by, sent_by};
 ghost use Rattle.node_seats.specs.Steps.{TakeGives, KeepsAlone};
 
 use ballots::{Message, OutOfMemory, Record};
-use node_core::{Input, Node, Plan, Refusal};
+use node_core::{Input, Node, Refusal};
 use stable_records::{MemoryStable, Stable};
 use std::alloc::{AllocError, Global};
 
@@ -28,7 +28,7 @@ fn keep_due(store: &mut MemoryStable, due: Option<&Record>) -> Result<(), OutOfM
     }
 }
 
-// Copies of the messages, and room for them behind those that were sent.
+// Copies of the messages, and room for them behind those that were sent. Where there are none, no memory is wanted.
 fn ready_to_send(
     alloc: Global,
     sent: &mut Vec<Message>,
@@ -36,29 +36,14 @@ fn ready_to_send(
 ) -> Result<Vec<Message>, OutOfMemory>
     ensures copies { IfOk result (λ copies. copies.items ≡ sends.now) }
     ensures room { IfOk result (λ copies. vec_len sent.new + vec_len copies ≤ vec_capacity sent.new) }
+    ensures wants { OnErr result (sends.now ≢ []) }
     ensures same { sent.new.items ≡ sent.old.items }
 {
+    if sends.is_empty() {
+        return Ok(Vec::new(alloc));
+    }
     let copies = Vec::from_clones(alloc, sends)?;
     sent.reserve(copies.len())?;
-    Ok(copies)
-}
-
-// All of what is planned that may be refused: copies of its messages, room for them behind those that were sent, and its
-// record.
-fn get_ready(
-    alloc: Global,
-    store: &mut MemoryStable,
-    sent: &mut Vec<Message>,
-    plan: &Plan,
-) -> Result<Vec<Message>, OutOfMemory>
-    ensures copies { IfOk result (λ copies. copies.items ≡ sent_by plan.now) }
-    ensures room { IfOk result (λ copies. vec_len sent.new + vec_len copies ≤ vec_capacity sent.new) }
-    ensures same { sent.new.items ≡ sent.old.items }
-    ensures kept { OnOk result (store.new ≡ with_due true store.old (kept_by plan.now)) }
-    ensures unkept { OnErr result (store.new ≡ store.old) }
-{
-    let copies = ready_to_send(alloc, sent, plan.sends())?;
-    keep_due(store, plan.record())?;
     Ok(copies)
 }
 
@@ -76,41 +61,74 @@ fn send(sent: &mut Vec<Message>, mut copies: Vec<Message>) -> usize
 }
 
 /// Lets the node do what is due to the input, and tells how many messages went out: its record is kept before, and they
-/// stand behind those that were sent. Where it is refused, for memory too, nothing changes.
+/// stand behind those that were sent; or why it is refused, for the node's own want of memory too, and then nothing
+/// changes.
+///
+/// [`OutOfMemory`] says that memory for the messages that go out was refused; nothing changes then.
 pub(crate) fn take(
     alloc: Global,
     node: &mut Node,
     store: &mut MemoryStable,
     sent: &mut Vec<Message>,
     input: Input,
-) -> Result<usize, Refusal>
+) -> Result<Result<usize, Refusal>, OutOfMemory>
     ensures gives { (views : Views) → NodeHas node.old views
         → TakeGives node.old node.new views (input_of input) store.old store.new sent.old.items sent.new.items result }
     ensures me { node.new.agreement.me ≡ node.old.agreement.me }
     ensures config { node.new.agreement.config ≡ node.old.agreement.config }
 {
-    let plan = node.plan(input)?;
-    match get_ready(alloc, store, sent, &plan) {
-        Ok(copies) => {
+    let plan = match node.plan(input) {
+        Ok(plan) => plan,
+        Err(refusal) => return Ok(Err(refusal)),
+    };
+    let copies = match ready_to_send(alloc, sent, plan.sends()) {
+        Ok(copies) => copies,
+        Err(_) => {
+            drop(plan);
+            return Err(AllocError);
+        }
+    };
+    match keep_due(store, plan.record()) {
+        Ok(()) => {
             node.commit(plan);
-            Ok(send(sent, copies))
+            Ok(Ok(send(sent, copies)))
         }
         Err(_) => {
             drop(plan);
-            Err(Refusal::OutOfMemory)
+            drop(copies);
+            Ok(Err(Refusal::OutOfMemory))
         }
     }
 }
 
-/// Keeps the record that is due to the input, if there is one and there is memory for it, and does nothing else of what is
-/// due.
-pub(crate) fn keep_alone(node: &mut Node, store: &mut MemoryStable, input: Input)
+/// Keeps the record that is due to the input, if one is, and does nothing else of what is due.
+///
+/// [`OutOfMemory`] says that memory was refused; the store is then as before.
+pub(crate) fn keep_alone(
+    node: &mut Node,
+    store: &mut MemoryStable,
+    input: Input,
+) -> Result<(), OutOfMemory>
     ensures { (views : Views) → NodeHas node.old views
-        → KeepsAlone node.old views (input_of input) store.old store.new }
+        → KeepsAlone node.old views (input_of input) store.old store.new (is_ok result) }
 {
-    if let Ok(plan) = node.plan(input) {
-        // Where memory is refused, the record is not found.
-        let _ = keep_due(store, plan.record());
-        drop(plan);
+    match node.plan(input) {
+        Ok(plan) => {
+            let kept = keep_due(store, plan.record());
+            drop(plan);
+            kept
+        }
+        Err(refusal) => refused(refusal),
+    }
+}
+
+// Of what is refused no record is due, but where memory is wanted one may be.
+fn refused(refusal: Refusal) -> Result<(), OutOfMemory>
+    ensures ok { OnOk result (refusal ≡ refusal_kind.OutOfMemory → ⊥) }
+    ensures err { OnErr result (refusal ≡ refusal_kind.OutOfMemory) }
+{
+    match refusal {
+        Refusal::OutOfMemory => Err(AllocError),
+        _ => Ok(()),
     }
 }

@@ -6,10 +6,10 @@ use Rattle.table_versions.specs.declared.outcome.Outcome.{Outcome}
 use Rattle.table_versions.specs.declared.outcome.Outcome.TheVariants.{Applied, SchemaMismatch, Conflict, Unknown}
 use Rattle.node_events.specs.declared.event.Event.{Event}
 use Rattle.node_events.specs.declared.event.Event.TheVariants as event
-use Rattle.node_events.specs.declared.gave.Gave.{Gave}
-use Rattle.node_events.specs.declared.gave.Gave.TheVariants as gave
-use Rattle.node_events.specs.declared.gave.Reason.{Reason}
-use Rattle.node_events.specs.declared.gave.Reason.TheVariants.{OutOfRange, SlotsSpent, RoundsSpent, OutOfMemory, Down, NotSent}
+use Rattle.node_events.specs.declared.event_result.EventResult.{EventResult}
+use Rattle.node_events.specs.declared.event_result.EventResult.TheVariants as results
+use Rattle.node_events.specs.declared.event_result.Reason.{Reason}
+use Rattle.node_events.specs.declared.event_result.Reason.TheVariants.{OutOfRange, SlotsSpent, RoundsSpent, OutOfMemory, Down, NotSent}
 use Rattle.schedule_runner.specs.declared.step.Step.{Step}
 
 -- this number and as many more that follow it, with commas between them
@@ -49,19 +49,19 @@ reason_text Down = codes "Down"
 reason_text NotSent = codes "NotSent"
 
 -- what an event gave
-abbrev pub gave_text : Event → Gave → List ℕ
-gave_text happened (gave.Sent first count) = sent_text first count
-gave_text happened gave.Done = done_text happened
-gave_text happened (gave.Answer bytes) = codes "answer " ++ encode_lower bytes
-gave_text happened gave.Unavailable = codes "unavailable"
-gave_text happened (gave.Info version) = codes "info " ++ decimal version
-gave_text happened gave.NoTable = codes "notable"
-gave_text happened (gave.Outcome outcome) = outcome_text outcome
-gave_text happened (gave.Refused reason) = codes "refused " ++ reason_text reason
+abbrev pub result_text : Event → EventResult → List ℕ
+result_text happened (results.Sent first count) = sent_text first count
+result_text happened results.Done = done_text happened
+result_text happened (results.Answer bytes) = codes "answer " ++ encode_lower bytes
+result_text happened results.Unavailable = codes "unavailable"
+result_text happened (results.Info version) = codes "info " ++ decimal version
+result_text happened results.NoTable = codes "notable"
+result_text happened (results.Outcome outcome) = outcome_text outcome
+result_text happened (results.Refused reason) = codes "refused " ++ reason_text reason
 
 -- the line of the event of this number
 abbrev pub line_of : ℕ → Step → List ℕ
-line_of number step = decimal number ++ (codes " " ++ (gave_text step.event step.gave ++ codes "\n"))
+line_of number step = decimal number ++ (codes " " ++ (result_text step.event step.result ++ codes "\n"))
 
 -- the lines of these steps, which are numbered from this number on
 abbrev pub lines_from : ℕ → List Step → List ℕ

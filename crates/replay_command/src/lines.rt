@@ -2,9 +2,9 @@
 
 ghost use Rattle.std.specs.Prelude.{◌≡◌, ◌+◌, ◌++◌, suc, IfOk, OnOk, codes, decimal, string_bytes};
 ghost use Rattle.hex.specs.Hex.{encode_lower};
-ghost use Rattle.replay_command.specs.Lines.{numbers_text, sent_text, done_text, outcome_text, reason_text, gave_text, line_of};
+ghost use Rattle.replay_command.specs.Lines.{numbers_text, sent_text, done_text, outcome_text, reason_text, result_text, line_of};
 
-use schedule_runner::{Event, Gave, Reason, Step};
+use schedule_runner::{Event, EventResult, Reason, Step};
 use std::alloc::{AllocError, Global};
 use table_versions::Outcome;
 
@@ -108,18 +108,18 @@ fn refused_text(alloc: Global, reason: Reason) -> Result<String, AllocError>
 }
 
 /// What a step gave.
-fn gave_text(alloc: Global, step: &Step) -> Result<String, AllocError>
-    ensures { IfOk result (λ text. string_bytes text ≡ gave_text step.now.event step.now.gave) }
+fn result_text(alloc: Global, step: &Step) -> Result<String, AllocError>
+    ensures { IfOk result (λ text. string_bytes text ≡ result_text step.now.event step.now.result) }
 {
-    match &step.gave {
-        Gave::Sent { first, count } => sent_text(alloc, *first, *count),
-        Gave::Done => String::from_str(alloc, done_text(&step.event)),
-        Gave::Answer(bytes) => answer_text(alloc, bytes.as_slice()),
-        Gave::Unavailable => String::from_str(alloc, "unavailable"),
-        Gave::Info(version) => format!(in alloc; "info {version}"),
-        Gave::NoTable => String::from_str(alloc, "notable"),
-        Gave::Outcome(outcome) => outcome_text(alloc, *outcome),
-        Gave::Refused(reason) => refused_text(alloc, *reason),
+    match &step.result {
+        EventResult::Sent { first, count } => sent_text(alloc, *first, *count),
+        EventResult::Done => String::from_str(alloc, done_text(&step.event)),
+        EventResult::Answer(bytes) => answer_text(alloc, bytes.as_slice()),
+        EventResult::Unavailable => String::from_str(alloc, "unavailable"),
+        EventResult::Info(version) => format!(in alloc; "info {version}"),
+        EventResult::NoTable => String::from_str(alloc, "notable"),
+        EventResult::Outcome(outcome) => outcome_text(alloc, *outcome),
+        EventResult::Refused(reason) => refused_text(alloc, *reason),
     }
 }
 
@@ -127,6 +127,6 @@ fn gave_text(alloc: Global, step: &Step) -> Result<String, AllocError>
 pub(crate) fn line_of(alloc: Global, number: usize, step: &Step) -> Result<String, AllocError>
     ensures { IfOk result (λ line. string_bytes line ≡ line_of number step.now) }
 {
-    let gave = gave_text(alloc, step)?;
-    format!(in alloc; "{number} {gave}\n")
+    let result = result_text(alloc, step)?;
+    format!(in alloc; "{number} {result}\n")
 }

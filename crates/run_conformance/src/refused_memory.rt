@@ -12,7 +12,7 @@ use agreement::Refusal;
 use ballots::Message;
 use node_core::{Input, Node, Plan};
 use node_events::Reason;
-use schedule_runner::{Config, Event, Gave, RunFault, Step, Trace, audit, run};
+use schedule_runner::{Config, Event, EventResult, RunFault, Step, Trace, audit, run};
 use std::alloc::Global;
 use std::hash::RandomState;
 use std::test::Fail;
@@ -56,8 +56,8 @@ fn ran(alloc: Global, hashing: RandomState, events: &[Event]) -> Result<Rest, Fa
 
 // Whether each refusal in the run is for want of memory or comes of one before.
 fn is_of_memory(step: &Step) -> bool {
-    match &step.gave {
-        Gave::Refused(reason) => matches!(
+    match &step.result {
+        EventResult::Refused(reason) => matches!(
             reason,
             Reason::OutOfMemory | Reason::NotSent | Reason::Down
         ),

@@ -2,7 +2,7 @@
 
 use ballots::Members;
 use header_types::Schema;
-use schedule_runner::{Event, Gave, Trace};
+use schedule_runner::{Event, EventResult, Trace};
 use std::alloc::Global;
 use std::test::Fail;
 use table_types::Ticket;
@@ -63,8 +63,8 @@ pub(crate) fn push_attempt(events: &mut Vec<Event>, first: u64) -> Result<(), Fa
 
 /// Whether all answers in the run are one.
 pub(crate) fn answers_are_one(trace: &Trace) -> bool {
-    let mut answers = trace.steps().iter().filter_map(|step| match &step.gave {
-        Gave::Answer(bytes) => Some(bytes.as_slice()),
+    let mut answers = trace.steps().iter().filter_map(|step| match &step.result {
+        EventResult::Answer(bytes) => Some(bytes.as_slice()),
         _ => None,
     });
     match answers.next() {

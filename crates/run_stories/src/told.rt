@@ -1,7 +1,7 @@
 //! The words of what is told of a run.
 
 use ballots::Message;
-use schedule_runner::{Event, Gave, Reason, Step};
+use schedule_runner::{Event, EventResult, Reason, Step};
 use std::alloc::Global;
 use story_requests::{Answer, RequestFault};
 use table_versions::Outcome;
@@ -55,15 +55,15 @@ fn done_name(event: &Event) -> &'static str {
 }
 
 fn tell_step(step: &Step, answer: &mut Answer) -> Result<(), RequestFault> {
-    match &step.gave {
-        Gave::Sent { first, count } => tell_sent(*first, *count, answer),
-        Gave::Done => answer.word(done_name(&step.event)),
-        Gave::Answer(bytes) => tell_bytes(bytes.as_slice(), answer),
-        Gave::Unavailable => answer.word("unavailable"),
-        Gave::Info(version) => tell_numbered("info", *version, answer),
-        Gave::NoTable => answer.word("notable"),
-        Gave::Outcome(outcome) => tell_outcome(*outcome, answer),
-        Gave::Refused(reason) => tell_reason(*reason, answer),
+    match &step.result {
+        EventResult::Sent { first, count } => tell_sent(*first, *count, answer),
+        EventResult::Done => answer.word(done_name(&step.event)),
+        EventResult::Answer(bytes) => tell_bytes(bytes.as_slice(), answer),
+        EventResult::Unavailable => answer.word("unavailable"),
+        EventResult::Info(version) => tell_numbered("info", *version, answer),
+        EventResult::NoTable => answer.word("notable"),
+        EventResult::Outcome(outcome) => tell_outcome(*outcome, answer),
+        EventResult::Refused(reason) => tell_reason(*reason, answer),
     }
 }
 

@@ -16,9 +16,9 @@ use Rattle.lawful_histories.specs.Messages.{accepted, decided}
 use Rattle.learner.specs.Calls.{Call, IsLearned}
 use Rattle.learner.specs.Calls as call
 use Rattle.learner.specs.Votes.{MajorityAccepted, IsDecidedOrChosen}
-use Rattle.histories.specs.Views.{HasPrefix}
+use Rattle.agreement_rules.specs.Views.{HasPrefix}
 use Rattle.histories.specs.History.{Step}
-use Rattle.safe_histories.specs.Learning.{since_start, is_taken, handed_to, delivered_in, heard, HasLearnedPrefix}
+use Rattle.safe_histories.specs.Learning.{since_restart, is_taken, handed_to, delivered_in, heard, HasLearnedPrefix}
 use Rattle.safe_histories.proofs.Lists.{In, some_same, none_is_some, in_from_contains, contains_from_in, in_from_at, in_filter_map, filter_map_in}
 
 -- ---- the calls of messages
@@ -95,8 +95,8 @@ handed_there sent m false o is = absurd (none_is_some m is)
 
 pub heard_was_sent : (sent : List Message) (steps : List Step) (node : ℕ) (m : Message) → In (heard sent steps node) m → In sent m
 heard_was_sent sent steps node m there =
-    let by = in_filter_map (delivered_in sent node) (since_start node steps) m there in
-    handed_there sent m (is_taken by.0.gave) (handed_to node by.0.event) by.2
+    let by = in_filter_map (delivered_in sent node) (since_restart node steps) m there in
+    handed_there sent m (is_taken by.0.result) (handed_to node by.0.event) by.2
 
 -- ---- what is learned of messages
 

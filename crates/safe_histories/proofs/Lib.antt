@@ -1,8 +1,9 @@
 pub mod Lists
 pub mod Texts
 pub mod Versions
+pub mod Placing
 pub mod Heard
-pub mod Starts
+pub mod Restarts
 pub mod Running
 pub mod Seats
 pub mod Steps
@@ -14,4 +15,10 @@ pub mod Planning
 pub mod Handing
 pub mod Put
 pub mod Answered
+pub mod Refusing
 pub mod Down
+pub mod Unsent
+pub mod Shown
+pub mod Fresh
+pub mod Standing
+pub mod Promised

@@ -1,6 +1,6 @@
 -- Lists: what is in them, by places and by cases; lists of which one begins the other.
-use Rattle.std.proofs.Common.{◌≡◌, ℕ, zero, suc, ◌+◌, ◌<◌, ◌⊎◌, inl, inr, Bool, true, false, cond, List, [], ◌∷◌, ◌++◌, length, take, drop, map, Option, Some, None, slice_get, refl, sym, ap, ap₂, ◌∙◌, arith}
-use Rattle.std.specs.List.{Contains, filter, filter_map, cons_option}
+use Rattle.std.proofs.Common.{◌≡◌, ℕ, zero, suc, ◌+◌, ◌<◌, ◌⊎◌, inl, inr, Bool, true, false, cond, List, [], ◌∷◌, ◌++◌, length, take, drop, map, Option, Some, None, slice_get, refl, sym, ap, ap₂, subst, ◌∙◌, arith}
+use Rattle.std.specs.List.{Contains, AllByRecursion, filter, filter_map, cons_option}
 
 pub some_same : {X : Type 0} (x y : X) → Some x ≡ Some y → x ≡ y
 some_same x y same = cc
@@ -74,6 +74,15 @@ in_take (suc n) [] x there = there
 in_take (suc n) (y ∷ ys) x (inl same) = inl same
 in_take (suc n) (y ∷ ys) x (inr later) = inr (in_take n ys x later)
 
+pub all_of_each : {X : Type 0} (P : X → Type 0) (xs : List X) → ((x : X) → In xs x → P x) → AllByRecursion P xs
+all_of_each P [] each = tt
+all_of_each P (x ∷ xs) each = (each x (inl refl), all_of_each P xs (λ y there. each y (inr there)))
+
+pub each_of_all : {X : Type 0} (P : X → Type 0) (xs : List X) (x : X) → AllByRecursion P xs → In xs x → P x
+each_of_all P [] x all there = absurd there
+each_of_all P (y ∷ ys) x (first, rest) (inl same) = subst P same first
+each_of_all P (y ∷ ys) x (first, rest) (inr later) = each_of_all P ys x rest later
+
 -- ---- what is made of what is in a list
 
 -- an element that gives this
@@ -141,6 +150,16 @@ pub dropped_at : {X : Type 0} (n k : ℕ) (xs : List X) (x : X) → slice_get xs
 dropped_at zero k xs x is = let at : 0 + k ≡ k = omega arith in rw at at is
 dropped_at (suc n) k [] x is = absurd (none_is_some x is)
 dropped_at (suc n) k (y ∷ ys) x is = let at : suc n + k ≡ suc (n + k) = omega arith in dropped_at n k ys x (rw at at is)
+
+pub some_at : {X : Type 0} (xs : List X) (k : ℕ) → k < length xs → (x : X) × (slice_get xs k ≡ Some x)
+some_at [] k within = absurd (omega (arith, within))
+some_at (x ∷ xs) zero within = (x, refl)
+some_at (x ∷ xs) (suc k) within = some_at xs k (omega (arith, within))
+
+pub take_one_more : {X : Type 0} (k : ℕ) (xs : List X) (x : X) → slice_get xs k ≡ Some x → take (suc k) xs ≡ take k xs ++ x ∷ []
+take_one_more k [] x is = absurd (none_is_some x is)
+take_one_more zero (y ∷ ys) x is = ap (λ z. z ∷ []) (some_same y x is)
+take_one_more (suc k) (y ∷ ys) x is = ap (λ l. y ∷ l) (take_one_more k ys x is)
 
 -- what stands before a place, with what stands there, is what stands before the next
 pub take_next : {X : Type 0} (k : ℕ) (xs : List X) (x : X) → slice_get xs k ≡ Some x → (rest : List X) × (xs ≡ take k xs ++ x ∷ rest)

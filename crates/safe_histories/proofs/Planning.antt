@@ -26,13 +26,15 @@ use Rattle.learner.specs.Calls as told
 use Rattle.learner.specs.Votes.{IsDecidedOrChosen}
 use Rattle.decided_log.specs.Asked.{asked_of, decided_message}
 use Rattle.table_types.specs.Uploads.{Upload}
-use Rattle.histories.specs.Views.{Config, Views, HasPrefix}
-use Rattle.histories.specs.Due.{Input, Due, Plan, Refuses, Plans, Aim, Attempts, AsksFrom, quietly, PutIsDue, waits_too, IsAim, begins, AsksAt, AimIsDue, TickIsDue, has_seen, answers_with, sends_alone, ReplyToPrepare, ReplyToAccept, asked_too, accept_of, AreStillWaiting, LearnsOf, BodyIsDue, MessageIsDue, IsDue}
+use Rattle.agreement_rules.specs.Views.{Config, Views, HasPrefix}
+use Rattle.agreement_rules.specs.Due.{Due, Plan, record_due, BodyKeeps, Refuses, Plans, Aim, Attempts, AsksFrom, quietly, IsAim, begins, AsksAt, AimIsDue, TickIsDue, has_seen, answers_with, sends_alone, ReplyToPrepare, ReplyToAccept, also_proposes, accept_of}
+use Rattle.histories.specs.Due.{Input, InputKeeps, PutIsDue, waits_too, AreStillWaiting, LearnsOf, BodyIsDue, IsDue}
+use Rattle.agreement_rules.specs.Due as due
 use Rattle.histories.specs.Due as input
 use Rattle.safe_histories.proofs.Lists.{In, some_same, none_is_some, in_from_contains, contains_from_in, in_right, in_filter_map, at_from_in}
 use Rattle.safe_histories.proofs.Heard.{LearnerLaws}
 use Rattle.safe_histories.proofs.Running.{refused_plan}
-use Rattle.safe_histories.proofs.Putting.{Each, each_none, each_one, each_more, ValueFrom, ReportFrom, BodyFrom, MessageFrom, RecordFrom, AskedFrom, ToldFrom, ViewsFrom, PlanFrom}
+use Rattle.safe_histories.proofs.Putting.{Each, each_none, each_one, each_more, ValueFrom, ReportFrom, BodyFrom, MessageFrom, RecordFrom, DueFrom, AskedFrom, ToldFrom, ViewsFrom, PlanFrom}
 
 -- laws of a proposer
 pub record ProposerLaws : Type 0 where
@@ -168,8 +170,8 @@ module _ (T : List ℕ → Type 0) where
     after = record {
       records = each_more (RecordFrom T) views.records kept from.records is;
       waiting = from.waiting;
-      asked = from.asked;
-      told = from.told;
+      proposer_calls = from.proposer_calls;
+      learner_calls = from.learner_calls;
     };
   }
 
@@ -178,8 +180,8 @@ module _ (T : List ℕ → Type 0) where
   put_from config views text plan from is (inr (new, nothing, left, same)) = planned plan (quietly (waits_too views text)) same (quiet_from (waits_too views text) (record {
     records = from.records;
     waiting = each_more T views.waiting text from.waiting is;
-    asked = from.asked;
-    told = from.told;
+    proposer_calls = from.proposer_calls;
+    learner_calls = from.learner_calls;
   }))
 
   aimed_from : (config : Config) (views : Views) (left slot : ℕ) (value : Value) → ViewsFrom T views → IsAim config views left (Attempts slot value) → ValueFrom T value
@@ -194,9 +196,9 @@ module _ (T : List ℕ → Type 0) where
     after = record {
       records = each_more (RecordFrom T) views.records (Began ballot) from.records tt;
       waiting = from.waiting;
-      asked = each_more (AskedFrom T) views.asked
-          (Begins (record { slot = slot; seen_round = views.seen_round; candidate = value; ballot = ballot })) from.asked is;
-      told = from.told;
+      proposer_calls = each_more (AskedFrom T) views.proposer_calls
+          (Begins (record { slot = slot; seen_round = views.seen_round; candidate = value; ballot = ballot })) from.proposer_calls is;
+      learner_calls = from.learner_calls;
     };
   }
 
@@ -213,7 +215,7 @@ module _ (T : List ℕ → Type 0) where
   aim_from config me left views (AsksFrom slot) plan from is asks = asks_from config me views slot plan from asks
 
   tick_from : (config : Config) (me : ℕ) (views : Views) (left : ℕ) (plan : Plan) → ViewsFrom T views → TickIsDue config me views left (Plans plan) → PlanFrom T plan
-  tick_from config me views left plan from (inl (more, is)) = absurd (refused_plan input.OutOfRange plan is)
+  tick_from config me views left plan from (inl (more, is)) = absurd (refused_plan due.OutOfRange plan is)
   tick_from config me views left plan from (inr (aim, le, is_aim, is)) = aim_from config me left views aim plan from is_aim is
 
   prepare_from : (me : ℕ) (views : Views) (old new : Standing) (slot : ℕ) (ballot : Ballot) (reply : Answer) (plan : Plan) → ViewsFrom T views
@@ -237,20 +239,20 @@ module _ (T : List ℕ → Type 0) where
       (alone_from views (message me slot (Nack proposal.ballot promised) ∷ []) from (each_one (MessageFrom T) (message me slot (Nack proposal.ballot promised)) tt))
   accepted_from me views slot proposal (answer.Promise report) plan from value never = absurd never
 
-  too_from : (views : Views) (call : Asked) → ViewsFrom T views → AskedFrom T call → ViewsFrom T (asked_too views call)
+  too_from : (views : Views) (call : Asked) → ViewsFrom T views → AskedFrom T call → ViewsFrom T (also_proposes views call)
   too_from views call from is = record {
     records = from.records;
     waiting = from.waiting;
-    asked = each_more (AskedFrom T) views.asked call from.asked is;
-    told = from.told;
+    proposer_calls = each_more (AskedFrom T) views.proposer_calls call from.proposer_calls is;
+    learner_calls = from.learner_calls;
   }
 
   learns_from : (config : Config) (views : Views) (call : Told) (plan : Plan) → ViewsFrom T views → ToldFrom T call → LearnsOf config views call plan → PlanFrom T plan
   learns_from config views call plan from is (uploads, left, has, waits, same) = planned plan _ same (quiet_from _ (record {
     records = from.records;
     waiting = λ text there. from.waiting text (kept_waiting uploads views.waiting left waits text there);
-    asked = from.asked;
-    told = each_more (ToldFrom T) views.told call from.told is;
+    proposer_calls = from.proposer_calls;
+    learner_calls = each_more (ToldFrom T) views.learner_calls call from.learner_calls is;
   }))
 
   module _ (proposer : ProposerLaws) (learner : LearnerLaws) (each : EachAsked) where
@@ -260,22 +262,22 @@ module _ (T : List ℕ → Type 0) where
         prepare_from me views old new slot ballot reply plan from restored prepares replies
     body_from config me views sender slot (Promise ballot report) plan from is (accept, answers, same) =
         let promise : Promised_call = record { sender = sender; slot = slot; ballot = ballot; report = report } in
-        planned plan (sends_alone (asked_too views (Promises promise)) (accept_of me accept)) same
-        (alone_from (asked_too views (Promises promise)) (accept_of me accept) (too_from views (Promises promise) from is)
-        (accept_from proposer me config.members views.asked promise accept from.asked is answers))
+        planned plan (sends_alone (also_proposes views (Promises promise)) (accept_of me accept)) same
+        (alone_from (also_proposes views (Promises promise)) (accept_of me accept) (too_from views (Promises promise) from is)
+        (accept_from proposer me config.members views.proposer_calls promise accept from.proposer_calls is answers))
     body_from config me views sender slot (Nack ballot promised) plan from is same =
-        planned plan (quietly (asked_too views (Nacks slot ballot))) same (quiet_from (asked_too views (Nacks slot ballot)) (too_from views (Nacks slot ballot) from tt))
+        planned plan (quietly (also_proposes views (Nacks slot ballot))) same (quiet_from (also_proposes views (Nacks slot ballot)) (too_from views (Nacks slot ballot) from tt))
     body_from config me views sender slot (Accept proposal) plan from is (old, new, reply, restored, accepts, replies) =
         accepted_from me views slot proposal reply plan from is replies
     body_from config me views sender slot (Accepted acceptance) plan from is learns =
         learns_from config views (told.Accepted sender slot acceptance.ballot acceptance.value) plan from is learns
     body_from config me views sender slot Ask plan from is (values, prefix, same) =
         planned plan (sends_alone views (asked_of me values slot)) same
-        (alone_from views (asked_of me values slot) from (asked_from learner each config.members me slot views.told values from.told prefix))
+        (alone_from views (asked_of me values slot) from (asked_from learner each config.members me slot views.learner_calls values from.learner_calls prefix))
     body_from config me views sender slot (Decided value) plan from is learns = learns_from config views (told.Decided slot value) plan from is learns
 
     seen_from : (views : Views) (m : Message) → ViewsFrom T views → ViewsFrom T (has_seen views m)
-    seen_from views m from = record { records = from.records; waiting = from.waiting; asked = from.asked; told = from.told }
+    seen_from views m from = record { records = from.records; waiting = from.waiting; proposer_calls = from.proposer_calls; learner_calls = from.learner_calls }
 
     -- the uploads that come with an input
     abbrev pub InputFrom : Input → Type 0
@@ -289,3 +291,32 @@ module _ (T : List ℕ → Type 0) where
     due_from config me views (input.Tick left) plan from is due = tick_from config me views left plan from due
     due_from config me views (input.Deliver m) plan from is (is_of, due) =
         body_from config me (has_seen views m) m.sender m.slot m.body plan (seen_from views m from) is due
+
+    -- ---- records that are due
+
+    kept_is : (kept was : Option Record) → kept ≡ was → DueFrom T was → DueFrom T kept
+    kept_is kept was same from = subst (DueFrom T) (sym same) from
+
+    due_keeps : (config : Config) (me : ℕ) (views : Views) (left : ℕ) (due : Due) → ViewsFrom T views → TickIsDue config me views left due
+        → DueFrom T (record_due due)
+    due_keeps config me views left (Refuses refusal) from is = tt
+    due_keeps config me views left (Plans plan) from is = (tick_from config me views left plan from is).kept
+
+    body_keeps : (records : List Record) (slot : ℕ) (b : Body) (kept : Option Record) → BodyFrom T b → BodyKeeps records slot b kept → DueFrom T kept
+    body_keeps records slot (Prepare ballot) kept is (standing, restored, inl (above, same)) = kept_is kept (Some (Promised slot ballot)) same tt
+    body_keeps records slot (Prepare ballot) kept is (standing, restored, inr (below, same)) = kept_is kept None same tt
+    body_keeps records slot (Accept proposal) kept is (standing, restored, inl (above, same)) = kept_is kept (Some (HasAccepted slot proposal)) same is
+    body_keeps records slot (Accept proposal) kept is (standing, restored, inr (below, same)) = kept_is kept None same tt
+    body_keeps records slot (Promise ballot report) kept is same = kept_is kept None same tt
+    body_keeps records slot (Nack ballot promised) kept is same = kept_is kept None same tt
+    body_keeps records slot (Accepted acceptance) kept is same = kept_is kept None same tt
+    body_keeps records slot (Decided value) kept is same = kept_is kept None same tt
+    body_keeps records slot Ask kept is same = kept_is kept None same tt
+
+    pub kept_from : (config : Config) (me : ℕ) (views : Views) (i : Input) (kept : Option Record) → ViewsFrom T views → InputFrom i
+        → InputKeeps config me views i kept → DueFrom T kept
+    kept_from config me views (input.Put text) kept from is same = kept_is kept None same tt
+    kept_from config me views (input.Tick left) kept from is (due, is_due, same) =
+        kept_is kept (record_due due) same (due_keeps config me views left due from is_due)
+    kept_from config me views (input.Deliver m) kept from is (inl (is_of, keeps)) = body_keeps views.records m.slot m.body kept is keeps
+    kept_from config me views (input.Deliver m) kept from is (inr (none, same)) = kept_is kept None same tt

@@ -42,7 +42,7 @@ module _ (members : ℕ) (sent : List Message) (lawful : IsLawful members sent) 
   uploads_are_taken steps node uploads has upload there = (are_of_texts (map value_bytes has.values) uploads upload has.are there).0
 
   module _ (one : OneEncoding) where
-    longer_tables : (steps later : List Step) (node other : ℕ) (us ws : List Upload) (is : HasTables members sent steps node us)
+    pub longer_tables : (steps later : List Step) (node other : ℕ) (us ws : List Upload) (is : HasTables members sent steps node us)
         (also : HasTables members sent later other ws) → Begins is.values also.values → Begins us ws
     longer_tables steps later node other us ws is also (rest, more) =
         uploads_begin one (map value_bytes is.values) (map value_bytes rest) us ws is.are

@@ -13,8 +13,7 @@ use Rattle.lawful_histories.specs.Lawful.{IsLawful}
 use Rattle.table_types.specs.Uploads.{Upload, upload_text, batch_descriptor, schema_text, batch_values}
 use Rattle.table_types.specs.Valid.{IsUpload}
 use Rattle.histories.specs.Event as event
-use Rattle.histories.specs.Gave as gave
-use Rattle.histories.specs.Gave.{count_of}
+use Rattle.histories.specs.EventResult as results
 use Rattle.histories.specs.History.{Step, History}
 use Rattle.histories.specs.Following.{Seat, IsUp, IsDown, at_first, Follows}
 use Rattle.safe_histories.specs.Learning.{Runs, heard, HasTables}
@@ -23,7 +22,7 @@ use Rattle.safe_histories.proofs.Lists.{In, in_from_contains, at_from_in, in_map
 use Rattle.safe_histories.proofs.Texts.{are_of_texts}
 use Rattle.safe_histories.proofs.Versions.{in_version}
 use Rattle.safe_histories.proofs.Heard.{calls_of, ChoiceLaws, LearnerLaws, learned_is_prefix}
-use Rattle.safe_histories.proofs.Starts.{step_of}
+use Rattle.safe_histories.proofs.Restarts.{step_of}
 use Rattle.safe_histories.proofs.Running.{Agrees}
 use Rattle.safe_histories.proofs.Seats.{AllAgree, step_agrees, agree_at_first}
 use Rattle.safe_histories.proofs.Steps.{Reached, reach}
@@ -66,7 +65,7 @@ value_put T upload (UploadValue text) is same from = subst T same from
 
 told_from : (history : History) (T : List ℕ → Type 0) (done : List Step) (node : ℕ) (seat : Seat) → Agrees history.sent done node seat → Runs node done
     → SeatFrom T seat → Each (ToldFrom T) (calls_of (heard history.sent done node))
-told_from history T done node (IsUp views) agrees runs from = subst (Each (ToldFrom T)) agrees.1 from.told
+told_from history T done node (IsUp views) agrees runs from = subst (Each (ToldFrom T)) agrees.1 from.learner_calls
 told_from history T done node (IsDown records due) agrees runs from = absurd (true≢false (sym agrees ∙ runs))
 
 module _ (history : History) (follows : Follows history) (lawful : IsLawful history.config.members history.sent) (laws : ChoiceLaws) (learner : LearnerLaws)
@@ -78,20 +77,20 @@ module _ (history : History) (follows : Follows history) (lawful : IsLawful hist
   put_at : (place : ℕ) (step : Step) → slice_get history.steps place ≡ Some step → Reached history.config history.sent Stands (take place history.steps) step
   put_at place step is =
       reach history.config history.sent Stands
-      (λ done seats after next x found holds one. (
-        step_agrees history.sent done history.config next found seats after x holds.0 one,
-        step_put proposer learner each history.config history.sent done seats after next x found holds.1 one,
+      (λ done seats after next x recovered holds one. (
+        step_agrees history.sent done history.config next recovered seats after x holds.0 one,
+        step_put proposer learner each history.config history.sent done seats after next x recovered holds.1 one,
       ))
-      [] at_first 0 history.steps follows.found
-      (agree_at_first history.sent history.config.members, put_at_first proposer learner each history.config history.sent) follows.steps place step is
+      follows.seats [] at_first 0 history.steps follows.recovered
+      (agree_at_first history.sent history.config.members, put_at_first proposer learner each history.config history.sent) follows.reached place step is
 
   -- what a node that served was told was put
-  served_told : (place node version : ℕ) (table bytes : List ℕ) → IsStep history.steps place (event.Get node table version) (gave.Answer bytes)
+  served_told : (place node version : ℕ) (table bytes : List ℕ) → IsStep history.steps place (event.Get node table version) (results.Answer bytes)
       → Each (ToldFrom (WasPut (take place history.steps))) (calls_of (heard history.sent (take place history.steps) node))
   served_told place node version table bytes is =
       let done = take place history.steps in
-      let at = put_at place (step_of (event.Get node table version) (gave.Answer bytes)) is in
-      let serving = get_is_served history.config history.sent lawful laws learner done at.next at.found at.seats at.after node version table bytes at.holds.0 at.follows in
+      let at = put_at place (step_of (event.Get node table version) (results.Answer bytes)) is in
+      let serving = get_is_served history.config history.sent lawful laws learner done at.next at.recovered at.seats at.after node version table bytes at.holds.0 at.follows in
       told_from history (WasPut done) done node (at.seats node) (at.holds.0 node serving.0) serving.1 (at.holds.1.0 node)
 
   upload_put : (done : List Step) (node : ℕ) (uploads : List Upload) (upload : Upload)
@@ -110,6 +109,6 @@ module _ (history : History) (follows : Follows history) (lawful : IsLawful hist
       let done = take place history.steps in
       let there = in_version table version uploads found upload found_is (in_from_contains found.uploads upload contains) in
       let put = upload_put done k uploads upload (served_told place k version table y is) has there in
-      let within = slice_get_within done put.0 (step_of (event.Put put.1 (upload_text upload)) gave.Done) put.2 in
+      let within = slice_get_within done put.0 (step_of (event.Put put.1 (upload_text upload)) results.Done) put.2 in
       let most = length-take place history.steps in
-      (put.0, put.1, omega (arith, within, most), at_taken place put.0 history.steps (step_of (event.Put put.1 (upload_text upload)) gave.Done) put.2)
+      (put.0, put.1, omega (arith, within, most), at_taken place put.0 history.steps (step_of (event.Put put.1 (upload_text upload)) results.Done) put.2)

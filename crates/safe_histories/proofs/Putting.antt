@@ -10,8 +10,8 @@ use Rattle.ballots.specs.declared.message.Body.{Body}
 use Rattle.ballots.specs.declared.message.Body.TheVariants.{Prepare, Promise, Nack, Accept, Accepted, Ask, Decided}
 use Rattle.proposer.specs.Call.{Call as Asked, Begins, Promises, Nacks}
 use Rattle.learner.specs.Calls.{Call as Told, value_in}
-use Rattle.histories.specs.Views.{Views, started_with}
-use Rattle.histories.specs.Due.{Plan}
+use Rattle.agreement_rules.specs.Views.{Views, started_with}
+use Rattle.agreement_rules.specs.Due.{Plan}
 use Rattle.histories.specs.Following.{Seat, IsUp, IsDown}
 use Rattle.safe_histories.proofs.Lists.{In, in_cases}
 
@@ -82,8 +82,8 @@ module _ (T : List ℕ → Type 0) where
   pub record ViewsFrom (views : Views) : Type 0 where
     pub records : Each RecordFrom views.records
     pub waiting : Each T views.waiting
-    pub asked : Each AskedFrom views.asked
-    pub told : Each ToldFrom views.told
+    pub proposer_calls : Each AskedFrom views.proposer_calls
+    pub learner_calls : Each ToldFrom views.learner_calls
 
   abbrev pub SeatFrom : Seat → Type 0
   SeatFrom (IsUp views) = ViewsFrom views
@@ -95,7 +95,7 @@ module _ (T : List ℕ → Type 0) where
     pub after : ViewsFrom plan.after
 
   pub started_from : (records : List Record) → Each RecordFrom records → ViewsFrom (started_with records)
-  started_from records are = record { records = are; waiting = each_none T; asked = each_none AskedFrom; told = each_none ToldFrom }
+  started_from records are = record { records = are; waiting = each_none T; proposer_calls = each_none AskedFrom; learner_calls = each_none ToldFrom }
 
 -- ---- more texts
 
@@ -141,8 +141,8 @@ module _ (T U : List ℕ → Type 0) (more : (text : List ℕ) → T text → U 
   views_more views is = record {
     records = each_weaker (RecordFrom T) (RecordFrom U) views.records record_more is.records;
     waiting = each_weaker T U views.waiting more is.waiting;
-    asked = each_weaker (AskedFrom T) (AskedFrom U) views.asked asked_more is.asked;
-    told = each_weaker (ToldFrom T) (ToldFrom U) views.told told_more is.told;
+    proposer_calls = each_weaker (AskedFrom T) (AskedFrom U) views.proposer_calls asked_more is.proposer_calls;
+    learner_calls = each_weaker (ToldFrom T) (ToldFrom U) views.learner_calls told_more is.learner_calls;
   }
 
   pub seat_more : (seat : Seat) → SeatFrom T seat → SeatFrom U seat

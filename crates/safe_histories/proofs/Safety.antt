@@ -4,20 +4,20 @@ use Rattle.lawful_histories.specs.Lawful.{IsLawful}
 use Rattle.table_types.specs.Tables.{applied, outcome_of}
 use Rattle.table_types.specs.Answers.{answer_of}
 use Rattle.histories.specs.Event as event
-use Rattle.histories.specs.Gave as gave
-use Rattle.histories.specs.Gave.{count_of}
+use Rattle.histories.specs.EventResult as results
 use Rattle.histories.specs.History.{Step, History}
 use Rattle.histories.specs.Following.{Seat, at_first, Follows}
 use Rattle.safe_histories.specs.Safe.{IsStep, SameTicketSameBytes, AcknowledgedStandsOnce, ServesItsPrefix}
 use Rattle.safe_histories.proofs.Lists.{some_same}
 use Rattle.safe_histories.proofs.Texts.{OneEncoding, one_text}
-use Rattle.safe_histories.proofs.Versions.{Apart, Placed, stands_in}
+use Rattle.safe_histories.proofs.Versions.{Apart}
+use Rattle.safe_histories.proofs.Placing.{Placed, stands_in}
 use Rattle.safe_histories.proofs.Heard.{ChoiceLaws, LearnerLaws}
-use Rattle.safe_histories.proofs.Starts.{step_of}
+use Rattle.safe_histories.proofs.Restarts.{step_of}
 use Rattle.safe_histories.proofs.Seats.{AllAgree, step_agrees, agree_at_first}
 use Rattle.safe_histories.proofs.Steps.{Reached, reach}
 use Rattle.safe_histories.proofs.Prefixes.{TableLaws, within_one, version_later, applied_later}
-use Rattle.safe_histories.proofs.Served.{step_answers, get_is_served, outcome_is_served, IsServed, get_served, IsTold, outcome_told}
+use Rattle.safe_histories.proofs.Served.{step_answers, IsServing, get_is_served, outcome_is_served, IsServed, get_served, IsTold, outcome_told}
 
 module _ (history : History) (follows : Follows history) where
   abbrev pub Shown : List Step → (ℕ → Seat) → ℕ → Type 0
@@ -27,34 +27,41 @@ module _ (history : History) (follows : Follows history) where
   pub at_place : (place : ℕ) (step : Step) → slice_get history.steps place ≡ Some step → Reached history.config history.sent Shown (take place history.steps) step
   at_place place step is =
       reach history.config history.sent Shown
-      (λ done seats after next x found holds one. step_agrees history.sent done history.config next found seats after x holds one)
-      [] at_first 0 history.steps follows.found (agree_at_first history.sent history.config.members) follows.steps place step is
+      (λ done seats after next x recovered holds one. step_agrees history.sent done history.config next recovered seats after x holds one)
+      follows.seats [] at_first 0 history.steps follows.recovered (agree_at_first history.sent history.config.members) follows.reached place step is
 
   module _ (lawful : IsLawful history.config.members history.sent) (laws : ChoiceLaws) (learner : LearnerLaws) where
     pub serves : ServesItsPrefix history
     serves place step is within runs =
         let at = at_place place step is in
-        step_answers history.config history.sent lawful laws learner (take place history.steps) at.next at.found at.seats at.after step at.holds at.follows within runs
+        step_answers history.config history.sent lawful laws learner (take place history.steps) at.next at.recovered at.seats at.after step at.holds at.follows within runs
+
+    -- a node that tells that an upload was applied runs
+    pub told_by : (place node number : ℕ) (text : List ℕ) → IsStep history.steps place (event.Outcome node text) (results.Outcome (applied number))
+        → IsServing history.config history.sent lawful laws learner (take place history.steps) node
+    told_by place node number text is =
+        let at = at_place place (step_of (event.Outcome node text) (results.Outcome (applied number))) is in
+        outcome_is_served history.config history.sent lawful laws learner (take place history.steps) at.next at.recovered at.seats at.after node text (applied number)
+        at.holds at.follows
 
     -- what a get was answered with, and what was told of an upload
     abbrev pub Served : ℕ → (node version : ℕ) → (table bytes : List ℕ) → Type 0
     Served place node version table bytes =
         IsServed history.config history.sent lawful laws learner (take place history.steps) node version table bytes
 
-    pub got : (place node version : ℕ) (table bytes : List ℕ) → IsStep history.steps place (event.Get node table version) (gave.Answer bytes)
+    pub got : (place node version : ℕ) (table bytes : List ℕ) → IsStep history.steps place (event.Get node table version) (results.Answer bytes)
         → Served place node version table bytes
     got place node version table bytes is =
-        let step = step_of (event.Get node table version) (gave.Answer bytes) in
+        let step = step_of (event.Get node table version) (results.Answer bytes) in
         let at = at_place place step is in
-        let serving = get_is_served history.config history.sent lawful laws learner (take place history.steps) at.next at.found at.seats at.after node version table bytes at.holds at.follows in
+        let serving = get_is_served history.config history.sent lawful laws learner (take place history.steps) at.next at.recovered at.seats at.after node version table bytes at.holds at.follows in
         get_served history.config history.sent lawful laws learner (take place history.steps) node version table bytes (serves place step is serving.0 serving.1)
 
-    told : (place node number : ℕ) (text : List ℕ) → IsStep history.steps place (event.Outcome node text) (gave.Outcome (applied number))
+    pub told : (place node number : ℕ) (text : List ℕ) → IsStep history.steps place (event.Outcome node text) (results.Outcome (applied number))
         → IsTold history.config history.sent lawful laws learner (take place history.steps) node text (applied number)
     told place node number text is =
-        let step = step_of (event.Outcome node text) (gave.Outcome (applied number)) in
-        let at = at_place place step is in
-        let serving = outcome_is_served history.config history.sent lawful laws learner (take place history.steps) at.next at.found at.seats at.after node text (applied number) at.holds at.follows in
+        let step = step_of (event.Outcome node text) (results.Outcome (applied number)) in
+        let serving = told_by place node number text is in
         outcome_told history.config history.sent lawful laws learner (take place history.steps) node text (applied number) (serves place step is serving.0 serving.1)
 
     module _ (tables : TableLaws) (one : OneEncoding) where

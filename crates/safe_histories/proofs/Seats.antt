@@ -1,5 +1,5 @@
 -- Each event leaves a seat that is as the history shows with it.
-use Rattle.std.proofs.Common.{◌≡◌, ℕ, ◌<◌, ◌⊎◌, inl, inr, ◌||◌, ◌&&◌, ◌==◌, Bool, true, false, if◌then◌else◌, List, [], ◌∷◌, ◌++◌, length, Option, Some, None, slice_get, refl, sym, ap, subst, ◌∙◌, eq-eqb, arith}
+use Rattle.std.proofs.Common.{◌≡◌, ℕ, ◌<◌, inl, inr, ◌||◌, ◌&&◌, ◌==◌, Bool, true, false, if◌then◌else◌, List, [], ◌∷◌, ◌++◌, length, Option, Some, None, slice_get, refl, sym, ap, subst, ◌∙◌, eq-eqb, arith}
 use Rattle.std.specs.Option.{option_and_then}
 use Rattle.std.proofs.lemmas.Bool.{cases_eq}
 use Rattle.std.proofs.lemmas.List.{append-nil}
@@ -8,102 +8,102 @@ use Rattle.ballots.specs.declared.record.Record.{Record}
 use Rattle.table_types.specs.Uploads.{Upload}
 use Rattle.histories.specs.Event.{Event, node_of}
 use Rattle.histories.specs.Event as event
-use Rattle.histories.specs.Gave.{Gave, Reason}
-use Rattle.histories.specs.Gave as gave
+use Rattle.histories.specs.EventResult.{EventResult, Reason}
+use Rattle.histories.specs.EventResult as results
 use Rattle.histories.specs.History.{Step}
-use Rattle.histories.specs.Views.{Config, Views, started_with}
-use Rattle.histories.specs.Due.{Input, Due, Plan, Refuses, Plans, IsDue}
+use Rattle.agreement_rules.specs.Views.{Config, Views, started_with}
+use Rattle.agreement_rules.specs.Due.{Refuses, Plans}
 use Rattle.histories.specs.Due as input
-use Rattle.histories.specs.Following.{Seat, IsUp, IsDown, down, found_in, reason_of, PutGives, StepGives, InputGives, WantsMemory, CutGives, Delivers, QuestionGives, StartGives, UpGives, RefusesAsDown, DownGives, SeatGives, StepFollows, at_first, GetGives, InfoGives, OutcomeGives}
+use Rattle.histories.specs.Following.{Seat, IsUp, IsDown, down, recovered_in, reason_of, PutGives, SendsGives, InputGives, CutGives, Delivers, QuestionGives, RestartGives, UpGives, RefusesAsDown, DownGives, SeatGives, StepFollows, at_first, GetGivesIfAble, InfoGivesIfAble, OutcomeGives}
 use Rattle.safe_histories.specs.Learning.{is_taken, brings_up, brings_down, delivered_in}
-use Rattle.safe_histories.proofs.Starts.{nothing_either_way, step_of, elsewhere}
-use Rattle.safe_histories.proofs.Running.{put_tells, tick_tells, message_tells, Agrees, started, goes_on, goes_down, stays_down, others_agree}
+use Rattle.safe_histories.proofs.Restarts.{nothing_either_way, step_of, elsewhere}
+use Rattle.safe_histories.proofs.Running.{put_tells, tick_tells, message_tells, Agrees, restarted, goes_on, goes_down, stays_down, others_agree}
 
 module _ (sent : List Message) (done : List Step) where
   -- as the seat of the event's node is behind it
-  abbrev After : Event → Gave → Seat → Type 0
+  abbrev After : Event → EventResult → Seat → Type 0
   After e given seat = Agrees sent (done ++ step_of e given ∷ []) (node_of e) seat
 
-  with_it : (e : Event) (given was : Gave) (seat other : Seat) → given ≡ was → seat ≡ other → After e was other → After e given seat
-  with_it e given was seat other same also after = subst (λ (g : Gave). After e g seat) (sym same) (subst (After e was) (sym also) after)
+  with_it : (e : Event) (given was : EventResult) (seat other : Seat) → given ≡ was → seat ≡ other → After e was other → After e given seat
+  with_it e given was seat other same also after = subst (λ (g : EventResult). After e g seat) (sym same) (subst (After e was) (sym also) after)
 
   -- nothing is delivered, and its learner is told nothing
-  quietly : (e : Event) (given : Gave) (views after : Views) → brings_up (node_of e) (step_of e given) ≡ false → brings_down (node_of e) (step_of e given) ≡ false
-      → delivered_in sent (node_of e) (step_of e given) ≡ None → after.told ≡ views.told → Agrees sent done (node_of e) (IsUp views) → After e given (IsUp after)
+  quietly : (e : Event) (given : EventResult) (views after : Views) → brings_up (node_of e) (step_of e given) ≡ false → brings_down (node_of e) (step_of e given) ≡ false
+      → delivered_in sent (node_of e) (step_of e given) ≡ None → after.learner_calls ≡ views.learner_calls → Agrees sent done (node_of e) (IsUp views) → After e given (IsUp after)
   quietly e given views after no_up no_down nothing same agrees =
-      goes_on sent done (node_of e) (step_of e given) views after None no_up no_down nothing (same ∙ sym (append-nil views.told)) agrees
+      goes_on sent done (node_of e) (step_of e given) views after None no_up no_down nothing (same ∙ sym (append-nil views.learner_calls)) agrees
 
   -- ---- refusals and cuts
 
-  abbrev refusal : Reason → Gave
-  refusal reason = gave.Refused reason
+  abbrev refusal : Reason → EventResult
+  refusal reason = results.Refused reason
 
   it_is : (node : ℕ) → (node == node) ≡ true
   it_is node = eq-eqb node node refl
 
-  -- a refused event that is no start leaves the node as it was
+  -- a refused event that is no restart leaves the node as it was
   pub refused : (e : Event) (reason : Reason) (views : Views) → brings_up (node_of e) (step_of e (refusal reason)) ≡ false
       → brings_down (node_of e) (step_of e (refusal reason)) ≡ false → Agrees sent done (node_of e) (IsUp views) → After e (refusal reason) (IsUp views)
   refused e reason views no_up no_down agrees = quietly e (refusal reason) views views no_up no_down refl refl agrees
 
-  cut_down : (node : ℕ) (e : Event) (records : List Record) (due : Option Record) → node_of e ≡ node → brings_up (node_of e) (step_of e gave.Done) ≡ false
-      → brings_down (node_of e) (step_of e gave.Done) ≡ true → After e gave.Done (IsDown records due)
-  cut_down node e records due is no_up is_down = goes_down sent done (node_of e) (step_of e gave.Done) records due no_up is_down
+  cut_down : (node : ℕ) (e : Event) (records : List Record) (due : Option Record) → node_of e ≡ node → brings_up (node_of e) (step_of e results.Done) ≡ false
+      → brings_down (node_of e) (step_of e results.Done) ≡ true → After e results.Done (IsDown records due)
+  cut_down node e records due is no_up is_down = goes_down sent done (node_of e) (step_of e results.Done) records due no_up is_down
 
   -- ---- a node that is up
 
-  module _ (config : Config) (next : ℕ) (found : Bool) (views : Views) where
-    put_agrees : (node : ℕ) (text : List ℕ) (given : Gave) (seat : Seat) → Agrees sent done node (IsUp views)
+  module _ (config : Config) (next : ℕ) (recovered : Bool) (views : Views) where
+    put_agrees : (node : ℕ) (text : List ℕ) (given : EventResult) (seat : Seat) → Agrees sent done node (IsUp views)
         → InputGives config node views (input.Put text) (PutGives views) given seat → After (event.Put node text) given seat
     put_agrees node text given seat agrees (inl (Refuses refusal, is, (gives, stays))) =
-        with_it (event.Put node text) given (gave.Refused (reason_of refusal)) seat (IsUp views) gives stays
+        with_it (event.Put node text) given (results.Refused (reason_of refusal)) seat (IsUp views) gives stays
         (refused (event.Put node text) (reason_of refusal) views refl refl agrees)
     put_agrees node text given seat agrees (inl (Plans plan, is, (gives, stays))) =
-        with_it (event.Put node text) given gave.Done seat (IsUp plan.after) gives stays
-        (quietly (event.Put node text) gave.Done views plan.after refl refl refl (put_tells config views text plan is) agrees)
-    put_agrees node text given seat agrees (inr (gives, stays)) =
-        with_it (event.Put node text) given (gave.Refused gave.OutOfMemory) seat (IsUp views) gives stays
-        (refused (event.Put node text) gave.OutOfMemory views refl refl agrees)
+        with_it (event.Put node text) given results.Done seat (IsUp plan.after) gives stays
+        (quietly (event.Put node text) results.Done views plan.after refl refl refl (put_tells config views text plan is) agrees)
+    put_agrees node text given seat agrees (inr (allowed, (gives, stays))) =
+        with_it (event.Put node text) given (results.Refused results.OutOfMemory) seat (IsUp views) gives stays
+        (refused (event.Put node text) results.OutOfMemory views refl refl agrees)
 
-    tick_agrees : (node left : ℕ) (given : Gave) (seat : Seat) → Agrees sent done node (IsUp views)
-        → InputGives config node views (input.Tick left) (StepGives sent next views) given seat → After (event.Tick node left) given seat
+    tick_agrees : (node left : ℕ) (given : EventResult) (seat : Seat) → Agrees sent done node (IsUp views)
+        → InputGives config node views (input.Tick left) (SendsGives sent next views) given seat → After (event.Tick node left) given seat
     tick_agrees node left given seat agrees (inl (Refuses refusal, is, (gives, stays))) =
-        with_it (event.Tick node left) given (gave.Refused (reason_of refusal)) seat (IsUp views) gives stays
+        with_it (event.Tick node left) given (results.Refused (reason_of refusal)) seat (IsUp views) gives stays
         (refused (event.Tick node left) (reason_of refusal) views refl refl agrees)
     tick_agrees node left given seat agrees (inl (Plans plan, is, (gives, goes, stays))) =
-        let out = gave.Sent next (length plan.sends) in
+        let out = results.Sent next (length plan.sends) in
         with_it (event.Tick node left) given out seat (IsUp plan.after) gives stays
         (quietly (event.Tick node left) out views plan.after refl refl refl (tick_tells config node views left plan is) agrees)
-    tick_agrees node left given seat agrees (inr (gives, stays)) =
-        with_it (event.Tick node left) given (gave.Refused gave.OutOfMemory) seat (IsUp views) gives stays
-        (refused (event.Tick node left) gave.OutOfMemory views refl refl agrees)
+    tick_agrees node left given seat agrees (inr (allowed, (gives, stays))) =
+        with_it (event.Tick node left) given (results.Refused results.OutOfMemory) seat (IsUp views) gives stays
+        (refused (event.Tick node left) results.OutOfMemory views refl refl agrees)
 
     handed_here : (node number first count : ℕ) (m : Message) → slice_get sent number ≡ Some m
-        → delivered_in sent node (step_of (event.Deliver node number) (gave.Sent first count)) ≡ Some m
+        → delivered_in sent node (step_of (event.Deliver node number) (results.Sent first count)) ≡ Some m
     handed_here node number first count m is =
         ap (λ b. option_and_then (λ n. slice_get sent n) (if b then Some number else None)) (it_is node) ∙ is
 
-    delivery_agrees : (node number : ℕ) (m : Message) (given : Gave) (seat : Seat) → slice_get sent number ≡ Some m → Agrees sent done node (IsUp views)
-        → InputGives config node views (input.Deliver m) (StepGives sent next views) given seat → After (event.Deliver node number) given seat
+    delivery_agrees : (node number : ℕ) (m : Message) (given : EventResult) (seat : Seat) → slice_get sent number ≡ Some m → Agrees sent done node (IsUp views)
+        → InputGives config node views (input.Deliver m) (SendsGives sent next views) given seat → After (event.Deliver node number) given seat
     delivery_agrees node number m given seat there agrees (inl (Refuses refusal, is, (gives, stays))) =
-        with_it (event.Deliver node number) given (gave.Refused (reason_of refusal)) seat (IsUp views) gives stays
+        with_it (event.Deliver node number) given (results.Refused (reason_of refusal)) seat (IsUp views) gives stays
         (refused (event.Deliver node number) (reason_of refusal) views refl refl agrees)
     delivery_agrees node number m given seat there agrees (inl (Plans plan, is, (gives, goes, stays))) =
-        let out = gave.Sent next (length plan.sends) in
+        let out = results.Sent next (length plan.sends) in
         with_it (event.Deliver node number) given out seat (IsUp plan.after) gives stays
         (goes_on sent done node (step_of (event.Deliver node number) out) views plan.after (Some m) refl refl
         (handed_here node number next (length plan.sends) m there) (message_tells config node views m plan is) agrees)
-    delivery_agrees node number m given seat there agrees (inr (gives, stays)) =
-        with_it (event.Deliver node number) given (gave.Refused gave.OutOfMemory) seat (IsUp views) gives stays
-        (refused (event.Deliver node number) gave.OutOfMemory views refl refl agrees)
+    delivery_agrees node number m given seat there agrees (inr (allowed, (gives, stays))) =
+        with_it (event.Deliver node number) given (results.Refused results.OutOfMemory) seat (IsUp views) gives stays
+        (refused (event.Deliver node number) results.OutOfMemory views refl refl agrees)
 
-    deliver_agrees : (node number : ℕ) (given : Gave) (seat : Seat) → Agrees sent done node (IsUp views)
-        → Delivers sent next number (λ m. InputGives config node views (input.Deliver m) (StepGives sent next views)) views given seat
+    deliver_agrees : (node number : ℕ) (given : EventResult) (seat : Seat) → Agrees sent done node (IsUp views)
+        → Delivers sent next number (λ m. InputGives config node views (input.Deliver m) (SendsGives sent next views)) views given seat
         → After (event.Deliver node number) given seat
     deliver_agrees node number given seat agrees (inl (m, before, there, gives)) = delivery_agrees node number m given seat there agrees gives
     deliver_agrees node number given seat agrees (inr (past, gives, stays)) =
-        with_it (event.Deliver node number) given (gave.Refused gave.NotSent) seat (IsUp views) gives stays
-        (refused (event.Deliver node number) gave.NotSent views refl refl agrees)
+        with_it (event.Deliver node number) given (results.Refused results.NotSent) seat (IsUp views) gives stays
+        (refused (event.Deliver node number) results.NotSent views refl refl agrees)
 
     cut_is : (node : ℕ) → ((node == node) && true || false && false) ≡ true
     cut_is node = ap (λ b. b && true || false && false) (it_is node)
@@ -112,41 +112,32 @@ module _ (sent : List Message) (done : List Step) where
     no_cut_is true = refl
     no_cut_is false = refl
 
-    seat_of_cut : (node : ℕ) (i : Input) (given : Gave) (seat : Seat) → CutGives config node views i given seat
-        → (given ≡ gave.Done) × ((due : Option Record) × (seat ≡ IsDown views.records due))
-    seat_of_cut node i given seat (gives, inl (due, is, stays)) = (gives, (_, stays))
-    seat_of_cut node i given seat (gives, inr stays) = (gives, (None, stays))
+    tick_cut_agrees : (node left : ℕ) (given : EventResult) (seat : Seat) → CutGives config node views (input.Tick left) given seat → After (event.TickCut node left) given seat
+    tick_cut_agrees node left given seat (gives, (kept, keeps, stays)) =
+        with_it (event.TickCut node left) given results.Done seat (IsDown views.records kept) gives stays
+        (cut_down node (event.TickCut node left) views.records kept refl refl (cut_is node))
 
-    tick_cut_agrees : (node left : ℕ) (given : Gave) (seat : Seat) → CutGives config node views (input.Tick left) given seat → After (event.TickCut node left) given seat
-    tick_cut_agrees node left given seat cut =
-        let is = seat_of_cut node (input.Tick left) given seat cut in
-        with_it (event.TickCut node left) given gave.Done seat (IsDown views.records is.1.0) is.0 is.1.1
-        (cut_down node (event.TickCut node left) views.records is.1.0 refl refl (cut_is node))
-
-    delivery_cut_agrees : (node number : ℕ) (m : Message) (given : Gave) (seat : Seat) → CutGives config node views (input.Deliver m) given seat
+    delivery_cut_agrees : (node number : ℕ) (m : Message) (given : EventResult) (seat : Seat) → CutGives config node views (input.Deliver m) given seat
         → After (event.DeliverCut node number) given seat
-    delivery_cut_agrees node number m given seat cut =
-        let is = seat_of_cut node (input.Deliver m) given seat cut in
-        with_it (event.DeliverCut node number) given gave.Done seat (IsDown views.records is.1.0) is.0 is.1.1
-        (cut_down node (event.DeliverCut node number) views.records is.1.0 refl refl (cut_is node))
+    delivery_cut_agrees node number m given seat (gives, (kept, keeps, stays)) =
+        with_it (event.DeliverCut node number) given results.Done seat (IsDown views.records kept) gives stays
+        (cut_down node (event.DeliverCut node number) views.records kept refl refl (cut_is node))
 
-    deliver_cut_agrees : (node number : ℕ) (given : Gave) (seat : Seat) → Agrees sent done node (IsUp views)
+    deliver_cut_agrees : (node number : ℕ) (given : EventResult) (seat : Seat) → Agrees sent done node (IsUp views)
         → Delivers sent next number (λ m. CutGives config node views (input.Deliver m)) views given seat → After (event.DeliverCut node number) given seat
     deliver_cut_agrees node number given seat agrees (inl (m, before, there, cut)) = delivery_cut_agrees node number m given seat cut
     deliver_cut_agrees node number given seat agrees (inr (past, gives, stays)) =
-        with_it (event.DeliverCut node number) given (gave.Refused gave.NotSent) seat (IsUp views) gives stays
-        (refused (event.DeliverCut node number) gave.NotSent views refl (no_cut_is (node == node)) agrees)
+        with_it (event.DeliverCut node number) given (results.Refused results.NotSent) seat (IsUp views) gives stays
+        (refused (event.DeliverCut node number) results.NotSent views refl (no_cut_is (node == node)) agrees)
 
     -- a question changes nothing
-    asked_agrees : (e : Event) (given : Gave) (seat : Seat) (Gives : List Upload → Gave → Type 0) → brings_up (node_of e) (step_of e given) ≡ false
+    asked_agrees : (e : Event) (given : EventResult) (seat : Seat) (Gives : List Upload → EventResult → Type 0) → brings_up (node_of e) (step_of e given) ≡ false
         → brings_down (node_of e) (step_of e given) ≡ false → delivered_in sent (node_of e) (step_of e given) ≡ None → Agrees sent done (node_of e) (IsUp views)
-        → QuestionGives config views Gives given seat ⊎ WantsMemory views given seat → After e given seat
-    asked_agrees e given seat Gives no_up no_down nothing agrees (inl (uploads, has, gives, stays)) =
-        subst (After e given) (sym stays) (quietly e given views views no_up no_down nothing refl agrees)
-    asked_agrees e given seat Gives no_up no_down nothing agrees (inr (gives, stays)) =
+        → QuestionGives config views Gives given seat → After e given seat
+    asked_agrees e given seat Gives no_up no_down nothing agrees (uploads, has, gives, stays) =
         subst (After e given) (sym stays) (quietly e given views views no_up no_down nothing refl agrees)
 
-  -- ---- starts
+  -- ---- restarts
 
   up_is : (node : ℕ) → ((node == node) && true) ≡ true
   up_is node = ap (λ b. b && true) (it_is node)
@@ -162,77 +153,77 @@ module _ (sent : List Message) (done : List Step) where
   down_of (IsUp views) seat is = (views.records, None, is)
   down_of (IsDown records due) seat is = (records, due, is)
 
-  pub start_agrees : (found : Bool) (node : ℕ) (old : Seat) (given : Gave) (seat : Seat) → StartGives found old given seat → After (event.Restart node) given seat
-  start_agrees found node old given seat (inl (gives, stays)) =
-      with_it (event.Restart node) given gave.Done seat (IsUp (started_with (found_in found old))) gives stays
-      (started sent done node (step_of (event.Restart node) gave.Done) (found_in found old) (up_is node))
-  start_agrees found node old given seat (inr (gives, stays)) =
+  pub restart_agrees : (recovered : Bool) (node : ℕ) (old : Seat) (given : EventResult) (seat : Seat) → RestartGives recovered old given seat → After (event.Restart node) given seat
+  restart_agrees recovered node old given seat (inl (gives, stays)) =
+      with_it (event.Restart node) given results.Done seat (IsUp (started_with (recovered_in recovered old))) gives stays
+      (restarted sent done node (step_of (event.Restart node) results.Done) (recovered_in recovered old) (up_is node))
+  restart_agrees recovered node old given seat (inr (gives, stays)) =
       let is = down_of old seat stays in
-      let out = gave.Refused gave.OutOfMemory in
+      let out = results.Refused results.OutOfMemory in
       with_it (event.Restart node) given out seat (IsDown is.0 is.1) gives is.2
       (goes_down sent done node (step_of (event.Restart node) out) is.0 is.1 (no_up_is (node == node)) (failed_is node))
 
   -- ---- all events
 
-  up_agrees : (config : Config) (next : ℕ) (found : Bool) (views : Views) (e : Event) (given : Gave) (seat : Seat) → Agrees sent done (node_of e) (IsUp views)
-      → UpGives config sent next found views e given seat → After e given seat
-  up_agrees config next found views (event.Put node text) given seat agrees gives = put_agrees config next found views node text given seat agrees gives
-  up_agrees config next found views (event.Tick node left) given seat agrees gives = tick_agrees config next found views node left given seat agrees gives
-  up_agrees config next found views (event.Deliver node number) given seat agrees gives = deliver_agrees config next found views node number given seat agrees gives
-  up_agrees config next found views (event.TickCut node left) given seat agrees gives = tick_cut_agrees config next found views node left given seat gives
-  up_agrees config next found views (event.DeliverCut node number) given seat agrees gives = deliver_cut_agrees config next found views node number given seat agrees gives
-  up_agrees config next found views (event.Restart node) given seat agrees gives = start_agrees found node (IsUp views) given seat gives
-  up_agrees config next found views (event.Get node table version) given seat agrees gives =
-      asked_agrees config next found views (event.Get node table version) given seat (λ uploads. GetGives uploads table version) refl refl
+  up_agrees : (config : Config) (next : ℕ) (recovered : Bool) (views : Views) (e : Event) (given : EventResult) (seat : Seat) → Agrees sent done (node_of e) (IsUp views)
+      → UpGives config sent next recovered views e given seat → After e given seat
+  up_agrees config next recovered views (event.Put node text) given seat agrees gives = put_agrees config next recovered views node text given seat agrees gives
+  up_agrees config next recovered views (event.Tick node left) given seat agrees gives = tick_agrees config next recovered views node left given seat agrees gives
+  up_agrees config next recovered views (event.Deliver node number) given seat agrees gives = deliver_agrees config next recovered views node number given seat agrees gives
+  up_agrees config next recovered views (event.TickCut node left) given seat agrees gives = tick_cut_agrees config next recovered views node left given seat gives
+  up_agrees config next recovered views (event.DeliverCut node number) given seat agrees gives = deliver_cut_agrees config next recovered views node number given seat agrees gives
+  up_agrees config next recovered views (event.Restart node) given seat agrees gives = restart_agrees recovered node (IsUp views) given seat gives
+  up_agrees config next recovered views (event.Get node table version) given seat agrees gives =
+      asked_agrees config next recovered views (event.Get node table version) given seat (λ uploads. GetGivesIfAble uploads table version) refl refl
       (nothing_either_way (is_taken given)) agrees gives
-  up_agrees config next found views (event.Info node table) given seat agrees gives =
-      asked_agrees config next found views (event.Info node table) given seat (λ uploads. InfoGives uploads table) refl refl
+  up_agrees config next recovered views (event.Info node table) given seat agrees gives =
+      asked_agrees config next recovered views (event.Info node table) given seat (λ uploads. InfoGivesIfAble uploads table) refl refl
       (nothing_either_way (is_taken given)) agrees gives
-  up_agrees config next found views (event.Outcome node text) given seat agrees gives =
-      asked_agrees config next found views (event.Outcome node text) given seat (λ uploads. OutcomeGives uploads text) refl refl
-      (nothing_either_way (is_taken given)) agrees (inl gives)
+  up_agrees config next recovered views (event.Outcome node text) given seat agrees gives =
+      asked_agrees config next recovered views (event.Outcome node text) given seat (λ uploads. OutcomeGives uploads text) refl refl
+      (nothing_either_way (is_taken given)) agrees gives
 
-  refused_down : (e : Event) (given : Gave) (seat : Seat) (records : List Record) (due : Option Record) → brings_up (node_of e) (step_of e given) ≡ false
+  refused_down : (e : Event) (given : EventResult) (seat : Seat) (records : List Record) (due : Option Record) → brings_up (node_of e) (step_of e given) ≡ false
       → Agrees sent done (node_of e) (IsDown records due) → RefusesAsDown (IsDown records due) given seat → After e given seat
   refused_down e given seat records due no_up agrees (gives, stays) =
       subst (After e given) (sym stays) (stays_down sent done (node_of e) (step_of e given) records due no_up agrees)
 
-  down_agrees : (found : Bool) (records : List Record) (due : Option Record) (e : Event) (given : Gave) (seat : Seat) → Agrees sent done (node_of e) (IsDown records due)
-      → DownGives found (IsDown records due) e given seat → After e given seat
-  down_agrees found records due (event.Put node text) given seat agrees gives = refused_down (event.Put node text) given seat records due refl agrees gives
-  down_agrees found records due (event.Tick node left) given seat agrees gives = refused_down (event.Tick node left) given seat records due refl agrees gives
-  down_agrees found records due (event.Deliver node number) given seat agrees gives = refused_down (event.Deliver node number) given seat records due refl agrees gives
-  down_agrees found records due (event.TickCut node left) given seat agrees gives = refused_down (event.TickCut node left) given seat records due refl agrees gives
-  down_agrees found records due (event.DeliverCut node number) given seat agrees gives =
+  down_agrees : (recovered : Bool) (records : List Record) (due : Option Record) (e : Event) (given : EventResult) (seat : Seat) → Agrees sent done (node_of e) (IsDown records due)
+      → DownGives recovered (IsDown records due) e given seat → After e given seat
+  down_agrees recovered records due (event.Put node text) given seat agrees gives = refused_down (event.Put node text) given seat records due refl agrees gives
+  down_agrees recovered records due (event.Tick node left) given seat agrees gives = refused_down (event.Tick node left) given seat records due refl agrees gives
+  down_agrees recovered records due (event.Deliver node number) given seat agrees gives = refused_down (event.Deliver node number) given seat records due refl agrees gives
+  down_agrees recovered records due (event.TickCut node left) given seat agrees gives = refused_down (event.TickCut node left) given seat records due refl agrees gives
+  down_agrees recovered records due (event.DeliverCut node number) given seat agrees gives =
       refused_down (event.DeliverCut node number) given seat records due refl agrees gives
-  down_agrees found records due (event.Restart node) given seat agrees gives = start_agrees found node (IsDown records due) given seat gives
-  down_agrees found records due (event.Get node table version) given seat agrees gives =
+  down_agrees recovered records due (event.Restart node) given seat agrees gives = restart_agrees recovered node (IsDown records due) given seat gives
+  down_agrees recovered records due (event.Get node table version) given seat agrees gives =
       refused_down (event.Get node table version) given seat records due refl agrees gives
-  down_agrees found records due (event.Info node table) given seat agrees gives = refused_down (event.Info node table) given seat records due refl agrees gives
-  down_agrees found records due (event.Outcome node text) given seat agrees gives = refused_down (event.Outcome node text) given seat records due refl agrees gives
+  down_agrees recovered records due (event.Info node table) given seat agrees gives = refused_down (event.Info node table) given seat records due refl agrees gives
+  down_agrees recovered records due (event.Outcome node text) given seat agrees gives = refused_down (event.Outcome node text) given seat records due refl agrees gives
 
-  seat_agrees : (config : Config) (next : ℕ) (found : Bool) (old : Seat) (e : Event) (given : Gave) (seat : Seat) → Agrees sent done (node_of e) old
-      → SeatGives config sent next found old e given seat → After e given seat
-  seat_agrees config next found (IsUp views) e given seat agrees gives = up_agrees config next found views e given seat agrees gives
-  seat_agrees config next found (IsDown records due) e given seat agrees gives = down_agrees found records due e given seat agrees gives
+  seat_agrees : (config : Config) (next : ℕ) (recovered : Bool) (old : Seat) (e : Event) (given : EventResult) (seat : Seat) → Agrees sent done (node_of e) old
+      → SeatGives config sent next recovered old e given seat → After e given seat
+  seat_agrees config next recovered (IsUp views) e given seat agrees gives = up_agrees config next recovered views e given seat agrees gives
+  seat_agrees config next recovered (IsDown records due) e given seat agrees gives = down_agrees recovered records due e given seat agrees gives
 
   -- ---- all nodes
 
   abbrev pub AllAgree : ℕ → List Step → (ℕ → Seat) → Type 0
   AllAgree members steps seats = (node : ℕ) → node < members → Agrees sent steps node (seats node)
 
-  pub step_agrees : (config : Config) (next : ℕ) (found : Bool) (old new : ℕ → Seat) (step : Step) → AllAgree config.members done old
-      → StepFollows config sent next old step found new → AllAgree config.members (done ++ step ∷ []) new
-  step_agrees config next found old new step all (inl (member, gives, others)) = λ node within.
+  pub step_agrees : (config : Config) (next : ℕ) (recovered : Bool) (old new : ℕ → Seat) (step : Step) → AllAgree config.members done old
+      → StepFollows config sent next old step recovered new → AllAgree config.members (done ++ step ∷ []) new
+  step_agrees config next recovered old new step all (inl (member, gives, others)) = λ node within.
       elim (cases_eq node (node_of step.event)) as (λ _. Agrees sent (done ++ step ∷ []) node (new node)) [
         | inl same ↦ subst (λ (n : ℕ). Agrees sent (done ++ step ∷ []) n (new n)) (sym same)
-            (seat_agrees config next found (old (node_of step.event)) step.event step.gave (new (node_of step.event)) (all (node_of step.event) member) gives)
+            (seat_agrees config next recovered (old (node_of step.event)) step.event step.result (new (node_of step.event)) (all (node_of step.event) member) gives)
         | inr apart ↦ subst (Agrees sent (done ++ step ∷ []) node) (sym (others node apart))
-            (others_agree sent done node step (old node) (elsewhere sent node step.event step.gave apart) (all node within))
+            (others_agree sent done node step (old node) (elsewhere sent node step.event step.result apart) (all node within))
       ]
-  step_agrees config next found old new step all (inr (past, gives, same)) = λ node within.
+  step_agrees config next recovered old new step all (inr (past, gives, same)) = λ node within.
       subst (Agrees sent (done ++ step ∷ []) node) (sym (same node))
-      (others_agree sent done node step (old node) (elsewhere sent node step.event step.gave (λ is. absurd (omega (arith, is, within, past)))) (all node within))
+      (others_agree sent done node step (old node) (elsewhere sent node step.event step.result (λ is. absurd (omega (arith, is, within, past)))) (all node within))
 
 -- at first every node runs, and has heard nothing
 pub agree_at_first : (sent : List Message) (members : ℕ) → AllAgree sent [] members [] at_first

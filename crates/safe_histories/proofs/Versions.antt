@@ -1,19 +1,13 @@
 -- Versions of tables: what stands in one, and where.
-use Rattle.std.proofs.Common.{◌≡◌, ◌≢◌, ℕ, ◌-◌, ◌<◌, ◌≤◌, ◌⊎◌, inl, inr, Bool, true, false, if◌then◌else◌, List, [], ◌∷◌, ◌++◌, length, take, get_or, Some, None, slice_get, refl, sym, ap, subst, ◌∙◌, arith}
+use Rattle.std.proofs.Common.{◌≡◌, ◌≢◌, ℕ, ◌<◌, ◌≤◌, ◌⊎◌, inl, inr, Bool, true, false, if◌then◌else◌, List, [], ◌∷◌, ◌++◌, length, take, get_or, Some, None, slice_get, refl, sym, ap, subst, ◌∙◌}
 use Rattle.std.specs.Prelude.{nat_le}
 use Rattle.std.specs.List.{filter, list_any}
 use Rattle.std.proofs.lemmas.Bool.{leb-true}
-use Rattle.std.proofs.lemmas.List.{length-take-le}
-use Rattle.std.proofs.lemmas.Option.{slice_get_within, slice_get-get_or, get_or_from_slice_get}
-use Rattle.std.proofs.lemmas.Slice.Eq.{bytes_eq-Decides}
-use Rattle.table_types.specs.Uploads.{Upload, upload_text}
-use Rattle.table_types.specs.Valid.{IsUpload}
-use Rattle.table_types.specs.Tables.{has_id, is_to, shape_text, has_shape, is_same, firsts, like_the_first, effective}
-use Rattle.table_types.specs.Tables.{Version, first_of_all, version_of, applied, outcome_of}
-use Rattle.table_types.specs.Answers.{answer_of}
-use Rattle.safe_histories.specs.Safe.{StandsIn}
-use Rattle.safe_histories.proofs.Lists.{In, some_same, none_is_some, in_cases, in_filter, in_take, in_from_at, at_taken, taken_at}
-use Rattle.safe_histories.proofs.Texts.{OneEncoding}
+use Rattle.std.proofs.lemmas.Option.{slice_get_within, get_or_from_slice_get}
+use Rattle.table_types.specs.Uploads.{Upload}
+use Rattle.table_types.specs.Tables.{has_id, is_to, shape_text, has_shape, firsts, like_the_first, effective}
+use Rattle.table_types.specs.Tables.{Version, first_of_all, version_of}
+use Rattle.safe_histories.proofs.Lists.{In, some_same, none_is_some, in_cases, in_filter, in_take, at_taken}
 
 -- ---- uploads that count are uploads of the list
 
@@ -74,16 +68,11 @@ in_version table number uploads found upload is there =
     in_effective table uploads upload
     (in_take number (effective table uploads) upload (subst (λ l. In l upload) (version_is table number uploads found is).are there))
 
--- ---- an upload that was applied stands at its place
+-- ---- its uploads have different names
 
 abbrev pub Apart : Type 0
 Apart = (table : List ℕ) (uploads : List Upload) (i j : ℕ) (none : Upload) → i < j → j < length (effective table uploads)
     → (get_or (effective table uploads) i none).id ≢ (get_or (effective table uploads) j none).id
-
-abbrev pub Placed : Type 0
-Placed = (uploads : List Upload) (upload none : Upload) (number : ℕ) → outcome_of uploads upload ≡ applied number
-    → (number ≤ length (effective upload.table uploads)) × (1 ≤ number)
-    × (is_same (get_or (effective upload.table uploads) (number - 1) none) upload ≡ true)
 
 -- the upload at a place of a version stands there among those that count
 pub at_version : (number : ℕ) (counted : List Upload) (found : Version) (i : ℕ) (one : Upload) → IsFirstOf number counted found
@@ -101,34 +90,3 @@ module _ (apart : Apart) where
       subst (λ (u : Upload). u.id ≢ other.id) (get_or_from_slice_get counted i one one here)
       (subst (λ (u : Upload). (get_or counted i one).id ≢ u.id) (get_or_from_slice_get counted j other one later)
       (apart table uploads i j one lt (slice_get_within counted j other later)))
-
-  module _ (placed : Placed) (same : OneEncoding) where
-    stands_there : (uploads : List Upload) (upload : Upload) (number : ℕ) → ((other : Upload) → In uploads other → IsUpload other) → IsUpload upload
-        → outcome_of uploads upload ≡ applied number → (1 ≤ number) × (number ≤ length (effective upload.table uploads))
-        × (slice_get (effective upload.table uploads) (number - 1) ≡ Some upload)
-    stands_there uploads upload number all is told =
-        let counted = effective upload.table uploads in
-        let place = placed uploads upload upload number told in
-        let within : number - 1 < length counted = omega (arith, place.0, place.1) in
-        let there = get_or counted (number - 1) upload in
-        let at : slice_get counted (number - 1) ≡ Some there = slice_get-get_or counted (number - 1) upload within in
-        let texts : upload_text there ≡ upload_text upload = (bytes_eq-Decides (upload_text there) (upload_text upload)).0 place.2 in
-        (place.1, place.0, at ∙ ap Some (same there upload (all there (in_effective upload.table uploads there (in_from_at counted (number - 1) there at))) is texts))
-
-    -- in every version that has so many uploads
-    pub stands_in : (uploads : List Upload) (upload : Upload) (number version : ℕ) (found : Version) (bytes : List ℕ)
-        → ((other : Upload) → In uploads other → IsUpload other) → IsUpload upload → outcome_of uploads upload ≡ applied number → number ≤ version
-        → version_of upload.table version uploads ≡ Some found → bytes ≡ answer_of found → (1 ≤ number) × StandsIn bytes version number upload
-    stands_in uploads upload number version found bytes all is told le found_is bytes_are =
-        let counted = effective upload.table uploads in
-        let first = version_is upload.table version uploads found found_is in
-        let there = stands_there uploads upload number all is told in (
-          there.0,
-          record {
-            version = found;
-            bytes_are = bytes_are;
-            whole = ap length first.are ∙ length-take-le version counted first.enough;
-            apart = stand_apart upload.table version uploads found found_is;
-            placed = ap (λ l. slice_get l (number - 1)) first.are ∙ taken_at version (number - 1) counted upload (omega (arith, there.0, le)) there.2;
-          },
-        )

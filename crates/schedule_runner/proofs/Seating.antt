@@ -1,27 +1,39 @@
 -- An event of one seat, as a step of all nodes of a run.
-use Rattle.std.proofs.Common.{◌≡◌, ◌≢◌, refl, sym, ap, subst, ◌∙◌, inl, inr, ℕ, ◌<◌, ◌≤◌, arith, Bool, true, if◌then◌else◌, zero, suc, List, [], ◌∷◌, ◌++◌, length, slice_get, slice_set, get_or, None, Some}
+use Rattle.std.proofs.Common.{◌≡◌, ◌≢◌, refl, sym, ap, subst, ◌∙◌, inl, inr, ℕ, ◌<◌, ◌≤◌, arith, Bool, false, if◌then◌else◌, Result, Ok, Err, zero, suc, List, [], ◌∷◌, ◌++◌, length, slice_get, slice_set, get_or, None, Some}
 use Rattle.std.proofs.lemmas.Bool.{eq-eqb, ne_eqb, cases_eq, cases_lt}
 use Rattle.std.proofs.lemmas.List.{append-nil, length-append, length-set}
 use Rattle.std.proofs.lemmas.Option.{slice_get_within, slice_get_past, slice_get-get_or}
 use Rattle.ballots.specs.declared.message.Message.{Message}
-use Rattle.histories.specs.Views.{Config}
+use Rattle.agreement_rules.specs.Views.{Config}
 use Rattle.histories.specs.History.{Step}
 use Rattle.histories.specs.Event.{node_of}
-use Rattle.histories.specs.Gave as gave
-use Rattle.histories.specs.Following.{Seat, SeatGives, StepFollows, at_first}
-use Rattle.histories.specs.Reaching.{with_seat}
+use Rattle.histories.specs.Event as events
+use Rattle.histories.specs.EventResult as results
+use Rattle.histories.specs.Following.{Seat, SeatGives, IsAsked, StepFollows, at_first, with_seat}
 use Rattle.node_events.specs.declared.event.Event.{Event}
-use Rattle.node_events.specs.declared.gave.Gave.{Gave}
-use Rattle.node_events.specs.Told.{event_of, gave_of}
-use Rattle.node_seats.specs.State.{SeatState, IsPlaced, Stands, SeatHappens}
-use Rattle.schedule_runner.specs.Happening.{Happens}
+use Rattle.node_events.specs.declared.event_result.EventResult.{EventResult}
+use Rattle.node_events.specs.Told.{event_of, result_of}
+use Rattle.node_seats.specs.State.{SeatState, IsPlaced, Stands, SeatAnswers}
+use Rattle.schedule_runner.specs.Applying.{AppliesTo, Answers}
 use Rattle.schedule_runner.specs.Seated.{IsSeatOf, AreSeated}
+
+-- of no event is it asked whether a record was recovered, or it was not
+asked_false : (event : events.Event) → IsAsked event false
+asked_false (events.Put node text) = refl
+asked_false (events.Tick node left) = refl
+asked_false (events.Deliver node number) = refl
+asked_false (events.TickCut node left) = refl
+asked_false (events.DeliverCut node number) = refl
+asked_false (events.Restart node) = tt
+asked_false (events.Get node table version) = refl
+asked_false (events.Info node table) = refl
+asked_false (events.Outcome node text) = refl
 
 -- what a member gives is a step of all nodes
 abbrev pub StepsAlone : Type 0
-StepsAlone = (config : Config) (sent : List Message) (next : ℕ) (seats : ℕ → Seat) (step : Step) (found : Bool) (seat : Seat) → node_of step.event < config.members
-    → SeatGives config sent next found (seats (node_of step.event)) step.event step.gave seat
-    → StepFollows config sent next seats step found (with_seat seats (node_of step.event) seat)
+StepsAlone = (config : Config) (sent : List Message) (next : ℕ) (seats : ℕ → Seat) (step : Step) (recovered : Bool) (seat : Seat) → node_of step.event < config.members
+    → SeatGives config sent next recovered (seats (node_of step.event)) step.event step.result seat
+    → StepFollows config sent next seats step recovered (with_seat seats (node_of step.event) seat)
 
 own_seat : (seats : ℕ → Seat) (node : ℕ) (seat : Seat) → with_seat seats node seat node ≡ seat
 own_seat seats node seat = ap (λ (b : Bool). if b then seat else seats node) (eq-eqb node node refl)
@@ -63,37 +75,64 @@ module _ (config : Config) (seats : ℕ → Seat) (states after : List SeatState
   pub seated : AreSeated after config (with_seat seats place left)
   seated = record { one_each = changed.long ∙ are.one_each; each = each_seat }
 
-pub one_happens : StepsAlone → (config : Config) (seats : ℕ → Seat) (states states_after : List SeatState) (old new : SeatState) (before after : List Message) (event : Event) (given : Gave)
-    → AreSeated states config seats → slice_get states (node_of (event_of event)) ≡ Some old → IsChangedAt states states_after (node_of (event_of event)) new
-    → (IsPlaced old → node_of (event_of event) ≡ old.me → (seat : Seat) → Stands old seat → SeatHappens old new seat before after (event_of event) (gave_of given))
-    → Happens (AreSeated states_after config) config seats before after event given
-one_happens alone config seats states states_after old new before after event given are was changed happens =
-    let place = node_of (event_of event) in
-    let is : IsSeatOf config place old (seats place) = are.each place old was in
-    let happened : SeatHappens old new (seats place) before after (event_of event) (gave_of given) = happens is.placed (sym is.me) (seats place) is.stands in
-    let leaves = happened.1 in
-    let step : Step = record { event = event_of event; gave = gave_of given } in
-    record {
-      more = leaves.more;
-      behind = leaves.behind;
-      counted = leaves.counted;
-      found = happened.0;
-      left = with_seat seats place leaves.left;
-      follows = alone config after (length before) seats step happened.0 leaves.left
-          (subst (λ (n : ℕ). place < n) are.one_each (slice_get_within states place old was))
-          (subst (λ (c : Config). SeatGives c after (length before) happened.0 (seats place) step.event step.gave leaves.left) is.config_is leaves.gives);
-      have = seated config seats states states_after place old new are was changed leaves.left leaves.placed leaves.me_is leaves.config_is leaves.stands;
-    }
+-- a seat that is left as it was is as it was
+same_seat : (seats : ℕ → Seat) (node other : ℕ) → with_seat seats node (seats node) other ≡ seats other
+same_seat seats node other = elim (cases_eq other node) as (λ _. with_seat seats node (seats node) other ≡ seats other) [
+  | inl is ↦
+      subst (λ (n : ℕ). with_seat seats node (seats node) n ≡ seats n) (sym is) (own_seat seats node (seats node))
+  | inr differs ↦ other_seat seats node other (seats node) differs
+]
+
+same_seats : (states : List SeatState) (config : Config) (seats : ℕ → Seat) (node : ℕ) → AreSeated states config (with_seat seats node (seats node)) → AreSeated states config seats
+same_seats states config seats node are = record {
+  one_each = are.one_each;
+  each = λ number state there. subst (λ (s : Seat). IsSeatOf config number state s) (same_seat seats node number) (are.each number state there);
+}
+
+module _ (alone : StepsAlone) (config : Config) (seats : ℕ → Seat) (states states-after : List SeatState) (old new : SeatState) (before after : List Message) (event : Event)
+    (are : AreSeated states config seats) (was : slice_get states (node_of (event_of event)) ≡ Some old) (changed : IsChangedAt states states-after (node_of (event_of event)) new) where
+  abbrev its : IsSeatOf config (node_of (event_of event)) old (seats (node_of (event_of event)))
+  its = are.each (node_of (event_of event)) old was
+
+  -- the seat applied the event, or it is as before
+  one_answers : {E : Type 0} (answer : Result EventResult E) → SeatAnswers old new (seats (node_of (event_of event))) before after (event_of event) answer
+      → Answers (AreSeated states-after config) config seats before after event answer
+  one_answers (Ok given) (recovered, asked, leaves) =
+      let place = node_of (event_of event) in
+      let step : Step = record { event = event_of event; result = result_of given } in
+      record {
+        more = leaves.more;
+        behind = leaves.behind;
+        counted = leaves.counted;
+        recovered = recovered;
+        asked = asked;
+        left = with_seat seats place leaves.left;
+        follows = alone config after (length before) seats step recovered leaves.left
+            (subst (λ (n : ℕ). place < n) are.one_each (slice_get_within states place old was))
+            (subst (λ (c : Config). SeatGives c after (length before) recovered (seats place) step.event step.result leaves.left) its.config_is leaves.gives);
+        have = seated config seats states states-after place old new are was changed leaves.left leaves.placed leaves.me_is leaves.config_is leaves.stands;
+      }
+  one_answers (Err wants) (same, sends) =
+      let place = node_of (event_of event) in (
+        same_seats states-after config seats place (seated config seats states states-after place old new are was changed (seats place) same.placed same.me_is same.config_is same.stands),
+        same.unsent,
+      )
+
+  pub one_applies : {E : Type 0} (answer : Result EventResult E)
+      → (IsPlaced old → node_of (event_of event) ≡ old.me → (seat : Seat) → Stands old seat → SeatAnswers old new seat before after (event_of event) answer)
+      → Answers (AreSeated states-after config) config seats before after event answer
+  one_applies answer applies = one_answers answer (applies its.placed (sym its.me) (seats (node_of (event_of event))) its.stands)
 
 -- an event of none of the nodes
-pub none_happens : (config : Config) (seats : ℕ → Seat) (states : List SeatState) (before : List Message) (event : Event) (given : Gave)
-    → AreSeated states config seats → config.members ≤ node_of (event_of event) → gave_of given ≡ gave.Refused gave.OutOfRange
-    → Happens (AreSeated states config) config seats before before event given
-none_happens config seats states before event given are past is = record {
+pub none_applies : (config : Config) (seats : ℕ → Seat) (states : List SeatState) (before : List Message) (event : Event) (given : EventResult)
+    → AreSeated states config seats → config.members ≤ node_of (event_of event) → result_of given ≡ results.Refused results.OutOfRange
+    → AppliesTo (AreSeated states config) config seats before before event given
+none_applies config seats states before event given are past is = record {
   more = [];
   behind = sym (append-nil before);
-  counted = sym (ap gave.count_of is);
-  found = true;
+  counted = sym (ap results.count_of is);
+  recovered = false;
+  asked = asked_false (event_of event);
   left = seats;
   follows = inr (past, is, λ other. refl);
   have = are;

@@ -1,6 +1,6 @@
 pub mod Limits
 pub mod Told
 pub mod Traced
-pub mod Happening
+pub mod Applying
 pub mod Seated
 pub mod Runs

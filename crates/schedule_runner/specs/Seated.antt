@@ -1,6 +1,6 @@
 -- The nodes of a run, each with the store of its records.
 use Rattle.std.specs.Prelude.{◌≡◌, ℕ, List, length, Some, slice_get}
-use Rattle.histories.specs.Views.{Config}
+use Rattle.agreement_rules.specs.Views.{Config}
 use Rattle.histories.specs.Following.{Seat}
 use Rattle.node_seats.specs.State.{SeatState, IsPlaced, Stands}
 

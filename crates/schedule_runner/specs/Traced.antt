@@ -1,10 +1,12 @@
--- What contracts see of a trace, and the history that it tells.
-use Rattle.std.specs.Prelude.{List}
+-- What contracts see of a trace, the history that it tells, and what its steps reach.
+use Rattle.std.specs.Prelude.{◌≡◌, ℕ, Bool, List, [], ◌∷◌, ◌++◌, length}
 use Rattle.ballots.specs.declared.message.Message.{Message}
+use Rattle.histories.specs.EventResult.{count_of}
+use Rattle.histories.specs.Following.{Seat, StepFollows, IsAsked, Reaches}
 use Rattle.histories.specs.History.{History}
 use Rattle.schedule_runner.specs.declared.config.Config.{Config}
 use Rattle.schedule_runner.specs.declared.step.Step.{Step}
-use Rattle.schedule_runner.specs.Told.{config_of, steps_of}
+use Rattle.schedule_runner.specs.Told.{config_of, event_of, result_of, step_of, steps_of}
 
 pub record Traced : Type 0 where
   pub config : Config
@@ -14,3 +16,20 @@ pub record Traced : Type 0 where
 
 abbrev pub history_of : Traced → History
 history_of trace = record { config = config_of trace.config; sent = trace.sent; steps = steps_of trace.steps }
+
+-- one step more, and behind the messages that were sent those that it sent
+abbrev pub with_step : Traced → Step → List Message → Traced
+with_step trace step more =
+    record { config = trace.config; sent = trace.sent ++ more; steps = trace.steps ++ step ∷ [] }
+
+-- Its steps follow one another from the first on, send its messages and no others, and leave the nodes so. For each restart
+-- `recovered` says whether the record that was due where its node went down was recovered.
+abbrev pub TraceReaches : Traced → List Bool → (ℕ → Seat) → Type 0
+TraceReaches trace recovered seats =
+    Reaches (config_of trace.config) trace.sent (steps_of trace.steps) recovered seats
+
+-- Behind the trace, of which the nodes are left as `old`, the step follows that sends these messages, and leaves them as `new`.
+pub record StepFollowsBehind (trace : Traced) (old : ℕ → Seat) (step : Step) (more : List Message) (was : Bool) (new : ℕ → Seat) : Type 0 where
+  pub follows : StepFollows (config_of trace.config) (trace.sent ++ more) (length trace.sent) old (step_of step) was new
+  pub asked : IsAsked (event_of step.event) was
+  pub counted : length more ≡ count_of (result_of step.result)

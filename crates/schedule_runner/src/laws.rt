@@ -10,7 +10,7 @@ ghost use Rattle.schedule_runner.specs.declared.config.Config.{Config as ConfigS
 ghost use Rattle.schedule_runner.specs.declared.config.TheConstants.{MAX_SLOTS, MAX_JOURNAL_ENTRIES};
 ghost use Rattle.node_events.specs.declared.event.Event.{Event as EventSpec};
 ghost use Rattle.node_events.specs.declared.event.Event.TheVariants.{Get, Outcome as AsksOutcome};
-ghost use Rattle.node_events.specs.declared.gave.Gave.TheVariants.{Answer, Outcome as TellsOutcome};
+ghost use Rattle.node_events.specs.declared.event_result.EventResult.TheVariants.{Answer, Outcome as TellsOutcome};
 ghost use Rattle.schedule_runner.specs.Limits.{most_slots, most_entries};
 ghost use Rattle.schedule_runner.specs.Traced.{Traced};
 ghost use Rattle.schedule_runner.specs.Runs.{IsRunOf};
@@ -25,8 +25,8 @@ pub fn limits_are_these()
 pub fn one_ticket_has_one_answer()
     ensures { (config : ConfigSpec) (events : List EventSpec) (trace : Traced) (i j node other : ℕ)
         (ticket : TableVersion) (x y : List ℕ) → IsRunOf config events trace
-        → slice_get trace.steps i ≡ Some (record { event = Get node ticket; gave = Answer x })
-        → slice_get trace.steps j ≡ Some (record { event = Get other ticket; gave = Answer y }) → x ≡ y }
+        → slice_get trace.steps i ≡ Some (record { event = Get node ticket; result = Answer x })
+        → slice_get trace.steps j ≡ Some (record { event = Get other ticket; result = Answer y }) → x ≡ y }
 {}
 
 /// An upload that some node of a run told to be applied as a version stands once, at that version's place, in every
@@ -35,7 +35,7 @@ pub fn acknowledged_uploads_stand_once()
     ensures { (config : ConfigSpec) (events : List EventSpec) (trace : Traced) (i j node other number : ℕ)
         (text y : List ℕ) (upload : Uploaded) (ticket : TableVersion) → IsRunOf config events trace
         → IsTextOf text upload → ticket.table ≡ upload.table → number ≤ ticket.version
-        → slice_get trace.steps i ≡ Some (record { event = AsksOutcome node text; gave = TellsOutcome (Applied number) })
-        → slice_get trace.steps j ≡ Some (record { event = Get other ticket; gave = Answer y })
-        → (1 ≤ number) × StandsIn y ticket.version number upload }
+        → slice_get trace.steps i ≡ Some (record { event = AsksOutcome node text; result = TellsOutcome (Applied number) })
+        → slice_get trace.steps j ≡ Some (record { event = Get other ticket; result = Answer y })
+        → (1 ≤ number) × StandsIn upload.table y ticket.version number upload }
 {}

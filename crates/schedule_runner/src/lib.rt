@@ -1,8 +1,8 @@
 //! Runs of nodes by a list of events: what each event gave, and what that is worth to clients.
 //!
 //! An [`Event`] is of one node: a client hands in an upload or asks for something, time passes, a message is delivered,
-//! or the node goes down or starts again. Any list of events may happen. A message is lost where nothing delivers it; it
-//! is repeated and overtaken where deliveries name messages as they like. [`run_on`] lets events happen to nodes, one
+//! or the node goes down or restarts. Any list of events may be applied. A message is lost where nothing delivers it;
+//! it is repeated and overtaken where deliveries name messages as they like. [`run_on`] applies events to nodes, one
 //! after the other, and hands out a [`Trace`]: each event with what it gave, and all messages that were sent.
 //!
 //! ```text
@@ -13,7 +13,8 @@
 //!
 //! [`run`] does so with nodes of its own, each with the store of its records (`node_seats`), and is what a program calls.
 //! Nodes are whatever meets the contract of [`Nodes`]: each event gives what the rules of a node make it give
-//! (`Following` of `histories`). The definitions of `histories` and `safe_histories` speak of events and of what they
+//! (`Following` of `histories`). Whoever applies events in another way carries on a trace of its own, step by step
+//! ([`Trace::push`]). The definitions of `histories` and `safe_histories` speak of events and of what they
 //! give by values of their own; `specs/Told` tells the types of this crate as these, and `specs/Runs` says what a run
 //! promises.
 #![tactic(auto)]
@@ -29,7 +30,7 @@ mod trace;
 
 pub use config::{Config, MAX_JOURNAL_ENTRIES, MAX_SLOTS};
 pub use fault::RunFault;
-pub use node_events::{Event, Gave, Reason, TableText};
+pub use node_events::{Event, EventResult, Reason, TableText};
 pub use nodes::Nodes;
 pub use running::{run, run_on};
 pub use step::Step;

@@ -1,11 +1,10 @@
-//! Events that happen one after the other.
+//! Events that are applied one after the other.
 
 ghost use Rattle.std.specs.Prelude.{◌≡◌, ◌↔◌, List, ◌∷◌, ◌++◌, [], Err, IfOk, OnOk};
-ghost use Rattle.histories.specs.Views.{Config as HistoryConfig};
 ghost use Rattle.histories.specs.Following.{at_first};
 ghost use Rattle.node_events.specs.declared.event.Event.{Event as EventSpec};
 ghost use Rattle.schedule_runner.specs.Told.{config_of};
-ghost use Rattle.schedule_runner.specs.Happening.{HasCome};
+ghost use Rattle.schedule_runner.specs.Applying.{HasCome};
 ghost use Rattle.schedule_runner.specs.Runs.{IsRunOf};
 ghost use Rattle.schedule_runner.specs.Limits.{IsWithinLimits};
 ghost use Rattle.schedule_runner.specs.declared.fault.RunFault.TheVariants.{BadConfig};
@@ -15,38 +14,45 @@ use crate::fault::RunFault;
 use crate::nodes::Nodes;
 use crate::seats::Seats;
 use crate::step::Step;
-use crate::trace::Trace;
-use ballots::Message;
-use histories::laws::{nothing_reaches_the_start, one_step_more_reaches, what_is_reached_follows};
+use crate::trace::{Trace, put_step};
+use histories::laws::{nothing_reaches_the_start, one_step_more_reaches};
 use node_events::{Event, copy_of};
 use safe_histories::laws::replicas_agree;
 use std::alloc::{AllocError, Global};
 use std::hash::RandomState;
 
-/// Lets an event happen, and puts it behind the steps with what it gave.
+/// Applies an event, and puts it behind the trace's steps with what it gave.
 fn take_step<N: Nodes>(
     alloc: Global,
     nodes: &mut N,
-    sent: &mut Vec<Message>,
-    steps: &mut Vec<Step>,
+    trace: &mut Trace,
     event: &Event,
 ) -> Result<(), AllocError>
-    ensures { OnOk result ((config : HistoryConfig) (events : List EventSpec)
-        → HasCome (N.have nodes.old config) config sent.old.items steps.old.items events
-        → HasCome (N.have nodes.new config) config sent.new.items steps.new.items (events ++ event.now ∷ [])) }
+    ensures config { trace.new.config ≡ trace.old.config }
+    ensures come { OnOk result ((events : List EventSpec)
+        → HasCome (N.have nodes.old (config_of trace.old.config)) trace.old events
+        → HasCome (N.have nodes.new (config_of trace.old.config)) trace.new (events ++ event.now ∷ [])) }
 {
     one_step_more_reaches();
+    trace.steps.reserve(1)?;
     let event = copy_of(alloc, event)?;
-    let gave = nodes.happen(sent, &event);
-    steps.push(Step { event, gave })?;
-    Ok(())
+    match nodes.apply(&mut trace.sent, &event) {
+        Ok(result) => {
+            put_step(&mut trace.steps, Step { event, result });
+            Ok(())
+        }
+        Err(_) => {
+            drop(event);
+            Err(AllocError)
+        }
+    }
 }
 
-/// Lets these events happen to the nodes, one after the other, and tells what each gave. The nodes are those of this
+/// Applies these events to the nodes, one after the other, and tells what each gave. The nodes are those of this
 /// configuration, each as it is at first: up, and with nothing.
 ///
-/// [`AllocError`] says that memory for the steps was refused; a node that wants memory refuses its event, and the run
-/// goes on.
+/// [`AllocError`] says that memory for the trace was refused: for its steps, or for the messages that went out. A node
+/// that wants memory for itself refuses its event, and the run goes on.
 pub fn run_on<N: Nodes>(
     alloc: Global,
     config: Config,
@@ -57,26 +63,22 @@ pub fn run_on<N: Nodes>(
     ensures { IfOk result (IsRunOf config events.now) }
 {
     nothing_reaches_the_start();
-    let mut sent = Vec::new(alloc);
-    let mut steps = Vec::new(alloc);
+    let mut trace = Trace::new(alloc, config);
     for event in events {
-        take_step(alloc, nodes, &mut sent, &mut steps, event)?;
+        take_step(alloc, nodes, &mut trace, event)?;
     }
-    what_is_reached_follows();
     replicas_agree();
-    Ok(Trace {
-        config,
-        sent,
-        steps,
-    })
+    Ok(trace)
 }
 
-/// Lets these events happen, one after the other, to nodes of this configuration, each of which is up at first and has
-/// nothing; and tells what each gave. `hashing` has the random keys that keep look-ups fast whatever names clients choose.
+/// Applies these events, one after the other, to nodes of this configuration, each of which is up at first and has
+/// nothing; and tells what each gave. `hashing` has the random keys that keep look-ups fast whatever names clients
+/// choose.
 ///
 /// [`RunFault::BadConfig`] exactly where a limit of the configuration is 0 or too great ([`Config::is_within_limits`]).
-/// [`RunFault::OutOfMemory`] says that memory for the nodes or for the steps was refused; a node that wants memory refuses
-/// its event, and the run goes on.
+/// [`RunFault::OutOfMemory`] says that memory for the nodes as they are at first, or for the trace, was refused: for
+/// its steps, or for the messages that went out. A node that wants memory for itself refuses its event, and the run goes
+/// on.
 pub fn run(
     alloc: Global,
     hashing: RandomState,

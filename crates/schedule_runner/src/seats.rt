@@ -10,7 +10,7 @@ use crate::config::Config;
 use crate::nodes::Nodes;
 use ballots::{Message, NodeId};
 use histories::laws::a_member_steps_alone;
-use node_events::{Event, Gave, Reason};
+use node_events::{Event, EventResult, Reason};
 use node_seats::Seat;
 use std::alloc::{AllocError, Global};
 use std::hash::RandomState;
@@ -46,11 +46,11 @@ impl Seats {
 impl Nodes for Seats {
     ghost have = { λ s. AreSeated s.seats.items };
 
-    fn happen(&mut self, sent: &mut Vec<Message>, event: &Event) -> Gave {
+    fn apply(&mut self, sent: &mut Vec<Message>, event: &Event) -> Result<EventResult, AllocError> {
         a_member_steps_alone();
         match self.seats.get_mut(event.node() as usize) {
-            Some(seat) => seat.happen(sent, event),
-            None => Gave::Refused(Reason::OutOfRange),
+            Some(seat) => seat.apply(sent, event),
+            None => Ok(EventResult::Refused(Reason::OutOfRange)),
         }
     }
 }

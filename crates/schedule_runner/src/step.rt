@@ -1,12 +1,12 @@
 //! One step of a run.
 
-use node_events::{Event, Gave};
+use node_events::{Event, EventResult};
 
 /// An event, and what it gave.
 #[derive(Debug, Drop)]
 pub struct Step {
-    /// What happened.
+    /// The event that was applied.
     pub event: Event,
     /// What it gave.
-    pub gave: Gave,
+    pub result: EventResult,
 }

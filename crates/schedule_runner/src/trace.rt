@@ -1,15 +1,21 @@
 //! What a run hands out.
 
-ghost use Rattle.std.specs.Prelude.{◌≡◌, ◌↔◌, IsTrue};
+ghost use Rattle.std.specs.Prelude.{◌≡◌, ◌↔◌, ℕ, ◌+◌, ◌<◌, ◌≤◌, Bool, IsTrue, List, [], ◌∷◌, ◌++◌, OnOk, OnErr, vec_len, vec_capacity};
 ghost use Rattle.lawful_histories.specs.Lawful.{IsLawful};
+ghost use Rattle.histories.specs.Following.{Seat};
+ghost use Rattle.schedule_runner.specs.Traced.{with_step, TraceReaches, StepFollowsBehind};
 
 use crate::config::Config;
 use crate::step::Step;
 use ballots::{Members, Message};
+use histories::laws::one_step_more_reaches;
 use lawful_histories::are_lawful;
+use std::alloc::{AllocError, Global};
 use std::marker::Model;
 
-/// A run of nodes: what happened, and all messages that were sent. Only a run makes one.
+/// A run of nodes: the events that were applied with what they gave, and all messages that were sent. [`crate::run`]
+/// makes one of a list of events. Whoever applies events one by one begins with [`Trace::new`] and carries it on with
+/// [`Trace::push`].
 #[derive(Debug, Drop)]
 pub struct Trace {
     pub(crate) config: Config,
@@ -25,7 +31,81 @@ impl Model for Trace {
     ghost view = { λ t. record { config = t.config; sent = t.sent.items; steps = t.steps.items } };
 }
 
+// Room for one step more, and for so many messages more.
+fn make_room(steps: &mut Vec<Step>, sent: &mut Vec<Message>, count: usize) -> Result<(), AllocError>
+    ensures steps { steps.new.items ≡ steps.old.items }
+    ensures sent { sent.new.items ≡ sent.old.items }
+    ensures step_fits { OnOk result (vec_len steps.new < vec_capacity steps.new) }
+    ensures messages_fit { OnOk result (vec_len sent.new + count ≤ vec_capacity sent.new) }
+{
+    steps.reserve(1)?;
+    sent.reserve(count)
+}
+
+/// Puts a step behind the others, where there is room for it.
+pub(crate) fn put_step(steps: &mut Vec<Step>, step: Step)
+    requires { vec_len steps.old < vec_capacity steps.old }
+    ensures { steps.new.items ≡ steps.old.items ++ step ∷ [] }
+{
+    match steps.push(step) {
+        Ok(()) => {}
+        Err(_) => unreachable!(),
+    }
+}
+
+// Puts messages behind those that were sent, where there is room for them.
+fn put_messages(sent: &mut Vec<Message>, mut more: Vec<Message>)
+    requires { vec_len sent.old + vec_len more ≤ vec_capacity sent.old }
+    ensures { sent.new.items ≡ sent.old.items ++ more.items }
+{
+    match sent.append(&mut more) {
+        Ok(()) => {}
+        Err(_) => unreachable!(),
+    }
+}
+
 impl Trace {
+    /// A trace without a step, in which nothing was sent. It takes memory from this allocator as it grows.
+    pub fn new(alloc: Global, config: Config) -> Trace
+        ensures { result ≡ record { config = config; sent = []; steps = [] } }
+    {
+        Trace {
+            config,
+            sent: Vec::new(alloc),
+            steps: Vec::new(alloc),
+        }
+    }
+
+    /// Puts a step behind the others: an event that was applied, what it gave, and the messages that it sent, which are
+    /// numbered on from those that were sent before. [`AllocError`] says that memory was refused; the trace is then as
+    /// before.
+    ///
+    /// Where the trace reaches some state of the nodes, and the step follows there by their rules and tells as many
+    /// messages as it sent, the trace reaches with it the state in which the step leaves them
+    /// (`one_step_more_reaches` in the laws of `histories`). So whoever carries on a trace shows of each step alone that
+    /// it follows.
+    pub fn push(&mut self, step: Step, more: Vec<Message>) -> Result<(), AllocError>
+        ensures ok { OnOk result (self.new ≡ with_step self.old step more.items) }
+        ensures err { OnErr result (self.new ≡ self.old) }
+        ensures reaches { OnOk result ((recovered : List Bool) (seats new : ℕ → Seat) (was : Bool)
+            → TraceReaches self.old recovered seats → StepFollowsBehind self.old seats step more.items was new
+            → TraceReaches self.new (recovered ++ was ∷ []) new) }
+    {
+        one_step_more_reaches();
+        match make_room(&mut self.steps, &mut self.sent, more.len()) {
+            Ok(()) => {
+                put_messages(&mut self.sent, more);
+                put_step(&mut self.steps, step);
+                Ok(())
+            }
+            Err(_) => {
+                drop(step);
+                drop(more);
+                Err(AllocError)
+            }
+        }
+    }
+
     /// What the nodes have in common.
     pub fn config(&self) -> Config
         ensures { result ≡ self.now.config }
@@ -47,7 +127,7 @@ impl Trace {
         &self.sent
     }
 
-    /// Each event with what it gave, in the order of the events.
+    /// Each event with what it gave, in the order in which they were applied.
     pub fn steps(&self) -> &[Step]
         ensures { result.now ≡ self.now.steps }
     {

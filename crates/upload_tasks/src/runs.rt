@@ -6,13 +6,13 @@ use crate::events::events_of;
 use crate::plan::plan_in;
 use crate::weights::trace_weight;
 use part_tasks::TaskFault;
-use schedule_runner::{Config, Event, Gave, RunFault, Step, Trace, run};
+use schedule_runner::{Config, Event, EventResult, RunFault, Step, Trace, run};
 use std::alloc::Global;
 use std::hash::RandomState;
 
 fn is_one_refused(steps: &[Step]) -> bool {
     for step in steps {
-        if matches!(step.gave, Gave::Refused(_)) {
+        if matches!(step.result, EventResult::Refused(_)) {
             return true;
         }
     }

@@ -2,7 +2,7 @@
 
 use ballots::{Acceptance, Ballot, Body, Message, Value};
 use part_tasks::weight_of;
-use schedule_runner::{Gave, Trace};
+use schedule_runner::{EventResult, Trace};
 use table_versions::Outcome;
 
 fn mixed(sum: u64, number: u64) -> u64 {
@@ -64,16 +64,16 @@ fn outcome_weight(outcome: Outcome) -> u64 {
     }
 }
 
-fn gave_weight(gave: &Gave) -> u64 {
-    match gave {
-        Gave::Sent { first, count } => mixed(mixed(1, *first), *count),
-        Gave::Done => 2,
-        Gave::Answer(bytes) => mixed(3, weight_of(bytes.as_slice())),
-        Gave::Unavailable => 4,
-        Gave::Info(version) => mixed(5, *version),
-        Gave::NoTable => 6,
-        Gave::Outcome(outcome) => outcome_weight(*outcome),
-        Gave::Refused(_) => 11,
+fn result_weight(given: &EventResult) -> u64 {
+    match given {
+        EventResult::Sent { first, count } => mixed(mixed(1, *first), *count),
+        EventResult::Done => 2,
+        EventResult::Answer(bytes) => mixed(3, weight_of(bytes.as_slice())),
+        EventResult::Unavailable => 4,
+        EventResult::Info(version) => mixed(5, *version),
+        EventResult::NoTable => 6,
+        EventResult::Outcome(outcome) => outcome_weight(*outcome),
+        EventResult::Refused(_) => 11,
     }
 }
 
@@ -90,7 +90,7 @@ fn messages_weight(sent: &[Message]) -> u64 {
 pub(crate) fn trace_weight(trace: &Trace) -> u64 {
     let mut sum = messages_weight(trace.sent());
     for step in trace.steps() {
-        sum = mixed(sum, gave_weight(&step.gave));
+        sum = mixed(sum, result_weight(&step.result));
     }
     sum
 }

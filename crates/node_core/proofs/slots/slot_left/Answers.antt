@@ -1,6 +1,6 @@
 use Rattle.std.proofs.Common.{rules, arith, ◌≡◌, ℕ, ◌+◌, ◌<◌, ◌≤◌, List, length, refl, sym, subst, ◌∙◌}
 use Rattle.ballots.specs.declared.value.Value.{Value as Held}
-use Rattle.histories.specs.Views.{Views, HasPrefix}
+use Rattle.agreement_rules.specs.Views.{Views, HasPrefix}
 use Rattle.agreement.specs.State.{Has}
 use Rattle.node_core.specs.Plans.{IsSlotLeft}
 use Rattle.node_core.proofs.Free.{Passed, none_passed, goes_past, stays_past, this_one, past_all}
@@ -9,7 +9,7 @@ use Rattle.node_core.proofs.slots.slot_left.Goals as goal
 
 pub loop-number-init : goal.loop-number-init
 loop-number-init c =
-    let first : (views : Views) (values : List Held) → Has c.args.agreement.now views → HasPrefix c.args.agreement.now.config.members views.told values
+    let first : (views : Views) (values : List Held) → Has c.args.agreement.now views → HasPrefix c.args.agreement.now.config.members views.learner_calls values
     → c.match-first_free.first ≡ length values =
     λ views values has prefix. let at = c.first_free.ensures views values has prefix in
     elim c.match-first_free.branch as (λ _. c.match-first_free.first ≡ length values) [

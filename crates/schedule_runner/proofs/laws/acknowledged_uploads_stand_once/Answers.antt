@@ -1,7 +1,7 @@
 use Rattle.std.proofs.Common.{List, ℕ, subst}
 use Rattle.safe_histories.specs.Safe.{IsStep}
 use Rattle.histories.specs.Event.{Get}
-use Rattle.histories.specs.Gave.{Answer}
+use Rattle.histories.specs.EventResult.{Answer}
 use Rattle.schedule_runner.specs.Told.{steps_of}
 use Rattle.schedule_runner.proofs.Telling.{told_step}
 use Rattle.schedule_runner.proofs.laws.acknowledged_uploads_stand_once.Goals as goal

@@ -27,10 +27,10 @@ returns-clause-stands c views ballot had next =
           (parts.begun_above views.records c.self.inside.proposer.highest_round ballot has.begun
           (let e : ballot.round ≡ suc (max c.self.inside.seen_round c.self.inside.proposer.highest_round) = ap (λ (b : Pair). b.round) given.1 in omega (arith, e)));
       first_round = has.first_round;
-      asked = subst (λ (b : Pair). ProposerAfter start (views.asked ++ Begins (record { slot = c.args.slot; seen_round = views.seen_round; candidate = c.args.candidate; ballot = b }) ∷ []) c.begin.new.self) same
-          (subst (λ (n : ℕ). ProposerAfter start (views.asked ++ Begins (record { slot = c.args.slot; seen_round = n; candidate = c.args.candidate; ballot = ok.0 }) ∷ []) c.begin.new.self) has.seen
-          (stands start views.asked has.asked));
-      told = has.told;
+      proposer_calls = subst (λ (b : Pair). ProposerAfter start (views.proposer_calls ++ Begins (record { slot = c.args.slot; seen_round = views.seen_round; candidate = c.args.candidate; ballot = b }) ∷ []) c.begin.new.self) same
+          (subst (λ (n : ℕ). ProposerAfter start (views.proposer_calls ++ Begins (record { slot = c.args.slot; seen_round = n; candidate = c.args.candidate; ballot = ok.0 }) ∷ []) c.begin.new.self) has.seen
+          (stands start views.proposer_calls has.proposer_calls));
+      learner_calls = has.learner_calls;
       logged = has.logged;
       log_is = has.log_is;
       beyond = has.beyond;

@@ -15,8 +15,8 @@ returns-clause-stands c views had =
       restored = has.restored;
       begun = has.begun;
       first_round = has.first_round;
-      asked = has.asked;
-      told = c.on_decided.ensures.learned _ views.told has.told;
+      proposer_calls = has.proposer_calls;
+      learner_calls = c.on_decided.ensures.learned _ views.learner_calls has.learner_calls;
       logged = parts.both_have (decided_at c.self.inside.log) (learned_at c.self.inside.learner) (decided_at c.log_learned.new.log) (learned_at c.on_decided.new.self)
           c.args.slot c.args.learned has.logged
           (c.log_learned.ensures.here (decided_at c.self.inside.log c.args.slot)

@@ -1,6 +1,6 @@
 use Rattle.std.proofs.Common.{◌≡◌, [], ◌∷◌, ◌++◌, IfOk, sym, subst}
 use Rattle.learner.specs.Calls.{Call as Told, slot_of, Learns}
-use Rattle.histories.specs.Views.{Views}
+use Rattle.agreement_rules.specs.Views.{Views}
 use Rattle.agreement.specs.State.{AgreementState, Has}
 use Rattle.agreement.specs.Step.{Grows}
 use Rattle.agreement.proofs.Parts as parts
@@ -11,10 +11,10 @@ use Rattle.agreement.proofs.agreement.Agreement.see_growth.Goals as goal
 pub returns-clause-grows : goal.returns-clause-grows
 returns-clause-grows c =
     subst (λ (s : AgreementState). IfOk c.gain.result (λ grown. (views : Views) (call : Told) → Has s views → slot_of call ≡ c.args.slot
-    → Learns s.config.members views.told call c.args.slot c.args.learned.now → Grows s.config.members views.told (views.told ++ call ∷ []) grown.items)) c.self.view_is
+    → Learns s.config.members views.learner_calls call c.args.slot c.args.learned.now → Grows s.config.members views.learner_calls (views.learner_calls ++ call ∷ []) grown.items)) c.self.view_is
     (parts.map_ok _ _ c.gain.result
     (λ grown grows views call has there learns.
-    learning.grows_there c.a_call_adds_to_its_slot.ensures _ views.told call c.args.slot c.args.learned.now _ grown.items
+    learning.grows_there c.a_call_adds_to_its_slot.ensures _ views.learner_calls call c.args.slot c.args.learned.now _ grown.items
     (knowing.log_knows c.states_are_what_was_learned.ensures.decided _ views has) there learns grows)
     c.gain.ensures.grows)
 

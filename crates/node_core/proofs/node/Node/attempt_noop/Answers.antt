@@ -1,6 +1,6 @@
 use Rattle.std.proofs.Common.{◌≡◌, ℕ, ◌≤◌, [], Err, sym, subst}
 use Rattle.ballots.specs.declared.value.Value.TheVariants.{Noop}
-use Rattle.histories.specs.Due.{most_left}
+use Rattle.agreement_rules.specs.Due.{most_left}
 use Rattle.agreement.specs.declared.step.Step.{Step}
 use Rattle.node_core.specs.State.{NodeState}
 use Rattle.node_core.specs.Plans.{TickGives}

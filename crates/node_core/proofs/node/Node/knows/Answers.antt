@@ -1,5 +1,5 @@
 use Rattle.std.proofs.Common.{◌≡◌, true, false, inl, refl, sym, subst}
-use Rattle.histories.specs.Views.{Views}
+use Rattle.agreement_rules.specs.Views.{Views}
 use Rattle.node_core.specs.State.{NodeState, NodeHas}
 use Rattle.node_core.specs.Plans.{TellsKnown}
 use Rattle.node_core.proofs.Leading.{node_of}

@@ -1,6 +1,7 @@
 use Rattle.std.proofs.Common.{◌≡◌, ℕ, ◌+◌, ◌≤◌, List, [], length, Ok, Err, refl, sym, subst}
-use Rattle.histories.specs.Views.{Views}
-use Rattle.histories.specs.Due.{Deliver, IsMessageOf}
+use Rattle.agreement_rules.specs.Views.{Views}
+use Rattle.agreement_rules.specs.Due.{IsMessageOf}
+use Rattle.histories.specs.Due.{Deliver}
 use Rattle.ballots.specs.declared.value.Value.{Value}
 use Rattle.table_versions.specs.State.{values_limit, IsReadyFor}
 use Rattle.agreement.specs.declared.refusal.Refusal.TheVariants.{OutOfMemory}

@@ -1,5 +1,5 @@
 use Rattle.std.proofs.Common.{◌≡◌, true, false, refl, sym, subst}
-use Rattle.histories.specs.Views.{Views}
+use Rattle.agreement_rules.specs.Views.{Views}
 use Rattle.histories.specs.Due.{Put, waits_too}
 use Rattle.node_core.specs.declared.plan.Planned.TheVariants.{Stays, Waits}
 use Rattle.agreement.specs.declared.refusal.Refusal.TheVariants.{SlotsSpent, OutOfMemory}

@@ -1,5 +1,5 @@
 use Rattle.std.proofs.Common.{◌≡◌, sym, subst}
-use Rattle.histories.specs.Views.{Views}
+use Rattle.agreement_rules.specs.Views.{Views}
 use Rattle.node_core.specs.declared.plan.Planned.TheVariants.{Steps}
 use Rattle.node_core.specs.State.{NodeState, NodeHas}
 use Rattle.node_core.specs.Plans.{CanCommit, LeadsTo}

@@ -1,6 +1,6 @@
 use Rattle.std.proofs.Common.{◌≡◌, ◌↔◌, ℕ, IsTrue, List, [], length, Ok, Err, false, true, sym, subst, ◌∙◌}
 use Rattle.ballots.specs.declared.value.Value.{Value}
-use Rattle.histories.specs.Views.{Views, HasPrefix, HasGap}
+use Rattle.agreement_rules.specs.Views.{Views, HasPrefix, HasGap}
 use Rattle.agreement.specs.declared.refusal.Refusal.TheVariants.{OutOfMemory}
 use Rattle.node_core.specs.State.{NodeState, NodeHas}
 use Rattle.node_core.specs.Plans.{TickGives}

@@ -1,14 +1,10 @@
-use Rattle.std.proofs.Common.{List, refl, sym, subst, ◌∙◌}
-use Rattle.ballots.specs.declared.record.Record.{Record}
-use Rattle.histories.specs.Gave as gave
 use Rattle.node_core.specs.Inputs.{input_of}
-use Rattle.node_seats.specs.Steps.{KeepsAlone}
-use Rattle.node_seats.proofs.Happening.{cut_behind}
+use Rattle.std.specs.Result.{is_ok}
+use Rattle.node_seats.proofs.Applying.{kept_and_down}
 use Rattle.node_seats.proofs.seat.Seat.cut.Goals as goal
 
 pub returns : goal.returns
-returns c = λ views before placed up.
-    let input = input_of c.args.input in
-    cut_behind c.args.self.now c.set_node.new.self before views input gave.Done placed up
-    (subst (λ (rs : List Record). KeepsAlone up.node views input c.args.self.now.records rs) (sym c.set_node.ensures.records) (c.keep_due.ensures.kept views up))
-    refl c.set_node.ensures.node (c.set_node.ensures.me ∙ c.keep_due.ensures.me) (c.set_node.ensures.config ∙ c.keep_due.ensures.config)
+returns c = λ views up.
+    kept_and_down c.args.self.now c.keep_due-kept.new.self c.set_node.new.self views (input_of c.args.input) (is_ok c.keep_due-kept.result) up
+    (c.keep_due-kept.ensures.kept views up) c.keep_due-kept.ensures.me c.keep_due-kept.ensures.config
+    c.set_node.ensures.node c.set_node.ensures.me c.set_node.ensures.config c.set_node.ensures.records

@@ -1,19 +1,19 @@
 use Rattle.std.proofs.Common.{subst}
-use Rattle.histories.specs.Event as happened
-use Rattle.histories.specs.Following.{GetGives}
-use Rattle.node_events.specs.Told.{gave_of}
+use Rattle.histories.specs.Event as events
+use Rattle.histories.specs.Following.{GetGivesIfAble}
+use Rattle.node_events.specs.Told.{result_of}
 use Rattle.node_seats.specs.State.{SeatState}
-use Rattle.node_seats.specs.Steps.{AnswerHappens}
-use Rattle.node_seats.proofs.Happening.{answered, get_counts}
+use Rattle.node_seats.specs.Steps.{QuietApplies}
+use Rattle.node_seats.proofs.Applying.{answered, get_counts}
 use Rattle.node_seats.specs.contracts.seat.Seat.{the_view}
 use Rattle.node_seats.proofs.seat.Seat.get.Goals as goal
 
 pub returns-in-Some : goal.returns-in-Some
 returns-in-Some c =
-    let given = gave_of c.version_asked.result in
+    let given = result_of c.version_asked.result in
     let table = c.args.ticket.now.table in
     let version = c.args.ticket.now.version in
-    subst (λ (s : SeatState). AnswerHappens s (happened.Get s.me table version) given) c.self.view_is
-    (λ before views placed up. answered (the_view c.self.inside) before views given (λ uploads. GetGives uploads table version)
+    subst (λ (s : SeatState). QuietApplies s s (events.Get s.me table version) given) c.self.view_is
+    (λ before views placed up. answered (the_view c.self.inside) before views given (λ uploads. GetGivesIfAble uploads table version)
     placed up c.in-Some.node c.in-Some.is (get_counts table version given)
     (λ uploads has of. c.version_asked.ensures views uploads has of))

@@ -1,20 +1,20 @@
 use Rattle.std.proofs.Common.{refl, ap, subst}
 use Rattle.table_versions.specs.Outcomes.{told}
-use Rattle.histories.specs.Event as happened
-use Rattle.histories.specs.Gave as gave
+use Rattle.histories.specs.Event as events
+use Rattle.histories.specs.EventResult as results
 use Rattle.histories.specs.Following.{OutcomeGives}
 use Rattle.node_seats.specs.State.{SeatState}
-use Rattle.node_seats.specs.Steps.{AnswerHappens}
-use Rattle.node_seats.proofs.Happening.{answered_always}
+use Rattle.node_seats.specs.Steps.{QuietApplies}
+use Rattle.node_seats.proofs.Applying.{answered}
 use Rattle.node_seats.specs.contracts.seat.Seat.{the_view}
 use Rattle.node_seats.proofs.seat.Seat.outcome.Goals as goal
 
 pub returns-in-Some : goal.returns-in-Some
 returns-in-Some c =
-    let given = gave.Outcome (told c.outcome.result) in
+    let given = results.Outcome (told c.outcome.result) in
     let text = c.args.upload.now in
     let upload = c.as_slice-text.ensures.upload in
-    subst (λ (s : SeatState). AnswerHappens s (happened.Outcome s.me text) given) c.self.view_is
-    (λ before views placed up. answered_always (the_view c.self.inside) before views given (λ uploads. OutcomeGives uploads text)
-    placed up c.in-Some.node c.in-Some.is refl
-    (λ uploads has of. (upload.0, upload.1, ap (λ o. gave.Outcome o) (c.outcome.ensures views uploads upload.0 has of upload.1))))
+    subst (λ (s : SeatState). QuietApplies s s (events.Outcome s.me text) given) c.self.view_is
+    (λ before views placed up. answered (the_view c.self.inside) before views given (λ uploads. OutcomeGives uploads text)
+    placed up c.in-Some.node c.in-Some.is (λ uploads gives. refl)
+    (λ uploads has of. (upload.0, upload.1, ap (λ o. results.Outcome o) (c.outcome.ensures views uploads upload.0 has of upload.1))))

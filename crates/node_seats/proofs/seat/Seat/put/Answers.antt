@@ -1,25 +1,19 @@
-use Rattle.std.proofs.Common.{ℕ, List, refl, ap, subst, inr}
-use Rattle.histories.specs.Due.{Put}
-use Rattle.histories.specs.Gave as gave
-use Rattle.histories.specs.Following.{InputGives, PutGives}
-use Rattle.node_events.specs.Told.{gave_of}
-use Rattle.node_seats.specs.Steps.{StepHappens}
-use Rattle.node_seats.proofs.Happening.{stays, put_done, put_refused, sent_tells}
+use Rattle.std.proofs.Common.{List, ℕ, sym, ap, subst, ◌∙◌}
+use Rattle.histories.specs.Event as events
+use Rattle.histories.specs.EventResult as results
+use Rattle.node_events.specs.Told.{reason_of}
+use Rattle.node_seats.specs.State.{SeatState}
+use Rattle.node_seats.specs.Steps.{UpAnswers}
+use Rattle.node_seats.proofs.Applying.{put_not_handed}
 use Rattle.node_seats.proofs.seat.Seat.put.Goals as goal
 
-pub returns-in_default : goal.returns-in_default
-returns-in_default c = λ views placed up.
-    stays c.args.self.now c.args.sent.now.items views (gave.Refused gave.OutOfMemory)
-    (InputGives c.args.self.now.config c.args.self.now.me views (Put c.args.upload.now) (PutGives views) (gave.Refused gave.OutOfMemory))
-    placed up refl (inr (refl, refl))
+pub returns-in-Ok : goal.returns-in-Ok
+returns-in-Ok c =
+    subst (λ (text : List ℕ). UpAnswers c.args.self.now c.put_copy.new.self c.args.sent.now.items c.put_copy.new.sent.items (events.Put c.args.self.now.me text) c.put_copy.result)
+    c.in-Ok.ensures.copy c.put_copy.ensures
 
-pub returns-in-Sent : goal.returns-in-Sent
-returns-in-Sent c = λ views placed up.
-    put_done c.args.self.now c.step.new.self c.args.sent.now.items c.step.new.sent.items views c.args.upload.now (gave_of c.step.result) c.in-Sent.first c.in-Sent.count (ap gave_of c.in-Sent.is)
-    (subst (λ (text : List ℕ). StepHappens c.args.self.now c.step.new.self c.args.sent.now.items c.step.new.sent.items (Put text) (gave_of c.step.result)) c.in-Ok.ensures c.step.ensures views placed up)
-
-pub returns-in_default-step : goal.returns-in_default-step
-returns-in_default-step c = λ views placed up.
-    put_refused c.args.self.now c.step.new.self c.args.sent.now.items c.step.new.sent.items views c.args.upload.now (gave_of c.step.result)
-    (sent_tells c.step.result c.in_default-step.not-Sent)
-    (subst (λ (text : List ℕ). StepHappens c.args.self.now c.step.new.self c.args.sent.now.items c.step.new.sent.items (Put text) (gave_of c.step.result)) c.in-Ok.ensures c.step.ensures views placed up)
+pub returns-in-Err : goal.returns-in-Err
+returns-in-Err c = λ views placed up.
+    put_not_handed c.due_is_one.ensures c.args.self.now c.args.sent.now.items views c.args.upload.now c.in-Err.refusal (results.Refused (reason_of c.reason_for.result)) placed up
+    c.in-Some.node (sym (ap (λ (s : SeatState). s.node) c.self.view_is) ∙ c.in-Some.is) (λ has. c.in-Err.ensures.refused views has)
+    (ap (λ r. results.Refused r) c.reason_for.ensures)

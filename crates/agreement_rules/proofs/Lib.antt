@@ -1,0 +1,13 @@
+pub mod Lists
+pub mod Prefixes
+pub mod OneDue
+pub mod Members
+pub mod Replies
+pub mod Kept
+pub mod Ticks
+pub mod Told
+pub mod Restorable
+pub mod FreeSlots
+pub mod Choosing
+pub mod SomethingDue
+pub mod Starting
