@@ -2,7 +2,9 @@
 //! to a tick, by the records that it kept and the calls of its proposer and its learner. Definitions, and laws of them.
 //!
 //! `Views` has what decides what a node does, and `Due` what it owes: the record that it keeps, the messages that it sends,
-//! and what it has afterwards. Whether what is agreed on means anything is not asked here.
+//! and what it has afterwards. `Naming`, `Keeping` and `Calling` say which ballots a message names, which record has to be
+//! kept before it goes out, and which calls it makes of a node's parts. Whether what is agreed on means anything is not
+//! asked here.
 //!
 //! The functions of `laws` do nothing: their contracts are laws of the definitions.
 #![tactic(auto)]

@@ -23,5 +23,9 @@ allowed one config me views (Put text) taken = planned one config me views (Put 
 allowed one config me views (Tick left) taken = planned one config me views (Tick left) taken.0 taken.1
 allowed one config me views (Deliver m) taken = λ refusal due. due.1 taken
 
+-- the law of this, as it is cited
+abbrev pub Allows : Type 0
+Allows = (config : Config) (me : ℕ) (views : Views) (input : Input) → IsTaken config me views input → IsAllowed config me views input
+
 pub message_allowed : (config : Config) (me : ℕ) (views : Views) (m : Message) → IsMessageOf config m → IsAllowed config me views (Deliver m)
 message_allowed config me views m of = λ refusal due. due.1 of

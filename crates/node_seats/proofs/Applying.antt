@@ -22,15 +22,14 @@ use Rattle.node_events.specs.Told.{result_of, reason_of as reason_told}
 use Rattle.node_events.specs.declared.event_result.Reason.{Reason as ToldReason}
 use Rattle.node_events.specs.declared.event_result.Reason.TheVariants as reason
 use Rattle.agreement.specs.declared.refusal.Refusal.{Refusal}
-use Rattle.acceptor.specs.AcceptorState.{standing}
 use Rattle.node_core.specs.Inputs.{refusal_of}
 use Rattle.node_core.specs.Plans.{IsRefused}
 use Rattle.node_core.specs.State.{NodeState, NodeHas, IsRecordOf}
 use Rattle.node_seats.specs.State.{SeatState, IsPlaced, StandsUp, Stands, Leaves, SendsFor, IsAsBefore}
 use Rattle.node_seats.specs.Steps.{HandsMessage, KeepsAlone, StepAnswers, UpAnswers, IsCutBehind}
 use Rattle.node_seats.proofs.Placing.{kept_is_of, recovered_are_of}
-use Rattle.node_seats.proofs.Keeping.{message_has}
-use Rattle.node_seats.proofs.Allowing.{DueIsOne, message_allowed}
+use Rattle.node_seats.proofs.Keeping.{Taken as TakenKeepSome}
+use Rattle.node_seats.proofs.Allowing.{Allows, message_allowed}
 use Rattle.node_seats.proofs.Leaving.{quiet, placed_too, same_records, without_due, same_node, refusal_gives}
 
 none_is_some : {X : Type 0} (x : X) → None ≡ Some x → ⊥
@@ -119,14 +118,14 @@ put_failed old new before after text (Err why) is wants = λ views placed up.
     (let so = wants views placed up in (so.0, put_sends_none old.config old.me views text so.1))
 
 -- an upload that is refused before it is copied
-pub put_not_handed : DueIsOne → (state : SeatState) (before : List Message) (views : Views) (text : List ℕ) (why : Refusal) (given : EventResult) → IsPlaced state
+pub put_not_handed : Allows → (state : SeatState) (before : List Message) (views : Views) (text : List ℕ) (why : Refusal) (given : EventResult) → IsPlaced state
     → (up : StandsUp state views) (node : NodeState) → state.node ≡ Some node → (NodeHas node views → IsRefused node views (Put text) why) → given ≡ results.Refused (reason_of (refusal_of why))
     → Leaves state state before before given (InputGives state.config state.me views (Put text) (PutGives views) given)
-put_not_handed one state before views text why given placed up node here refused is =
+put_not_handed allows state before views text why given placed up node here refused is =
     subst (λ (g : EventResult). Leaves state state before before g (InputGives state.config state.me views (Put text) (PutGives views) g)) (sym is)
     (quiet state state before (results.Refused (reason_of (refusal_of why)))
     (InputGives state.config state.me views (Put text) (PutGives views) (results.Refused (reason_of (refusal_of why)))) (IsUp views) refl
-    (refusal_gives one state views up (Put text) (PutGives views) (λ r. (refl, refl)) why
+    (refusal_gives allows state views up (Put text) (PutGives views) (λ r. (refl, refl)) why
     (subst (λ (n : NodeState). IsRefused n views (Put text) why) (same_node state views up node here)
     (refused (subst (λ (n : NodeState). NodeHas n views) (sym (same_node state views up node here)) up.has))))
     up placed refl refl)
@@ -259,7 +258,7 @@ not_sent_stays state before views number placed up none =
     (inr (is_not_sent before number none, refl, refl))
 
 -- a message that the node is not handed, where it goes down: what it would have kept is not recovered
-module _ (old new : SeatState) (before : List Message) (views : Views) (number : ℕ) (placed : IsPlaced old) (up : StandsUp old views) (node : NodeState) (here : old.node ≡ Some node)
+module _ (some : TakenKeepSome) (old new : SeatState) (before : List Message) (views : Views) (number : ℕ) (placed : IsPlaced old) (up : StandsUp old views) (node : NodeState) (here : old.node ≡ Some node)
     (down : new.node ≡ None) (me : new.me ≡ old.me) (config : new.config ≡ old.config) (records : new.records ≡ old.records) where
   unkept : (m : Message) (kept : Option Record) → InputKeeps old.config old.me views (Deliver m) kept → IsCutBehind old new views (Deliver m) false
   unkept m kept keeps = record {
@@ -283,7 +282,7 @@ module _ (old new : SeatState) (before : List Message) (views : Views) (number :
   not_handed_cut reason.SlotsSpent sent not = absurd not
   not_handed_cut reason.RoundsSpent sent not = absurd not
   not_handed_cut reason.OutOfMemory sent (m, there, of) =
-      let has = message_has old.config old.me views (standing up.node.agreement.acceptor) up.has.agrees.restored m (of_seat old before views number placed up node here (λ c. IsMessageOf c m) of) in
+      let has = some old.config old.me views (Deliver m) (of_seat old before views number placed up node here (λ c. IsMessageOf c m) of) in
       unkept_leaves m has.0 there has.1
   not_handed_cut reason.Down sent not = absurd not
   not_handed_cut reason.NotSent sent not = absurd (sent refl)

@@ -6,7 +6,6 @@ use Rattle.std.proofs.lemmas.List.{append-nil, take_all}
 use Rattle.std.proofs.Math.Seq.{drop-append_seam}
 use Rattle.ballots.specs.declared.record.Record.{Record}
 use Rattle.ballots.specs.declared.message.Message.{Message}
-use Rattle.acceptor.specs.AcceptorState.{standing}
 use Rattle.agreement.specs.declared.refusal.Refusal.{Refusal}
 use Rattle.agreement.specs.declared.refusal.Refusal.TheVariants as refusal
 use Rattle.agreement_rules.specs.Views.{Config, Views}
@@ -27,8 +26,8 @@ use Rattle.node_seats.specs.State.{SeatState, IsPlaced, StandsUp, Stands, Leaves
 use Rattle.node_seats.specs.Steps.{IsDone, IsLeft, TakeGives, KeepsAlone}
 use Rattle.node_seats.proofs.Dues.{due_keeps}
 use Rattle.node_seats.proofs.Placing.{due_is_of, recovered_are_of}
-use Rattle.node_seats.proofs.Keeping.{plan_keeps, refusal_keeps, taken_has}
-use Rattle.node_seats.proofs.Allowing.{DueIsOne, allowed}
+use Rattle.node_seats.proofs.Keeping.{Planned as PlansAreKept, Refused as RefusedKeepNone, Taken as TakenKeepSome}
+use Rattle.node_seats.proofs.Allowing.{Allows}
 
 -- ---- parts
 
@@ -130,14 +129,14 @@ step_done old new views input before after count given placed up node is_left do
     }
 
 -- a refusal, as what the input gives; memory is wanted only where no refusal is due
-pub refusal_gives : DueIsOne → (old : SeatState) (views : Views) (up : StandsUp old views) (input : Input) (Gives : Due → EventResult → Seat → Type 0)
+pub refusal_gives : Allows → (old : SeatState) (views : Views) (up : StandsUp old views) (input : Input) (Gives : Due → EventResult → Seat → Type 0)
     → ((refusal : DueRefusal) → Gives (Refuses refusal) (results.Refused (reason_of refusal)) (IsUp views)) → (why : Refusal)
     → IsRefused up.node views input why → InputGives old.config old.me views input Gives (results.Refused (reason_of (refusal_of why))) (IsUp views)
-refusal_gives one old views up input Gives refuses refusal.OutOfRange refused = inl (Refuses due.OutOfRange, due_there old views up input (Refuses due.OutOfRange) refused, refuses due.OutOfRange)
-refusal_gives one old views up input Gives refuses refusal.SlotsSpent refused = inl (Refuses due.SlotsSpent, due_there old views up input (Refuses due.SlotsSpent) refused, refuses due.SlotsSpent)
-refusal_gives one old views up input Gives refuses refusal.RoundsSpent refused = inl (Refuses due.RoundsSpent, due_there old views up input (Refuses due.RoundsSpent) refused, refuses due.RoundsSpent)
-refusal_gives one old views up input Gives refuses refusal.OutOfMemory refused =
-    inr (allowed one old.config old.me views input (taken_there old views up input refused), (refl, refl))
+refusal_gives allows old views up input Gives refuses refusal.OutOfRange refused = inl (Refuses due.OutOfRange, due_there old views up input (Refuses due.OutOfRange) refused, refuses due.OutOfRange)
+refusal_gives allows old views up input Gives refuses refusal.SlotsSpent refused = inl (Refuses due.SlotsSpent, due_there old views up input (Refuses due.SlotsSpent) refused, refuses due.SlotsSpent)
+refusal_gives allows old views up input Gives refuses refusal.RoundsSpent refused = inl (Refuses due.RoundsSpent, due_there old views up input (Refuses due.RoundsSpent) refused, refuses due.RoundsSpent)
+refusal_gives allows old views up input Gives refuses refusal.OutOfMemory refused =
+    inr (allows old.config old.me views input (taken_there old views up input refused), (refl, refl))
 
 -- the seat that is left as it was, whatever room its node has made
 left_so : (old new : SeatState) (views : Views) (before after : List Message) → IsPlaced old → (up : StandsUp old views) (node : NodeState)
@@ -151,17 +150,17 @@ left_so old new views before after placed up node is_left left = record {
   unsent = left.unsent;
 }
 
-pub step_left : DueIsOne → (old new : SeatState) (views : Views) (input : Input) (before after : List Message) (why : Refusal) (given : EventResult)
+pub step_left : Allows → (old new : SeatState) (views : Views) (input : Input) (before after : List Message) (why : Refusal) (given : EventResult)
     → IsPlaced old → (up : StandsUp old views) (node : NodeState) → IsLeftAs old new views up node
     → IsRefused up.node views input why → IsLeft node views old.records new.records before after → given ≡ results.Refused (reason_of (refusal_of why))
     → Leaves old new before after given (InputGives old.config old.me views input (SendsGives after (length before) views) given)
-step_left one old new views input before after why given placed up node is_left refused left is =
+step_left allows old new views input before after why given placed up node is_left refused left is =
     let same = left_so old new views before after placed up node is_left left in
     subst (λ (g : EventResult). Leaves old new before after g (InputGives old.config old.me views input (SendsGives after (length before) views) g)) (sym is)
     (subst (λ (ms : List Message). Leaves old new before ms (results.Refused (reason_of (refusal_of why))) (InputGives old.config old.me views input (SendsGives ms (length before) views) (results.Refused (reason_of (refusal_of why))))) (sym left.unsent)
     (quiet old new before (results.Refused (reason_of (refusal_of why))) (InputGives old.config old.me views input (SendsGives before (length before) views) (results.Refused (reason_of (refusal_of why)))) (IsUp views)
     refl
-    (refusal_gives one old views up input (SendsGives before (length before) views) (λ r. (refl, refl)) why refused)
+    (refusal_gives allows old views up input (SendsGives before (length before) views) (λ r. (refl, refl)) why refused)
     same.stands same.placed is_left.me is_left.config))
 
 -- ---- a node that does what was planned
@@ -207,7 +206,7 @@ some_same x y same = cc
 pub same_node : (state : SeatState) (views : Views) (up : StandsUp state views) (node : NodeState) → state.node ≡ Some node → node ≡ up.node
 same_node state views up node is = some_same node up.node (sym is ∙ up.up)
 
-module _ (one : DueIsOne) (old new : SeatState) (views : Views) (input : Input) (before after : List Message) (placed : IsPlaced old) (up : StandsUp old views)
+module _ (allows : Allows) (old new : SeatState) (views : Views) (input : Input) (before after : List Message) (placed : IsPlaced old) (up : StandsUp old views)
     (node changed : NodeState) (here : old.node ≡ Some node) (there : new.node ≡ Some changed) (node-me : changed.agreement.me ≡ node.agreement.me)
     (node-config : changed.agreement.config ≡ node.agreement.config) (me : new.me ≡ old.me) (config : new.config ≡ old.config) where
   is_left_so : IsLeftAs old new views up changed
@@ -234,7 +233,7 @@ module _ (one : DueIsOne) (old new : SeatState) (views : Views) (input : Input) 
       → Leaves old new before after given (InputGives old.config old.me views input (SendsGives after (length before) views) given)
   step_refused why given gives is =
       let did = gives has_here in
-      step_left one old new views input before after why given placed up changed is_left_so
+      step_left allows old new views input before after why given placed up changed is_left_so
       (subst (λ (n : NodeState). IsRefused n views input why) (same_node old views up node here) did.0) did.1 is
 
   pub step_wants : (NodeHas node views → SendsFor node.agreement.config node.agreement.me views input × IsLeft changed views old.records new.records before after)
@@ -247,39 +246,31 @@ module _ (one : DueIsOne) (old new : SeatState) (views : Views) (input : Input) 
 
 -- ---- a node that keeps its record, and no more
 
-pub kept_alone : {E : Type 0} (node : NodeState) (views : Views) (input : Input) (planned : Planned) (records kept : List Record) (due : Option Record) (result : Result (Unit {0}) E)
+pub kept_alone : PlansAreKept → {E : Type 0} (node : NodeState) (views : Views) (input : Input) (planned : Planned) (records kept : List Record) (due : Option Record) (result : Result (Unit {0}) E)
     → IsPlanned node views input planned → due ≡ kept_by planned → OnOk result (kept ≡ with_due true records due) → OnErr result (kept ≡ records)
     → KeepsAlone node views input records kept (is_ok result)
-kept_alone node views input planned records kept due (Ok done) is same ok err =
-    (is.plan.kept, plan_keeps node.agreement.config node.agreement.me views input is.plan is.due, ok ∙ ap (λ (d : Option Record). with_due true records d) (same ∙ sym is.kept))
-kept_alone node views input planned records kept due (Err fault) is same ok err =
-    (is.plan.kept, plan_keeps node.agreement.config node.agreement.me views input is.plan is.due, err ∙ sym (without_due records is.plan.kept))
+kept_alone keep node views input planned records kept due (Ok done) is same ok err =
+    (is.plan.kept, keep node.agreement.config node.agreement.me views input is.plan is.due, ok ∙ ap (λ (d : Option Record). with_due true records d) (same ∙ sym is.kept))
+kept_alone keep node views input planned records kept due (Err fault) is same ok err =
+    (is.plan.kept, keep node.agreement.config node.agreement.me views input is.plan is.due, err ∙ sym (without_due records is.plan.kept))
 
 -- no record is due where it is refused
-refused_so : (node : NodeState) (views : Views) (input : Input) (refusal : DueRefusal) (records kept : List Record) → kept ≡ records
-    → IsDue node.agreement.config node.agreement.me views input (Refuses refusal) → KeepsAlone node views input records kept true
-refused_so node views input refusal records kept same is = (None, refusal_keeps node.agreement.config node.agreement.me views input refusal is, same)
-
-refused_alone : (node : NodeState) (views : Views) (input : Input) (why : Refusal) (records kept : List Record) → (why ≡ refusal.OutOfMemory → ⊥) → kept ≡ records
-    → IsRefused node views input why → KeepsAlone node views input records kept true
-refused_alone node views input refusal.OutOfRange records kept not same refused = refused_so node views input due.OutOfRange records kept same refused
-refused_alone node views input refusal.SlotsSpent records kept not same refused = refused_so node views input due.SlotsSpent records kept same refused
-refused_alone node views input refusal.RoundsSpent records kept not same refused = refused_so node views input due.RoundsSpent records kept same refused
-refused_alone node views input refusal.OutOfMemory records kept not same refused = absurd (not refl)
-
--- one may be due where memory is refused, and is not kept
-unplanned_alone : (node : NodeState) (views : Views) (input : Input) (records kept : List Record) → NodeHas node views → kept ≡ records
-    → IsTaken node.agreement.config node.agreement.me views input → KeepsAlone node views input records kept false
-unplanned_alone node views input records kept has same taken =
-    let some = taken_has node.agreement.config node.agreement.me views (standing node.agreement.acceptor) has.agrees.restored input taken in
-    (some.0, some.1, same ∙ sym (without_due records some.0))
+refused_alone : RefusedKeepNone → (node : NodeState) (views : Views) (input : Input) (why : Refusal) (records : List Record) → (why ≡ refusal.OutOfMemory → ⊥)
+    → IsRefused node views input why → KeepsAlone node views input records records true
+refused_alone none node views input refusal.OutOfRange records not refused = (None, none node.agreement.config node.agreement.me views input due.OutOfRange refused, refl)
+refused_alone none node views input refusal.SlotsSpent records not refused = (None, none node.agreement.config node.agreement.me views input due.SlotsSpent refused, refl)
+refused_alone none node views input refusal.RoundsSpent records not refused = (None, none node.agreement.config node.agreement.me views input due.RoundsSpent refused, refl)
+refused_alone none node views input refusal.OutOfMemory records not refused = absurd (not refl)
 
 wants_taken : (node : NodeState) (views : Views) (input : Input) → IsRefused node views input refusal.OutOfMemory → IsTaken node.agreement.config node.agreement.me views input
 wants_taken node views input refused = refused
 
-pub not_kept : {E : Type 0} (node : NodeState) (views : Views) (input : Input) (why : Refusal) (records : List Record) (result : Result (Unit {0}) E) → NodeHas node views
+-- one may be due where memory is refused, and is not kept
+pub not_kept : RefusedKeepNone → TakenKeepSome → {E : Type 0} (node : NodeState) (views : Views) (input : Input) (why : Refusal) (records : List Record) (result : Result (Unit {0}) E)
     → IsRefused node views input why → OnOk result (why ≡ refusal.OutOfMemory → ⊥) → OnErr result (why ≡ refusal.OutOfMemory)
     → KeepsAlone node views input records records (is_ok result)
-not_kept node views input why records (Ok done) has refused ok err = refused_alone node views input why records records ok refl refused
-not_kept node views input why records (Err wants) has refused ok err =
-    unplanned_alone node views input records records has refl (wants_taken node views input (subst (λ (w : Refusal). IsRefused node views input w) err refused))
+not_kept none some node views input why records (Ok done) refused ok err = refused_alone none node views input why records ok refused
+not_kept none some node views input why records (Err wants) refused ok err =
+    let taken = wants_taken node views input (subst (λ (w : Refusal). IsRefused node views input w) err refused) in
+    let due = some node.agreement.config node.agreement.me views input taken in
+    (due.0, due.1, sym (without_due records due.0))

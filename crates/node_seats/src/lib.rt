@@ -10,6 +10,7 @@
 //! ```
 #![tactic(auto)]
 
+mod due;
 mod handing;
 mod questions;
 mod reasons;

@@ -13,12 +13,12 @@ ghost use Rattle.node_events.specs.Told.{event_of, result_of};
 ghost use Rattle.node_seats.specs.State.{IsPlaced, StandsUp, Stands, SeatAnswers};
 ghost use Rattle.node_seats.specs.Steps.{HandsMessage, KeepsAlone, StepAnswers, UpAnswers, UpApplies, CutApplies, QuietApplies, DownApplies, RestartApplies};
 
+use crate::due::{records_are_due, what_is_taken_is_allowed};
 use crate::handing::{message_for, upload_for};
 use crate::questions::{latest_asked, version_asked};
 use crate::reasons::reason_for;
 use crate::steps::{keep_alone, take};
 use ballots::{Members, Message, NodeId, OutOfMemory};
-use histories::laws::due_is_one;
 use node_core::{Input, Node};
 use node_events::{Event, EventResult, Reason};
 use stable_records::MemoryStable;
@@ -204,7 +204,7 @@ impl Seat {
     fn put(&mut self, sent: &mut Vec<Message>, upload: &Upload) -> Result<EventResult, OutOfMemory>
         ensures { UpAnswers self.old self.new sent.old.items sent.new.items (events.Put self.old.me upload.now) result }
     {
-        due_is_one();
+        what_is_taken_is_allowed();
         let Some(node) = &self.node else {
             return Ok(EventResult::Refused(Reason::Down));
         };
@@ -232,7 +232,7 @@ impl Seat {
     fn step(&mut self, sent: &mut Vec<Message>, input: Input) -> Result<EventResult, OutOfMemory>
         ensures { StepAnswers self.old self.new sent.old.items sent.new.items (input_of input) result }
     {
-        due_is_one();
+        what_is_taken_is_allowed();
         let first = sent.len() as u64;
         let Some(node) = &mut self.node else {
             drop(input);
@@ -318,6 +318,7 @@ impl Seat {
             → HandsMessage node.agreement.config sent number (Err reason)
             → UpApplies self.old self.new sent sent (events.DeliverCut self.old.me number) (result_of result) }
     {
+        records_are_due();
         match reason {
             Reason::NotSent => EventResult::Refused(Reason::NotSent),
             _ => {

@@ -9,6 +9,7 @@ ghost use Rattle.node_core.specs.State.{NodeHas};
 ghost use Rattle.node_core.specs.Inputs.{input_of};
 ghost use Rattle.node_seats.specs.Steps.{TakeGives, KeepsAlone};
 
+use crate::due::records_are_due;
 use ballots::{Message, OutOfMemory, Record};
 use node_core::{Input, Node, Refusal};
 use stable_records::{MemoryStable, Stable};
@@ -112,6 +113,7 @@ pub(crate) fn keep_alone(
     ensures { (views : Views) → NodeHas node.old views
         → KeepsAlone node.old views (input_of input) store.old store.new (is_ok result) }
 {
+    records_are_due();
     match node.plan(input) {
         Ok(plan) => {
             let kept = keep_due(store, plan.record());

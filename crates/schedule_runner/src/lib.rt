@@ -11,12 +11,11 @@
 //! audit(&trace)    // whether what was sent is lawful, judged from the messages alone
 //! ```
 //!
-//! [`run`] does so with nodes of its own, each with the store of its records (`node_seats`), and is what a program calls.
-//! Nodes are whatever meets the contract of [`Nodes`]: each event gives what the rules of a node make it give
+//! [`run`] does so with nodes of its own, each with the store of its records (`node_seats`), and is what a program
+//! calls. Nodes are whatever meets the contract of [`Nodes`]: each event gives what the rules of a node make it give
 //! (`Following` of `histories`). Whoever applies events in another way carries on a trace of its own, step by step
-//! ([`Trace::push`]). The definitions of `histories` and `safe_histories` speak of events and of what they
-//! give by values of their own; `specs/Told` tells the types of this crate as these, and `specs/Runs` says what a run
-//! promises.
+//! ([`Trace::push`]). The definitions of `histories` and `safe_histories` speak of events and of what they give by values
+//! of their own; `specs/Told` tells the types of this crate as these, and `specs/Runs` says what a run promises.
 #![tactic(auto)]
 
 mod config;

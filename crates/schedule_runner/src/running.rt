@@ -77,8 +77,8 @@ pub fn run_on<N: Nodes>(
 ///
 /// [`RunFault::BadConfig`] exactly where a limit of the configuration is 0 or too great ([`Config::is_within_limits`]).
 /// [`RunFault::OutOfMemory`] says that memory for the nodes as they are at first, or for the trace, was refused: for
-/// its steps, or for the messages that went out. A node that wants memory for itself refuses its event, and the run goes
-/// on.
+/// its steps, or for the messages that went out. A node that wants memory for itself refuses its event, and the run
+/// goes on.
 pub fn run(
     alloc: Global,
     hashing: RandomState,

@@ -82,8 +82,8 @@ impl Trace {
     ///
     /// Where the trace reaches some state of the nodes, and the step follows there by their rules and tells as many
     /// messages as it sent, the trace reaches with it the state in which the step leaves them
-    /// (`one_step_more_reaches` in the laws of `histories`). So whoever carries on a trace shows of each step alone that
-    /// it follows.
+    /// (`one_step_more_reaches` in the laws of `histories`). So whoever carries on a trace shows of each step alone
+    /// that it follows.
     pub fn push(&mut self, step: Step, more: Vec<Message>) -> Result<(), AllocError>
         ensures ok { OnOk result (self.new ≡ with_step self.old step more.items) }
         ensures err { OnErr result (self.new ≡ self.old) }

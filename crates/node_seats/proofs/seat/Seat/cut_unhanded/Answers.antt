@@ -10,5 +10,5 @@ returns-in-NotSent c = λ node sent number here not views placed up.
 
 pub returns-in_default : goal.returns-in_default
 returns-in_default c = λ node sent number here not views placed up.
-    not_handed_cut c.args.self.now c.set_node.new.self sent views number placed up node here c.set_node.ensures.node c.set_node.ensures.me c.set_node.ensures.config
+    not_handed_cut c.records_are_due.ensures.taken c.args.self.now c.set_node.new.self sent views number placed up node here c.set_node.ensures.node c.set_node.ensures.me c.set_node.ensures.config
     c.set_node.ensures.records c.args.reason c.in_default.not-NotSent not

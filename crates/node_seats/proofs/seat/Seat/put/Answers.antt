@@ -14,6 +14,6 @@ returns-in-Ok c =
 
 pub returns-in-Err : goal.returns-in-Err
 returns-in-Err c = λ views placed up.
-    put_not_handed c.due_is_one.ensures c.args.self.now c.args.sent.now.items views c.args.upload.now c.in-Err.refusal (results.Refused (reason_of c.reason_for.result)) placed up
+    put_not_handed c.what_is_taken_is_allowed.ensures c.args.self.now c.args.sent.now.items views c.args.upload.now c.in-Err.refusal (results.Refused (reason_of c.reason_for.result)) placed up
     c.in-Some.node (sym (ap (λ (s : SeatState). s.node) c.self.view_is) ∙ c.in-Some.is) (λ has. c.in-Err.ensures.refused views has)
     (ap (λ r. results.Refused r) c.reason_for.ensures)
