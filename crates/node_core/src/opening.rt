@@ -63,7 +63,7 @@ impl Node {
         Ok(Node {
             agreement,
             tables: Tables::new(alloc, hashing),
-            waiting: WaitingUploads::new(alloc),
+            waiting: WaitingUploads::new(alloc, hashing),
         })
     }
 }

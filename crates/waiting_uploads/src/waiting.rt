@@ -9,42 +9,76 @@ ghost use Rattle.table_types.specs.Texts.{IsUploadText};
 ghost use Rattle.table_versions.specs.State.{HasTaken};
 ghost use Rattle.table_versions.specs.Values.{AreUploadsIn};
 ghost use Rattle.histories.specs.Due.{AreStillWaiting};
-ghost use Rattle.waiting_uploads.specs.Waiting.{TellsUnknown};
 
+use crate::keyed;
+use crate::keys::{Hashed, Named, is_keyed, put_keyed};
+use crate::unknown::is_unknown;
+use indexmap::IndexMap;
 use std::alloc::{AllocError, Global};
+use std::hash::RandomState;
 use std::marker::Model;
-use table_versions::{Outcome, Tables};
+use table_versions::Tables;
 use uploads::Upload;
 
 /// Uploads that wait, in the order in which they came.
-#[derive(Debug, Drop)]
+#[derive(Debug)]
 pub struct WaitingUploads {
-    uploads: Vec<Upload>,
+    hashing: RandomState,
+    // The first to come, each under its name.
+    named: Named,
+    // All behind them, from the first on whose name stood there already: each under a hash of its encoding.
+    hashed: Hashed,
+    // All behind these, from the first on whose hash stood there already, as that of an upload which waits twice.
+    others: Vec<Upload>,
+    // How many more can be pushed without memory.
+    room: usize,
 }
 
 impl Model for WaitingUploads {
-    ghost use Rattle.std.specs.Prelude.{◌-◌, length, vec_capacity};
-    ghost use Rattle.std.specs.List.{AllByRecursion};
-    ghost use Rattle.table_types.specs.Texts.{IsUploadText};
+    ghost use Rattle.std.specs.Prelude.{◌-◌, ◌++◌, length, vec_capacity};
+    ghost use Rattle.indexmap.specs.IndexMap.{values, spare};
+    ghost use Rattle.waiting_uploads.specs.Keys.{AreKept, HaveRoom};
     ghost use Rattle.waiting_uploads.specs.Waiting.{Waiting};
 
     ghost Value = { Waiting };
 
     ghost view = { λ w. record {
-      texts = w.uploads.items;
-      room = vec_capacity w.uploads - length w.uploads.items;
+      texts = values w.named ++ values w.hashed ++ w.others.items;
+      room = w.room;
     } };
 
-    ghost invariant = { λ w. AllByRecursion IsUploadText w.uploads.items };
+    ghost invariant = { λ w. AreKept w.hashing w.named.entries w.hashed.entries w.others.items
+        × HaveRoom w.room (spare w.named) (spare w.hashed) (vec_capacity w.others - length w.others.items) };
+}
+
+// Written out, so that a crate above lets go of what waits by one call, and does not prove again what is inside it.
+impl Drop for WaitingUploads {
+    fn drop(self) {
+        let WaitingUploads {
+            hashing: _,
+            named,
+            hashed,
+            others,
+            room: _,
+        } = self;
+        drop(named);
+        drop(hashed);
+        drop(others);
+    }
 }
 
 impl WaitingUploads {
-    /// No uploads. Memory is taken from this allocator as more of them wait.
-    pub fn new(alloc: Global) -> WaitingUploads
+    /// No uploads. Clients choose their names and their bytes: `hashing` has the random keys that keep look-ups fast
+    /// whatever they choose. Memory is taken from this allocator as more of them wait.
+    pub fn new(alloc: Global, hashing: RandomState) -> WaitingUploads
         ensures { result.texts ≡ [] }
     {
         WaitingUploads {
-            uploads: Vec::new(alloc),
+            hashing,
+            named: IndexMap::with_hasher(alloc, hashing),
+            hashed: IndexMap::with_hasher(alloc, hashing),
+            others: Vec::new(alloc),
+            room: 0,
         }
     }
 
@@ -54,28 +88,31 @@ impl WaitingUploads {
             (λ first. (others : List (List ℕ)) × (self.now.texts ≡ first.now ∷ others)) }
         ensures uploads { AllByRecursion IsUploadText self.now.texts }
     {
-        self.uploads.first()
+        keyed::first(&self.named)
+            .or(keyed::first(&self.hashed))
+            .or(self.others.first())
     }
 
     /// How many uploads wait.
     pub fn len(&self) -> usize
         ensures { result ≡ length self.now.texts }
     {
-        self.uploads.len()
+        keyed::count(&self.named) + keyed::count(&self.hashed) + self.others.as_slice().len()
     }
 
     /// Whether none waits.
     pub fn is_empty(&self) -> bool
         ensures { IsTrue result ↔ (self.now.texts ≡ []) }
     {
-        self.uploads.is_empty()
+        self.len() == 0
     }
 
-    /// Whether an upload waits that has this one's encoding. It takes no memory; its time grows with what waits.
+    /// Whether an upload waits that has this one's encoding. It takes no memory, and its time does not grow with what
+    /// waits.
     pub fn contains(&self, upload: &Upload) -> bool
         ensures { IsTrue result ↔ Contains self.now.texts upload.now }
     {
-        self.uploads.contains(upload)
+        is_keyed(&self.hashing, &self.named, &self.hashed, upload) || self.others.contains(upload)
     }
 
     /// Makes the room for one more upload. What waits stays, whatever the answer.
@@ -84,7 +121,11 @@ impl WaitingUploads {
         ensures same { self.new.texts ≡ self.old.texts }
         ensures room { self.old.room ≤ self.new.room }
     {
-        self.uploads.reserve(1)
+        self.named.reserve(1)?;
+        self.hashed.reserve(1)?;
+        self.others.reserve(1)?;
+        self.room = self.room.max(1);
+        Ok(())
     }
 
     /// Lets the upload wait behind the others. It takes no memory: [`WaitingUploads::make_room`] made the room.
@@ -93,8 +134,14 @@ impl WaitingUploads {
         ensures texts { self.new.texts ≡ self.old.texts ++ upload ∷ [] }
         ensures room { self.new.room + 1 ≡ self.old.room }
     {
-        let _text = upload.as_slice();
-        self.uploads.push_reserved(upload);
+        self.room -= 1;
+        if !self.others.is_empty() {
+            self.others.push_reserved(upload);
+            return;
+        }
+        if let Err(back) = put_keyed(&self.hashing, &mut self.named, &mut self.hashed, upload) {
+            self.others.push_reserved(back);
+        }
     }
 
     /// Keeps those uploads waiting, in their order, of which these tables know nothing. It takes no memory.
@@ -103,17 +150,8 @@ impl WaitingUploads {
             → AreUploadsIn values uploads → AreStillWaiting uploads self.old.texts self.new.texts }
         ensures room { self.old.room ≤ self.new.room }
     {
-        self.uploads.retain(|upload| is_unknown(tables, upload));
-    }
-}
-
-// Whether these tables know nothing of the upload.
-fn is_unknown(tables: &Tables, upload: &Upload) -> bool
-    ensures { TellsUnknown tables.now upload.now result }
-{
-    let _text = upload.as_slice();
-    match tables.outcome(upload) {
-        Outcome::Unknown => true,
-        _ => false,
+        keyed::keep_unknown(&mut self.named, tables);
+        keyed::keep_unknown(&mut self.hashed, tables);
+        self.others.retain(|upload| is_unknown(tables, upload));
     }
 }

@@ -1,7 +1,7 @@
 -- An upload waits on exactly where the tables tell nothing of it.
 use Rattle.std.proofs.Common.{refl}
 use Rattle.waiting_uploads.proofs.Keeping.{told_unknown, told_more}
-use Rattle.waiting_uploads.proofs.waiting.is_unknown.Goals as goal
+use Rattle.waiting_uploads.proofs.unknown.is_unknown.Goals as goal
 
 pub returns-in-Unknown : goal.returns-in-Unknown
 returns-in-Unknown c =
