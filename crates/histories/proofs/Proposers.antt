@@ -13,7 +13,7 @@ use Rattle.ballots.specs.Acceptance.{acceptance}
 use Rattle.ballots.proofs.CallerLemmas.{majority_stays}
 use Rattle.proposer.specs.Call.{Begun, Promise, Call, Begins, Promises, Nacks}
 use Rattle.proposer.specs.Choosing.{Report as Reported, is_from, is_sender, HasMajority, first_of_each, reports_of, Chooses}
-use Rattle.proposer.specs.Attempting.{IsOpen, ends, is_for, promise_in, answering, Accepts}
+use Rattle.proposer.specs.Attempting.{IsOpen, ends, is_for, promise_in, answering, LeadsToAccept}
 use Rattle.proposer.specs.Promised.{IsAnswerTo}
 use Rattle.learner.specs.Calls.{Call as Told}
 use Rattle.lawful_histories.specs.Saying.{Report, IsUpTo}
@@ -189,7 +189,7 @@ calls_with_record members Was me records r asked heard knows = record {
 
 module _ (laws : ProposerLaws) (members : ℕ) (Was : Message → Type 0) (me : ℕ) (records : List Record) (asked : List Call) (heard : List Told)
     (knows : KnowsCalls members Was me records asked heard)
-    (q : Promise) (was_sent : Was (promise q.sender q.slot q.ballot q.report)) (answer : ℕ × Ballot × Value) (accepts : Accepts members asked q answer) where
+    (q : Promise) (was_sent : Was (promise q.sender q.slot q.ballot q.report)) (answer : ℕ × Ballot × Value) (accepts : LeadsToAccept members asked q answer) where
   abbrev Now : List Call
   Now = accepts.since ++ Promises q ∷ []
 

@@ -6,7 +6,7 @@ use Rattle.ballots.specs.Ballot.{Ballot, IsBelow}
 use Rattle.ballots.proofs.CallerLemmas.{either_below, not_below_carried}
 use Rattle.ballots.specs.declared.value.Value.{Value}
 use Rattle.ballots.specs.Acceptance.{acceptance}
-use Rattle.lawful_histories.specs.Saying.{Report, Saying, Promise, Accept, Accepted, told}
+use Rattle.lawful_histories.specs.Saying.{Report, Saying, Promise, Accept, Accepted, sayings}
 use Rattle.lawful_histories.specs.Majorities.{MajorityOf}
 use Rattle.lawful_histories.specs.Saying.{IsUpTo}
 use Rattle.lawful_histories.specs.Lawful.{Said, SaidBefore, IsLawfulSlot, PromisedUpTo, IsOfHighestReport, IsChosenBefore, OneValue, ChosenValueStays}
@@ -112,11 +112,11 @@ module _ (n : ℕ) (xs : List Saying) (lawful : IsLawfulSlot n xs) where
 
 pub chosen_value_stays_law : ChosenValueStays
 chosen_value_stays_law n sent s k b c v w lawful chosen said below =
-    chosen_value_stays n (told sent s) (lawful s) b v (length sent) chosen k c w said below
+    chosen_value_stays n (sayings sent s) (lawful s) b v (length sent) chosen k c w said below
 
 pub one_value_law : OneValue
 one_value_law n sent s v w lawful first second =
-    let xs = told sent s in
+    let xs = sayings sent s in
     let at = lawful s in
     let end = length sent in
     elim (either_below first.0 second.0) as (λ _. v ≡ w) [

@@ -6,8 +6,8 @@ use Rattle.ballots.specs.Ballot.{Ballot, IsBelow}
 use Rattle.ballots.specs.declared.value.Value.{Value}
 use Rattle.ballots.specs.declared.message.Message.{Message}
 use Rattle.ballots.specs.Acceptance.{acceptance}
-use Rattle.lawful_histories.specs.Saying.{Report, Saying, Silent, Prepare, Promise, Accept, Accepted, Decided, says, told}
-use Rattle.lawful_histories.specs.Lawful.{Said, SaidBefore, AcceptsWhatWasProposed, BindsAt, ReportsItsHighest, OneValueABallot, PromisedUpTo, IsOfHighestReport, IsSafe, ProposesWhatIsSafe, IsChosenBefore, DecidesWhatWasChosen, IsLawfulSlot, IsLawful}
+use Rattle.lawful_histories.specs.Saying.{Report, Saying, Silent, Prepare, Promise, Accept, Accepted, Decided, says, sayings}
+use Rattle.lawful_histories.specs.Lawful.{Said, SaidBefore, AcceptsWhatWasProposed, BindsAt, ReportsItsHighest, OneValueABallot, PromisedUpTo, IsOfHighestReport, MayBeProposed, ProposesWhatIsSafe, IsChosenBefore, DecidesWhatWasChosen, IsLawfulSlot, IsLawful}
 use Rattle.lawful_histories.specs.Judging.{PromisedAtMost, PromisedBelow, IsReported, HasValueAt, IsWithin, PromisesWithin, HasPromised, LetsPropose, MayPropose, HasAccepted, ShowsChosen, MayDecide, MayReport, MayBeSaid, AllMayBeSent}
 use Rattle.lawful_histories.proofs.Majorities.{most_weaker, most_with, majorities_meet}
 use Rattle.lawful_histories.proofs.Places.{blank, within_sent, said_by, said_there, any_before, before_any, all_before, before_all, any_said, said_any}
@@ -30,7 +30,7 @@ bound_where d a b P h = bound_on d a b P (d == a) (λ e. grind (arith, nat_tests
 
 module _ (n : ℕ) (sent : List Message) (s : ℕ) where
   abbrev xs : List Saying
-  xs = told sent s
+  xs = sayings sent s
 
   abbrev before : ℕ → List Message
   before k = take k sent
@@ -130,7 +130,7 @@ module _ (n : ℕ) (sent : List Message) (s : ℕ) where
     proposes_what_is_safe : ProposesWhatIsSafe n xs
     proposes_what_is_safe k b v said =
         let le = place k (Accept b v) said in
-        elim (each k (Accept b v) said).1 as (λ _. IsSafe n xs k b v) [
+        elim (each k (Accept b v) said).1 as (λ _. MayBeProposed n xs k b v) [
           | inl free ↦ inl (most_weaker n (HasPromised s (before k) b None) (λ a. SaidBefore xs k (Promise a b None)) (λ a lt h. free_promise k le b a h) free)
           | inr found ↦
               let it = any_before sent s k le (LetsPropose n s (before k) b v) found in
@@ -223,7 +223,7 @@ module _ (n : ℕ) (sent : List Message) (s : ℕ) where
     has_promised : (k : ℕ) (le : k ≤ length sent) (b : Ballot) (bound r : Report) (a : ℕ) → SaidBefore xs k (Promise a b r) → IsWithin bound r → HasPromised s (before k) b bound a
     has_promised k le b bound r a said within = before_any sent s k le (PromisesWithin a b bound) (Promise a b r) said (refl, refl, within)
 
-    may_propose : (k : ℕ) (le : k ≤ length sent) (b : Ballot) (v : Value) → IsSafe n xs k b v → MayPropose n s (before k) b v
+    may_propose : (k : ℕ) (le : k ≤ length sent) (b : Ballot) (v : Value) → MayBeProposed n xs k b v → MayPropose n s (before k) b v
     may_propose k le b v (inl free) =
         inl (most_weaker n (λ a. SaidBefore xs k (Promise a b None)) (HasPromised s (before k) b None) (λ a lt said. has_promised k le b None None a said refl) free)
     may_propose k le b v (inr h) =

@@ -7,7 +7,7 @@ use Rattle.ballots.specs.declared.value.Value.{Value}
 use Rattle.ballots.specs.declared.message.Message.{Message}
 use Rattle.ballots.specs.Acceptance.{acceptance}
 use Rattle.lawful_histories.specs.Majorities.{MajorityOf}
-use Rattle.lawful_histories.specs.Saying.{IsUpTo, Report, Saying, Silent, Promise, Accept, Accepted, Decided, told}
+use Rattle.lawful_histories.specs.Saying.{IsUpTo, Report, Saying, Silent, Promise, Accept, Accepted, Decided, sayings}
 
 -- this is said in that place
 abbrev pub Said : List Saying → ℕ → Saying → Type 0
@@ -66,12 +66,12 @@ pub record IsOfHighestReport (n : ℕ) (xs : List Saying) (k : ℕ) (b : Ballot)
 
 -- The value may be proposed at the ballot: a majority promised it, and none of them reported anything, or the highest
 -- report among them has this value.
-abbrev pub IsSafe : ℕ → List Saying → ℕ → Ballot → Value → Type 0
-IsSafe n xs k b v = MajorityOf n (λ a. SaidBefore xs k (Promise a b None)) ⊎ IsOfHighestReport n xs k b v
+abbrev pub MayBeProposed : ℕ → List Saying → ℕ → Ballot → Value → Type 0
+MayBeProposed n xs k b v = MajorityOf n (λ a. SaidBefore xs k (Promise a b None)) ⊎ IsOfHighestReport n xs k b v
 
 -- What is proposed is safe (section 2.2, phase 2a; P2c).
 abbrev pub ProposesWhatIsSafe : ℕ → List Saying → Type 0
-ProposesWhatIsSafe n xs = (k : ℕ) (b : Ballot) (v : Value) → Said xs k (Accept b v) → IsSafe n xs k b v
+ProposesWhatIsSafe n xs = (k : ℕ) (b : Ballot) (v : Value) → Said xs k (Accept b v) → MayBeProposed n xs k b v
 
 -- before that place a majority has accepted the value at this ballot
 abbrev pub IsChosenBefore : ℕ → List Saying → ℕ → Ballot → Value → Type 0
@@ -93,11 +93,11 @@ pub record IsLawfulSlot (n : ℕ) (xs : List Saying) : Type 0 where
 
 -- every slot keeps the six clauses
 abbrev pub IsLawful : ℕ → List Message → Type 0
-IsLawful n sent = (s : ℕ) → IsLawfulSlot n (told sent s)
+IsLawful n sent = (s : ℕ) → IsLawfulSlot n (sayings sent s)
 
 -- at this ballot a majority has accepted the value for the slot (section 2.1)
 abbrev pub IsChosenAt : ℕ → List Message → ℕ → Ballot → Value → Type 0
-IsChosenAt n sent s b v = IsChosenBefore n (told sent s) (length sent) b v
+IsChosenAt n sent s b v = IsChosenBefore n (sayings sent s) (length sent) b v
 
 abbrev pub IsChosen : ℕ → List Message → ℕ → Value → Type 0
 IsChosen n sent s v = (b : Ballot) × IsChosenAt n sent s b v
@@ -109,4 +109,4 @@ OneValue = (n : ℕ) (sent : List Message) (s : ℕ) (v w : Value) → IsLawful 
 -- Once a value is chosen at a ballot, it alone is proposed above it (section 2.2, P2b).
 abbrev pub ChosenValueStays : Type 0
 ChosenValueStays = (n : ℕ) (sent : List Message) (s k : ℕ) (b c : Ballot) (v w : Value)
-    → IsLawful n sent → IsChosenAt n sent s b v → Said (told sent s) k (Accept c w) → IsBelow b c → w ≡ v
+    → IsLawful n sent → IsChosenAt n sent s b v → Said (sayings sent s) k (Accept c w) → IsBelow b c → w ≡ v

@@ -44,5 +44,5 @@ abbrev pub says : Message → ℕ → Saying
 says m s = of_one m.slot s (saying m.sender m.body)
 
 -- what these messages say of a slot, each in its place
-abbrev pub told : List Message → ℕ → List Saying
-told sent s = map (λ m. says m s) sent
+abbrev pub sayings : List Message → ℕ → List Saying
+sayings sent s = map (λ m. says m s) sent

@@ -6,7 +6,7 @@ use Rattle.ballots.specs.declared.value.Value.{Value}
 use Rattle.proposer.specs.declared.attempt.Attempt.{Attempt}
 use Rattle.proposer.specs.Call.{Start, Begun, Promise, Call, Begins, Promises, Nacks}
 use Rattle.proposer.specs.Choosing.{reports_of, Chooses}
-use Rattle.proposer.specs.Attempting.{highest_begun, next_ballot, BallotsIncrease, ends, IsOpen, IsAttempt, counted, Accepts}
+use Rattle.proposer.specs.Attempting.{highest_begun, next_ballot, BallotsIncrease, ends, IsOpen, IsAttempt, counted, LeadsToAccept}
 use Rattle.proposer.specs.Promised.{MajorityPromised}
 use Rattle.proposer.specs.Counting.{ChoiceAfter}
 use Rattle.proposer.specs.State.{ProposerState, Holds, HoldsOpen, attempt_of, StateAfter}
@@ -77,7 +77,7 @@ ballot_is_its_own me highest before after begun rises =
     above_both (highest_begun highest before) begun.seen_round highest begun.ballot.round (first_within highest before) (ap (λ (b : Ballot). b.round) next) in
     (ap (λ (b : Ballot). b.node) next, above.0, above.1)
 
-pub accept_has_majority : (members : ℕ) (calls : List Call) (promise : Promise) (accept : ℕ × Ballot × Value) → Accepts members calls promise accept
+pub accept_has_majority : (members : ℕ) (calls : List Call) (promise : Promise) (accept : ℕ × Ballot × Value) → LeadsToAccept members calls promise accept
     → (begun : Begun) × (since : List Call) × IsOpen calls begun since × (accept.0 ≡ begun.slot) × (accept.1 ≡ begun.ballot) × MajorityPromised members begun (since ++ Promises promise ∷ [])
     × Chooses begun.candidate (reports_of (counted members begun (since ++ Promises promise ∷ []))) accept.2
 accept_has_majority members calls promise accept accepts = (

@@ -8,7 +8,7 @@ use Rattle.proposer.specs.declared.attempt.Attempt.{Attempt}
 use Rattle.proposer.specs.declared.attempt.Choice.{Choice}
 use Rattle.proposer.specs.Call.{Begun, Promise, Call, Promises}
 use Rattle.proposer.specs.Choosing.{is_sender, HasMajority}
-use Rattle.proposer.specs.Attempting.{IsOpen, answering, Accepts, Answers, HasItsMajority}
+use Rattle.proposer.specs.Attempting.{IsOpen, answering, LeadsToAccept, Answers, HasItsMajority}
 use Rattle.proposer.specs.Counting.{ChoiceAfter}
 use Rattle.proposer.specs.State.{Holds, HoldsOpen}
 use Rattle.proposer.proofs.Opening.{one_open, still_open, was_open, WasOpen}
@@ -38,11 +38,11 @@ gone_where_majority members calls attempt holds majority = by attempt.choice ref
 
 -- ---- it comes with the Accept
 
-pub majority_now : (members : ℕ) (calls : List Call) (promise : Promise) (accept : ℕ × Ballot × Value) → Accepts members calls promise accept → HasItsMajority members (calls ++ Promises promise ∷ [])
+pub majority_now : (members : ℕ) (calls : List Call) (promise : Promise) (accept : ℕ × Ballot × Value) → LeadsToAccept members calls promise accept → HasItsMajority members (calls ++ Promises promise ∷ [])
 majority_now members calls promise accept accepts =
     (accepts.begun, accepts.since ++ Promises promise ∷ [], still_open calls accepts.begun accepts.since (Promises promise) refl accepts.open_is, accepts.completes.now)
 
-pub none_before : (members : ℕ) (calls : List Call) (promise : Promise) (accept : ℕ × Ballot × Value) → Accepts members calls promise accept → HasItsMajority members calls → ⊥
+pub none_before : (members : ℕ) (calls : List Call) (promise : Promise) (accept : ℕ × Ballot × Value) → LeadsToAccept members calls promise accept → HasItsMajority members calls → ⊥
 none_before members calls promise accept accepts majority =
     let one : (majority.0 ≡ accepts.begun) × (majority.1 ≡ accepts.since) = one_open calls majority.0 accepts.begun majority.1 accepts.since majority.2 accepts.open_is in
     accepts.completes.before

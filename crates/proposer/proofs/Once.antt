@@ -5,7 +5,7 @@ use Rattle.ballots.specs.Ballot.{Ballot, IsBelow}
 use Rattle.ballots.specs.declared.value.Value.{Value}
 use Rattle.proposer.specs.Call.{Begun, Promise, Call, Begins, Promises, Nacks}
 use Rattle.proposer.specs.Choosing.{HasMajority, reports_of}
-use Rattle.proposer.specs.Attempting.{highest_begun, next_ballot, BallotsIncrease, IsOpen, answering, counted, is_for, promise_in, Proposes, Accepts, Answers}
+use Rattle.proposer.specs.Attempting.{highest_begun, next_ballot, BallotsIncrease, IsOpen, answering, counted, is_for, promise_in, Proposes, LeadsToAccept, Answers}
 use Rattle.proposer.proofs.Lists.{Meet, same, earlier, later, splits}
 use Rattle.proposer.proofs.Highest.{chooses_one}
 use Rattle.proposer.proofs.Counting.{majority_grows}
@@ -17,7 +17,7 @@ same_triple : (a b : ℕ × Ballot × Value) → a.0 ≡ b.0 → a.1 ≡ b.1 →
 same_triple a b slots ballots values =
     ap (λ (x : ℕ). (x, a.1, a.2)) slots ∙ ap (λ (y : Ballot). (b.0, y, a.2)) ballots ∙ ap (λ (z : Value). (b.0, b.1, z)) values
 
-one_accept : (members : ℕ) (calls : List Call) (promise : Promise) (a b : ℕ × Ballot × Value) → Accepts members calls promise a → Accepts members calls promise b → a ≡ b
+one_accept : (members : ℕ) (calls : List Call) (promise : Promise) (a b : ℕ × Ballot × Value) → LeadsToAccept members calls promise a → LeadsToAccept members calls promise b → a ≡ b
 one_accept members calls promise a b one other =
     let both : (one.begun ≡ other.begun) × (one.since ≡ other.since) = one_open calls one.begun other.begun one.since other.since one.open_is other.open_is in
     let slots : a.0 ≡ b.0 = one.slot_is ∙ ap (λ (x : Begun). x.slot) both.0 ∙ sym other.slot_is in
@@ -80,7 +80,7 @@ majority_there members begun since mid promise majority =
     (majority_grows members (answering members begun (since ++ Promises promise ∷ [])) (answering members begun mid) majority)
 
 module _ (me highest members : ℕ) (before mid : List Call) (promise promise' : Promise) (accept accept' : ℕ × Ballot × Value)
-    (rises : BallotsIncrease me highest (before ++ Promises promise ∷ mid)) (one : Accepts members before promise accept) (other : Accepts members (before ++ Promises promise ∷ mid) promise' accept')
+    (rises : BallotsIncrease me highest (before ++ Promises promise ∷ mid)) (one : LeadsToAccept members before promise accept) (other : LeadsToAccept members (before ++ Promises promise ∷ mid) promise' accept')
     (ballots : accept.1 ≡ accept'.1) where
   rounds : one.begun.ballot.round ≡ other.begun.ballot.round
   rounds = ap (λ (b : Ballot). b.round) (sym one.ballot_is ∙ ballots ∙ other.ballot_is)
@@ -104,17 +104,17 @@ module _ (me highest members : ℕ) (before mid : List Call) (promise promise' :
 
 module _ (me highest members : ℕ) (calls : List Call) (rises : BallotsIncrease me highest calls) (before before' after after' : List Call) (promise promise' : Promise) (accept accept' : ℕ × Ballot × Value)
     (split : calls ≡ before ++ Promises promise ∷ after) (split' : calls ≡ before' ++ Promises promise' ∷ after')
-    (one : Accepts members before promise accept) (other : Accepts members before' promise' accept') (ballots : accept.1 ≡ accept'.1) where
+    (one : LeadsToAccept members before promise accept) (other : LeadsToAccept members before' promise' accept') (ballots : accept.1 ≡ accept'.1) where
   once_where_they_meet : Meet before before' (Promises promise) (Promises promise') after after' → (before ≡ before') × (promise ≡ promise') × (accept ≡ accept')
   once_where_they_meet (same b e a) =
       let promises : promise ≡ promise' = cc in
-      (b, promises, one_accept members before' promise' accept accept' (subst (λ (p : Promise). Accepts members before' p accept) promises (subst (λ (cs : List Call). Accepts members cs promise accept) b one)) other)
+      (b, promises, one_accept members before' promise' accept accept' (subst (λ (p : Promise). LeadsToAccept members before' p accept) promises (subst (λ (cs : List Call). LeadsToAccept members cs promise accept) b one)) other)
   once_where_they_meet (earlier mid a b) =
       absurd (no_second me highest members before mid promise promise' accept accept'
-      (rw (← b) (rises_front me highest calls before' (Promises promise' ∷ after') split' rises)) one (subst (λ (cs : List Call). Accepts members cs promise' accept') b other) ballots)
+      (rw (← b) (rises_front me highest calls before' (Promises promise' ∷ after') split' rises)) one (subst (λ (cs : List Call). LeadsToAccept members cs promise' accept') b other) ballots)
   once_where_they_meet (later mid a b) =
       absurd (no_second me highest members before' mid promise' promise accept' accept
-      (rw (← b) (rises_front me highest calls before (Promises promise ∷ after) split rises)) other (subst (λ (cs : List Call). Accepts members cs promise accept) b one) (sym ballots))
+      (rw (← b) (rises_front me highest calls before (Promises promise ∷ after) split rises)) other (subst (λ (cs : List Call). LeadsToAccept members cs promise accept) b one) (sym ballots))
 
   pub once : (before ≡ before') × (promise ≡ promise') × (accept ≡ accept')
   once = once_where_they_meet (splits before before' (Promises promise) (Promises promise') after after' (sym split ∙ split'))

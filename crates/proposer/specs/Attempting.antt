@@ -76,7 +76,7 @@ abbrev pub Proposes : ℕ → Begun → List Call → Value → Type 0
 Proposes members begun since value = Chooses begun.candidate (reports_of (counted members begun since)) value
 
 -- the Accept of the open attempt, which this promise completes after these calls
-pub record Accepts (members : ℕ) (calls : List Call) (promise : Promise) (accept : ℕ × Ballot × Value) : Type 0 where
+pub record LeadsToAccept (members : ℕ) (calls : List Call) (promise : Promise) (accept : ℕ × Ballot × Value) : Type 0 where
   pub begun : Begun
   pub since : List Call
   pub open_is : IsOpen calls begun since
@@ -87,7 +87,7 @@ pub record Accepts (members : ℕ) (calls : List Call) (promise : Promise) (acce
 
 -- what is answered to a promise: an Accept exactly where it completes the open attempt
 abbrev pub Answers : ℕ → List Call → Promise → Option (ℕ × Ballot × Value) → Type 0
-Answers members calls promise (Some accept) = Accepts members calls promise accept
+Answers members calls promise (Some accept) = LeadsToAccept members calls promise accept
 Answers members calls promise None =
     (begun : Begun) (since : List Call) → IsOpen calls begun since → Completes members begun since promise → ⊥
 

@@ -6,7 +6,7 @@ ghost use Rattle.ballots.specs.declared.value.Value.{Value as Held};
 ghost use Rattle.ballots.specs.Ballot.{Ballot as Pair, IsBelow};
 ghost use Rattle.proposer.specs.Call.{Start, Begun, Promise, Call, Begins, Promises, Nacks};
 ghost use Rattle.proposer.specs.Choosing.{Report, HasMajority, first_of_each, reports_of, Chooses};
-ghost use Rattle.proposer.specs.Attempting.{BallotsIncrease, IsOpen, IsAttempt, answering, counted, Accepts, Answers, HasItsMajority};
+ghost use Rattle.proposer.specs.Attempting.{BallotsIncrease, IsOpen, IsAttempt, answering, counted, LeadsToAccept, Answers, HasItsMajority};
 ghost use Rattle.proposer.specs.Promised.{IsAnswerTo, MajorityPromised};
 ghost use Rattle.proposer.specs.State.{ProposerState, attempt_of, StateAfter};
 
@@ -67,7 +67,7 @@ pub fn senders_count_once()
 /// value is chosen by the reports of the promises that count.
 pub fn accepts_need_a_majority()
     ensures { (members : ℕ) (calls : List Call) (promise : Promise) (accept : ℕ × Pair × Held)
-        → Accepts members calls promise accept
+        → LeadsToAccept members calls promise accept
         → (begun : Begun) × (since : List Call) × IsOpen calls begun since
         × (accept.0 ≡ begun.slot) × (accept.1 ≡ begun.ballot)
         × MajorityPromised members begun (since ++ Promises promise ∷ [])
@@ -77,9 +77,9 @@ pub fn accepts_need_a_majority()
 /// The open attempt has its majority with the promise that its Accept answers, not before, and with no other promise.
 pub fn majorities_come_with_accepts()
     ensures now { (members : ℕ) (calls : List Call) (promise : Promise) (accept : ℕ × Pair × Held)
-        → Accepts members calls promise accept → HasItsMajority members (calls ++ Promises promise ∷ []) }
+        → LeadsToAccept members calls promise accept → HasItsMajority members (calls ++ Promises promise ∷ []) }
     ensures not_before { (members : ℕ) (calls : List Call) (promise : Promise) (accept : ℕ × Pair × Held)
-        → Accepts members calls promise accept → HasItsMajority members calls → ⊥ }
+        → LeadsToAccept members calls promise accept → HasItsMajority members calls → ⊥ }
     ensures no_other { (members : ℕ) (calls : List Call) (promise : Promise) → Answers members calls promise None
         → HasItsMajority members (calls ++ Promises promise ∷ []) → HasItsMajority members calls }
 {}
@@ -101,7 +101,7 @@ pub fn one_accept_a_ballot()
     ensures once { (me highest members : ℕ) (calls : List Call) → BallotsIncrease me highest calls
         → (before before' after after' : List Call) (promise promise' : Promise) (accept accept' : ℕ × Pair × Held)
         → calls ≡ before ++ Promises promise ∷ after → calls ≡ before' ++ Promises promise' ∷ after'
-        → Accepts members before promise accept → Accepts members before' promise' accept' → accept.1 ≡ accept'.1
+        → LeadsToAccept members before promise accept → LeadsToAccept members before' promise' accept' → accept.1 ≡ accept'.1
         → (before ≡ before') × (promise ≡ promise') × (accept ≡ accept') }
 {}
 

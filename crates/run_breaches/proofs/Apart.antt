@@ -10,7 +10,7 @@ use Rattle.ballots.specs.declared.message.Body.TheVariants as body
 use Rattle.lawful_histories.specs.Saying.{Report}
 use Rattle.lawful_histories.specs.Lawful.{IsLawful}
 use Rattle.run_breaches.specs.FirstBreach.{IsFirstUnlawful}
-use Rattle.run_breaches.specs.Earlier.{LetsPropose, LetsAccept, LetsPromise, LetsReport, Proposes, Accepts, Promises, MostPromised, IsWithin, ShowsSafe, IsSafe, WasChosen}
+use Rattle.run_breaches.specs.Earlier.{LetsPropose, LetsAccept, LetsPromise, LetsReport, Proposes, Accepts, Promises, MostPromised, IsWithin, ShowsSafe, MayBeProposed, WasChosen}
 use Rattle.run_breaches.specs.Rules.{IsReportProposed, BodyKeeps, Keeps}
 use Rattle.run_breaches.specs.BreachLaws.{KeepingIsLawful}
 use Rattle.run_breaches.specs.Slots.{of_slot, messages_at, Indexes, IsLawfulBySlot, Joins}
@@ -31,7 +31,7 @@ module _ (n s : ℕ) (before : List Message) where
   promised_own b P most =
       most_weaker n (λ a. Any (Promises s b P a) before) (λ a. Any (Promises s b P a) own) (λ a lt h. any_of s before (Promises s b P a) (λ e p. p.0) h) most
 
-  safe_there : (b : Ballot) (v : Value) → IsSafe n s own b v → IsSafe n s before b v
+  safe_there : (b : Ballot) (v : Value) → MayBeProposed n s own b v → MayBeProposed n s before b v
   safe_there b v (inl free) = inl (promised_there b (IsWithin None) free)
   safe_there b v (inr found) =
       let more = any_there s before (ShowsSafe n s own b v) found in
@@ -44,7 +44,7 @@ module _ (n s : ℕ) (before : List Message) where
             (λ q h. (h.0, promised_there b (IsWithin (Some q.ballot)) h.1)) more.1 more.4,
       )
 
-  safe_own : (b : Ballot) (v : Value) → IsSafe n s before b v → IsSafe n s own b v
+  safe_own : (b : Ballot) (v : Value) → MayBeProposed n s before b v → MayBeProposed n s own b v
   safe_own b v (inl free) = inl (promised_own b (IsWithin None) free)
   safe_own b v (inr found) =
       let more = any_of s before (ShowsSafe n s before b v) (λ e p. p.0) found in

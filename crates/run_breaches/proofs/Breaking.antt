@@ -10,7 +10,7 @@ use Rattle.ballots.specs.Message.{message}
 use Rattle.lawful_histories.specs.Saying.{Report}
 use Rattle.run_breaches.specs.declared.breach.BrokenRules.{BrokenRules}
 use Rattle.run_breaches.specs.declared.breach.BrokenRules.TheVariants.{Promise, Accept, Accepted, Decided}
-use Rattle.run_breaches.specs.Earlier.{LetsPropose, LetsAccept, LetsPromise, LetsReport, Promises, IsWithin, IsPromiseWith, MostPromised, IsPromised, IsSafe, WasProposed}
+use Rattle.run_breaches.specs.Earlier.{LetsPropose, LetsAccept, LetsPromise, LetsReport, Promises, IsWithin, IsPromiseWith, MostPromised, IsPromised, MayBeProposed, WasProposed}
 use Rattle.run_breaches.specs.Rules.{Tells, IsFirstAgainst, TellsReport, IsReportBelow, IsReportProposed, BodyBreaks, BodyKeeps, IsSomeBroken}
 use Rattle.run_breaches.proofs.Majorities.{most_weaker}
 use Rattle.run_breaches.proofs.Sendings.{report_is}
@@ -35,7 +35,7 @@ module _ (n s : ℕ) (before : List Message) where
       less (body.Promise c r) p = (p.0, tt)
       less other p = absurd p
 
-  pub promised_where_safe : (b : Ballot) (v : Value) → IsSafe n s before b v → IsPromised n s before b
+  pub promised_where_safe : (b : Ballot) (v : Value) → MayBeProposed n s before b v → IsPromised n s before b
   promised_where_safe b v (inl free) =
       most_weaker n (λ a. Any (Promises s b (IsWithin None) a) before) (λ a. Any (Promises s b (λ r. Unit {0}) a) before) (λ a lt h. less_asked b (IsWithin None) a h) free
   promised_where_safe b v (inr found) =
@@ -43,7 +43,7 @@ module _ (n s : ℕ) (before : List Message) where
       let bound : Option Ballot = Some (shown.0).ballot in
       most_weaker n (λ a. Any (Promises s b (IsWithin bound) a) before) (λ a. Any (Promises s b (λ r. Unit {0}) a) before) (λ a lt h. less_asked b (IsWithin bound) a h) shown.2.1
 
-  report_against : (b : Ballot) (v : Value) (place : Option ℕ) → TellsReport n s before b v place → IsSome place → IsSafe n s before b v → ⊥
+  report_against : (b : Ballot) (v : Value) (place : Option ℕ) → TellsReport n s before b v place → IsSome place → MayBeProposed n s before b v → ⊥
   report_against b v None tells some safe = absurd (let no : false ≡ true = some in cc)
   report_against b v (Some j) tells some safe = tells.1 safe
 

@@ -15,7 +15,7 @@ use Rattle.lawful_histories.specs.Saying.{Report, IsUpTo}
 use Rattle.lawful_histories.specs.Majorities.{MajorityOf}
 use Rattle.lawful_histories.specs.Judging.{ReportCovers}
 use Rattle.lawful_histories.specs.Messages.{promise, accept, accepted, decided, Sent, SentBefore, HasHighestReport, KeepsTheRules}
-use Rattle.run_breaches.specs.Earlier.{LetsPropose, LetsAccept, LetsPromise, LetsReport, Proposes, Accepts, Promises, WasProposed, MostPromised, IsWithin, ShowsSafe, IsSafe, WasChosen}
+use Rattle.run_breaches.specs.Earlier.{LetsPropose, LetsAccept, LetsPromise, LetsReport, Proposes, Accepts, Promises, WasProposed, MostPromised, IsWithin, ShowsSafe, MayBeProposed, WasChosen}
 use Rattle.run_breaches.specs.Rules.{IsReportBelow, IsReportProposed, KeepsPromise, KeepsAccept, KeepsAccepted, BodyKeeps, Keeps}
 use Rattle.run_breaches.proofs.Majorities.{most_weaker, most_with}
 use Rattle.run_breaches.proofs.Places.{all_let, let_all, any_there, found_as, older, newer, last_is, last_sent, earlier, still_before, before_last, last_before}
@@ -49,7 +49,7 @@ module _ (n s : ℕ) (before : List Message) where
 
     -- ---- safe, before the last place
 
-    safe_sent : (k : ℕ) (b : Ballot) (v : Value) → length before ≤ k → IsSafe n s before b v
+    safe_sent : (k : ℕ) (b : Ballot) (v : Value) → length before ≤ k → MayBeProposed n s before b v
         → MajorityOf n (λ a. SentBefore sent k (promise a s b None)) ⊎ HasHighestReport n sent k s b v
     safe_sent k b v le (inl free) =
         inl (most_weaker n (λ a. Any (Promises s b (IsWithin None) a) before) (λ a. SentBefore sent k (promise a s b None)) (λ a lt h.
@@ -69,7 +69,7 @@ module _ (n s : ℕ) (before : List Message) where
         inr (record { highest = top; promised = with_it.most; reporter = e.sender; is_member = found.4.1; is_in = with_it.is_in; reported = reported })
 
     sent_safe : (b : Ballot) (v : Value) → MajorityOf n (λ a. SentBefore sent (length before) (promise a s b None)) ⊎ HasHighestReport n sent (length before) s b v
-        → IsSafe n s before b v
+        → MayBeProposed n s before b v
     sent_safe b v (inl free) =
         inl (most_weaker n (λ a. SentBefore sent (length before) (promise a s b None)) (λ a. Any (Promises s b (IsWithin None) a) before) (λ a lt h.
         let it = last_before before m (promise a s b None) h in as_promised b (IsWithin None) a None it.0 it.1 refl) free)

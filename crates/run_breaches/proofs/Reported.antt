@@ -10,7 +10,7 @@ use Rattle.ballots.specs.declared.message.Message.{Message}
 use Rattle.ballots.specs.declared.message.Body.{Body}
 use Rattle.ballots.specs.declared.message.Body.TheVariants as body
 use Rattle.ballots.specs.declared.value.Value.{Value}
-use Rattle.run_breaches.specs.Earlier.{IsPromiseWith, Promises, Reports, IsPromised, MostPromised, IsWithin, IsSafe}
+use Rattle.run_breaches.specs.Earlier.{IsPromiseWith, Promises, Reports, IsPromised, MostPromised, IsWithin, MayBeProposed}
 use Rattle.run_breaches.specs.Rules.{IsHighestReport}
 use Rattle.run_breaches.specs.Highest.{IsBestOf, Turns}
 use Rattle.run_breaches.proofs.Majorities.{most_weaker}
@@ -131,7 +131,7 @@ module _ (n s : ℕ) (b : Ballot) where
     other_body top v most other h unsafe = absurd h
 
     -- where the value is not safe though a majority promised, the highest report has another
-    pub has_other_value : (v : Value) (j : ℕ) (top : Ballot) → IsHighestReport n s before b j top → IsPromised n s before b → (IsSafe n s before b v → ⊥)
+    pub has_other_value : (v : Value) (j : ℕ) (top : Ballot) → IsHighestReport n s before b j top → IsPromised n s before b → (MayBeProposed n s before b v → ⊥)
         → (d : Message) → Reports n s b (λ q. q.value ≢ v) (get_or before j d)
     has_other_value v j top highest promised unsafe d =
         let e : Message = get_or before j d in

@@ -128,8 +128,8 @@ abbrev pub ShowsSafe : ℕ → ℕ → List Message → Ballot → Value → Mes
 ShowsSafe n s before b v e = Reports n s b (λ q. (q.value ≡ v) × MostPromised n s before b (IsWithin (Some q.ballot))) e
 
 -- a majority promised the ballot and reported nothing, or the highest report of a majority has this value
-abbrev pub IsSafe : ℕ → ℕ → List Message → Ballot → Value → Type 0
-IsSafe n s before b v = MostPromised n s before b (IsWithin None) ⊎ Any (ShowsSafe n s before b v) before
+abbrev pub MayBeProposed : ℕ → ℕ → List Message → Ballot → Value → Type 0
+MayBeProposed n s before b v = MostPromised n s before b (IsWithin None) ⊎ Any (ShowsSafe n s before b v) before
 
 -- a majority accepted the value at the ballot
 abbrev pub MostAccepted : ℕ → ℕ → List Message → Ballot → Value → Type 0

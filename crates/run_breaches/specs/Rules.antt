@@ -10,7 +10,7 @@ use Rattle.ballots.specs.declared.message.Body.TheVariants as body
 use Rattle.lawful_histories.specs.Saying.{Report}
 use Rattle.run_breaches.specs.declared.breach.BrokenRules.{BrokenRules}
 use Rattle.run_breaches.specs.declared.breach.BrokenRules.TheVariants.{Promise, Accept, Accepted, Decided}
-use Rattle.run_breaches.specs.Earlier.{LetsPropose, LetsAccept, LetsPromise, LetsReport, Reports, WasProposed, IsPromised, IsSafe, WasChosen}
+use Rattle.run_breaches.specs.Earlier.{LetsPropose, LetsAccept, LetsPromise, LetsReport, Reports, WasProposed, IsPromised, MayBeProposed, WasChosen}
 
 -- ---- the rules
 
@@ -35,7 +35,7 @@ pub record KeepsPromise (s : ℕ) (before : List Message) (a : ℕ) (b : Ballot)
 -- An Accept has the value of the Accepts before it of its ballot, and is safe (phase 2a).
 pub record KeepsAccept (n s : ℕ) (before : List Message) (b : Ballot) (v : Value) : Type 0 where
   pub only : All (LetsPropose s b v) before
-  pub safe : IsSafe n s before b v
+  pub safe : MayBeProposed n s before b v
 
 -- An Accepted was proposed, and is not below what its sender promised or accepted at (phase 2b).
 pub record KeepsAccepted (s : ℕ) (before : List Message) (a : ℕ) (b : Ballot) (v : Value) : Type 0 where
@@ -75,9 +75,9 @@ pub record IsHighestReport (n s : ℕ) (before : List Message) (b : Ballot) (j :
 
 -- where a majority promised the ballot and the value is not safe, the highest report is told: it has another value
 abbrev pub TellsReport : ℕ → ℕ → List Message → Ballot → Value → Option ℕ → Type 0
-TellsReport n s before b v None = IsPromised n s before b → IsSafe n s before b v
+TellsReport n s before b v None = IsPromised n s before b → MayBeProposed n s before b v
 TellsReport n s before b v (Some j) =
-    IsPromised n s before b × (IsSafe n s before b v → ⊥) × ((top : Ballot) × IsHighestReport n s before b j top)
+    IsPromised n s before b × (MayBeProposed n s before b v → ⊥) × ((top : Ballot) × IsHighestReport n s before b j top)
     × ((d : Message) → Reports n s b (λ q. q.value ≢ v) (get_or before j d))
 
 -- what is told of a Promise, rule by rule

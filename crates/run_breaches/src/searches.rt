@@ -6,7 +6,7 @@ ghost use Rattle.lawful_histories.specs.Judging.{IsSetOf};
 ghost use Rattle.lawful_histories.specs.Lawful.{IsLawful};
 ghost use Rattle.run_breaches.specs.Earlier.{LetsPropose, LetsAccept, LetsPromise, LetsReport, Decides};
 ghost use Rattle.run_breaches.specs.Earlier.{Accepts, Promises, IsWithin, WasProposed, MostPromised, IsPromised};
-ghost use Rattle.run_breaches.specs.Earlier.{ShowsSafe, IsSafe, MostAccepted, WasChosen, ShowsChosen};
+ghost use Rattle.run_breaches.specs.Earlier.{ShowsSafe, MayBeProposed, MostAccepted, WasChosen, ShowsChosen};
 ghost use Rattle.run_breaches.specs.Rules.{IsFirstAgainst};
 ghost use Rattle.run_breaches.specs.Highest.{Turns, IsBestOf, BoundsReports};
 
@@ -90,7 +90,7 @@ pub(crate) fn is_safe(
     ballot: Ballot,
     value: &Value,
 ) -> bool
-    ensures { IsTrue result ↔ IsSafe members slot before.now ballot value.now }
+    ensures { IsTrue result ↔ MayBeProposed members slot before.now ballot value.now }
 {
     most_promised(members, before, slot, ballot, None)
         || before.iter().any(|message| shows_safe(members, before, message, slot, ballot, value))

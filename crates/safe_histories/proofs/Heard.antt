@@ -9,7 +9,7 @@ use Rattle.ballots.specs.declared.message.Body.{Body}
 use Rattle.ballots.specs.declared.message.Body.TheVariants as body
 use Rattle.ballots.specs.Message.{message}
 use Rattle.lawful_histories.specs.Majorities.{MajorityOf}
-use Rattle.lawful_histories.specs.Saying.{Saying, Silent, Accepted, of_one, says, told}
+use Rattle.lawful_histories.specs.Saying.{Saying, Silent, Accepted, of_one, says, sayings}
 use Rattle.lawful_histories.specs.Lawful.{Said, SaidBefore, IsLawful, IsChosen, OneValue}
 use Rattle.lawful_histories.specs.HistoryLaws.{DecidedIsChosen}
 use Rattle.lawful_histories.specs.Messages.{accepted, decided}
@@ -119,7 +119,7 @@ pub record ChoiceLaws : Type 0 where
   pub decided : DecidedIsChosen
 
 -- a message says this of its slot, in its place
-said_in : (sent : List Message) (s : ℕ) (m : Message) → In sent m → (j : ℕ) × (j < length sent) × Said (told sent s) j (says m s)
+said_in : (sent : List Message) (s : ℕ) (m : Message) → In sent m → (j : ℕ) × (j < length sent) × Said (sayings sent s) j (says m s)
 said_in [] s m there = absurd there
 said_in (x ∷ xs) s m (inl same) = (0, omega arith, (omega arith, ap (λ (y : Message). says y s) same))
 said_in (x ∷ xs) s m (inr later) =
@@ -131,10 +131,10 @@ own_slot : (s : ℕ) (x : Saying) → of_one s s x ≡ x
 own_slot s x = ap (λ (t : Bool). cond t x Silent) (eq-eqb s s refl)
 
 module _ (members : ℕ) (sent : List Message) (lawful : IsLawful members sent) where
-  accepted_there : (a s : ℕ) (b : Ballot) (v : Value) → In sent (accepted a s b v) → SaidBefore (told sent s) (length sent) (Accepted a b v)
+  accepted_there : (a s : ℕ) (b : Ballot) (v : Value) → In sent (accepted a s b v) → SaidBefore (sayings sent s) (length sent) (Accepted a b v)
   accepted_there a s b v there =
       let said = said_in sent s (accepted a s b v) there in
-      (said.0, said.1, subst (Said (told sent s) said.0) (own_slot s (Accepted a b v)) said.2)
+      (said.0, said.1, subst (Said (sayings sent s) said.0) (own_slot s (Accepted a b v)) said.2)
 
   -- what is accepted at one ballot is one value
   accepted_is_one : (a c s : ℕ) (b : Ballot) (v w : Value) → In sent (accepted a s b v) → In sent (accepted c s b w) → v ≡ w

@@ -94,7 +94,7 @@ module _ (T : List ℕ → Type 0) where
         subst (ReportFrom T) by.2 (from (Promises promised) (in_from_contains calls (Promises promised) call.0))
 
     chosen_from : (members : ℕ) (calls : List Asked) (promise : Promised_call) (accept : ℕ × Ballot × Value) → Each (AskedFrom T) calls → ReportFrom T promise.report
-        → attempting.Accepts members calls promise accept → ValueFrom T accept.2
+        → attempting.LeadsToAccept members calls promise accept → ValueFrom T accept.2
     chosen_from members calls promise accept from report accepts =
         let all : Each (AskedFrom T) (accepts.open_is.before ++ Begins accepts.begun ∷ accepts.since) = subst (Each (AskedFrom T)) accepts.open_is.split from in
         let begun : ValueFrom T accepts.begun.candidate =

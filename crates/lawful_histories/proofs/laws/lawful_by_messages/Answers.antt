@@ -1,7 +1,7 @@
 use Rattle.std.proofs.Common.{◌≡◌, ℕ, ◌<◌, List, Some, None, sym, inl, inr}
 use Rattle.ballots.specs.declared.message.Message.{Message}
 use Rattle.ballots.specs.Acceptance.{acceptance}
-use Rattle.lawful_histories.specs.Saying.{told}
+use Rattle.lawful_histories.specs.Saying.{sayings}
 use Rattle.lawful_histories.specs.Lawful.{IsLawful, IsLawfulSlot}
 use Rattle.lawful_histories.specs.Messages.{KeepsTheRules}
 use Rattle.lawful_histories.proofs.Majorities.{most_weaker}

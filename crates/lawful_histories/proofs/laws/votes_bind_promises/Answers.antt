@@ -2,7 +2,7 @@ use Rattle.std.proofs.Common.{◌≡◌, ℕ, ◌<◌, List, Some, None, refl, s
 use Rattle.ballots.specs.Ballot.{Ballot, IsBelow}
 use Rattle.ballots.specs.declared.value.Value.{Value}
 use Rattle.ballots.specs.Acceptance.{acceptance}
-use Rattle.lawful_histories.specs.Saying.{Report, Saying, Promise, Accepted, told}
+use Rattle.lawful_histories.specs.Saying.{Report, Saying, Promise, Accepted, sayings}
 use Rattle.lawful_histories.specs.Lawful.{Said, IsLawfulSlot}
 use Rattle.lawful_histories.proofs.ByMessages.{sent_accepted, sent_promise}
 use Rattle.lawful_histories.proofs.laws.votes_bind_promises.Goals as goal
@@ -18,7 +18,7 @@ reported n xs j k a b c v (Some q) lawful lt vote promise = (q.ballot, q.value, 
 
 pub returns-clause-reported : goal.returns-clause-reported
 returns-clause-reported g = λ n sent j k a s b c v r lawful lt vote promise.
-    reported n (told sent s) j k a b c v r (lawful s) lt (sent_accepted sent s j a b v vote) (sent_promise sent s k a c r promise)
+    reported n (sayings sent s) j k a b c v r (lawful s) lt (sent_accepted sent s j a b v vote) (sent_promise sent s k a c r promise)
 
 pub returns-clause-value : goal.returns-clause-value
 returns-clause-value g = λ n sent j k a s b c v w lawful vote promise.
