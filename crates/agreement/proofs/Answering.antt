@@ -18,7 +18,7 @@ use Rattle.agreement.specs.declared.step.Change.{Change}
 use Rattle.agreement.specs.declared.step.Change.TheVariants.{Nothing, Answered}
 use Rattle.agreement.specs.declared.step.Step.{Step}
 use Rattle.agreement.specs.State.{AgreementState}
-use Rattle.agreement.specs.Step.{Sends, BodyGives, StepIsDue, MessageGives, kept_of, left_by, told_with, Grows, plan_of}
+use Rattle.agreement.specs.Step.{Sends, BodyGives, StepIsDue, MessageGives, kept_of, left_by, learner_calls_with, Grows, plan_of}
 
 -- ---- a slot that is set
 
@@ -73,10 +73,10 @@ grows_by_none members before after grown same none values prefix =
     (subst (HasPrefix members after) (sym (append-nil values)) (subst (λ (l : List LearnerCall). HasPrefix members l values) (sym same) prefix))
 
 -- a step whose change makes no call of the learner leaves the prefix as it is
-pub grows_nothing : (members : ℕ) (views : Views) (step : Step) (change : Change) → step.change ≡ change → told_with views change ≡ views.learner_calls
+pub grows_nothing : (members : ℕ) (views : Views) (step : Step) (change : Change) → step.change ≡ change → learner_calls_with views change ≡ views.learner_calls
     → step.grown.items ≡ [] → Grows members views.learner_calls (plan_of views step).after.learner_calls step.grown.items
 grows_nothing members views step change is quiet none =
-    grows_by_none members views.learner_calls (told_with views step.change) step.grown.items (ap (λ (c : Change). told_with views c) is ∙ quiet) none
+    grows_by_none members views.learner_calls (learner_calls_with views step.change) step.grown.items (ap (λ (c : Change). learner_calls_with views c) is ∙ quiet) none
 
 -- ---- what is due
 

@@ -5,7 +5,7 @@ use Rattle.std.proofs.lemmas.Bool.{cases_lt}
 use Rattle.std.proofs.lemmas.Option.{slice_get_cases, slice_get_within}
 use Rattle.ballots.specs.Limits.{max_slot}
 use Rattle.ballots.specs.declared.value.Value.{Value}
-use Rattle.learner.specs.Calls.{Call as Told, IsLearned}
+use Rattle.learner.specs.Calls.{Call as LearnerCall, IsLearned}
 use Rattle.learner.specs.State.{LearnerState, decided_at as learned_at}
 use Rattle.learner.specs.Learned.{StateAfter as LearnerAfter, HasLearned}
 use Rattle.decided_log.specs.Decided.{IsPrefix, IsKnownBehind}
@@ -22,7 +22,7 @@ none_held (Some v) free = absurd (free v refl)
 nothing_there : (v : Value) → None ≡ Some v → ⊥
 nothing_there v e = cc
 
-module _ (members : ℕ) (told : List Told) (at : ℕ → Option Value) (has : HasLearned members told at) where
+module _ (members : ℕ) (told : List LearnerCall) (at : ℕ → Option Value) (has : HasLearned members told at) where
   pub free_of_none : (slot : ℕ) → at slot ≡ None → IsFree members told slot
   free_of_none slot none value learned = nothing_there value (sym none ∙ (has slot value).1 learned)
 
@@ -54,7 +54,7 @@ module _ (members : ℕ) (told : List Told) (at : ℕ → Option Value) (has : H
 
 -- a state has learned just what its calls made it learn
 abbrev pub LearnsJust : Type 0
-LearnsJust = (members : ℕ) (calls : List Told) (state : LearnerState) (slot : ℕ) (v : Value) → LearnerAfter members calls state
+LearnsJust = (members : ℕ) (calls : List LearnerCall) (state : LearnerState) (slot : ℕ) (v : Value) → LearnerAfter members calls state
     → learned_at state slot ≡ Some v ↔ IsLearned members calls slot v
 
 -- what is known has one prefix
@@ -110,7 +110,7 @@ module _ (just : LearnsJust) (state : AgreementState) (views : Views) (has : Has
         let no : false ≡ true = some.1 (omega (arith, at, within, has.slots)) in absurd cc
     first_free_is (Some slot) n at within some is-n = (is-n ∙ at ∙ sym same_length, omega (arith, is-n, at, within))
 
-pub free_where : (members : ℕ) (told : List Told) (slot : ℕ) (r : Option (Bor Value)) (b : Bool)
+pub free_where : (members : ℕ) (told : List LearnerCall) (slot : ℕ) (r : Option (Bor Value)) (b : Bool)
     → MatchOption r (IsFree members told slot) (λ v. IsLearned members told slot v.now) → is_some r ≡ not b → IsTrue b ↔ IsFree members told slot
 free_where members told slot None true free is = (λ t. free, λ f. refl)
 free_where members told slot None false free is = absurd cc

@@ -7,8 +7,8 @@ use Rattle.ballots.specs.Slots.{OthersStay}
 use Rattle.ballots.specs.declared.value.Value.{Value}
 use Rattle.ballots.specs.declared.acceptance.Acceptance.{Acceptance}
 use Rattle.ballots.specs.declared.message.Body.TheVariants as body
-use Rattle.learner.specs.Calls.{Call as Told, slot_of, Learns}
-use Rattle.learner.specs.Calls as told
+use Rattle.learner.specs.Calls.{Call as LearnerCall, slot_of, Learns}
+use Rattle.learner.specs.Calls as learner_call
 use Rattle.learner.specs.State.{LearnerState, decided_at as learned_at, HasRoomToLearn, HasRoomForVote}
 use Rattle.learner.specs.Learned.{StateAfter as LearnerAfter, HasLearned, IsSame as LearnerStays}
 use Rattle.learner.specs.Changes.{LearnsNow, DecidedNow}
@@ -19,7 +19,7 @@ use Rattle.agreement.specs.declared.step.Change.{Change}
 use Rattle.agreement.specs.declared.step.Change.TheVariants.{Accepted, Decided}
 use Rattle.agreement.specs.declared.step.Step.{Step}
 use Rattle.agreement.specs.State.{AgreementState, Has}
-use Rattle.agreement.specs.Step.{Gains, Grows, StepIsDue, StaysAsItWas, HasRoomForLearned, CanCountVote, CanLearn, told_with}
+use Rattle.agreement.specs.Step.{Gains, Grows, StepIsDue, StaysAsItWas, HasRoomForLearned, CanCountVote, CanLearn, learner_calls_with}
 use Rattle.agreement.proofs.Answering.{plan_is}
 use Rattle.agreement.proofs.Knowing.{known_of_prefix, prefix_of_known}
 
@@ -38,7 +38,7 @@ looked a learner log = record {
 
 -- a look is no call
 abbrev pub LooksAreNoCalls : Type 0
-LooksAreNoCalls = (members : ℕ) (calls : List Told) (old new : LearnerState) → LearnerStays old new → LearnerAfter members calls old → LearnerAfter members calls new
+LooksAreNoCalls = (members : ℕ) (calls : List LearnerCall) (old new : LearnerState) → LearnerStays old new → LearnerAfter members calls old → LearnerAfter members calls new
 
 pub learner_stays : (l : LearnerState) → LearnerStays l l
 learner_stays l = record { members = refl; decided = λ s. refl; votes = λ s b m. refl; firsts = λ s b. refl }
@@ -67,7 +67,7 @@ GrowsLog at slot learned grown =
 
 -- one call more adds what its slot learns
 abbrev pub CallAdds : Type 0
-CallAdds = (members : ℕ) (calls : List Told) (call : Told) (learned : Option Value) (old new : ℕ → Option Value) → HasLearned members calls old
+CallAdds = (members : ℕ) (calls : List LearnerCall) (call : LearnerCall) (learned : Option Value) (old new : ℕ → Option Value) → HasLearned members calls old
     → Learns members calls call (slot_of call) learned → new (slot_of call) ≡ option_or (old (slot_of call)) learned → OthersStay old new (slot_of call)
     → HasLearned members (calls ++ call ∷ []) new
 
@@ -90,7 +90,7 @@ grows_by_none at slot prefix after is here others =
 abbrev or_at : (ℕ → Option Value) → ℕ → Option Value → ℕ → Option Value
 or_at at slot learned s = cond (nat_eq s slot) (option_or (at s) learned) (at s)
 
-grows_of_log : CallAdds → (members : ℕ) (calls : List Told) (call : Told) (learned : Option Value) (at : ℕ → Option Value) (grown : List Value) → HasLearned members calls at
+grows_of_log : CallAdds → (members : ℕ) (calls : List LearnerCall) (call : LearnerCall) (learned : Option Value) (at : ℕ → Option Value) (grown : List Value) → HasLearned members calls at
     → Learns members calls call (slot_of call) learned → GrowsLog at (slot_of call) learned grown → Grows members calls (calls ++ call ∷ []) grown
 grows_of_log adds members calls call learned at grown knows learns grows = λ values prefix.
     let here : or_at at (slot_of call) learned (slot_of call) ≡ option_or (at (slot_of call)) learned =
@@ -100,7 +100,7 @@ grows_of_log adds members calls call learned at grown knows learns grows = λ va
     prefix_of_known members (calls ++ call ∷ []) (or_at at (slot_of call) learned) (adds members calls call learned at (or_at at (slot_of call) learned) knows learns here others) (values ++ grown)
     (grows values (or_at at (slot_of call) learned) (known_of_prefix members calls at knows values prefix) here others)
 
-pub grows_there : CallAdds → (members : ℕ) (calls : List Told) (call : Told) (slot : ℕ) (learned : Option Value) (at : ℕ → Option Value) (grown : List Value) → HasLearned members calls at
+pub grows_there : CallAdds → (members : ℕ) (calls : List LearnerCall) (call : LearnerCall) (slot : ℕ) (learned : Option Value) (at : ℕ → Option Value) (grown : List Value) → HasLearned members calls at
     → slot_of call ≡ slot → Learns members calls call slot learned → GrowsLog at slot learned grown → Grows members calls (calls ++ call ∷ []) grown
 grows_there adds members calls call slot learned at grown knows there learns grows =
     grows_of_log adds members calls call learned at grown knows
@@ -109,9 +109,9 @@ grows_there adds members calls call slot learned at grown knows there learns gro
 -- ---- what is due
 
 module _ (old mid : AgreementState) (seen sender slot : ℕ) (learned : Option Value) (grown : List Value) (step : Step) (config : mid.config ≡ old.config) (stays : StaysAsItWas old mid)
-    (grows : (views : Views) (call : Told) → Has mid views → slot_of call ≡ slot → Learns mid.config.members views.learner_calls call slot learned
+    (grows : (views : Views) (call : LearnerCall) → Has mid views → slot_of call ≡ slot → Learns mid.config.members views.learner_calls call slot learned
     → Grows mid.config.members views.learner_calls (views.learner_calls ++ call ∷ []) grown) where
-  told_grows : (views : Views) (call : Told) → Has old views → slot_of call ≡ slot → Learns old.config.members views.learner_calls call slot learned → step.grown.items ≡ grown
+  told_grows : (views : Views) (call : LearnerCall) → Has old views → slot_of call ≡ slot → Learns old.config.members views.learner_calls call slot learned → step.grown.items ≡ grown
       → Grows old.config.members views.learner_calls (views.learner_calls ++ call ∷ []) step.grown.items
   told_grows views call has there learns is =
       let members : mid.config.members ≡ old.config.members = ap (λ (x : Config). x.members) config in
@@ -119,25 +119,25 @@ module _ (old mid : AgreementState) (seen sender slot : ℕ) (learned : Option V
       (subst (λ (m : ℕ). Grows m views.learner_calls (views.learner_calls ++ call ∷ []) grown) members
       (grows views call (stays views has) there (subst (λ (m : ℕ). Learns m views.learner_calls call slot learned) (sym members) learns)))
 
-  pub accepted_gives : (acceptance : Acceptance) → ((views : Views) → Has old views → Learns old.config.members views.learner_calls (told.Accepted sender slot acceptance.ballot acceptance.value) slot learned)
+  pub accepted_gives : (acceptance : Acceptance) → ((views : Views) → Has old views → Learns old.config.members views.learner_calls (learner_call.Accepted sender slot acceptance.ballot acceptance.value) slot learned)
       → Gains step grown seen (Accepted sender slot acceptance learned) → StepIsDue old seen sender slot (body.Accepted acceptance) step
   accepted_gives acceptance learns it = (
     it.seen_is,
     λ views has. (
       plan_is views step (Accepted sender slot acceptance learned) [] seen it.change_is it.sends_none it.seen_is,
-      subst (λ (l : List Told). Grows old.config.members views.learner_calls l step.grown.items)
-          (sym (ap (λ (c : Change). told_with views c) it.change_is)) (told_grows views (told.Accepted sender slot acceptance.ballot acceptance.value) has refl (learns views has) it.grown_is),
+      subst (λ (l : List LearnerCall). Grows old.config.members views.learner_calls l step.grown.items)
+          (sym (ap (λ (c : Change). learner_calls_with views c) it.change_is)) (told_grows views (learner_call.Accepted sender slot acceptance.ballot acceptance.value) has refl (learns views has) it.grown_is),
     ),
   )
 
-  pub decided_gives : (value : Value) → ((views : Views) → Has old views → Learns old.config.members views.learner_calls (told.Decided slot value) slot learned)
+  pub decided_gives : (value : Value) → ((views : Views) → Has old views → Learns old.config.members views.learner_calls (learner_call.Decided slot value) slot learned)
       → Gains step grown seen (Decided slot value learned) → StepIsDue old seen sender slot (body.Decided value) step
   decided_gives value learns it = (
     it.seen_is,
     λ views has. (
       plan_is views step (Decided slot value learned) [] seen it.change_is it.sends_none it.seen_is,
-      subst (λ (l : List Told). Grows old.config.members views.learner_calls l step.grown.items)
-          (sym (ap (λ (c : Change). told_with views c) it.change_is)) (told_grows views (told.Decided slot value) has refl (learns views has) it.grown_is),
+      subst (λ (l : List LearnerCall). Grows old.config.members views.learner_calls l step.grown.items)
+          (sym (ap (λ (c : Change). learner_calls_with views c) it.change_is)) (told_grows views (learner_call.Decided slot value) has refl (learns views has) it.grown_is),
     ),
   )
 

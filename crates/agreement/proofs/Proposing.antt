@@ -7,7 +7,7 @@ use Rattle.ballots.specs.declared.message.Message.{Message}
 use Rattle.ballots.specs.declared.message.Body.TheVariants as body
 use Rattle.ballots.specs.Message.{message}
 use Rattle.proposer.specs.Call.{Start}
-use Rattle.proposer.specs.Call.{Call as Asked}
+use Rattle.proposer.specs.Call.{Call as ProposerCall}
 use Rattle.proposer.specs.Attempting.{Answers}
 use Rattle.proposer.specs.State.{StateAfter as ProposerAfter}
 use Rattle.decided_log.specs.Asked.{asked_of}
@@ -23,7 +23,7 @@ use Rattle.agreement.proofs.Answering.{plan_is, grows_nothing}
 use Rattle.agreement.proofs.Knowing.{LearnsJust, prefix_has}
 
 pub promised_gives : (state : AgreementState) (seen sender slot : ℕ) (ballot : Ballot) (report : Option Acceptance) (accept : Option (ℕ × Ballot × Value)) (step : Step)
-    → ((start : Start) (calls : List Asked) → ProposerAfter start calls state.proposer
+    → ((start : Start) (calls : List ProposerCall) → ProposerAfter start calls state.proposer
     → Answers start.members calls (record { sender = sender; slot = slot; ballot = ballot; report = report }) accept)
     → Sends step (accept_of state.me accept) seen (Promised sender slot ballot report) → StepIsDue state seen sender slot (body.Promise ballot report) step
 promised_gives state seen sender slot ballot report accept step answers it = (

@@ -10,10 +10,10 @@ use Rattle.ballots.specs.declared.message.Message.{Message}
 use Rattle.ballots.specs.declared.message.Body.{Body}
 use Rattle.ballots.specs.declared.message.Body.TheVariants as body
 use Rattle.acceptor.specs.AcceptorState.{HasRoomFor}
-use Rattle.proposer.specs.Call.{Call as Asked, Begins, Promises, Nacks}
+use Rattle.proposer.specs.Call.{Call as ProposerCall, Begins, Promises, Nacks}
 use Rattle.proposer.specs.Attempting.{next_ballot}
-use Rattle.learner.specs.Calls.{Call as Told}
-use Rattle.learner.specs.Calls as told
+use Rattle.learner.specs.Calls.{Call as LearnerCall}
+use Rattle.learner.specs.Calls as learner_call
 use Rattle.learner.specs.State.{HasRoomToLearn, HasRoomForVote, decided_at}
 use Rattle.learner.specs.Changes.{LearnsNow, DecidedNow}
 use Rattle.decided_log.specs.LogState.{LogState}
@@ -39,53 +39,43 @@ kept_of (Refused slot ballot) = None
 kept_of (Accepted sender slot acceptance learned) = None
 kept_of (Decided slot value learned) = None
 
-abbrev pub records_with : Views → Change → List Record
-records_with views Nothing = views.records
-records_with views (Answered kept) = views.records ++ kept ∷ []
-records_with views (Began slot candidate ballot began) = views.records ++ began ∷ []
-records_with views (Promised sender slot ballot report) = views.records
-records_with views (Refused slot ballot) = views.records
-records_with views (Accepted sender slot acceptance learned) = views.records
-records_with views (Decided slot value learned) = views.records
+-- how the proposer is called by it
+abbrev pub proposer_call_of : ℕ → Change → Option ProposerCall
+proposer_call_of seen (Began slot candidate ballot began) =
+    Some (Begins (record { slot = slot; seen_round = seen; candidate = candidate; ballot = ballot }))
+proposer_call_of seen (Promised sender slot ballot report) =
+    Some (Promises (record { sender = sender; slot = slot; ballot = ballot; report = report }))
+proposer_call_of seen (Refused slot ballot) = Some (Nacks slot ballot)
+proposer_call_of seen other = None
 
-abbrev pub asked_with : Views → Change → List Asked
-asked_with views Nothing = views.proposer_calls
-asked_with views (Answered kept) = views.proposer_calls
-asked_with views (Began slot candidate ballot began) = views.proposer_calls ++ Begins (record {
-  slot = slot;
-  seen_round = views.seen_round;
-  candidate = candidate;
-  ballot = ballot;
-}) ∷ []
-asked_with views (Promised sender slot ballot report) =
-    views.proposer_calls ++ Promises (record { sender = sender; slot = slot; ballot = ballot; report = report }) ∷ []
-asked_with views (Refused slot ballot) = views.proposer_calls ++ Nacks slot ballot ∷ []
-asked_with views (Accepted sender slot acceptance learned) = views.proposer_calls
-asked_with views (Decided slot value learned) = views.proposer_calls
+-- how the learner is
+abbrev pub learner_call_of : Change → Option LearnerCall
+learner_call_of (Accepted sender slot acceptance learned) =
+    Some (learner_call.Accepted sender slot acceptance.ballot acceptance.value)
+learner_call_of (Decided slot value learned) = Some (learner_call.Decided slot value)
+learner_call_of other = None
 
-abbrev pub told_with : Views → Change → List Told
-told_with views Nothing = views.learner_calls
-told_with views (Answered kept) = views.learner_calls
-told_with views (Began slot candidate ballot began) = views.learner_calls
-told_with views (Promised sender slot ballot report) = views.learner_calls
-told_with views (Refused slot ballot) = views.learner_calls
-told_with views (Accepted sender slot acceptance learned) =
-    views.learner_calls ++ told.Accepted sender slot acceptance.ballot acceptance.value ∷ []
-told_with views (Decided slot value learned) = views.learner_calls ++ told.Decided slot value ∷ []
+-- the list with this behind it, if it is anything
+abbrev pub with_last : {X : Type 0} → List X → Option X → List X
+with_last items None = items
+with_last items (Some item) = items ++ item ∷ []
+
+abbrev pub learner_calls_with : Views → Change → List LearnerCall
+learner_calls_with views change = with_last views.learner_calls (learner_call_of change)
 
 abbrev pub left_by : Views → ℕ → Change → Views
 left_by views seen change = record {
-  records = records_with views change;
+  records = with_last views.records (kept_of change);
   seen_round = seen;
   waiting = views.waiting;
-  proposer_calls = asked_with views change;
-  learner_calls = told_with views change;
+  proposer_calls = with_last views.proposer_calls (proposer_call_of views.seen_round change);
+  learner_calls = learner_calls_with views change;
 }
 
 -- ---- what is due
 
 -- the prefix grows by these values when its learner is told this
-abbrev pub Grows : ℕ → List Told → List Told → List Value → Type 0
+abbrev pub Grows : ℕ → List LearnerCall → List LearnerCall → List Value → Type 0
 Grows members before after grown =
     (values : List Value) → HasPrefix members before values → HasPrefix members after (values ++ grown)
 

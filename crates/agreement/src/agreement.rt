@@ -1,8 +1,8 @@
 //! What a node has of agreement.
 
-ghost use Rattle.std.specs.Prelude.{◌≡◌, ℕ, ◌+◌, ◌<◌, ◌≤◌, max, IfOk, IsSome, Option, None, Some};
+ghost use Rattle.std.specs.Prelude.{◌≡◌, ℕ, ◌<◌, max, IfOk, IsSome, Option, None, Some};
 ghost use Rattle.std.specs.Option.{option_or};
-ghost use Rattle.ballots.specs.Limits.{max_round, max_slot};
+ghost use Rattle.ballots.specs.Limits.{max_round};
 ghost use Rattle.ballots.specs.Ballot.{Ballot as Pair};
 ghost use Rattle.ballots.specs.Slots.{OthersStay};
 ghost use Rattle.ballots.specs.declared.value.Value.{Value as Held};
@@ -14,10 +14,11 @@ ghost use Rattle.agreement.specs.declared.step.Change.TheVariants.{Began, Promis
 ghost use Rattle.agreement.specs.State.{Has};
 ghost use Rattle.agreement.specs.Step.{left_by, HasRoomForLearned, CanTake, CanCountVote, CanLearn};
 
+use crate::config::Config;
 use crate::step::{Change, Step};
 use acceptor::laws::applied_is_restored;
 use acceptor::{Acceptor, highest_begun_round};
-use ballots::{Acceptance, Ballot, Members, NodeId, OutOfMemory, Record, Slot, Value};
+use ballots::{Acceptance, Ballot, NodeId, OutOfMemory, Record, Slot, Value};
 use decided_log::DecidedLog;
 use learner::Learner;
 use proposer::Proposer;
@@ -29,8 +30,7 @@ use std::marker::Model;
 pub struct Agreement {
     pub(crate) alloc: Global,
     pub(crate) me: NodeId,
-    pub(crate) members: Members,
-    pub(crate) slot_limit: u32,
+    pub(crate) config: Config,
     pub(crate) seen_round: u32,
     pub(crate) acceptor: Acceptor,
     pub(crate) proposer: Proposer,
@@ -52,7 +52,7 @@ impl Model for Agreement {
 
     ghost view = { λ a. record {
       me = a.me;
-      config = record { members = a.members; slot_limit = a.slot_limit };
+      config = a.config;
       seen_round = a.seen_round;
       acceptor = a.acceptor;
       proposer = a.proposer;
@@ -62,27 +62,25 @@ impl Model for Agreement {
 }
 
 impl Agreement {
-    /// The node that starts with these records, the first of them kept first, and has nothing else (section 2.5). It
-    /// takes part in so many slots, which are no more than slots have numbers.
+    /// The node that starts with these records, the first of them kept first, and has nothing else (section 2.5).
     pub fn open(
         alloc: Global,
         me: NodeId,
-        members: Members,
-        slot_limit: u32,
+        config: Config,
         records: &[Record],
     ) -> Result<Agreement, OutOfMemory>
-        requires slots { slot_limit ≤ max_slot + 1 }
         ensures stands { IfOk result (λ node. Has node (started_with records.now)) }
         ensures me { IfOk result (λ node. node.me ≡ me) }
-        ensures config { IfOk result
-            (λ node. node.config ≡ record { members = members; slot_limit = slot_limit }) }
+        ensures config { IfOk result (λ node. node.config ≡ config) }
     {
+        let members = config.members();
+        // the type keeps that there are no more slots than numbers of slots
+        let _slots = config.slot_limit();
         let acceptor = Acceptor::from_records(alloc, records)?;
         Ok(Agreement {
             alloc,
             me,
-            members,
-            slot_limit,
+            config,
             seen_round: 0,
             acceptor,
             proposer: Proposer::new(me, members, highest_begun_round(records)),

@@ -25,7 +25,7 @@ impl Agreement {
         ensures grows { IfOk result (λ step. step.grown.items ≡ []) }
         ensures can { IfOk result (λ step. CanTake self.now step.change) }
     {
-        if slot.number() >= self.slot_limit {
+        if slot.number() >= self.config.slot_limit() {
             return Err(Refusal::SlotsSpent);
         }
         match self.proposer.see_begin(slot, self.seen_round, &candidate) {

@@ -5,8 +5,8 @@ ghost use Rattle.std.specs.Option.{option_or};
 ghost use Rattle.ballots.specs.Slots.{OthersStay};
 ghost use Rattle.ballots.specs.declared.value.Value.{Value as Held};
 ghost use Rattle.ballots.specs.declared.message.Body.TheVariants as body;
-ghost use Rattle.learner.specs.Calls.{Call as Told, slot_of, Learns};
-ghost use Rattle.learner.specs.Calls as told;
+ghost use Rattle.learner.specs.Calls.{Call as LearnerCall, slot_of, Learns};
+ghost use Rattle.learner.specs.Calls as learner_call;
 ghost use Rattle.learner.specs.Changes.{LearnsNow, DecidedNow};
 ghost use Rattle.learner.specs.State.{HasRoomToLearn, HasRoomForVote, decided_at as learned_at};
 ghost use Rattle.decided_log.specs.Decided.{IsPrefix, IsSame};
@@ -87,7 +87,7 @@ impl Agreement {
     ) -> Result<Option<Value>, OutOfMemory>
         ensures learns { IfOk result (λ learned. (views : Views) → Has self.old views
             → Learns self.old.config.members views.learner_calls
-            (told.Accepted sender slot acceptance.now.ballot acceptance.now.value) slot learned) }
+            (learner_call.Accepted sender slot acceptance.now.ballot acceptance.now.value) slot learned) }
         ensures now { IfOk result
             (LearnsNow self.new.learner sender slot acceptance.now.ballot acceptance.now.value) }
         ensures room { OnOk result (HasRoomForVote self.new.learner sender slot acceptance.now.ballot) }
@@ -103,7 +103,7 @@ impl Agreement {
     // What the slot learns by a decision; the learner has the room for it then.
     fn see_decided(&mut self, slot: Slot, value: &Value) -> Result<Option<Value>, OutOfMemory>
         ensures learns { IfOk result (λ learned. (views : Views) → Has self.old views
-            → Learns self.old.config.members views.learner_calls (told.Decided slot value.now) slot learned) }
+            → Learns self.old.config.members views.learner_calls (learner_call.Decided slot value.now) slot learned) }
         ensures now { IfOk result (DecidedNow (learned_at self.new.learner slot) value.now) }
         ensures room { OnOk result (HasRoomToLearn self.new.learner slot) }
         ensures stays { StaysAsItWas self.old self.new }
@@ -116,7 +116,7 @@ impl Agreement {
 
     // By which values the prefix grows where the slot learns this; the log has the room for it then.
     fn see_growth(&mut self, slot: Slot, learned: &Option<Value>) -> Result<Vec<Value>, OutOfMemory>
-        ensures grows { IfOk result (λ grown. (views : Views) (call : Told) → Has self.old views → slot_of call ≡ slot
+        ensures grows { IfOk result (λ grown. (views : Views) (call : LearnerCall) → Has self.old views → slot_of call ≡ slot
             → Learns self.old.config.members views.learner_calls call slot learned.now
             → Grows self.old.config.members views.learner_calls (views.learner_calls ++ call ∷ []) grown.items) }
         ensures room { OnOk result (HasRoomForLearned self.new.log learned.now) }

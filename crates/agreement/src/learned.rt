@@ -1,4 +1,4 @@
-//! Which node it is, of which members, and what it has learned.
+//! Which node it is, of which configuration, and what it has learned.
 
 ghost use Rattle.std.specs.Prelude.{◌≡◌, ◌↔◌, ℕ, ◌<◌, ◌≤◌, List, length, IsTrue};
 ghost use Rattle.std.specs.Option.{MatchOption};
@@ -8,7 +8,8 @@ ghost use Rattle.agreement_rules.specs.Views.{Views, IsFree, HasPrefix, HasGap};
 ghost use Rattle.agreement.specs.State.{Has};
 
 use crate::agreement::Agreement;
-use ballots::{Members, NodeId, Slot, Value};
+use crate::config::Config;
+use ballots::{NodeId, Slot, Value};
 use decided_log::laws::prefixes_are_one;
 use learner::laws::states_are_what_was_learned;
 
@@ -20,18 +21,11 @@ impl Agreement {
         self.me
     }
 
-    /// How many members agree.
-    pub fn members(&self) -> Members
-        ensures { result ≡ self.now.config.members }
+    /// How many members agree, and for how many slots.
+    pub fn config(&self) -> Config
+        ensures { result ≡ self.now.config }
     {
-        self.members
-    }
-
-    /// How many slots there are: those of the numbers below this.
-    pub fn slot_limit(&self) -> u32
-        ensures { result ≡ self.now.config.slot_limit }
-    {
-        self.slot_limit
+        self.config
     }
 
     /// The values of the slots 0, 1, .. up to the first that has learned none (section 3): as many as there are slots, at
@@ -73,7 +67,7 @@ impl Agreement {
         states_are_what_was_learned();
         prefixes_are_one();
         let prefix = self.log.prefix();
-        if prefix.len() >= self.slot_limit as usize {
+        if prefix.len() >= self.config.slot_limit() as usize {
             return None;
         }
         Slot::new(prefix.len() as u32)

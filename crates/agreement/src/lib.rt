@@ -12,12 +12,13 @@
 //! send(messages);                                               // those of the step
 //! ```
 //!
-//! Here are attempts and questions, what is due to each of the seven bodies of messages, where each change leaves a node,
-//! and what it has learned.
+//! All nodes are opened with one [`Config`]: what they agree on before they start, which is made once. Here are attempts and
+//! questions, what is due to each of the seven bodies of messages, where each change leaves a node, and what it has learned.
 #![tactic(auto)]
 
 mod agreement;
 mod attempts;
+mod config;
 mod handling;
 mod learned;
 mod messages;
@@ -29,5 +30,6 @@ mod replies;
 mod step;
 
 pub use agreement::Agreement;
+pub use config::{Config, MAX_SLOTS};
 pub use refusal::Refusal;
 pub use step::{Change, Step};

@@ -66,8 +66,8 @@ impl Agreement {
     pub fn takes(&self, message: &Message) -> bool
         ensures { IsTrue result ↔ IsMessageOf self.now.config message.now }
     {
-        self.members.have(message.sender)
-            && message.slot.number() < self.slot_limit
-            && is_body_of(self.members, &message.body)
+        self.config.members().have(message.sender)
+            && message.slot.number() < self.config.slot_limit()
+            && is_body_of(self.config.members(), &message.body)
     }
 }

@@ -3,7 +3,7 @@ use Rattle.std.proofs.Common.{◌≡◌, inl, inr, ℕ, zero, suc, ◌+◌, ◌-
 use Rattle.std.proofs.lemmas.Option.{slice_get_cases}
 use Rattle.ballots.specs.Majority.{tally}
 use Rattle.ballots.specs.declared.value.Value.{Value}
-use Rattle.learner.specs.Calls.{Call as Told, IsLearned}
+use Rattle.learner.specs.Calls.{Call as LearnerCall, IsLearned}
 use Rattle.learner.specs.State.{decided_at}
 use Rattle.agreement_rules.specs.Views.{Config, Views, IsFree, IsFreeAfter, HasPrefix}
 use Rattle.agreement.specs.State.{AgreementState, Has}
@@ -18,7 +18,7 @@ is_nothing (Some value) = false
 abbrev pub free_at : AgreementState → ℕ → Bool
 free_at state slot = is_nothing (decided_at state.learner slot)
 
-nothing_is_free : (members : ℕ) (told : List Told) (slot : ℕ) (held : Option Value)
+nothing_is_free : (members : ℕ) (told : List LearnerCall) (slot : ℕ) (held : Option Value)
     → ((v : Value) → held ≡ Some v ↔ IsLearned members told slot v) → IsTrue (is_nothing held) ↔ IsFree members told slot
 nothing_is_free members told slot None iff = ((λ is v learned. let some = (iff v).1 learned in cc), (λ free. refl))
 nothing_is_free members told slot (Some v) iff = ((λ is. cc), (λ free. absurd (free v ((iff v).0 refl))))

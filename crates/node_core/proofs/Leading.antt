@@ -11,7 +11,7 @@ use Rattle.histories.specs.Due.{AreStillWaiting}
 use Rattle.table_versions.specs.State.{TablesState, HasTaken, ReadyState, IsReadyFor}
 use Rattle.table_versions.specs.Values.{AreUploadsIn}
 use Rattle.agreement.specs.State.{AgreementState, Has}
-use Rattle.agreement.specs.Step.{left_by, told_with, Grows}
+use Rattle.agreement.specs.Step.{left_by, learner_calls_with, Grows}
 use Rattle.agreement.specs.declared.step.Step.{Step}
 use Rattle.node_core.specs.declared.plan.Planned.TheVariants.{Waits, Steps, Learns}
 use Rattle.waiting_uploads.specs.Waiting.{Waiting}
@@ -76,8 +76,8 @@ then_steps old new tables waiting step taken views after has leads =
     subst (NodeHas (node_of new tables waiting)) (sym leads.1) (record {
       agrees = taken.stands views has.agrees;
       values = has.values;
-      prefix = subst (λ (config : Config). HasPrefix config.members (told_with views step.change) has.values) (sym taken.config)
-          (subst (HasPrefix old.config.members (told_with views step.change)) (append-nil has.values) (leads.0 has.values has.prefix));
+      prefix = subst (λ (config : Config). HasPrefix config.members (learner_calls_with views step.change) has.values) (sym taken.config)
+          (subst (HasPrefix old.config.members (learner_calls_with views step.change)) (append-nil has.values) (leads.0 has.values has.prefix));
       taken = has.taken;
       waits = has.waits;
       unknown = has.unknown;
@@ -92,7 +92,7 @@ pub then_learns : OnePrefix → OneLearned → OneEncoding → OneList → (old 
     → (views after : Views) → NodeHas (node_of old tables waiting) views
     → LeadsTo old.config views (Learns step ready) after → NodeHas (node_of new full left) after
 then_learns one learned encoding list old new tables full waiting left step ready is-ready stepped takes keeps views after has (grows, (uploads, still, of-uploads, are-still, is)) =
-    let told = told_with views step.change in
+    let told = learner_calls_with views step.change in
     let values = has.values ++ step.grown.items in
     let prefix = grows has.values has.prefix in
     let taken = takes has.values step.grown.items has.taken is-ready in

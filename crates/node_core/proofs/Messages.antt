@@ -10,8 +10,8 @@ use Rattle.ballots.specs.declared.record.Record.{Record}
 use Rattle.ballots.specs.declared.message.Message.{Message}
 use Rattle.ballots.specs.declared.message.Body.{Body}
 use Rattle.ballots.specs.declared.message.Body.TheVariants as body
-use Rattle.learner.specs.Calls.{Call as Told}
-use Rattle.learner.specs.Calls as told
+use Rattle.learner.specs.Calls.{Call as LearnerCall}
+use Rattle.learner.specs.Calls as learner_call
 use Rattle.table_types.specs.Uploads.{Upload}
 use Rattle.table_types.specs.Texts.{AreUploadsOf}
 use Rattle.agreement_rules.specs.Views.{Config, Views, with_waiting, HasPrefix}
@@ -28,17 +28,17 @@ use Rattle.node_core.specs.Plans.{IsPlanned}
 use Rattle.node_core.proofs.Waiting.{some_still, uploads_wait}
 use Rattle.node_core.proofs.Within.{LearnedWhereSettled, SettledWhereLearned, HeldIsLearned, prepared, accepted, body_fits}
 
-pub grows_by_none : (members : ℕ) (before after : List Told) (grown : List Value) → after ≡ before → grown ≡ [] → Grows members before after grown
+pub grows_by_none : (members : ℕ) (before after : List LearnerCall) (grown : List Value) → after ≡ before → grown ≡ [] → Grows members before after grown
 grows_by_none members before after grown same none values prefix =
     subst (λ (l : List Value). HasPrefix members after (values ++ l)) (sym none)
-    (subst (HasPrefix members after) (sym (append-nil values)) (subst (λ (l : List Told). HasPrefix members l values) (sym same) prefix))
+    (subst (HasPrefix members after) (sym (append-nil values)) (subst (λ (l : List LearnerCall). HasPrefix members l values) (sym same) prefix))
 
 at_seam : (xs : List Value) (x : Value) (ys : List Value) → slice_get (xs ++ x ∷ ys) (length xs) ≡ Some x
 at_seam [] x ys = refl
 at_seam (y ∷ xs) x ys = at_seam xs x ys
 
 -- the same calls have no longer prefix
-grown_twice : (members : ℕ) (calls : List Told) (values grown : List Value) → HasPrefix members calls values → HasPrefix members calls (values ++ grown)
+grown_twice : (members : ℕ) (calls : List LearnerCall) (values grown : List Value) → HasPrefix members calls values → HasPrefix members calls (values ++ grown)
     → (grown ≡ [] → ⊥) → ⊥
 grown_twice members calls values [] prefix longer some = some refl
 grown_twice members calls values (value ∷ grown) prefix longer some =
@@ -58,7 +58,7 @@ module _ (config : Config) (me : ℕ) (seen : Views) (sender slot : ℕ) where
       (subst (λ (l : List Value). HasPrefix config.members plan.after.learner_calls (values ++ l)) none (grows values prefix))
 
   told_due : (values : List Value) (uploads : List Upload) → HasPrefix config.members seen.learner_calls values
-      → AreUploadsIn values uploads → AreStillWaiting uploads seen.waiting seen.waiting → (call : Told) (plan : Plan)
+      → AreUploadsIn values uploads → AreStillWaiting uploads seen.waiting seen.waiting → (call : LearnerCall) (plan : Plan)
       (grown : List Value) → grown ≡ [] → plan ≡ quietly (also_learns seen call) → BodyGrows plan grown → LearnsOf config seen call plan
   told_due values uploads prefix are still call plan grown none is grows = (
     uploads,
@@ -88,7 +88,7 @@ module _ (config : Config) (me : ℕ) (seen : Views) (sender slot : ℕ) where
 
   -- ---- what is due, where it grows
 
-  told_learns : (uploads : List Upload) (left : List (List ℕ)) (call : Told) (plan : Plan)
+  told_learns : (uploads : List Upload) (left : List (List ℕ)) (call : LearnerCall) (plan : Plan)
       → plan ≡ quietly (also_learns seen call) → HasUploads config.members plan.after.learner_calls uploads
       → AreStillWaiting uploads seen.waiting left → LearnsOf config seen call (quietly (with_waiting plan.after left))
   told_learns uploads left call plan is of still = (
@@ -110,7 +110,7 @@ module _ (config : Config) (me : ℕ) (seen : Views) (sender slot : ℕ) where
       → plan.after.learner_calls ≡ seen.learner_calls → BodyGrows plan grown → ⊥
   none_grows values plan grown prefix some same grows =
       grown_twice config.members seen.learner_calls values grown prefix
-      (subst (λ (l : List Told). HasPrefix config.members l (values ++ grown)) same (grows values prefix)) some
+      (subst (λ (l : List LearnerCall). HasPrefix config.members l (values ++ grown)) same (grows values prefix)) some
 
   body_learns : (values : List Value) (uploads : List Upload) (left : List (List ℕ)) (said : Body) (plan : Plan) (grown : List Value)
       → HasPrefix config.members seen.learner_calls values → (grown ≡ [] → ⊥) → BodyGives config me seen sender slot said plan grown

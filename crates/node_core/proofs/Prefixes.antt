@@ -3,7 +3,7 @@ use Rattle.std.proofs.Common.{◌≡◌, inl, inr, ℕ, ◌<◌, ◌≤◌, Opti
 use Rattle.std.proofs.lemmas.Bool.{cases_lt}
 use Rattle.std.proofs.lemmas.Option.{slice_get_cases}
 use Rattle.ballots.specs.declared.value.Value.{Value}
-use Rattle.learner.specs.Calls.{Call as Told, IsLearned}
+use Rattle.learner.specs.Calls.{Call as LearnerCall, IsLearned}
 use Rattle.decided_log.specs.Decided.{IsPrefix}
 use Rattle.table_types.specs.Uploads.{Upload}
 use Rattle.table_versions.specs.Values.{AreUploadsIn}
@@ -16,9 +16,9 @@ OnePrefix = (at : ℕ → Option Value) (xs ys : List Value) → IsPrefix at xs 
 
 -- a slot learns one value
 abbrev pub OneLearned : Type 0
-OneLearned = (members : ℕ) (calls : List Told) (slot : ℕ) (v w : Value) → IsLearned members calls slot v → IsLearned members calls slot w → v ≡ w
+OneLearned = (members : ℕ) (calls : List LearnerCall) (slot : ℕ) (v w : Value) → IsLearned members calls slot v → IsLearned members calls slot w → v ≡ w
 
-module _ (members : ℕ) (told : List Told) where
+module _ (members : ℕ) (told : List LearnerCall) where
   -- none is longer than another
   no_longer : (xs ys : List Value) → HasPrefix members told xs → HasPrefix members told ys → length ys ≤ length xs
   no_longer xs ys of-xs of-ys = elim (cases_lt (length xs) (length ys)) as (λ _. length ys ≤ length xs) [
@@ -53,7 +53,7 @@ module _ (members : ℕ) (told : List Told) where
       (record { held = same_at learned xs ys of-xs of-ys; gap = at_end xs (length ys) (no_longer ys xs of-ys of-xs) })
 
 -- uploads of its prefix are those of any values that are its prefix
-pub same_uploads : OnePrefix → OneLearned → (members : ℕ) (told : List Told) (values : List Value) (uploads : List Upload)
+pub same_uploads : OnePrefix → OneLearned → (members : ℕ) (told : List LearnerCall) (values : List Value) (uploads : List Upload)
     → HasPrefix members told values → HasUploads members told uploads → AreUploadsIn values uploads
 same_uploads one learned members told values uploads prefix of =
     subst (λ (vs : List Value). AreUploadsIn vs uploads) (prefix_is_one members told one learned of.values values of.prefix prefix) of.are

@@ -2,7 +2,7 @@
 use Rattle.std.proofs.Common.{◌≡◌, ℕ, List, [], ◌∷◌, ◌++◌, refl, sym, subst}
 use Rattle.ballots.specs.declared.value.Value.{Value}
 use Rattle.ballots.specs.declared.record.Record.{Record}
-use Rattle.learner.specs.Calls.{Call as Told, IsLearned}
+use Rattle.learner.specs.Calls.{Call as LearnerCall, IsLearned}
 use Rattle.agreement_rules.specs.Views.{Config, Views, started_with, HasPrefix}
 use Rattle.table_versions.specs.State.{TablesState, HasTaken}
 use Rattle.waiting_uploads.specs.Waiting.{Waiting}
@@ -10,7 +10,7 @@ use Rattle.agreement.specs.State.{AgreementState, Has}
 use Rattle.node_core.specs.State.{NodeState, NodeHas}
 use Rattle.node_core.proofs.Leading.{node_of}
 
-no_call : (before : List Told) (call : Told) (after : List Told) → [] ≡ before ++ call ∷ after → ⊥
+no_call : (before : List LearnerCall) (call : LearnerCall) (after : List LearnerCall) → [] ≡ before ++ call ∷ after → ⊥
 no_call [] call after parts = cc
 no_call (first ∷ before) call after parts = cc
 

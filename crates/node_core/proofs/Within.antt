@@ -12,8 +12,8 @@ use Rattle.ballots.specs.declared.message.Body.{Body}
 use Rattle.ballots.specs.declared.message.Body.TheVariants as body
 use Rattle.acceptor.specs.declared.answer.Answer.{Answer}
 use Rattle.acceptor.specs.declared.answer.Answer.TheVariants as answer
-use Rattle.learner.specs.Calls.{Call as Told, slot_of, is_decision_for, is_vote_of, has_voted, IsChosenOrDecided, IsLearned}
-use Rattle.learner.specs.Calls as told
+use Rattle.learner.specs.Calls.{Call as LearnerCall, slot_of, is_decision_for, is_vote_of, has_voted, IsChosenOrDecided, IsLearned}
+use Rattle.learner.specs.Calls as learner_call
 use Rattle.learner.specs.State.{LearnerState, decided_at}
 use Rattle.learner.specs.Learned.{StateAfter}
 use Rattle.agreement_rules.specs.Views.{Config, Views, IsFree, HasPrefix}
@@ -23,29 +23,29 @@ use Rattle.agreement.specs.Step.{BodyGives}
 
 -- a slot has learned a value exactly where one was chosen or decided for it
 abbrev pub LearnedWhereSettled : Type 0
-LearnedWhereSettled = (members : ℕ) (calls : List Told) (slot : ℕ) → IsChosenOrDecided members calls slot → (v : Value) × IsLearned members calls slot v
+LearnedWhereSettled = (members : ℕ) (calls : List LearnerCall) (slot : ℕ) → IsChosenOrDecided members calls slot → (v : Value) × IsLearned members calls slot v
 
 abbrev pub SettledWhereLearned : Type 0
-SettledWhereLearned = (members : ℕ) (calls : List Told) (slot : ℕ) (v : Value) → IsLearned members calls slot v → IsChosenOrDecided members calls slot
+SettledWhereLearned = (members : ℕ) (calls : List LearnerCall) (slot : ℕ) (v : Value) → IsLearned members calls slot v → IsChosenOrDecided members calls slot
 
 -- what a learner holds is what was learned
 abbrev pub HeldIsLearned : Type 0
-HeldIsLearned = (members : ℕ) (calls : List Told) (state : LearnerState) (slot : ℕ) (v : Value) → StateAfter members calls state
+HeldIsLearned = (members : ℕ) (calls : List LearnerCall) (state : LearnerState) (slot : ℕ) (v : Value) → StateAfter members calls state
     → decided_at state slot ≡ Some v ↔ IsLearned members calls slot v
 
 -- ---- a call of another slot
 
-no_decision : (call : Told) (slot : ℕ) → (slot_of call ≡ slot → ⊥) → is_decision_for slot call ≡ false
-no_decision (told.Accepted acceptor s ballot v) slot other = refl
-no_decision (told.Decided s v) slot other = ne_eqb s slot other
+no_decision : (call : LearnerCall) (slot : ℕ) → (slot_of call ≡ slot → ⊥) → is_decision_for slot call ≡ false
+no_decision (learner_call.Accepted acceptor s ballot v) slot other = refl
+no_decision (learner_call.Decided s v) slot other = ne_eqb s slot other
 
 between_false : (p q r : Bool) → q ≡ false → (p && q && r) ≡ false
 between_false true q r e = subst (λ (x : Bool). (true && x && r) ≡ false) (sym e) refl
 between_false false q r e = refl
 
-no_vote : (call : Told) (member slot : ℕ) (ballot : Ballot) → (slot_of call ≡ slot → ⊥) → is_vote_of member slot ballot call ≡ false
-no_vote (told.Accepted acceptor s b v) member slot ballot other = between_false (acceptor == member) (s == slot) (is_same_ballot b ballot) (ne_eqb s slot other)
-no_vote (told.Decided s v) member slot ballot other = refl
+no_vote : (call : LearnerCall) (member slot : ℕ) (ballot : Ballot) → (slot_of call ≡ slot → ⊥) → is_vote_of member slot ballot call ≡ false
+no_vote (learner_call.Accepted acceptor s b v) member slot ballot other = between_false (acceptor == member) (s == slot) (is_same_ballot b ballot) (ne_eqb s slot other)
+no_vote (learner_call.Decided s v) member slot ballot other = refl
 
 any_before : {X : Type 0} (test : X → Bool) (xs : List X) (y : X) → test y ≡ false → list_any test (xs ++ y ∷ []) ≡ list_any test xs
 any_before test [] y e = subst (λ (b : Bool). (b || false) ≡ false) (sym e) refl
@@ -57,7 +57,7 @@ tally_same (suc n) p q same =
     subst (λ (b : Bool). (if p n then suc (tally n p) else tally n p) ≡ (if b then suc (tally n q) else tally n q)) (same n)
     (ap (λ (t : ℕ). if p n then suc t else t) (tally_same n p q same))
 
-still_settled : (members : ℕ) (calls : List Told) (call : Told) (slot : ℕ) → (slot_of call ≡ slot → ⊥)
+still_settled : (members : ℕ) (calls : List LearnerCall) (call : LearnerCall) (slot : ℕ) → (slot_of call ≡ slot → ⊥)
     → IsChosenOrDecided members (calls ++ call ∷ []) slot → IsChosenOrDecided members calls slot
 still_settled members calls call slot other (inl is) =
     inl (subst IsTrue (any_before (is_decision_for slot) calls call (no_decision call slot other)) is)
@@ -69,7 +69,7 @@ still_settled members calls call slot other (inr (ballot, most)) =
           (λ m. any_before (is_vote_of m slot ballot) calls call (no_vote call m slot ballot other))) most,
     )
 
-still_free : LearnedWhereSettled → SettledWhereLearned → (members : ℕ) (calls : List Told) (call : Told) (slot : ℕ)
+still_free : LearnedWhereSettled → SettledWhereLearned → (members : ℕ) (calls : List LearnerCall) (call : LearnerCall) (slot : ℕ)
     → (slot_of call ≡ slot → ⊥) → IsFree members calls slot → IsFree members (calls ++ call ∷ []) slot
 still_free learned settled members calls call slot other free v is =
     let old = learned members calls slot (still_settled members calls call slot other (settled members (calls ++ call ∷ []) slot v is)) in
@@ -84,7 +84,7 @@ free_behind held state views has slot le v is =
     let none = has.beyond slot le in
     let both = sym none ∙ some in cc
 
-no_longer : (members : ℕ) (calls : List Told) (values : List Value) (limit : ℕ) → IsFree members calls limit
+no_longer : (members : ℕ) (calls : List LearnerCall) (values : List Value) (limit : ℕ) → IsFree members calls limit
     → HasPrefix members calls values → length values ≤ limit
 no_longer members calls values limit free prefix = elim (cases_lt limit (length values)) as (λ _. length values ≤ limit) [
   | inl longer ↦ elim (slice_get_cases values limit).1 as (λ _. length values ≤ limit) [
@@ -115,7 +115,7 @@ accepted me views slot proposal answer.Granted plan is = ap (λ (p : Plan). p.af
 
 -- its learner is called once more, for the slot of the message
 pub record CallsOnce (views : Views) (slot : ℕ) (plan : Plan) : Type 0 where
-  pub call : Told
+  pub call : LearnerCall
   pub of_slot : slot_of call ≡ slot
   pub is : plan ≡ quietly (also_learns views call)
 
@@ -127,14 +127,14 @@ part_calls config me views sender slot (body.Accept proposal) plan due = inl (ac
 part_calls config me views sender slot (body.Promise ballot report) plan due = inl (ap (λ (p : Plan). p.after.learner_calls) due.2)
 part_calls config me views sender slot (body.Nack ballot promised) plan due = inl (ap (λ (p : Plan). p.after.learner_calls) due)
 part_calls config me views sender slot (body.Accepted acceptance) plan due =
-    inr (record { call = told.Accepted sender slot acceptance.ballot acceptance.value; of_slot = refl; is = due })
+    inr (record { call = learner_call.Accepted sender slot acceptance.ballot acceptance.value; of_slot = refl; is = due })
 part_calls config me views sender slot (body.Decided value) plan due =
-    inr (record { call = told.Decided slot value; of_slot = refl; is = due })
+    inr (record { call = learner_call.Decided slot value; of_slot = refl; is = due })
 part_calls config me views sender slot body.Ask plan due = inl (ap (λ (p : Plan). p.after.learner_calls) due.2)
 
 module _ (learned : LearnedWhereSettled) (settled : SettledWhereLearned) (held : HeldIsLearned) (state : AgreementState) (views : Views) (has : Has state views) where
   -- a prefix that calls leave is no longer than there are slots, where the limit has learned nothing of them
-  longer_fits : (calls : List Told) (grown : List Value) → IsFree state.config.members calls state.config.slot_limit → (values : List Value)
+  longer_fits : (calls : List LearnerCall) (grown : List Value) → IsFree state.config.members calls state.config.slot_limit → (values : List Value)
       → HasPrefix state.config.members calls (values ++ grown) → length values + length grown ≤ state.config.slot_limit
   longer_fits calls grown free values prefix =
       let limit = state.config.slot_limit in
@@ -145,7 +145,7 @@ module _ (learned : LearnedWhereSettled) (settled : SettledWhereLearned) (held :
   same_fits grown values prefix =
       longer_fits views.learner_calls grown (free_behind held state views has state.config.slot_limit (omega arith)) values prefix
 
-  told_fits : (call : Told) (grown : List Value) → slot_of call < state.config.slot_limit → (values : List Value)
+  told_fits : (call : LearnerCall) (grown : List Value) → slot_of call < state.config.slot_limit → (values : List Value)
       → HasPrefix state.config.members (views.learner_calls ++ call ∷ []) (values ++ grown)
       → length values + length grown ≤ state.config.slot_limit
   told_fits call grown within values prefix =
@@ -155,9 +155,9 @@ module _ (learned : LearnedWhereSettled) (settled : SettledWhereLearned) (held :
       (free_behind held state views has limit (omega arith))) values prefix
 
   -- where the calls that a plan leaves are these
-  after_calls : (plan : Plan) (calls : List Told) (values : List Value) → plan.after.learner_calls ≡ calls
+  after_calls : (plan : Plan) (calls : List LearnerCall) (values : List Value) → plan.after.learner_calls ≡ calls
       → HasPrefix state.config.members plan.after.learner_calls values → HasPrefix state.config.members calls values
-  after_calls plan calls values is prefix = subst (λ (l : List Told). HasPrefix state.config.members l values) is prefix
+  after_calls plan calls values is prefix = subst (λ (l : List LearnerCall). HasPrefix state.config.members l values) is prefix
 
   -- by what a body makes the prefix grow it is no longer than there are slots
   pub body_fits : (me : ℕ) (seen : Views) (sender slot : ℕ) (said : Body) (plan : Plan) (grown : List Value)
@@ -165,10 +165,10 @@ module _ (learned : LearnedWhereSettled) (settled : SettledWhereLearned) (held :
       → BodyGives state.config me seen sender slot said plan grown → (values : List Value)
       → HasPrefix state.config.members views.learner_calls values → length values + length grown ≤ state.config.slot_limit
   body_fits me seen sender slot said plan grown same within gives values prefix =
-      let longer = gives.1 values (subst (λ (l : List Told). HasPrefix state.config.members l values) (sym same) prefix) in
+      let longer = gives.1 values (subst (λ (l : List LearnerCall). HasPrefix state.config.members l values) (sym same) prefix) in
       elim (part_calls state.config me seen sender slot said plan gives.0) as (λ _. length values + length grown ≤ state.config.slot_limit) [
         | inl none ↦ same_fits grown values (after_calls plan views.learner_calls (values ++ grown) (none ∙ same) longer)
         | inr once ↦ told_fits once.call grown (subst (λ (s : ℕ). s < state.config.slot_limit) (sym once.of_slot) within) values
             (after_calls plan (views.learner_calls ++ once.call ∷ []) (values ++ grown)
-            (ap (λ (p : Plan). p.after.learner_calls) once.is ∙ ap (λ (l : List Told). l ++ once.call ∷ []) same) longer)
+            (ap (λ (p : Plan). p.after.learner_calls) once.is ∙ ap (λ (l : List LearnerCall). l ++ once.call ∷ []) same) longer)
       ]

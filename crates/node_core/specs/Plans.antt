@@ -8,7 +8,7 @@ use Rattle.agreement.specs.declared.refusal.Refusal.{Refusal}
 use Rattle.agreement.specs.declared.refusal.Refusal.TheVariants.{OutOfRange, SlotsSpent, RoundsSpent, OutOfMemory}
 use Rattle.agreement.specs.declared.step.Step.{Step}
 use Rattle.agreement.specs.State.{AgreementState}
-use Rattle.agreement.specs.Step.{kept_of, told_with, left_by, plan_of, Grows}
+use Rattle.agreement.specs.Step.{kept_of, learner_calls_with, left_by, plan_of, Grows}
 use Rattle.agreement.specs.Step as step
 use Rattle.agreement_rules.specs.Views.{Config, Views, with_waiting, IsFreeAfter}
 use Rattle.histories.specs.Texts.{HasUploads}
@@ -45,11 +45,11 @@ abbrev pub LeadsTo : Config → Views → Planned → Views → Type 0
 LeadsTo config views Stays after = after ≡ views
 LeadsTo config views (Waits upload) after = IsUnknown config views.learner_calls upload × (after ≡ waits_too views upload)
 LeadsTo config views (Steps taken) after =
-    Grows config.members views.learner_calls (told_with views taken.change) []
+    Grows config.members views.learner_calls (learner_calls_with views taken.change) []
     × (after ≡ left_by views taken.seen_round taken.change)
 LeadsTo config views (Learns taken ready) after =
-    Grows config.members views.learner_calls (told_with views taken.change) taken.grown.items
-    × ((uploads : List Upload) × (left : List (List ℕ)) × HasUploads config.members (told_with views taken.change) uploads
+    Grows config.members views.learner_calls (learner_calls_with views taken.change) taken.grown.items
+    × ((uploads : List Upload) × (left : List (List ℕ)) × HasUploads config.members (learner_calls_with views taken.change) uploads
     × AreStillWaiting uploads views.waiting left
     × (after ≡ with_waiting (left_by views taken.seen_round taken.change) left))
 

@@ -7,8 +7,8 @@ ghost use Rattle.node_core.specs.Plans.{LeadsTo, CanCommit};
 ghost use Rattle.node_core.specs.declared.plan.Planned.TheVariants.{Waits, Steps, Learns};
 
 use crate::plan::{Plan, Planned};
-use agreement::{Agreement, Step};
-use ballots::{Members, NodeId};
+use agreement::{Agreement, Config, Step};
+use ballots::NodeId;
 use decided_log::laws::prefixes_are_one;
 use learner::laws::learned_is_one;
 use std::marker::Model;
@@ -67,18 +67,11 @@ impl Node {
         self.agreement.me()
     }
 
-    /// How many members agree.
-    pub fn members(&self) -> Members
-        ensures { result ≡ self.now.agreement.config.members }
+    /// How many members agree, and for how many slots.
+    pub fn config(&self) -> Config
+        ensures { result ≡ self.now.agreement.config }
     {
-        self.agreement.members()
-    }
-
-    /// How many slots there are.
-    pub fn slot_limit(&self) -> u32
-        ensures { result ≡ self.now.agreement.config.slot_limit }
-    {
-        self.agreement.slot_limit()
+        self.agreement.config()
     }
 
     /// Does what was decided, and takes no memory. The node is as [`Node::plan`] left it when it made this plan.

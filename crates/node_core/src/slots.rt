@@ -18,12 +18,13 @@ pub(crate) fn slot_left(agreement: &Agreement, left: u8) -> Option<Slot>
         → IsSlotLeft agreement.now.config views left result }
 {
     states_are_what_was_learned();
+    let slots = agreement.config().slot_limit();
     let first = match agreement.first_free() {
         Some(slot) => slot.number(),
-        None => agreement.slot_limit(),
+        None => slots,
     };
     let mut passed = 0;
-    for number in first..agreement.slot_limit() {
+    for number in first..slots {
         let slot = Slot::new(number)?;
         if agreement.is_free(slot) {
             if passed == left {

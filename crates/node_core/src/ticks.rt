@@ -24,7 +24,7 @@ impl Node {
         }
         let step = self.step_of_tick(left)?;
         // the type keeps that the node stands by some records and calls
-        let _members = self.agreement.members();
+        let _config = self.agreement.config();
         Ok(Planned::Steps(step))
     }
 

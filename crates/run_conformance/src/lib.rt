@@ -1,5 +1,5 @@
 //! Conformance tests of nodes and of their runs, over the public calls of `node_core` and `schedule_runner`, of which rows
-//! cannot tell: nodes that have lost a record, and refused memory.
+//! cannot tell: nodes that have lost a record, refused memory, and the limits of a configuration.
 //!
 //! The crate has no code but tests, so that what is proved in the crates below is not proved again together with them.
 //! Rows are told as stories, in `run_stories`, and long runs by `tools/sweeps.py`, which the same program plays.
@@ -7,6 +7,8 @@
 
 #[cfg(test)]
 mod chosen;
+#[cfg(test)]
+mod config;
 #[cfg(test)]
 mod duel;
 #[cfg(test)]

@@ -1,7 +1,7 @@
 //! Nodes that take one input after the other, each with a store of what it kept.
 
 use crate::support::members;
-use agreement::Refusal;
+use agreement::{Config, Refusal};
 use ballots::{Message, NodeId, Record};
 use node_core::{Input, Node};
 use std::alloc::Global;
@@ -25,7 +25,8 @@ pub(crate) fn node(
     records: &[Record],
 ) -> Result<Box<Node>, Fail> {
     let me = NodeId::new(number).ok_or("no node")?;
-    match Node::open(alloc, me, members(3)?, SLOTS, hashing, records) {
+    let config = Config::new(members(3)?, SLOTS).ok_or("no config")?;
+    match Node::open(alloc, hashing, me, config, records) {
         Ok(node) => boxed(alloc, node),
         Err(Refusal::OutOfMemory) => Err(Fail::from("OutOfMemory")),
         Err(_) => Err(Fail::from("no node is opened")),

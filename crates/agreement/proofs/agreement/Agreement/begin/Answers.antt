@@ -15,7 +15,7 @@ returns-clause-stands c views ballot had next =
     let given = subst (λ (s : AgreementState). Has s views × (ballot ≡ next_ballot s.proposer.me s.proposer.highest_round s.seen_round) × (max s.seen_round s.proposer.highest_round < max_round))
     (sym c.self.view_is) (had, next, c.requires) in
     let has = given.0 in
-    let start : Start = record { me = c.self.inside.me; members = c.self.inside.members; highest_round = has.first_round } in
+    let start : Start = record { me = c.self.inside.me; members = c.self.inside.config.members; highest_round = has.first_round } in
     let ok = parts.begun_ok c.begin.result max_round _ c.begin.ensures.limit given.2 in
     let is_next = parts.at_ok _ c.begin.result ok.0 ok.1 c.begin.ensures.next in
     let round = parts.at_ok _ c.begin.result ok.0 ok.1 c.begin.ensures.round in

@@ -1,6 +1,6 @@
 use Rattle.std.proofs.Common.{IfOk, sym, subst, refl}
 use Rattle.learner.specs.Calls.{Learns}
-use Rattle.learner.specs.Calls as told
+use Rattle.learner.specs.Calls as learner_call
 use Rattle.agreement_rules.specs.Views.{Views}
 use Rattle.agreement.specs.State.{AgreementState, Has}
 use Rattle.agreement.proofs.Parts as parts
@@ -10,7 +10,7 @@ use Rattle.agreement.proofs.agreement.Agreement.see_accepted.Goals as goal
 pub returns-clause-learns : goal.returns-clause-learns
 returns-clause-learns c =
     subst (λ (s : AgreementState). IfOk c.see_on_accepted.result (λ learned. (views : Views) → Has s views
-    → Learns s.config.members views.learner_calls (told.Accepted c.args.sender c.args.slot c.args.acceptance.now.ballot c.args.acceptance.now.value) c.args.slot learned)) c.self.view_is
+    → Learns s.config.members views.learner_calls (learner_call.Accepted c.args.sender c.args.slot c.args.acceptance.now.ballot c.args.acceptance.now.value) c.args.slot learned)) c.self.view_is
     (parts.map_ok _ _ c.see_on_accepted.result (λ learned learns views has. learns _ views.learner_calls has.learner_calls) c.see_on_accepted.ensures.told)
 
 pub returns-clause-now : goal.returns-clause-now

@@ -1,7 +1,7 @@
 use Rattle.std.proofs.Common.{Option, IfOk, sym, subst, refl}
 use Rattle.ballots.specs.declared.value.Value.{Value}
 use Rattle.learner.specs.Calls.{Learns}
-use Rattle.learner.specs.Calls as told
+use Rattle.learner.specs.Calls as learner_call
 use Rattle.learner.specs.Changes.{DecidedNow}
 use Rattle.agreement_rules.specs.Views.{Views}
 use Rattle.agreement.specs.State.{AgreementState, Has}
@@ -12,7 +12,7 @@ use Rattle.agreement.proofs.agreement.Agreement.see_decided.Goals as goal
 pub returns-clause-learns : goal.returns-clause-learns
 returns-clause-learns c =
     subst (λ (s : AgreementState). IfOk c.see_on_decided.result (λ learned. (views : Views) → Has s views
-    → Learns s.config.members views.learner_calls (told.Decided c.args.slot c.args.value.now) c.args.slot learned)) c.self.view_is
+    → Learns s.config.members views.learner_calls (learner_call.Decided c.args.slot c.args.value.now) c.args.slot learned)) c.self.view_is
     (parts.map_ok _ _ c.see_on_decided.result (λ learned learns views has. learns _ views.learner_calls has.learner_calls) c.see_on_decided.ensures.told)
 
 pub returns-clause-now : goal.returns-clause-now

@@ -1,5 +1,5 @@
 use Rattle.std.proofs.Common.{◌≡◌, [], ◌∷◌, ◌++◌, IfOk, sym, subst}
-use Rattle.learner.specs.Calls.{Call as Told, slot_of, Learns}
+use Rattle.learner.specs.Calls.{Call as LearnerCall, slot_of, Learns}
 use Rattle.agreement_rules.specs.Views.{Views}
 use Rattle.agreement.specs.State.{AgreementState, Has}
 use Rattle.agreement.specs.Step.{Grows}
@@ -10,7 +10,7 @@ use Rattle.agreement.proofs.agreement.Agreement.see_growth.Goals as goal
 
 pub returns-clause-grows : goal.returns-clause-grows
 returns-clause-grows c =
-    subst (λ (s : AgreementState). IfOk c.gain.result (λ grown. (views : Views) (call : Told) → Has s views → slot_of call ≡ c.args.slot
+    subst (λ (s : AgreementState). IfOk c.gain.result (λ grown. (views : Views) (call : LearnerCall) → Has s views → slot_of call ≡ c.args.slot
     → Learns s.config.members views.learner_calls call c.args.slot c.args.learned.now → Grows s.config.members views.learner_calls (views.learner_calls ++ call ∷ []) grown.items)) c.self.view_is
     (parts.map_ok _ _ c.gain.result
     (λ grown grows views call has there learns.

@@ -12,7 +12,7 @@ returns-in-Answered-clause-stands c views had =
     let has = subst (λ (s : AgreementState). Has s views) (sym c.self.view_is) had in
     let now : AgreementState = record {
       me = c.self.inside.me;
-      config = record { members = c.self.inside.members; slot_limit = c.self.inside.slot_limit };
+      config = c.self.inside.config;
       seen_round = c.self.inside.seen_round;
       acceptor = c.apply.new.self;
       proposer = c.self.inside.proposer;
@@ -37,7 +37,7 @@ returns-in-Refused-clause-stands c views had =
     let has = subst (λ (s : AgreementState). Has s views) (sym c.self-in-Refused.view_is) had in
     let now : AgreementState = record {
       me = c.self-in-Refused.inside.me;
-      config = record { members = c.self-in-Refused.inside.members; slot_limit = c.self-in-Refused.inside.slot_limit };
+      config = c.self-in-Refused.inside.config;
       seen_round = c.self-in-Refused.inside.seen_round;
       acceptor = c.self-in-Refused.inside.acceptor;
       proposer = c.on_nack.new.self;

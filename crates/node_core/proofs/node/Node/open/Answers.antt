@@ -1,4 +1,4 @@
-use Rattle.std.proofs.Common.{◌≡◌, IsTrue, true, subst}
+use Rattle.std.proofs.Common.{◌≡◌, ℕ, ◌<◌, IsTrue, true, subst}
 use Rattle.agreement_rules.specs.Views.{started_with}
 use Rattle.node_core.specs.State.{Starts}
 use Rattle.node_core.proofs.Starting.{starts}
@@ -11,7 +11,7 @@ invariant_of-result c =
 pub returns : goal.returns
 returns c = record {
   can = record {
-    member = c.have.ensures.0 c.if-not-have.false;
+    member = subst (λ (n : ℕ). c.args.me < n) c.members.ensures (c.have.ensures.0 c.if-not-have.false);
     records_are = c.are_records_of.ensures.0 c.if-not-are_records_of.false;
   };
   me_is = c.in_ok-agreement.ensures.me;
