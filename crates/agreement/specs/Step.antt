@@ -8,7 +8,6 @@ use Rattle.ballots.specs.declared.record.Record.{Record}
 use Rattle.ballots.specs.declared.record.Record.TheVariants as kept_as
 use Rattle.ballots.specs.declared.message.Message.{Message}
 use Rattle.ballots.specs.declared.message.Body.{Body}
-use Rattle.ballots.specs.declared.message.Body.TheVariants as body
 use Rattle.acceptor.specs.AcceptorState.{HasRoomFor}
 use Rattle.proposer.specs.Call.{Call as ProposerCall, Begins, Promises, Nacks}
 use Rattle.proposer.specs.Attempting.{next_ballot}
@@ -39,7 +38,7 @@ kept_of (Refused slot ballot) = None
 kept_of (Accepted sender slot acceptance learned) = None
 kept_of (Decided slot value learned) = None
 
--- how the proposer is called by it
+-- the call of the proposer that comes with it
 abbrev pub proposer_call_of : ℕ → Change → Option ProposerCall
 proposer_call_of seen (Began slot candidate ballot began) =
     Some (Begins (record { slot = slot; seen_round = seen; candidate = candidate; ballot = ballot }))
@@ -48,14 +47,14 @@ proposer_call_of seen (Promised sender slot ballot report) =
 proposer_call_of seen (Refused slot ballot) = Some (Nacks slot ballot)
 proposer_call_of seen other = None
 
--- how the learner is
+-- the call of the learner that comes with it
 abbrev pub learner_call_of : Change → Option LearnerCall
 learner_call_of (Accepted sender slot acceptance learned) =
     Some (learner_call.Accepted sender slot acceptance.ballot acceptance.value)
 learner_call_of (Decided slot value learned) = Some (learner_call.Decided slot value)
 learner_call_of other = None
 
--- the list with this behind it, if it is anything
+-- the list, with this behind it where there is one
 abbrev pub with_last : {X : Type 0} → List X → Option X → List X
 with_last items None = items
 with_last items (Some item) = items ++ item ∷ []

@@ -116,8 +116,8 @@ impl Agreement {
 
     // By which values the prefix grows where the slot learns this; the log has the room for it then.
     fn see_growth(&mut self, slot: Slot, learned: &Option<Value>) -> Result<Vec<Value>, OutOfMemory>
-        ensures grows { IfOk result (λ grown. (views : Views) (call : LearnerCall) → Has self.old views → slot_of call ≡ slot
-            → Learns self.old.config.members views.learner_calls call slot learned.now
+        ensures grows { IfOk result (λ grown. (views : Views) (call : LearnerCall) → Has self.old views
+            → slot_of call ≡ slot → Learns self.old.config.members views.learner_calls call slot learned.now
             → Grows self.old.config.members views.learner_calls (views.learner_calls ++ call ∷ []) grown.items) }
         ensures room { OnOk result (HasRoomForLearned self.new.log learned.now) }
         ensures stays { StaysAsItWas self.old self.new }

@@ -12,8 +12,9 @@
 //! send(messages);                                               // those of the step
 //! ```
 //!
-//! All nodes are opened with one [`Config`]: what they agree on before they start, which is made once. Here are attempts and
-//! questions, what is due to each of the seven bodies of messages, where each change leaves a node, and what it has learned.
+//! All nodes are opened with one [`Config`], what they agree on before they start, which is made once. Here are attempts
+//! and questions, what is due to each of the seven bodies of messages, where each change leaves a node, and what it has
+//! learned.
 #![tactic(auto)]
 
 mod agreement;

@@ -49,7 +49,8 @@ LeadsTo config views (Steps taken) after =
     × (after ≡ left_by views taken.seen_round taken.change)
 LeadsTo config views (Learns taken ready) after =
     Grows config.members views.learner_calls (learner_calls_with views taken.change) taken.grown.items
-    × ((uploads : List Upload) × (left : List (List ℕ)) × HasUploads config.members (learner_calls_with views taken.change) uploads
+    × ((uploads : List Upload) × (left : List (List ℕ))
+    × HasUploads config.members (learner_calls_with views taken.change) uploads
     × AreStillWaiting uploads views.waiting left
     × (after ≡ with_waiting (left_by views taken.seen_round taken.change) left))
 

@@ -14,8 +14,8 @@
 //! ```
 //!
 //! Between `plan` and `commit` of one input the node takes no other. A node that starts again is opened from its records,
-//! with nothing else. Neither `plan` nor `commit` costs more with slots that are decided or uploads that the tables hold, and
-//! a put costs no more with uploads that wait; a tick passes over what was learned behind the first gap.
+//! with nothing else. Neither `plan` nor `commit` costs more with slots that are decided or uploads that the tables hold,
+//! and a put costs no more with uploads that wait; a tick passes over what was learned behind the first gap.
 #![tactic(auto)]
 
 mod attempts;
