@@ -1,4 +1,4 @@
-//! What can happen to nodes.
+//! Events of nodes.
 
 ghost use Rattle.std.specs.Prelude.{◌≡◌};
 ghost use Rattle.histories.specs.Event.{node_of};
@@ -7,9 +7,8 @@ use crate::table_text::TableText;
 use table_types::Ticket;
 use uploads::Upload;
 
-/// What happens to one node, whose number comes first. Every number may stand there: an event of a node that is no member
-/// is refused ([`crate::Reason::OutOfRange`]), and so is any but a start of a node that is down
-/// ([`crate::Reason::Down`]).
+/// An event of one node, whose number comes first. Every number may stand there: an event of a node that is no member is
+/// refused ([`crate::Reason::OutOfRange`]), and so is any but a restart of a node that is down ([`crate::Reason::Down`]).
 #[derive(Debug, Drop)]
 pub enum Event {
     /// A client hands the node an upload.
@@ -26,7 +25,7 @@ pub enum Event {
     /// The node goes down in the midst of a delivery, in the same way. Where the message was not sent yet it stays up
     /// ([`crate::Reason::NotSent`]).
     DeliverCut(u64, u64),
-    /// The node starts again with the records that it kept, whether it was down or not. Where memory is refused, it is down.
+    /// The node restarts with the records that it kept, whether it was down or not. Where memory is refused, it is down.
     Restart(u64),
     /// A client asks the node for a version of a table.
     Get(u64, Ticket),

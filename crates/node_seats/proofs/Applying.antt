@@ -21,16 +21,21 @@ use Rattle.node_events.specs.declared.event_result.EventResult.TheVariants as to
 use Rattle.node_events.specs.Told.{result_of, reason_of as reason_told}
 use Rattle.node_events.specs.declared.event_result.Reason.{Reason as ToldReason}
 use Rattle.node_events.specs.declared.event_result.Reason.TheVariants as reason
+use Rattle.stable_records.specs.declared.fault.StoreFault.{StoreFault}
+use Rattle.stable_records.specs.declared.fault.StoreFault.TheVariants as store
 use Rattle.agreement.specs.declared.refusal.Refusal.{Refusal}
 use Rattle.node_core.specs.Inputs.{refusal_of}
 use Rattle.node_core.specs.Plans.{IsRefused}
 use Rattle.node_core.specs.State.{NodeState, NodeHas, IsRecordOf}
-use Rattle.node_seats.specs.State.{SeatState, IsPlaced, StandsUp, Stands, Leaves, SendsFor, IsAsBefore}
-use Rattle.node_seats.specs.Steps.{HandsMessage, KeepsAlone, StepAnswers, UpAnswers, IsCutBehind}
-use Rattle.node_seats.proofs.Placing.{kept_is_of, recovered_are_of}
+use Rattle.node_seats.specs.declared.fault.SeatFault.{SeatFault}
+use Rattle.node_seats.specs.declared.fault.SeatFault.TheVariants as fault
+use Rattle.node_seats.specs.Kept.{KeepsDue, HasKept}
+use Rattle.node_seats.specs.State.{SeatState, IsPlaced, StandsUp, Stands, Leaves, SendsFor, IsAsBefore, BreaksFor, UpBreaks, IsBroken}
+use Rattle.node_seats.specs.Steps.{HandsMessage, KeepsAlone, StepAnswers, StepBreaks, UpAnswers, IsCut, HasNode, RestartApplies}
+use Rattle.node_seats.proofs.Placing.{doubted_are_of}
 use Rattle.node_seats.proofs.Keeping.{Taken as TakenKeepSome}
 use Rattle.node_seats.proofs.Allowing.{Allows, message_allowed}
-use Rattle.node_seats.proofs.Leaving.{quiet, placed_too, same_records, without_due, same_node, refusal_gives}
+use Rattle.node_seats.proofs.Leaving.{quiet, placed_too, same_records, none_doubted, same_node, refusal_gives, keeps_there, has_kept, cut_has_kept, doubted_down}
 
 none_is_some : {X : Type 0} (x : X) → None ≡ Some x → ⊥
 none_is_some x same = cc
@@ -54,7 +59,7 @@ put_sends_nothing config me views text plan (inr due) = subst (λ (p : Plan). le
 is_not_refused : (first count : ℕ) (why : results.Reason) (given : EventResult) → given ≡ results.Sent first count → given ≡ results.Refused why → ⊥
 is_not_refused first count why given sent refused = (let no : results.Sent first count ≡ results.Refused why = sym sent ∙ refused in cc)
 
-module _ (old new : SeatState) (before after : List Message) (views : Views) (text : List ℕ) (given : EventResult) where
+module _ {S : Type 0} (old new : SeatState S) (before after : List Message) (views : Views) (text : List ℕ) (given : EventResult) where
   put_gives : (first count : ℕ) (left : Seat) → given ≡ results.Sent first count
       → InputGives old.config old.me views (Put text) (SendsGives after (length before) views) given left
       → count ≡ 0 × InputGives old.config old.me views (Put text) (PutGives views) results.Done left
@@ -110,15 +115,20 @@ put_sends_none config me views text (plan, due, some) = some (no_messages plan.s
 false_is_true : false ≡ true → ⊥
 false_is_true is = cc
 
-pub put_failed : {E : Type 0} (old new : SeatState) (before after : List Message) (text : List ℕ) (answer : Result Told E) → IsErr answer
-    → ((views : Views) → IsPlaced old → StandsUp old views → IsAsBefore old new (IsUp views) before after × SendsFor old.config old.me views (Put text))
-    → UpAnswers old new before after (event.Put old.me text) answer
-put_failed old new before after text (Ok given) is wants = absurd (false_is_true is)
-put_failed old new before after text (Err why) is wants = λ views placed up.
-    (let so = wants views placed up in (so.0, put_sends_none old.config old.me views text so.1))
+-- and it keeps no record, so no store fails in it
+put_keeps_none : (config : Config) (me : ℕ) (views : Views) (text : List ℕ) (left : Seat) → BreaksFor config me views (Put text) left → ⊥
+put_keeps_none config me views text left (last, keeps, is) = none_is_some last (sym keeps)
+
+pub put_failed : {S : Type 0} (old new : SeatState S) (before after : List Message) (text : List ℕ) (why : SeatFault)
+    → StepAnswers old new before after (Put text) (Err why) → UpAnswers old new before after (event.Put old.me text) (Err why)
+put_failed old new before after text fault.OutOfMemory step = λ views placed up.
+    (let so = step views placed up in (so.0, put_sends_none old.config old.me views text so.1))
+put_failed old new before after text (fault.Store why) step = λ views placed up.
+    (let so = step views placed up in absurd (put_keeps_none old.config old.me views text so.left so.breaks))
+put_failed old new before after text fault.Lost step = λ views placed up. absurd (step views placed up)
 
 -- an upload that is refused before it is copied
-pub put_not_handed : Allows → (state : SeatState) (before : List Message) (views : Views) (text : List ℕ) (why : Refusal) (given : EventResult) → IsPlaced state
+pub put_not_handed : {S : Type 0} → Allows → (state : SeatState S) (before : List Message) (views : Views) (text : List ℕ) (why : Refusal) (given : EventResult) → IsPlaced state
     → (up : StandsUp state views) (node : NodeState) → state.node ≡ Some node → (NodeHas node views → IsRefused node views (Put text) why) → given ≡ results.Refused (reason_of (refusal_of why))
     → Leaves state state before before given (InputGives state.config state.me views (Put text) (PutGives views) given)
 put_not_handed allows state before views text why given placed up node here refused is =
@@ -132,11 +142,11 @@ put_not_handed allows state before views text why given placed up node here refu
 
 -- ---- a delivery
 
-abbrev pub Delivery : SeatState → List Message → ℕ → ℕ → Views → EventResult → Seat → Type 0
+abbrev pub Delivery : {S : Type 0} → SeatState S → List Message → ℕ → ℕ → Views → EventResult → Seat → Type 0
 Delivery old sent next number views given left =
     Delivers sent next number (λ m. InputGives old.config old.me views (Deliver m) (SendsGives sent next views)) views given left
 
-pub delivered : (old new : SeatState) (before after : List Message) (views : Views) (number : ℕ) (m : Message) (given : EventResult)
+pub delivered : {S : Type 0} (old new : SeatState S) (before after : List Message) (views : Views) (number : ℕ) (m : Message) (given : EventResult)
     → slice_get before number ≡ Some m
     → Leaves old new before after given (InputGives old.config old.me views (Deliver m) (SendsGives after (length before) views) given)
     → Leaves old new before after given (Delivery old after (length before) number views given)
@@ -157,16 +167,35 @@ delivered old new before after views number m given there leaves = record {
   config_is = leaves.config_is;
 }
 
-pub delivery_answers : {E : Type 0} (old new : SeatState) (before after : List Message) (number : ℕ) (m : Message) (answer : Result Told E)
+-- the store fails in an event
+broken : {S : Type 0} (old new : SeatState S) (views : Views) (input : Input) (before after : List Message) (e : event.Event)
+    → (so : StepBreaks old new views input before after) → UpBreaks old.config before views e so.left → IsBroken old new (IsUp views) before after e
+broken old new views input before after e so breaks = record {
+  left = so.left;
+  breaks = breaks;
+  stands = so.stands;
+  placed = so.placed;
+  me_is = so.me_is;
+  config_is = so.config_is;
+  unsent = so.unsent;
+}
+
+pub delivery_answers : {S : Type 0} (old new : SeatState S) (before after : List Message) (number : ℕ) (m : Message) (answer : Result Told SeatFault)
     → slice_get before number ≡ Some m → StepAnswers old new before after (Deliver m) answer → UpAnswers old new before after (event.Deliver old.me number) answer
 delivery_answers old new before after number m (Ok given) there step =
     λ views placed up. delivered old new before after views number m (result_of given) there (step views placed up)
-delivery_answers old new before after number m (Err wants) there step = λ views placed up. (let so = step views placed up in (so.0, (m, there, so.1)))
+delivery_answers old new before after number m (Err fault.OutOfMemory) there step = λ views placed up. (let so = step views placed up in (so.0, (m, there, so.1)))
+delivery_answers old new before after number m (Err (fault.Store why)) there step = λ views placed up.
+    (let so = step views placed up in broken old new views (Deliver m) before after (event.Deliver old.me number) so (m, there, so.breaks))
+delivery_answers old new before after number m (Err fault.Lost) there step = λ views placed up. absurd (step views placed up)
 
-pub tick_answers : {E : Type 0} (old new : SeatState) (before after : List Message) (left : ℕ) (answer : Result Told E)
+pub tick_answers : {S : Type 0} (old new : SeatState S) (before after : List Message) (left : ℕ) (answer : Result Told SeatFault)
     → StepAnswers old new before after (Tick left) answer → UpAnswers old new before after (event.Tick old.me left) answer
 tick_answers old new before after left (Ok given) step = λ views placed up. step views placed up
-tick_answers old new before after left (Err wants) step = λ views placed up. step views placed up
+tick_answers old new before after left (Err fault.OutOfMemory) step = λ views placed up. step views placed up
+tick_answers old new before after left (Err (fault.Store why)) step = λ views placed up.
+    (let so = step views placed up in broken old new views (Tick left) before after (event.Tick old.me left) so so.breaks)
+tick_answers old new before after left (Err fault.Lost) step = λ views placed up. absurd (step views placed up)
 
 -- there is no message of the number, or there is one
 pub is_not_sent : (sent : List Message) (number : ℕ) → slice_get sent number ≡ None → length sent ≤ number
@@ -177,13 +206,13 @@ is_not_sent sent number none = elim (slice_get_cases sent number).1 as (λ _. le
 
 -- ---- as it was
 
-module _ (state : SeatState) (before : List Message) (views : Views) (given : EventResult) (Gives : Seat → Type 0) where
+module _ {S : Type 0} (state : SeatState S) (before : List Message) (views : Views) (given : EventResult) (Gives : Seat → Type 0) where
   -- the node is as it was, and nothing goes out
   pub stays : IsPlaced state → StandsUp state views → count_of given ≡ 0 → Gives (IsUp views) → Leaves state state before before given Gives
   stays placed up none gives = quiet state state before given Gives (IsUp views) none gives up placed refl refl
 
 -- a message that the node is not handed
-module _ (state : SeatState) (before : List Message) (views : Views) (number : ℕ) (placed : IsPlaced state) (up : StandsUp state views) (node : NodeState) (here : state.node ≡ Some node) where
+module _ {S : Type 0} (state : SeatState S) (before : List Message) (views : Views) (number : ℕ) (placed : IsPlaced state) (up : StandsUp state views) (node : NodeState) (here : state.node ≡ Some node) where
   of_seat : (P : Config → Type 0) → P node.agreement.config → P state.config
   of_seat P is = subst P (ap (λ (n : NodeState). n.agreement.config) (same_node state views up node here) ∙ up.config_is) is
 
@@ -206,36 +235,34 @@ module _ (state : SeatState) (before : List Message) (views : Views) (number : �
 
 -- ---- a cut
 
-pub cut_behind : (old new : SeatState) (before : List Message) (views : Views) (input : Input) (recovered : Bool) → IsPlaced old → StandsUp old views
-    → IsCutBehind old new views input recovered → Leaves old new before before results.Done (CutGives old.config old.me views input results.Done)
-cut_behind old new before views input recovered placed up cut =
+pub cut_behind : {S T : Type 0} (old new : SeatState S) (before : List Message) (views : Views) (input : Input) (result : Result T StoreFault) → IsPlaced old → StandsUp old views
+    → IsCut old new views input result → Leaves old new before before results.Done (CutGives old.config old.me views input results.Done)
+cut_behind old new before views input result placed up cut =
+    let left = doubted_down old new views input old.records cut.due placed up cut.keeps cut.down cut.me_is cut.config_is
+    (cut_has_kept result old.records new.records new.doubted cut.due cut.kept) in
     quiet old new before results.Done (CutGives old.config old.me views input results.Done) (IsDown views.records cut.due) refl
-    (refl, (cut.due, cut.keeps, refl))
-    (record { down = cut.down; recovered = recovered; kept = subst (λ (rs : List Record). new.records ≡ with_due recovered rs cut.due) up.kept cut.kept })
-    (placed_too old new placed cut.me_is cut.config_is
-    (subst (λ (rs : List Record). AllByRecursion (IsRecordOf old.config) rs) (sym cut.kept)
-    (recovered_are_of old.config recovered old.records cut.due placed.records_are (kept_is_of old.config old.me views input cut.due placed.member cut.keeps)))) cut.me_is cut.config_is
+    (refl, (cut.due, cut.keeps, refl)) left.0 left.1 cut.me_is cut.config_is
 
 -- the record was kept alone, or not, and then the node is gone
-pub kept_and_down : (old mid new : SeatState) (views : Views) (input : Input) (recovered : Bool) → (up : StandsUp old views)
-    → KeepsAlone up.node views input old.records mid.records recovered → mid.me ≡ old.me → mid.config ≡ old.config
-    → new.node ≡ None → new.me ≡ mid.me → new.config ≡ mid.config → new.records ≡ mid.records → IsCutBehind old new views input recovered
-kept_and_down old mid new views input recovered up (due, keeps, kept) mid-me mid-config down me config records = record {
+pub kept_and_down : {S T : Type 0} (old mid new : SeatState S) (views : Views) (input : Input) (result : Result T StoreFault) → (up : StandsUp old views)
+    → KeepsAlone up.node views input old.records mid.records mid.doubted result → mid.me ≡ old.me → mid.config ≡ old.config
+    → HasNode mid new None → IsCut old new views input result
+kept_and_down old mid new views input result up (due, keeps, kept) mid-me mid-config has = record {
   due = due;
-  keeps = subst (λ (m : ℕ). InputKeeps old.config m views input due) up.me_is
-      (subst (λ (c : Config). InputKeeps c up.node.agreement.me views input due) up.config_is keeps);
-  down = down;
-  kept = records ∙ kept;
-  me_is = me ∙ mid-me;
-  config_is = config ∙ mid-config;
+  keeps = keeps_there old views up input due keeps;
+  down = has.node_is;
+  kept = subst (λ (rs : List Record). KeepsDue due result old.records rs new.doubted) (sym has.records_are)
+      (subst (λ (d : Option Record). KeepsDue due result old.records mid.records d) (sym has.doubted_is) kept);
+  me_is = has.me_is ∙ mid-me;
+  config_is = has.config_is ∙ mid-config;
 }
 
 -- a delivery that is cut off
-abbrev pub CutDelivery : SeatState → List Message → ℕ → Views → EventResult → Seat → Type 0
+abbrev pub CutDelivery : {S : Type 0} → SeatState S → List Message → ℕ → Views → EventResult → Seat → Type 0
 CutDelivery old sent number views given left =
     Delivers sent (length sent) number (λ m. CutGives old.config old.me views (Deliver m)) views given left
 
-pub cut_delivered : (old new : SeatState) (before : List Message) (views : Views) (number : ℕ) (m : Message) (given : EventResult)
+pub cut_delivered : {S : Type 0} (old new : SeatState S) (before : List Message) (views : Views) (number : ℕ) (m : Message) (given : EventResult)
     → slice_get before number ≡ Some m
     → Leaves old new before before given (CutGives old.config old.me views (Deliver m) given)
     → Leaves old new before before given (CutDelivery old before number views given)
@@ -251,29 +278,32 @@ cut_delivered old new before views number m given there leaves = record {
   config_is = leaves.config_is;
 }
 
-pub not_sent_stays : (state : SeatState) (before : List Message) (views : Views) (number : ℕ) → IsPlaced state → StandsUp state views → slice_get before number ≡ None
+pub not_sent_stays : {S : Type 0} (state : SeatState S) (before : List Message) (views : Views) (number : ℕ) → IsPlaced state → StandsUp state views → slice_get before number ≡ None
     → Leaves state state before before (results.Refused results.NotSent) (CutDelivery state before number views (results.Refused results.NotSent))
 not_sent_stays state before views number placed up none =
     stays state before views (results.Refused results.NotSent) (CutDelivery state before number views (results.Refused results.NotSent)) placed up refl
     (inr (is_not_sent before number none, refl, refl))
 
 -- a message that the node is not handed, where it goes down: what it would have kept is not recovered
-module _ (some : TakenKeepSome) (old new : SeatState) (before : List Message) (views : Views) (number : ℕ) (placed : IsPlaced old) (up : StandsUp old views) (node : NodeState) (here : old.node ≡ Some node)
-    (down : new.node ≡ None) (me : new.me ≡ old.me) (config : new.config ≡ old.config) (records : new.records ≡ old.records) where
-  unkept : (m : Message) (kept : Option Record) → InputKeeps old.config old.me views (Deliver m) kept → IsCutBehind old new views (Deliver m) false
+module _ {S : Type 0} (some : TakenKeepSome) (old new : SeatState S) (before : List Message) (views : Views) (number : ℕ) (placed : IsPlaced old) (up : StandsUp old views) (node : NodeState) (here : old.node ≡ Some node)
+    (has : HasNode old new None) where
+  abbrev unhanded : Result (Unit {0}) StoreFault
+  unhanded = Err store.OutOfMemory
+
+  unkept : (m : Message) (kept : Option Record) → InputKeeps old.config old.me views (Deliver m) kept → IsCut old new views (Deliver m) unhanded
   unkept m kept keeps = record {
     due = kept;
     keeps = keeps;
-    down = down;
-    kept = records ∙ sym (without_due old.records kept);
-    me_is = me;
-    config_is = config;
+    down = has.node_is;
+    kept = (has.records_are, inl (has.doubted_is ∙ up.certain));
+    me_is = has.me_is;
+    config_is = has.config_is;
   }
 
   unkept_leaves : (m : Message) (kept : Option Record) → slice_get before number ≡ Some m → InputKeeps old.config old.me views (Deliver m) kept
       → Leaves old new before before results.Done (CutDelivery old before number views results.Done)
   unkept_leaves m kept there keeps =
-      cut_delivered old new before views number m results.Done there (cut_behind old new before views (Deliver m) false placed up (unkept m kept keeps))
+      cut_delivered old new before views number m results.Done there (cut_behind old new before views (Deliver m) unhanded placed up (unkept m kept keeps))
 
   pub not_handed_cut : (why : ToldReason) → (why ≡ reason.NotSent → ⊥) → HandsMessage node.agreement.config before number (Err why)
       → Leaves old new before before results.Done (CutDelivery old before number views results.Done)
@@ -307,7 +337,7 @@ info_counts table given uploads (inl (inl gives)) = ap count_of gives.1
 info_counts table given uploads (inl (inr gives)) = ap count_of gives.1
 info_counts table given uploads (inr gives) = ap count_of gives.1
 
-module _ (state : SeatState) (before : List Message) (views : Views) (given : EventResult) (Gives : List Upload → EventResult → Type 0) (placed : IsPlaced state) (up : StandsUp state views) where
+module _ {S : Type 0} (state : SeatState S) (before : List Message) (views : Views) (given : EventResult) (Gives : List Upload → EventResult → Type 0) (placed : IsPlaced state) (up : StandsUp state views) where
   pub answered : (node : NodeState) → state.node ≡ Some node → ((uploads : List Upload) → Gives uploads given → count_of given ≡ 0)
       → ((uploads : List Upload) → NodeHas node views → HasUploads node.agreement.config.members views.learner_calls uploads → Gives uploads given)
       → Leaves state state before before given (QuestionGives state.config views Gives given)
@@ -320,33 +350,148 @@ module _ (state : SeatState) (before : List Message) (views : Views) (given : Ev
 
 -- ---- a restart
 
-pub started : (old new : SeatState) (before : List Message) (given : EventResult) → IsPlaced old → (node : NodeState) → new.node ≡ Some node → node.agreement.me ≡ old.me
-    → node.agreement.config ≡ old.config → NodeHas node (started_with old.records) → new.me ≡ old.me → new.config ≡ old.config → new.records ≡ old.records
+-- the node is opened with the records that were kept
+pub started : {S : Type 0} (old new : SeatState S) (before : List Message) (given : EventResult) → IsPlaced old → old.doubted ≡ None → (node : NodeState) → HasNode old new (Some node)
+    → node.agreement.me ≡ old.me → node.agreement.config ≡ old.config → NodeHas node (started_with old.records)
     → given ≡ results.Done → (seat : Seat) → Stands old seat → (recovered : Bool) × Leaves old new before before given (RestartGives recovered seat given)
-started old new before given placed node there node-me node-config has me config same is seat stands =
+started old new before given placed certain node there node-me node-config has is seat stands =
     let starts : (recovered : Bool) → old.records ≡ recovered_in recovered seat → Leaves old new before before given (RestartGives recovered seat given) =
     λ recovered in_it. quiet old new before given (RestartGives recovered seat given) (IsUp (started_with old.records)) (ap count_of is)
     (inl (is, ap (λ rs. IsUp (started_with rs)) in_it))
-    (record { node = node; up = there; me_is = node-me ∙ sym me; config_is = node-config ∙ sym config; has = has; kept = same })
-    (same_records old new placed me config same) me config in
+    (record { node = node; up = there.node_is; me_is = node-me ∙ sym there.me_is; config_is = node-config ∙ sym there.config_is; has = has; kept = there.records_are; certain = there.doubted_is ∙ certain })
+    (same_records old new placed there.me_is there.config_is there.records_are there.doubted_is) there.me_is there.config_is in
     elim seat as (λ (s : Seat). Stands old s → ((recovered : Bool) → old.records ≡ recovered_in recovered s → Leaves old new before before given (RestartGives recovered s given)) → (recovered : Bool) × Leaves old new before before given (RestartGives recovered s given)) [
       | IsUp views ↦ λ up leaves. (true, leaves true up.kept)
-      | IsDown records due ↦ λ was leaves. (was.recovered, leaves was.recovered was.kept)
+      | IsDown records due ↦ λ was leaves.
+          (let kept : HasKept old.records None records due = subst (λ (d : Option Record). HasKept old.records d records due) certain was.kept in (kept.0, leaves kept.0 kept.1))
     ] stands starts
 
-pub start_refused : (old new : SeatState) (before : List Message) (given : EventResult) → IsPlaced old → new.node ≡ None → new.me ≡ old.me → new.config ≡ old.config
-    → new.records ≡ old.records → given ≡ results.Refused results.OutOfMemory → (seat : Seat) → Stands old seat
+-- it is not, and is down
+pub start_refused : {S : Type 0} (old new : SeatState S) (before : List Message) (given : EventResult) → IsPlaced old → HasNode old new None
+    → given ≡ results.Refused results.OutOfMemory → (seat : Seat) → Stands old seat
     → (recovered : Bool) × Leaves old new before before given (RestartGives recovered seat given)
-start_refused old new before given placed none me config same is (IsUp views) up = (
+start_refused old new before given placed has is (IsUp views) up = (
   true,
   quiet old new before given (RestartGives true (IsUp views) given) (IsDown views.records None) (ap count_of is) (inr (is, refl))
-      (record { down = none; recovered = true; kept = same ∙ up.kept }) (same_records old new placed me config same) me config,
+      (record { down = has.node_is; kept = has_kept new.doubted views.records new.records None (has.records_are ∙ up.kept) (inl (has.doubted_is ∙ up.certain)) })
+      (same_records old new placed has.me_is has.config_is has.records_are has.doubted_is) has.me_is has.config_is,
 )
-start_refused old new before given placed none me config same is (IsDown records due) was = (
-  was.recovered,
-  quiet old new before given (RestartGives was.recovered (IsDown records due) given) (IsDown records due) (ap count_of is) (inr (is, refl))
-      (record { down = none; recovered = was.recovered; kept = same ∙ was.kept }) (same_records old new placed me config same) me config,
+start_refused old new before given placed has is (IsDown records due) was = (
+  true,
+  quiet old new before given (RestartGives true (IsDown records due) given) (IsDown records due) (ap count_of is) (inr (is, refl))
+      (record {
+        down = has.node_is;
+        kept = subst (λ (rs : List Record). HasKept rs new.doubted records due) (sym has.records_are)
+            (subst (λ (d : Option Record). HasKept old.records d records due) (sym has.doubted_is) was.kept);
+      }) (same_records old new placed has.me_is has.config_is has.records_are has.doubted_is) has.me_is has.config_is,
 )
+
+-- ---- what was recalled
+
+-- the store gave back what was kept, and none is in doubt; the node is as it was
+pub record IsRecalled {S : Type 0} (old mid : SeatState S) : Type 0 where
+  pub recovered : Bool
+  pub records_are : mid.records ≡ with_due recovered old.records old.doubted
+  pub certain : mid.doubted ≡ None
+  pub node_is : mid.node ≡ old.node
+  pub me_is : mid.me ≡ old.me
+  pub config_is : mid.config ≡ old.config
+
+recovered_doubt : (doubted : Option Record) (kept now records : List Record) (due : Option Record) (recovered : Bool) → now ≡ with_due recovered kept doubted
+    → HasKept kept doubted records due → HasKept now None records due
+recovered_doubt None kept now records due recovered is (was, has) = (was, is ∙ has)
+recovered_doubt (Some last) kept now records due recovered is (same, due_is) =
+    (recovered, is ∙ (ap (λ (rs : List Record). with_due recovered rs (Some last)) same ∙ ap (λ (d : Option Record). with_due recovered records d) (sym due_is)))
+
+-- it stands as before
+pub recalled_stands : {S : Type 0} (old mid : SeatState S) (seat : Seat) → IsRecalled old mid → Stands old seat → Stands mid seat
+recalled_stands old mid (IsUp views) is up = record {
+  node = up.node;
+  up = is.node_is ∙ up.up;
+  me_is = up.me_is ∙ sym is.me_is;
+  config_is = up.config_is ∙ sym is.config_is;
+  has = up.has;
+  kept = is.records_are ∙ (ap (λ (d : Option Record). with_due is.recovered old.records d) up.certain ∙ up.kept);
+  certain = is.certain;
+}
+recalled_stands old mid (IsDown records due) is was = record {
+  down = is.node_is ∙ was.down;
+  kept = subst (λ (d : Option Record). HasKept mid.records d records due) (sym is.certain)
+      (recovered_doubt old.doubted old.records mid.records records due is.recovered is.records_are was.kept);
+}
+
+pub recalled_placed : {S : Type 0} (old mid : SeatState S) → IsRecalled old mid → IsPlaced old → IsPlaced mid
+recalled_placed old mid is placed =
+    placed_too old mid placed is.me_is is.config_is
+    (subst (λ (rs : List Record). AllByRecursion (IsRecordOf old.config) rs) (sym is.records_are) (doubted_are_of old.config is.recovered old.records old.doubted placed.records_are placed.doubted_is))
+    (none_doubted old.config mid.doubted is.certain)
+
+-- and what it gives is what the restart gives
+pub recalled_gives : {S : Type 0} (old mid new : SeatState S) (given : EventResult) → IsRecalled old mid → RestartApplies mid new given → RestartApplies old new given
+recalled_gives old mid new given is applies seat before placed stands =
+    let gives = applies seat before (recalled_placed old mid is placed) (recalled_stands old mid seat is stands) in (
+      gives.0,
+      record {
+        more = gives.1.more;
+        behind = gives.1.behind;
+        counted = gives.1.counted;
+        left = gives.1.left;
+        gives = gives.1.gives;
+        stands = gives.1.stands;
+        placed = gives.1.placed;
+        me_is = gives.1.me_is ∙ is.me_is;
+        config_is = gives.1.config_is ∙ is.config_is;
+      },
+    )
+
+-- ---- what was not recalled
+
+-- the store failed in a recall, and all else is as it was
+pub record IsUnrecalled {S : Type 0} (old mid : SeatState S) : Type 0 where
+  pub records_are : mid.records ≡ old.records
+  pub doubted_is : mid.doubted ≡ old.doubted
+  pub node_is : mid.node ≡ old.node
+  pub me_is : mid.me ≡ old.me
+  pub config_is : mid.config ≡ old.config
+
+unrecalled_stands : {S : Type 0} (old mid : SeatState S) (seat : Seat) → IsUnrecalled old mid → Stands old seat → Stands mid seat
+unrecalled_stands old mid (IsUp views) is up = record {
+  node = up.node;
+  up = is.node_is ∙ up.up;
+  me_is = up.me_is ∙ sym is.me_is;
+  config_is = up.config_is ∙ sym is.config_is;
+  has = up.has;
+  kept = is.records_are ∙ up.kept;
+  certain = is.doubted_is ∙ up.certain;
+}
+unrecalled_stands old mid (IsDown records due) is was = record {
+  down = is.node_is ∙ was.down;
+  kept = subst (λ (rs : List Record). HasKept rs mid.doubted records due) (sym is.records_are)
+      (subst (λ (d : Option Record). HasKept old.records d records due) (sym is.doubted_is) was.kept);
+}
+
+pub unrecalled : {S : Type 0} (old mid : SeatState S) (seat : Seat) (before : List Message) → IsUnrecalled old mid → IsPlaced old → Stands old seat → IsAsBefore old mid seat before before
+unrecalled old mid seat before is placed stands = record {
+  stands = unrecalled_stands old mid seat is stands;
+  records_are = is.records_are;
+  placed = same_records old mid placed is.me_is is.config_is is.records_are is.doubted_is;
+  me_is = is.me_is;
+  config_is = is.config_is;
+  unsent = refl;
+}
+
+-- memory was refused in it, and the node is down
+pub unrecalled_gives : {S : Type 0} (old mid new : SeatState S) (given : EventResult) → IsUnrecalled old mid → HasNode mid new None → given ≡ results.Refused results.OutOfMemory
+    → RestartApplies old new given
+unrecalled_gives old mid new given is has is_refused seat before placed stands =
+    start_refused old new before given placed
+    (record {
+      node_is = has.node_is;
+      me_is = has.me_is ∙ is.me_is;
+      config_is = has.config_is ∙ is.config_is;
+      records_are = has.records_are ∙ is.records_are;
+      doubted_is = has.doubted_is ∙ is.doubted_is;
+    }) is_refused seat stands
 
 -- what is none of the messages that went out is told as none of them
 pub sent_tells : (result : Told) → ((first count : ℕ) → result ≡ told.Sent first count → ⊥) → (first count : ℕ) → result_of result ≡ results.Sent first count → ⊥

@@ -2,6 +2,7 @@ mod Dues
 mod Placing
 mod Keeping
 mod Allowing
+mod Recovering
 mod Leaving
 mod Applying
 mod Arms

@@ -5,16 +5,24 @@
 //! and restarts from all records that it kept.
 //!
 //! ```text
-//! let mut seat = Seat::open(alloc, hashing, me, members, slot_limit)?;  // up, with nothing
+//! let store = MemoryStable::new(alloc);
+//! let seat = Seat::open(alloc, hashing, me, config, store)?;  // up, with nothing; none where the store has a record
 //! let result = seat.apply(&mut sent, &event)?;  // what the event gives; its messages go behind those in `sent`
 //! ```
+//!
+//! It stands on any store ([`stable_records::Stable`]), which it asks to keep and to recall and nothing else. The records
+//! that it kept it knows itself too: a restart that is given others back is refused ([`SeatFault::Lost`]), so that what a
+//! node answers after a restart never rests on a store that forgot.
 #![tactic(auto)]
 
 mod due;
+mod fault;
 mod handing;
+mod kept;
 mod questions;
 mod reasons;
 mod seat;
 mod steps;
 
+pub use fault::SeatFault;
 pub use seat::Seat;

@@ -1,7 +1,8 @@
 //! A seat.
 
-ghost use Rattle.std.specs.Prelude.{◌≡◌, ℕ, ◌<◌, ◌≤◌, ◌+◌, List, [], Some, Err, is_ok, IfOk};
-ghost use Rattle.ballots.specs.Limits.{max_slot};
+ghost use Rattle.std.specs.Prelude.{◌≡◌, ◌≢◌, ◌⊎◌, ℕ, ◌<◌, List, [], None, Some, Ok, Err, IsTrue, IfOk, IfErr};
+ghost use Rattle.std.specs.Option.{IfSome};
+ghost use Rattle.ballots.specs.declared.record.Record.{Record as Held};
 ghost use Rattle.ballots.specs.declared.message.Message.{Message as Sent};
 ghost use Rattle.agreement_rules.specs.Views.{started_with, Views};
 ghost use Rattle.histories.specs.Event.{node_of};
@@ -11,18 +12,24 @@ ghost use Rattle.node_core.specs.Inputs.{input_of};
 ghost use Rattle.node_core.specs.State.{NodeState};
 ghost use Rattle.node_events.specs.Told.{event_of, result_of};
 ghost use Rattle.node_seats.specs.State.{IsPlaced, StandsUp, Stands, SeatAnswers};
-ghost use Rattle.node_seats.specs.Steps.{HandsMessage, KeepsAlone, StepAnswers, UpAnswers, UpApplies, CutApplies, QuietApplies, DownApplies, RestartApplies};
+ghost use Rattle.node_seats.specs.Steps.{HandsMessage, KeepsAlone, StepAnswers, UpAnswers, UpApplies, CutApplies};
+ghost use Rattle.node_seats.specs.Steps.{QuietApplies, DownAnswers, RestartApplies, RestartAnswers, HasNode};
+ghost use Rattle.stable_records.specs.declared.fault.StoreFault.TheVariants.{OutOfMemory};
+ghost use Rattle.stable_records.specs.Calls.{RaisesCount};
+ghost use Rattle.node_seats.specs.Kept.{CountsSeatFault};
 
 use crate::due::{records_are_due, what_is_taken_is_allowed};
+use crate::fault::SeatFault;
 use crate::handing::{message_for, upload_for};
+use crate::kept::KeptRecords;
 use crate::questions::{latest_asked, version_asked};
 use crate::reasons::reason_for;
 use crate::steps::{keep_alone, take};
-use ballots::{Members, Message, NodeId, OutOfMemory};
-use node_core::{Input, Node};
+use ballots::{Message, NodeId};
+use node_core::{Config, Input, Node};
 use node_events::{Event, EventResult, Reason};
-use stable_records::MemoryStable;
-use std::alloc::{AllocError, Global};
+use stable_records::{Stable, StoreFault};
+use std::alloc::Global;
 use std::hash::RandomState;
 use std::marker::Model;
 use std::mem;
@@ -30,85 +37,87 @@ use table_types::Ticket;
 use uploads::Upload;
 
 /// A node with the store of its records, up or down.
-pub struct Seat {
+pub struct Seat<S: Stable> {
     alloc: Global,
     hashing: RandomState,
     me: NodeId,
-    members: Members,
-    slot_limit: u32,
-    store: MemoryStable,
+    config: Config,
+    kept: KeptRecords<S>,
     node: Option<Node>,
 }
 
-impl Model for Seat {
+impl<S: Stable> Model for Seat<S> {
     ghost use Rattle.node_seats.specs.State.{SeatState};
 
-    ghost Value = { SeatState };
+    ghost Value = { SeatState S };
 
     ghost use Rattle.node_core.specs.contracts.node.Node as node_part;
     ghost use Rattle.std.specs.Coded.{codes};
 
-    ghost coded = { Prim.hlevel (codes, node_part.the_row.coded) };
+    ghost coded = { Prim.hlevel (codes, node_part.the_row.coded, S.code) };
 
     ghost view = { λ s. record {
       me = s.me;
-      config = record { members = s.members; slot_limit = s.slot_limit };
-      records = s.store;
+      config = s.config;
+      store = s.kept.store;
+      records = s.kept.records.items;
+      doubted = s.kept.doubted;
       node = s.node;
     } };
-
-    ghost use Rattle.std.specs.Prelude.{◌≤◌, suc};
-    ghost use Rattle.ballots.specs.Limits.{max_slot};
-
-    ghost invariant = { λ s. s.slot_limit ≤ suc max_slot };
 }
 
 // Written out, so that a crate above lets go of a seat by one call, and does not prove again what is inside it.
-impl Drop for Seat {
+impl<S: Stable + Drop> Drop for Seat<S> {
     fn drop(self) {
         let Seat {
             alloc: _,
             hashing: _,
             me: _,
-            members: _,
-            slot_limit: _,
-            store,
+            config: _,
+            kept,
             node,
         } = self;
-        drop(store);
+        drop(kept);
         drop(node);
     }
 }
 
-impl Seat {
-    /// The node `me` of these members, for so many slots, up and with nothing. Memory is taken from this allocator;
-    /// `hashing` has the random keys that keep look-ups fast whatever names clients choose.
+impl<S: Stable + Drop> Seat<S> {
+    /// The node `me` of this configuration with this store, up and with nothing; `None` where the store has a record
+    /// already. Memory is taken from this allocator; `hashing` has the random keys that keep look-ups fast whatever
+    /// names clients choose.
+    ///
+    /// The fault is the store's, in recalling its records, or [`StoreFault::OutOfMemory`].
     pub fn open(
         alloc: Global,
         hashing: RandomState,
         me: NodeId,
-        members: Members,
-        slot_limit: u32,
-    ) -> Result<Seat, OutOfMemory>
-        requires member { me < members }
-        requires slots { slot_limit ≤ max_slot + 1 }
-        ensures placed { IfOk result IsPlaced }
-        ensures me { IfOk result (λ seat. seat.me ≡ me) }
-        ensures config { IfOk result
-            (λ seat. seat.config ≡ record { members = members; slot_limit = slot_limit }) }
-        ensures stands { IfOk result (λ seat. Stands seat (IsUp (started_with []))) }
+        config: Config,
+        store: S,
+    ) -> Result<Option<Seat<S>>, StoreFault>
+        requires member { me < config.members }
+        ensures placed { IfOk result (λ opened. IfSome opened IsPlaced) }
+        ensures me { IfOk result (λ opened. IfSome opened (λ seat. seat.me ≡ me)) }
+        ensures config { IfOk result (λ opened. IfSome opened (λ seat. seat.config ≡ config)) }
+        ensures stands { IfOk result (λ opened. IfSome opened (λ seat. Stands seat (IsUp (started_with [])))) }
+        ensures some { result ≡ Ok None → IsTrue S.tells
+            → (records : List Held) × S.finds store (Some records) × (records ≢ []) }
+        ensures fault { IfErr result (λ fault. (fault ≡ OutOfMemory)
+            ⊎ ((left : S) × RaisesCount fault (S.faults store) (S.faults left))) }
     {
-        match Node::open(alloc, me, members, slot_limit, hashing, &[]) {
-            Ok(node) => Ok(Seat {
+        let Some(kept) = KeptRecords::open(alloc, store)? else {
+            return Ok(None);
+        };
+        match Node::open(alloc, hashing, me, config, &[]) {
+            Ok(node) => Ok(Some(Seat {
                 alloc,
                 hashing,
                 me,
-                members,
-                slot_limit,
-                store: MemoryStable::new(alloc),
+                config,
+                kept,
                 node: Some(node),
-            }),
-            Err(_) => Err(AllocError),
+            })),
+            Err(_) => Err(StoreFault::OutOfMemory),
         }
     }
 
@@ -116,32 +125,36 @@ impl Seat {
     /// behind those that were sent before. Where memory that the node wants is refused, so is the event
     /// ([`Reason::OutOfMemory`]), and the node is as before; but a restart that is refused leaves it down.
     ///
-    /// [`OutOfMemory`] says that memory for messages that are due was refused: for copies of them, or for room in
-    /// `sent`. The event is not applied then: the node, its records and `sent` are as before.
+    /// A fault says that the event is not applied. [`SeatFault::OutOfMemory`]: memory for messages that are due was
+    /// refused, for copies of them or for room in `sent`; the node, its records and `sent` are as before.
+    /// [`SeatFault::Store`]: the store failed, and its count of faults rose. In a tick or a delivery the node is down
+    /// then, as a cut of it would leave it, and the record that was due may be kept or not; a restart leaves the seat
+    /// as it was. [`SeatFault::Lost`]: a restart was given other records than were kept, which no store does that tells
+    /// what it has; the seat is as it was.
     pub fn apply(
         &mut self,
         sent: &mut Vec<Message>,
         event: &Event,
-    ) -> Result<EventResult, OutOfMemory>
-        ensures { IsPlaced self.old → node_of (event_of event.now) ≡ self.old.me → (seat : HistorySeat)
-            → Stands self.old seat
-            → SeatAnswers self.old self.new seat sent.old.items sent.new.items (event_of event.now) result }
+    ) -> Result<EventResult, SeatFault>
+        ensures counted { IfErr result (λ fault. CountsSeatFault S.tells fault
+            (S.faults self.old.store) (S.faults self.new.store)) }
+        ensures gives { IsPlaced self.old → node_of (event_of event.now) ≡ self.old.me → (seat : HistorySeat)
+            → Stands self.old seat → SeatAnswers self.old self.new seat
+            sent.old.items sent.new.items (event_of event.now) result }
     {
         if self.node.is_some() {
             self.apply_up(sent, event)
         } else {
-            Ok(self.apply_down(event))
+            self.apply_down(event)
         }
     }
 
     // Applies an event of the node, which is up.
-    fn apply_up(
-        &mut self,
-        sent: &mut Vec<Message>,
-        event: &Event,
-    ) -> Result<EventResult, OutOfMemory>
-        ensures { node_of (event_of event.now) ≡ self.old.me
-            → UpAnswers self.old self.new sent.old.items sent.new.items (event_of event.now) result }
+    fn apply_up(&mut self, sent: &mut Vec<Message>, event: &Event) -> Result<EventResult, SeatFault>
+        ensures counted { IfErr result (λ fault. CountsSeatFault S.tells fault
+            (S.faults self.old.store) (S.faults self.new.store)) }
+        ensures gives { node_of (event_of event.now) ≡ self.old.me → UpAnswers self.old self.new
+            sent.old.items sent.new.items (event_of event.now) result }
     {
         match event {
             Event::Put(_, upload) => self.put(sent, upload),
@@ -149,7 +162,7 @@ impl Seat {
             Event::Deliver(_, number) => self.deliver(sent, *number),
             Event::TickCut(_, left) => Ok(self.cut_tick(*left)),
             Event::DeliverCut(_, number) => Ok(self.cut_delivery(sent.as_slice(), *number)),
-            Event::Restart(_) => Ok(self.restart()),
+            Event::Restart(_) => self.restart(),
             Event::Get(_, ticket) => Ok(self.get(ticket)),
             Event::Info(_, table) => Ok(self.info(table.as_str())),
             Event::Outcome(_, upload) => Ok(self.outcome(upload)),
@@ -157,28 +170,41 @@ impl Seat {
     }
 
     // A node that is down refuses all but a restart.
-    fn apply_down(&mut self, event: &Event) -> EventResult
-        ensures { DownApplies self.old self.new (event_of event.now) (result_of result) }
+    fn apply_down(&mut self, event: &Event) -> Result<EventResult, SeatFault>
+        ensures counted { IfErr result (λ fault. CountsSeatFault S.tells fault
+            (S.faults self.old.store) (S.faults self.new.store)) }
+        ensures gives { DownAnswers self.old self.new (event_of event.now) result }
     {
         match event {
             Event::Restart(_) => self.restart(),
-            _ => EventResult::Refused(Reason::Down),
+            _ => Ok(EventResult::Refused(Reason::Down)),
         }
     }
 
-    // The node is opened with all records that it kept, and nothing else.
-    fn restart(&mut self) -> EventResult
-        ensures { RestartApplies self.old self.new (result_of result) }
+    // The node is opened with all records that it kept, and nothing else. They are recalled before the node that there is
+    // is let go.
+    fn restart(&mut self) -> Result<EventResult, SeatFault>
+        ensures counted { IfErr result (λ fault. CountsSeatFault S.tells fault
+            (S.faults self.old.store) (S.faults self.new.store)) }
+        ensures gives { RestartAnswers self.old self.new result }
     {
-        let opened = Node::open(
-            self.alloc,
-            self.me,
-            self.members,
-            self.slot_limit,
-            self.hashing,
-            self.store.records(),
-        );
-        match opened {
+        match self.kept.recall(self.alloc) {
+            Ok(_) => Ok(self.reopen()),
+            Err(SeatFault::OutOfMemory) => {
+                self.set_node(None);
+                Ok(EventResult::Refused(Reason::OutOfMemory))
+            }
+            Err(SeatFault::Store(fault)) => Err(SeatFault::Store(fault)),
+            Err(SeatFault::Lost) => Err(SeatFault::Lost),
+        }
+    }
+
+    // The node is opened with the records that were recalled; where memory is refused, it is down.
+    fn reopen(&mut self) -> EventResult
+        ensures { self.old.doubted ≡ None → RestartApplies self.old self.new (result_of result) }
+    {
+        let records = self.kept.records.as_slice();
+        match Node::open(self.alloc, self.hashing, self.me, self.config, records) {
             Ok(node) => {
                 self.set_node(Some(node));
                 EventResult::Done
@@ -192,17 +218,18 @@ impl Seat {
 
     // Puts this node in the place of the one that there is, or none.
     fn set_node(&mut self, node: Option<Node>)
-        ensures node { self.new.node ≡ node }
-        ensures me { self.new.me ≡ self.old.me }
-        ensures config { self.new.config ≡ self.old.config }
-        ensures records { self.new.records ≡ self.old.records }
+        ensures has { HasNode self.old self.new node }
+        ensures store { self.new.store ≡ self.old.store }
     {
         drop(mem::replace(&mut self.node, node));
     }
 
     // A client hands in an upload.
-    fn put(&mut self, sent: &mut Vec<Message>, upload: &Upload) -> Result<EventResult, OutOfMemory>
-        ensures { UpAnswers self.old self.new sent.old.items sent.new.items (events.Put self.old.me upload.now) result }
+    fn put(&mut self, sent: &mut Vec<Message>, upload: &Upload) -> Result<EventResult, SeatFault>
+        ensures counted { IfErr result (λ fault. CountsSeatFault S.tells fault
+            (S.faults self.old.store) (S.faults self.new.store)) }
+        ensures gives { UpAnswers self.old self.new sent.old.items sent.new.items
+            (events.Put self.old.me upload.now) result }
     {
         what_is_taken_is_allowed();
         let Some(node) = &self.node else {
@@ -219,18 +246,27 @@ impl Seat {
         &mut self,
         sent: &mut Vec<Message>,
         upload: Upload,
-    ) -> Result<EventResult, OutOfMemory>
-        ensures { UpAnswers self.old self.new sent.old.items sent.new.items (events.Put self.old.me upload) result }
+    ) -> Result<EventResult, SeatFault>
+        ensures counted { IfErr result (λ fault. CountsSeatFault S.tells fault
+            (S.faults self.old.store) (S.faults self.new.store)) }
+        ensures gives { UpAnswers self.old self.new sent.old.items sent.new.items
+            (events.Put self.old.me upload) result }
     {
-        match self.step(sent, Input::Put(upload))? {
+        let answer = match self.step(sent, Input::Put(upload)) {
+            Ok(answer) => answer,
+            Err(fault) => return Err(fault),
+        };
+        match answer {
             EventResult::Sent { .. } => Ok(EventResult::Done),
             refused => Ok(refused),
         }
     }
 
     // Does what is due to the input.
-    fn step(&mut self, sent: &mut Vec<Message>, input: Input) -> Result<EventResult, OutOfMemory>
-        ensures { StepAnswers self.old self.new sent.old.items sent.new.items (input_of input) result }
+    fn step(&mut self, sent: &mut Vec<Message>, input: Input) -> Result<EventResult, SeatFault>
+        ensures counted { IfErr result (λ fault. CountsSeatFault S.tells fault
+            (S.faults self.old.store) (S.faults self.new.store)) }
+        ensures gives { StepAnswers self.old self.new sent.old.items sent.new.items (input_of input) result }
     {
         what_is_taken_is_allowed();
         let first = sent.len() as u64;
@@ -238,19 +274,27 @@ impl Seat {
             drop(input);
             return Ok(EventResult::Refused(Reason::Down));
         };
-        match take(self.alloc, node, &mut self.store, sent, input) {
+        match take(self.alloc, node, &mut self.kept, sent, input) {
             Ok(Ok(count)) => Ok(EventResult::Sent {
                 first,
                 count: count as u64,
             }),
             Ok(Err(refusal)) => Ok(EventResult::Refused(reason_for(refusal))),
-            Err(_) => Err(AllocError),
+            Err(SeatFault::OutOfMemory) => Err(SeatFault::OutOfMemory),
+            Err(SeatFault::Store(fault)) => {
+                self.set_node(None);
+                Err(SeatFault::Store(fault))
+            }
+            Err(SeatFault::Lost) => unreachable!(),
         }
     }
 
     // Does what is due to a message that was sent.
-    fn deliver(&mut self, sent: &mut Vec<Message>, number: u64) -> Result<EventResult, OutOfMemory>
-        ensures { UpAnswers self.old self.new sent.old.items sent.new.items (events.Deliver self.old.me number) result }
+    fn deliver(&mut self, sent: &mut Vec<Message>, number: u64) -> Result<EventResult, SeatFault>
+        ensures counted { IfErr result (λ fault. CountsSeatFault S.tells fault
+            (S.faults self.old.store) (S.faults self.new.store)) }
+        ensures gives { UpAnswers self.old self.new sent.old.items sent.new.items
+            (events.Deliver self.old.me number) result }
     {
         let Some(node) = &self.node else {
             return Ok(EventResult::Refused(Reason::Down));
@@ -261,20 +305,20 @@ impl Seat {
         }
     }
 
-    // Goes down behind the record that is due to the input, if one is. `OutOfMemory` says that memory was refused and
-    // the record not kept; the node is down then too.
-    fn cut(&mut self, input: Input) -> Result<(), OutOfMemory>
-        ensures { CutApplies self.old self.new (input_of input) (is_ok result) }
+    // Goes down behind the record that is due to the input, if one is. The fault says that the record was not kept, or is
+    // in doubt; the node is down then too.
+    fn cut(&mut self, input: Input) -> Result<(), StoreFault>
+        ensures { CutApplies self.old self.new (input_of input) result }
     {
-        let kept = self.keep_due(input);
+        let answer = self.keep_due(input);
         self.set_node(None);
-        kept
+        answer
     }
 
-    // Keeps the record that is due to the input, if one is. `OutOfMemory` says that memory was refused.
-    fn keep_due(&mut self, input: Input) -> Result<(), OutOfMemory>
-        ensures kept { (views : Views) (up : StandsUp self.old views)
-            → KeepsAlone up.node views (input_of input) self.old.records self.new.records (is_ok result) }
+    // Keeps the record that is due to the input, if one is.
+    fn keep_due(&mut self, input: Input) -> Result<(), StoreFault>
+        ensures kept { (views : Views) (up : StandsUp self.old views) → KeepsAlone up.node views (input_of input)
+            self.old.records self.new.records self.new.doubted result }
         ensures me { self.new.me ≡ self.old.me }
         ensures config { self.new.config ≡ self.old.config }
     {
@@ -282,14 +326,14 @@ impl Seat {
             drop(input);
             return Ok(());
         };
-        keep_alone(node, &mut self.store, input)
+        keep_alone(node, &mut self.kept, input)
     }
 
     // Goes down behind the record that is due to a tick.
     fn cut_tick(&mut self, left: u8) -> EventResult
         ensures { QuietApplies self.old self.new (events.TickCut self.old.me left) (result_of result) }
     {
-        // Where memory is refused, the record is not recovered.
+        // Whatever the store answers, a restart says what it kept.
         let _ = self.cut(Input::Tick(left));
         EventResult::Done
     }
@@ -304,7 +348,7 @@ impl Seat {
         };
         match message_for(node, sent, number) {
             Ok(message) => {
-                // Where memory is refused, the record is not recovered.
+                // Whatever the store answers, a restart says what it kept.
                 let _ = self.cut(Input::Deliver(message));
                 EventResult::Done
             }

@@ -1,30 +1,35 @@
 //! What is due to an input, done by a node with its store.
 
-ghost use Rattle.std.specs.Prelude.{◌≡◌, ◌≢◌, ◌+◌, ◌≤◌, ◌++◌, [], true, length, vec_len, vec_capacity, is_ok, IfOk, OnOk, OnErr};
+ghost use Rattle.std.specs.Prelude.{◌≡◌, ◌≢◌, ◌+◌, ◌≤◌, ◌++◌, [], length, None, vec_len, vec_capacity, IfOk, IfErr, OnOk, OnErr};
 ghost use Rattle.std.specs.Option.{option_map};
 ghost use Rattle.agreement.specs.declared.refusal.Refusal.TheVariants as refusal_kind;
 ghost use Rattle.agreement_rules.specs.Views.{Views};
-ghost use Rattle.histories.specs.Following.{with_due};
 ghost use Rattle.node_core.specs.State.{NodeHas};
 ghost use Rattle.node_core.specs.Inputs.{input_of};
-ghost use Rattle.node_seats.specs.Steps.{TakeGives, KeepsAlone};
+ghost use Rattle.stable_records.specs.Calls.{CountsFault};
+ghost use Rattle.node_seats.specs.declared.fault.SeatFault.TheVariants.{Lost};
+ghost use Rattle.node_seats.specs.Kept.{DueLeaves, CountsSeatFault};
+ghost use Rattle.node_seats.specs.Steps.{TakeGives, IsNotKept, KeepsAlone};
 
 use crate::due::records_are_due;
+use crate::fault::SeatFault;
+use crate::kept::KeptRecords;
 use ballots::{Message, OutOfMemory, Record};
 use node_core::{Input, Node, Refusal};
-use stable_records::{MemoryStable, Stable};
-use std::alloc::{AllocError, Global};
+use stable_records::{Stable, StoreFault};
+use std::alloc::Global;
 
 // Keeps the record that is due, if there is one.
-fn keep_due(store: &mut MemoryStable, due: Option<&Record>) -> Result<(), OutOfMemory>
-    ensures ok { OnOk result (store.new ≡ with_due true store.old (option_map (λ kept. kept.now) due.entry)) }
-    ensures err { OnErr result (store.new ≡ store.old) }
+fn keep_due<S: Stable + Drop>(
+    kept: &mut KeptRecords<S>,
+    due: Option<&Record>,
+) -> Result<(), StoreFault>
+    ensures counted { CountsFault result (S.faults kept.old.store) (S.faults kept.new.store) }
+    ensures kept { kept.old.doubted ≡ None → DueLeaves (option_map (λ due. due.now) due.entry) result
+        kept.old.records.items kept.new.records.items kept.new.doubted }
 {
     match due {
-        Some(record) => match store.keep(record) {
-            Ok(()) => Ok(()),
-            Err(_) => Err(AllocError),
-        },
+        Some(record) => kept.keep(record),
         None => Ok(()),
     }
 }
@@ -65,19 +70,24 @@ fn send(sent: &mut Vec<Message>, mut copies: Vec<Message>) -> usize
 /// stand behind those that were sent; or why it is refused, for the node's own want of memory too, and then nothing
 /// changes.
 ///
-/// [`OutOfMemory`] says that memory for the messages that go out was refused; nothing changes then.
-pub(crate) fn take(
+/// [`SeatFault::OutOfMemory`] says that memory for the messages that go out was refused; nothing changes then.
+/// [`SeatFault::Store`] is the store's fault in keeping the record, which may be in doubt then.
+pub(crate) fn take<S: Stable + Drop>(
     alloc: Global,
     node: &mut Node,
-    store: &mut MemoryStable,
+    kept: &mut KeptRecords<S>,
     sent: &mut Vec<Message>,
     input: Input,
-) -> Result<Result<usize, Refusal>, OutOfMemory>
-    ensures gives { (views : Views) → NodeHas node.old views
-        → TakeGives node.old node.new views (input_of input) store.old store.new sent.old.items sent.new.items result }
+) -> Result<Result<usize, Refusal>, SeatFault>
+    ensures gives { (views : Views) → NodeHas node.old views → kept.old.doubted ≡ None
+        → TakeGives node.old node.new views (input_of input)
+        kept.old.records.items kept.new.records.items kept.new.doubted sent.old.items sent.new.items result }
+    ensures counted { IfErr result (λ fault. fault ≢ Lost
+        × CountsSeatFault S.tells fault (S.faults kept.old.store) (S.faults kept.new.store)) }
     ensures me { node.new.agreement.me ≡ node.old.agreement.me }
     ensures config { node.new.agreement.config ≡ node.old.agreement.config }
 {
+    records_are_due();
     let plan = match node.plan(input) {
         Ok(plan) => plan,
         Err(refusal) => return Ok(Err(refusal)),
@@ -86,51 +96,62 @@ pub(crate) fn take(
         Ok(copies) => copies,
         Err(_) => {
             drop(plan);
-            return Err(AllocError);
+            return Err(SeatFault::OutOfMemory);
         }
     };
-    match keep_due(store, plan.record()) {
+    match keep_due(kept, plan.record()) {
         Ok(()) => {
             node.commit(plan);
             Ok(Ok(send(sent, copies)))
         }
-        Err(_) => {
+        Err(fault) => {
             drop(plan);
             drop(copies);
-            Ok(Err(Refusal::OutOfMemory))
+            not_kept(fault)
         }
+    }
+}
+
+// What a fault of the store is to the input: want of memory refuses it.
+fn not_kept(fault: StoreFault) -> Result<Result<usize, Refusal>, SeatFault>
+    ensures { IsNotKept fault result }
+{
+    match fault {
+        StoreFault::OutOfMemory => Ok(Err(Refusal::OutOfMemory)),
+        _ => Err(SeatFault::Store(fault)),
     }
 }
 
 /// Keeps the record that is due to the input, if one is, and does nothing else of what is due.
 ///
-/// [`OutOfMemory`] says that memory was refused; the store is then as before.
-pub(crate) fn keep_alone(
+/// The fault says that the record was not kept, or is in doubt.
+pub(crate) fn keep_alone<S: Stable + Drop>(
     node: &mut Node,
-    store: &mut MemoryStable,
+    kept: &mut KeptRecords<S>,
     input: Input,
-) -> Result<(), OutOfMemory>
-    ensures { (views : Views) → NodeHas node.old views
-        → KeepsAlone node.old views (input_of input) store.old store.new (is_ok result) }
+) -> Result<(), StoreFault>
+    ensures { (views : Views) → NodeHas node.old views → kept.old.doubted ≡ None
+        → KeepsAlone node.old views (input_of input)
+        kept.old.records.items kept.new.records.items kept.new.doubted result }
 {
     records_are_due();
     match node.plan(input) {
         Ok(plan) => {
-            let kept = keep_due(store, plan.record());
+            let answer = keep_due(kept, plan.record());
             drop(plan);
-            kept
+            answer
         }
         Err(refusal) => refused(refusal),
     }
 }
 
 // Of what is refused no record is due, but where memory is wanted one may be.
-fn refused(refusal: Refusal) -> Result<(), OutOfMemory>
+fn refused(refusal: Refusal) -> Result<(), StoreFault>
     ensures ok { OnOk result (refusal ≡ refusal_kind.OutOfMemory → ⊥) }
     ensures err { OnErr result (refusal ≡ refusal_kind.OutOfMemory) }
 {
     match refusal {
-        Refusal::OutOfMemory => Err(AllocError),
+        Refusal::OutOfMemory => Err(StoreFault::OutOfMemory),
         _ => Ok(()),
     }
 }

@@ -1,9 +1,9 @@
 //! `flightd replay FILE`, a function over any writers.
 //!
-//! `replay_run` lets the events of a schedule, told by a file's bytes, happen to nodes of its own, one after the other,
-//! and writes a line for each. It gives the exit status, and tells of a fault in a line. What it runs, `replay_file`,
-//! gives the fault itself, and `read_schedule` the schedule. A caller reads the file, hands over the real streams, and
-//! exits with the status.
+//! `replay_run` reads a schedule from a file's bytes, applies its events to nodes of its own, one after the other, and
+//! writes a line for each. It gives the exit status, and reports a fault in a line. What it runs, `replay_file`, gives
+//! the fault itself, and `read_schedule` the schedule. A caller reads the file, hands over the real streams, and exits
+//! with the status.
 #![tactic(auto)]
 
 mod event_words;

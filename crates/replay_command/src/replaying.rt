@@ -16,9 +16,9 @@ use std::alloc::Global;
 use std::hash::RandomState;
 use std::io::Write;
 
-/// `flightd replay FILE`: lets the events of the schedule that the file's bytes tell (`read_schedule` says how) happen to
-/// nodes of its own, writes a line for each to `w`, and gives the exit status. docs/FORMATS.md has the lines. `hashing`
-/// has the random keys that keep look-ups fast whatever names the file chooses.
+/// `flightd replay FILE`: applies the events of the schedule that the file's bytes are (`read_schedule` says how) to nodes
+/// of its own, writes a line for each to `w`, and gives the exit status. docs/FORMATS.md has the lines. `hashing` has the
+/// random keys that keep look-ups fast whatever names the file chooses.
 ///
 /// A fault's line goes to `e`: `flightd: BadSchedule` where the bytes tell no schedule, `flightd: OutOfMemory` where
 /// memory is refused, `flightd: Io` where `w` fails. Where that can't be written, the status alone tells.

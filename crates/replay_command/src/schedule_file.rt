@@ -19,12 +19,12 @@ use serde_json::Value;
 use std::alloc::Global;
 use std::str::from_utf8;
 
-/// What is to happen to which nodes.
+/// Events of nodes, and what the nodes have in common.
 #[derive(Debug, Drop)]
 pub struct Schedule {
-    /// What the nodes have in common.
+    /// How many nodes and slots there are.
     pub config: Config,
-    /// What happens, in order.
+    /// The events, in order.
     pub events: Vec<Event>,
 }
 

@@ -1,12 +1,13 @@
 //! What nodes agree on before they start.
 
-ghost use Rattle.std.specs.Prelude.{◌↔◌, IsTrue};
+ghost use Rattle.std.specs.Prelude.{◌≡◌, ◌↔◌, IsTrue, IsSome};
+ghost use Rattle.std.specs.Option.{IfSome};
 ghost use Rattle.schedule_runner.specs.Limits.{IsWithinLimits};
+ghost use Rattle.schedule_runner.specs.Told.{config_of};
 
+use agreement::Config as Agreed;
+pub use agreement::MAX_SLOTS;
 use ballots::Members;
-
-/// The most slots that nodes may agree on.
-pub const MAX_SLOTS: u32 = 1_000_000;
 
 /// The most entries of a journal.
 pub const MAX_JOURNAL_ENTRIES: u32 = 1_000_000;
@@ -28,7 +29,17 @@ impl Config {
     pub fn is_within_limits(&self) -> bool
         ensures { IsTrue result ↔ IsWithinLimits self.now }
     {
-        (1..=MAX_SLOTS).contains(&self.slot_limit)
-            && (1..=MAX_JOURNAL_ENTRIES).contains(&self.journal_limit)
+        self.agreed().is_some()
+    }
+
+    /// What its nodes agree on before they start, `None` exactly where a limit is 0 or too great.
+    pub(crate) fn agreed(&self) -> Option<Agreed>
+        ensures within { IsSome result ↔ IsWithinLimits self.now }
+        ensures value { IfSome result (λ agreed. agreed ≡ config_of self.now) }
+    {
+        if !(1..=MAX_JOURNAL_ENTRIES).contains(&self.journal_limit) {
+            return None;
+        }
+        Agreed::new(self.members, self.slot_limit)
     }
 }

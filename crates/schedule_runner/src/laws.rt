@@ -7,7 +7,8 @@ ghost use Rattle.table_versions.specs.declared.outcome.Outcome.TheVariants.{Appl
 ghost use Rattle.histories.specs.Texts.{IsTextOf};
 ghost use Rattle.safe_histories.specs.Safe.{StandsIn};
 ghost use Rattle.schedule_runner.specs.declared.config.Config.{Config as ConfigSpec};
-ghost use Rattle.schedule_runner.specs.declared.config.TheConstants.{MAX_SLOTS, MAX_JOURNAL_ENTRIES};
+ghost use Rattle.agreement.specs.declared.config.TheConstants.{MAX_SLOTS};
+ghost use Rattle.schedule_runner.specs.declared.config.TheConstants.{MAX_JOURNAL_ENTRIES};
 ghost use Rattle.node_events.specs.declared.event.Event.{Event as EventSpec};
 ghost use Rattle.node_events.specs.declared.event.Event.TheVariants.{Get, Outcome as AsksOutcome};
 ghost use Rattle.node_events.specs.declared.event_result.EventResult.TheVariants.{Answer, Outcome as TellsOutcome};

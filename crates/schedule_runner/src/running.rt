@@ -88,9 +88,9 @@ pub fn run(
     ensures run { IfOk result (IsRunOf config events.now) }
     ensures config { result ≡ Err BadConfig ↔ (IsWithinLimits config → ⊥) }
 {
-    if !config.is_within_limits() {
+    let Some(agreed) = config.agreed() else {
         return Err(RunFault::BadConfig);
-    }
-    let mut seats = Seats::open(alloc, hashing, config)?;
+    };
+    let mut seats = Seats::open(alloc, hashing, agreed)?;
     Ok(run_on(alloc, config, &mut seats, events)?)
 }

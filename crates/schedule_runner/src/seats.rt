@@ -1,24 +1,26 @@
 //! The nodes of a run.
 
-ghost use Rattle.std.specs.Prelude.{IfOk};
-ghost use Rattle.histories.specs.Following.{at_first};
-ghost use Rattle.schedule_runner.specs.Told.{config_of};
-ghost use Rattle.schedule_runner.specs.Seated.{AreSeated};
-ghost use Rattle.schedule_runner.specs.Limits.{IsWithinLimits};
+ghost use Rattle.std.specs.Prelude.{◌≡◌, ◌<◌, IfOk};
+ghost use Rattle.histories.specs.Event.{node_of};
+ghost use Rattle.histories.specs.Following.{Seat as HistorySeat, at_first};
+ghost use Rattle.node_events.specs.Told.{event_of};
+ghost use Rattle.node_seats.specs.State.{IsPlaced, Stands};
+ghost use Rattle.schedule_runner.specs.Seated.{IsSeatOf, AreSeated, MemorySeatAnswers};
 
-use crate::config::Config;
 use crate::nodes::Nodes;
+use agreement::Config;
 use ballots::{Message, NodeId};
 use histories::laws::a_member_steps_alone;
 use node_events::{Event, EventResult, Reason};
-use node_seats::Seat;
+use node_seats::{Seat, SeatFault};
+use stable_records::{MemoryStable, StoreFault};
 use std::alloc::{AllocError, Global};
 use std::hash::RandomState;
 
 /// All members, each with the store of its records.
 #[derive(Drop)]
 pub(crate) struct Seats {
-    seats: Vec<Seat>,
+    seats: Vec<Seat<MemoryStable>>,
 }
 
 impl Seats {
@@ -28,18 +30,53 @@ impl Seats {
         hashing: RandomState,
         config: Config,
     ) -> Result<Seats, AllocError>
-        requires { IsWithinLimits config }
-        ensures { IfOk result (λ seats. AreSeated seats.seats.items (config_of config) at_first) }
+        ensures { IfOk result (λ seats. AreSeated seats.seats.items config at_first) }
     {
         let mut seats = Vec::new(alloc);
-        for number in 0..config.members.count() {
+        for number in 0..config.members().count() {
             let Some(me) = NodeId::new(number) else {
                 unreachable!();
             };
-            let seat = Seat::open(alloc, hashing, me, config.members, config.slot_limit)?;
+            let seat = first_seat(alloc, hashing, me, config)?;
             seats.push(seat)?;
         }
         Ok(Seats { seats })
+    }
+}
+
+// A member, up and with nothing. A store in memory has no record at first, and its only fault is want of memory.
+fn first_seat(
+    alloc: Global,
+    hashing: RandomState,
+    me: NodeId,
+    config: Config,
+) -> Result<Seat<MemoryStable>, AllocError>
+    requires { me < config.members }
+    ensures { IfOk result (λ seat. IsSeatOf config me seat (at_first me)) }
+{
+    match Seat::open(alloc, hashing, me, config, MemoryStable::new(alloc)) {
+        Ok(Some(seat)) => Ok(seat),
+        Ok(None) => unreachable!(),
+        Err(StoreFault::OutOfMemory) => Err(AllocError),
+        Err(_) => unreachable!(),
+    }
+}
+
+// An event of one node. A store in memory has no fault but want of memory, and gives back what it kept.
+fn apply_to(
+    seat: &mut Seat<MemoryStable>,
+    sent: &mut Vec<Message>,
+    event: &Event,
+) -> Result<EventResult, AllocError>
+    ensures { IsPlaced seat.old → node_of (event_of event.now) ≡ seat.old.me → (stood : HistorySeat)
+        → Stands seat.old stood → MemorySeatAnswers seat.old seat.new stood sent.old.items sent.new.items
+        (event_of event.now) result }
+{
+    match seat.apply(sent, event) {
+        Ok(result) => Ok(result),
+        Err(SeatFault::OutOfMemory) => Err(AllocError),
+        Err(SeatFault::Store(_)) => unreachable!(),
+        Err(SeatFault::Lost) => unreachable!(),
     }
 }
 
@@ -49,7 +86,7 @@ impl Nodes for Seats {
     fn apply(&mut self, sent: &mut Vec<Message>, event: &Event) -> Result<EventResult, AllocError> {
         a_member_steps_alone();
         match self.seats.get_mut(event.node() as usize) {
-            Some(seat) => seat.apply(sent, event),
+            Some(seat) => apply_to(seat, sent, event),
             None => Ok(EventResult::Refused(Reason::OutOfRange)),
         }
     }

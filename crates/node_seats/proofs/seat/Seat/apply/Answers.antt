@@ -1,10 +1,10 @@
 use Rattle.std.proofs.Common.{sym, ap, ◌∙◌}
-use Rattle.node_events.specs.Told.{event_of, result_of}
-use Rattle.node_seats.specs.State.{SeatState}
+use Rattle.node_events.specs.Told.{event_of}
+use Rattle.node_seats.proofs.Leaving.{viewed_node}
 use Rattle.node_seats.proofs.Arms.{for_any_down, none_by}
 use Rattle.node_seats.proofs.seat.Seat.apply.Goals as goal
 
-pub returns-else-is_some : goal.returns-else-is_some
-returns-else-is_some c = λ placed mine.
-    for_any_down c.args.self.now c.apply_down.new.self c.args.sent.now.items (event_of c.args.event.now) (result_of c.apply_down.result)
-    (sym (ap (λ (s : SeatState). s.node) c.self.view_is) ∙ none_by c.self.inside.node (sym c.if-is_some.ensures)) c.apply_down.ensures placed
+pub returns-else-is_some-clause-gives : goal.returns-else-is_some-clause-gives
+returns-else-is_some-clause-gives g c = λ placed mine.
+    for_any_down c.args.self.now c.apply_down.new.self c.args.sent.now.items (event_of c.args.event.now) c.apply_down.result
+    (sym (viewed_node c.self.view_is) ∙ none_by c.self.inside.node (sym c.if-is_some.ensures)) c.apply_down.ensures.gives placed

@@ -1,16 +1,15 @@
 use Rattle.std.proofs.Common.{refl, sym, ap, subst}
 use Rattle.histories.specs.Event as events
 use Rattle.histories.specs.EventResult as results
-use Rattle.histories.specs.Following.{IsDown}
-use Rattle.node_events.specs.Told.{event_of, result_of}
-use Rattle.node_seats.specs.Steps.{DownApplies}
-use Rattle.node_seats.proofs.Arms.{for_down}
+use Rattle.node_events.specs.Told.{event_of}
+use Rattle.node_seats.specs.Steps.{DownAnswers}
+use Rattle.node_seats.proofs.Arms.{for_down, down_restarts}
 use Rattle.node_seats.proofs.seat.Seat.apply_down.Goals as goal
 
-pub returns-in-Restart : goal.returns-in-Restart
-returns-in-Restart c =
-    subst (λ (e : events.Event). DownApplies c.args.self.now c.restart.new.self e (result_of c.restart.result)) (sym (ap event_of c.in-Restart.is))
-    (λ records due before placed was. (let gives = c.restart.ensures (IsDown records due) before placed was in (gives.0, tt, gives.1)))
+pub returns-in-Restart-clause-gives : goal.returns-in-Restart-clause-gives
+returns-in-Restart-clause-gives g c =
+    subst (λ (e : events.Event). DownAnswers c.args.self.now c.restart.new.self e c.restart.result) (sym (ap event_of c.in-Restart.is))
+    (down_restarts c.args.self.now c.restart.new.self c.in-Restart.field-0 c.restart.result c.restart.ensures.gives)
 
-pub returns-in_default : goal.returns-in_default
-returns-in_default c = for_down c.args.self.now c.args.event.now (results.Refused results.Down) c.in_default.not-Restart refl
+pub returns-in_default-clause-gives : goal.returns-in_default-clause-gives
+returns-in_default-clause-gives g c = for_down c.args.self.now c.args.event.now (results.Refused results.Down) c.in_default.not-Restart refl

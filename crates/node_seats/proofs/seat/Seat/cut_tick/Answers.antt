@@ -1,8 +1,7 @@
-use Rattle.std.specs.Result.{is_ok}
 use Rattle.histories.specs.Due.{Tick}
 use Rattle.node_seats.proofs.Applying.{cut_behind}
 use Rattle.node_seats.proofs.seat.Seat.cut_tick.Goals as goal
 
 pub returns : goal.returns
-returns c = λ before views placed up.
-    cut_behind c.args.self.now c.cut.new.self before views (Tick c.args.left) (is_ok c.cut.result) placed up (c.cut.ensures views up)
+returns g c = λ before views placed up.
+    cut_behind c.args.self.now c.cut.new.self before views (Tick c.args.left) c.cut.result placed up (c.cut.ensures views up)

@@ -5,10 +5,10 @@ use Rattle.node_seats.proofs.Applying.{not_sent_stays, not_handed_cut}
 use Rattle.node_seats.proofs.seat.Seat.cut_unhanded.Goals as goal
 
 pub returns-in-NotSent : goal.returns-in-NotSent
-returns-in-NotSent c = λ node sent number here not views placed up.
+returns-in-NotSent g c = λ node sent number here not views placed up.
     not_sent_stays c.args.self.now sent views number placed up (subst (λ (r : Reason). HandsMessage node.agreement.config sent number (Err r)) c.in-NotSent.is not)
 
 pub returns-in_default : goal.returns-in_default
-returns-in_default c = λ node sent number here not views placed up.
-    not_handed_cut c.records_are_due.ensures.taken c.args.self.now c.set_node.new.self sent views number placed up node here c.set_node.ensures.node c.set_node.ensures.me c.set_node.ensures.config
-    c.set_node.ensures.records c.args.reason c.in_default.not-NotSent not
+returns-in_default g c = λ node sent number here not views placed up.
+    not_handed_cut c.records_are_due.ensures.taken c.args.self.now c.set_node.new.self sent views number placed up node here c.set_node.ensures.has
+    c.args.reason c.in_default.not-NotSent not

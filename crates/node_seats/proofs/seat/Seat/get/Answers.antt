@@ -9,11 +9,11 @@ use Rattle.node_seats.specs.contracts.seat.Seat.{the_view}
 use Rattle.node_seats.proofs.seat.Seat.get.Goals as goal
 
 pub returns-in-Some : goal.returns-in-Some
-returns-in-Some c =
+returns-in-Some g c =
     let given = result_of c.version_asked.result in
     let table = c.args.ticket.now.table in
     let version = c.args.ticket.now.version in
-    subst (λ (s : SeatState). QuietApplies s s (events.Get s.me table version) given) c.self.view_is
-    (λ before views placed up. answered (the_view c.self.inside) before views given (λ uploads. GetGivesIfAble uploads table version)
+    subst (λ (s : SeatState g.row.S.Denot). QuietApplies s s (events.Get s.me table version) given) c.self.view_is
+    (λ before views placed up. answered (the_view g.row.S g.S.Stable c.self.inside) before views given (λ uploads. GetGivesIfAble uploads table version)
     placed up c.in-Some.node c.in-Some.is (get_counts table version given)
     (λ uploads has of. c.version_asked.ensures views uploads has of))

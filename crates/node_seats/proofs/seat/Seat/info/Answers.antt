@@ -9,10 +9,10 @@ use Rattle.node_seats.specs.contracts.seat.Seat.{the_view}
 use Rattle.node_seats.proofs.seat.Seat.info.Goals as goal
 
 pub returns-in-Some : goal.returns-in-Some
-returns-in-Some c =
+returns-in-Some g c =
     let given = result_of c.latest_asked.result in
     let table = c.args.table.now in
-    subst (λ (s : SeatState). QuietApplies s s (events.Info s.me table) given) c.self.view_is
-    (λ before views placed up. answered (the_view c.self.inside) before views given (λ uploads. InfoGivesIfAble uploads table)
+    subst (λ (s : SeatState g.row.S.Denot). QuietApplies s s (events.Info s.me table) given) c.self.view_is
+    (λ before views placed up. answered (the_view g.row.S g.S.Stable c.self.inside) before views given (λ uploads. InfoGivesIfAble uploads table)
     placed up c.in-Some.node c.in-Some.is (info_counts table given)
     (λ uploads has of. c.latest_asked.ensures views uploads has of))

@@ -10,11 +10,11 @@ use Rattle.node_seats.specs.contracts.seat.Seat.{the_view}
 use Rattle.node_seats.proofs.seat.Seat.outcome.Goals as goal
 
 pub returns-in-Some : goal.returns-in-Some
-returns-in-Some c =
+returns-in-Some g c =
     let given = results.Outcome (told c.outcome.result) in
     let text = c.args.upload.now in
     let upload = c.as_slice-text.ensures.upload in
-    subst (λ (s : SeatState). QuietApplies s s (events.Outcome s.me text) given) c.self.view_is
-    (λ before views placed up. answered (the_view c.self.inside) before views given (λ uploads. OutcomeGives uploads text)
+    subst (λ (s : SeatState g.row.S.Denot). QuietApplies s s (events.Outcome s.me text) given) c.self.view_is
+    (λ before views placed up. answered (the_view g.row.S g.S.Stable c.self.inside) before views given (λ uploads. OutcomeGives uploads text)
     placed up c.in-Some.node c.in-Some.is (λ uploads gives. refl)
     (λ uploads has of. (upload.0, upload.1, ap (λ o. results.Outcome o) (c.outcome.ensures views uploads upload.0 has of upload.1))))

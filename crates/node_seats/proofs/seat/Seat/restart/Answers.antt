@@ -1,21 +1,79 @@
-use Rattle.std.proofs.Common.{List, refl, ap, subst, ◌∙◌}
-use Rattle.ballots.specs.declared.record.Record.{Record}
-use Rattle.agreement_rules.specs.Views.{started_with}
+use Rattle.std.proofs.Common.{◌≡◌, ◌≢◌, refl, subst, Err}
+use Rattle.stable_records.specs.declared.fault.StoreFault.{StoreFault}
 use Rattle.histories.specs.EventResult as results
-use Rattle.node_core.specs.State.{NodeHas}
+use Rattle.node_events.specs.Told.{result_of}
+use Rattle.node_seats.specs.declared.fault.SeatFault.TheVariants.{OutOfMemory, Store, Lost}
 use Rattle.node_seats.specs.State.{SeatState}
-use Rattle.node_seats.proofs.Applying.{started, start_refused}
+use Rattle.node_seats.specs.Steps.{RestartApplies, RestartAnswers}
+use Rattle.node_seats.proofs.Applying.{recalled_gives, unrecalled, unrecalled_gives}
+use Rattle.node_seats.specs.contracts.seat.Seat.{the_view}
 use Rattle.node_seats.proofs.seat.Seat.restart.Goals as goal
 
-pub returns-in-Ok : goal.returns-in-Ok
-returns-in-Ok c = λ seat before placed stands.
-    started c.args.self.now c.set_node.new.self before results.Done placed c.in-Ok.node c.set_node.ensures.node
-    (c.in-Ok.ensures.me_is ∙ ap (λ (s : SeatState). s.me) c.self.view_is)
-    (c.in-Ok.ensures.config_is ∙ ap (λ (s : SeatState). s.config) c.self.view_is)
-    (subst (λ (rs : List Record). NodeHas c.in-Ok.node (started_with rs)) (c.records.ensures ∙ ap (λ (s : SeatState). s.records) c.self.view_is) c.in-Ok.ensures.has)
-    c.set_node.ensures.me c.set_node.ensures.config c.set_node.ensures.records refl seat stands
+store_is_not : (why : StoreFault) → Store why ≢ OutOfMemory
+store_is_not why is = cc
 
-pub returns-in-Err : goal.returns-in-Err
-returns-in-Err c = λ seat before placed stands.
-    start_refused c.args.self.now c.set_node-in-Err.new.self before (results.Refused results.OutOfMemory) placed c.set_node-in-Err.ensures.node
-    c.set_node-in-Err.ensures.me c.set_node-in-Err.ensures.config c.set_node-in-Err.ensures.records refl seat stands
+lost_is_not : Lost ≢ OutOfMemory
+lost_is_not is = cc
+
+pub returns-in-Ok-clause-gives : goal.returns-in-Ok-clause-gives
+returns-in-Ok-clause-gives g c =
+    let mid : SeatState g.row.S.Denot = the_view g.row.S g.S.Stable (record {
+      alloc = c.self.inside.alloc;
+      hashing = c.self.inside.hashing;
+      me = c.self.inside.me;
+      config = c.self.inside.config;
+      kept = c.recall.new.self;
+      node = c.self.inside.node;
+    }) in
+    subst (λ (s : SeatState g.row.S.Denot). RestartApplies s c.reopen.new.self (result_of c.reopen.result)) c.self.view_is
+    (recalled_gives (the_view g.row.S g.S.Stable c.self.inside) mid c.reopen.new.self (result_of c.reopen.result)
+    (record { recovered = c.in-Ok.field-0; records_are = c.in-Ok.ensures.recovered; certain = c.in-Ok.ensures.certain; node_is = refl; me_is = refl; config_is = refl })
+    (c.reopen.ensures c.in-Ok.ensures.certain))
+
+pub returns-in-Err-OutOfMemory-clause-gives : goal.returns-in-Err-OutOfMemory-clause-gives
+returns-in-Err-OutOfMemory-clause-gives g c =
+    let mid : SeatState g.row.S.Denot = the_view g.row.S g.S.Stable (record {
+      alloc = c.self.inside.alloc;
+      hashing = c.self.inside.hashing;
+      me = c.self.inside.me;
+      config = c.self.inside.config;
+      kept = c.recall.new.self;
+      node = c.self.inside.node;
+    }) in
+    subst (λ (s : SeatState g.row.S.Denot). RestartApplies s c.set_node.new.self (results.Refused results.OutOfMemory)) c.self.view_is
+    (unrecalled_gives (the_view g.row.S g.S.Stable c.self.inside) mid c.set_node.new.self (results.Refused results.OutOfMemory)
+    (record { records_are = c.in-Err-OutOfMemory.ensures.same; doubted_is = c.in-Err-OutOfMemory.ensures.doubted; node_is = refl; me_is = refl; config_is = refl }) c.set_node.ensures.has refl)
+
+pub returns-in-Err-Store-clause-gives : goal.returns-in-Err-Store-clause-gives
+returns-in-Err-Store-clause-gives g c =
+    let mid : SeatState g.row.S.Denot = the_view g.row.S g.S.Stable (record {
+      alloc = c.self.inside.alloc;
+      hashing = c.self.inside.hashing;
+      me = c.self.inside.me;
+      config = c.self.inside.config;
+      kept = c.recall.new.self;
+      node = c.self.inside.node;
+    }) in
+    subst (λ (s : SeatState g.row.S.Denot). RestartAnswers s mid (Err (Store c.in-Err-Store.fault))) c.self.view_is (
+      store_is_not c.in-Err-Store.fault,
+      λ seat before placed stands.
+          unrecalled (the_view g.row.S g.S.Stable c.self.inside) mid seat before
+          (record { records_are = c.in-Err-Store.ensures.same; doubted_is = c.in-Err-Store.ensures.doubted; node_is = refl; me_is = refl; config_is = refl }) placed stands,
+    )
+
+pub returns-in-Err-Lost-clause-gives : goal.returns-in-Err-Lost-clause-gives
+returns-in-Err-Lost-clause-gives g c =
+    let mid : SeatState g.row.S.Denot = the_view g.row.S g.S.Stable (record {
+      alloc = c.self.inside.alloc;
+      hashing = c.self.inside.hashing;
+      me = c.self.inside.me;
+      config = c.self.inside.config;
+      kept = c.recall.new.self;
+      node = c.self.inside.node;
+    }) in
+    subst (λ (s : SeatState g.row.S.Denot). RestartAnswers s mid (Err Lost)) c.self.view_is (
+      lost_is_not,
+      λ seat before placed stands.
+          unrecalled (the_view g.row.S g.S.Stable c.self.inside) mid seat before
+          (record { records_are = c.in-Err-Lost.ensures.same; doubted_is = c.in-Err-Lost.ensures.doubted; node_is = refl; me_is = refl; config_is = refl }) placed stands,
+    )

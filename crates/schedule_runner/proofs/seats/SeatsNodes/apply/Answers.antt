@@ -12,12 +12,12 @@ pub returns-in-Some : goal.returns-in-Some
 returns-in-Some c = λ config seats are.
     let states = c.args.self.now.seats.items in
     let within = c.in-Some.ensures.item.3.0 in
-    subst (λ (n : ℕ). Answers (AreSeated (slice_set states n c.apply.new.self) config) config seats c.args.sent.now.items c.apply.new.sent.items c.args.event.now c.apply.result) (sym c.node.ensures)
-    (one_applies c.a_member_steps_alone.ensures config seats states (slice_set states (node_of (event_of c.args.event.now)) c.apply.new.self) c.in-Some.seat.now c.apply.new.self
-    c.args.sent.now.items c.apply.new.sent.items c.args.event.now are
+    subst (λ (n : ℕ). Answers (AreSeated (slice_set states n c.apply_to.new.seat) config) config seats c.args.sent.now.items c.apply_to.new.sent.items c.args.event.now c.apply_to.result) (sym c.node.ensures)
+    (one_applies c.a_member_steps_alone.ensures config seats states (slice_set states (node_of (event_of c.args.event.now)) c.apply_to.new.seat) c.in-Some.seat.now c.apply_to.new.seat
+    c.args.sent.now.items c.apply_to.new.sent.items c.args.event.now are
     (subst (λ (n : ℕ). slice_get states n ≡ Some c.in-Some.seat.now) c.node.ensures (was_there states c.node.result c.in-Some.seat.now within c.in-Some.ensures.value))
-    (subst (λ (n : ℕ). IsChangedAt states (slice_set states n c.apply.new.self) n c.apply.new.self) c.node.ensures (changed_at states c.node.result c.apply.new.self within))
-    c.apply.result c.apply.ensures)
+    (subst (λ (n : ℕ). IsChangedAt states (slice_set states n c.apply_to.new.seat) n c.apply_to.new.seat) c.node.ensures (changed_at states c.node.result c.apply_to.new.seat within))
+    c.apply_to.result c.apply_to.ensures)
 
 pub returns-in-None : goal.returns-in-None
 returns-in-None c = λ config seats are.
