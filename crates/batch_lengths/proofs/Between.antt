@@ -1,0 +1,214 @@
+-- What is wanted stands in order, and within what is read.
+use Rattle.std.proofs.Common.{◌≡◌, refl, sym, ap, ap₂, subst, ◌∙◌, ℕ, zero, suc, ◌+◌, ◌-◌, ◌*◌, ◌^◌, ◌<◌, ◌≤◌, ◌&&◌, Bool, true, false, if◌then◌else◌, List, [], ◌∷◌, ◌++◌, map, length, arith, mul-le-mul_left}
+use Rattle.std.proofs.lemmas.List.{length-append, length-map}
+use Rattle.std.proofs.lemmas.List.Sums.{sum_by-cons}
+use Rattle.std.specs.List.{flat_map, range_with_len, sum_by}
+use native.Mathlib.Nat.{mul-suc}
+use Rattle.batch_types.specs.Layouts.{Layout, null_layout, bits_layout, bytes_layout, binary_layout, utf8_layout}
+use Rattle.batch_types.specs.Layouts.{list_layout, fixed_size_list_layout, struct_layout}
+use Rattle.batch_types.specs.Placed.{start_of, length_of}
+use Rattle.batch_columns.specs.Held.{layout_named}
+use Rattle.batch_columns.specs.declared.source.Source.{Source}
+use Rattle.batch_reading.specs.Spots.{Spot}
+use Rattle.batch_reading.specs.Taken.{valid_in, seen}
+use Rattle.batch_reading.specs.Planned.{elements_taken, spots_under, spots_inside}
+use Rattle.batch_lengths.specs.declared.counted.Counted.{Counted}
+use Rattle.batch_lengths.specs.Along.{run_spots, source_spots, spots_around}
+use Rattle.batch_lengths.specs.Counted.{span_length, span_total, IsCounted}
+use Rattle.batch_lengths.specs.Reach.{DoReach, Reaches, ReadsTo, LeadTo, ReadsAlong, end_inside}
+use Rattle.batch_lengths.proofs.Whole.{starts_to, reach_less}
+
+-- each place stands behind the one before, the first not before this one and the last before the other
+abbrev pub Between : ℕ → ℕ → List Spot → Type 0
+Between from end [] = from ≤ end
+Between from end (spot ∷ rest) = (from ≤ spot.0) × Between (spot.0 + 1) end rest
+
+pub between_le : (from end : ℕ) (spots : List Spot) → Between from end spots → from ≤ end
+between_le from end [] is = is
+between_le from end (spot ∷ rest) is = omega (arith, is.0, between_le (spot.0 + 1) end rest is.1)
+
+pub between_wider : (low from end high : ℕ) → low ≤ from → end ≤ high → (spots : List Spot) → Between from end spots → Between low high spots
+between_wider low from end high below above [] is = omega (arith, below, above, is)
+between_wider low from end high below above (spot ∷ rest) is =
+    (omega (arith, below, is.0), between_wider (spot.0 + 1) (spot.0 + 1) end high (omega arith) above rest is.1)
+
+between_both : (from middle end : ℕ) (xs ys : List Spot) → Between from middle xs → Between middle end ys → Between from end (xs ++ ys)
+between_both from middle end [] ys low high = between_wider from middle end end low (omega arith) ys high
+between_both from middle end (x ∷ xs) ys low high = (low.0, between_both (x.0 + 1) middle end xs ys low.1 high)
+
+marked_run : (mark : Bool) (start count end : ℕ) → start + count ≤ end → Between start end (map (λ place. (place, mark)) (range_with_len start count))
+marked_run mark start zero end within = omega (arith, within)
+marked_run mark start (suc count) end within = (omega arith, marked_run mark (start + 1) count end (omega (arith, within)))
+
+pub between_run : (start count end : ℕ) → start + count ≤ end → Between start end (run_spots start count)
+between_run start count end within = marked_run true start count end within
+
+between_seen : (validity : List ℕ) (from end : ℕ) (spots : List Spot) → Between from end spots → Between from end (map (seen validity) spots)
+between_seen validity from end [] is = is
+between_seen validity from end (spot ∷ rest) is = (is.0, between_seen validity (spot.0 + 1) end rest is.1)
+
+pub between_long : (from end : ℕ) (spots : List Spot) → Between from end spots → length spots + from ≤ end
+between_long from end [] is = omega (arith, is)
+between_long from end (spot ∷ rest) is = omega (arith, is.0, between_long (spot.0 + 1) end rest is.1)
+
+-- ---- inside a column
+
+module _ (offsets : List ℕ) (end : ℕ) (has : DoReach offsets end) where
+  listed : (j : ℕ) (mark : Bool) → j < end
+      → Between (start_of 4 offsets j) (start_of 4 offsets (j + 1)) (map (λ place. (place, true)) (elements_taken offsets (j, mark)))
+  listed j true below =
+      let next : start_of 4 offsets j ≤ start_of 4 offsets (j + 1) = has.rises j below in
+      between_run (start_of 4 offsets j) (length_of 4 offsets j) (start_of 4 offsets (j + 1)) (omega (arith, next))
+  listed j false below = has.rises j below
+
+  lists_between : (from : ℕ) (spots : List Spot) → Between from end spots
+      → Between (start_of 4 offsets from) (start_of 4 offsets end) (spots_inside (list_layout 4) offsets spots)
+  lists_between from [] is = starts_to offsets end has from end is (omega arith)
+  lists_between from (spot ∷ rest) is =
+      let below : spot.0 + 1 ≤ end = between_le (spot.0 + 1) end rest is.1 in
+      let low : start_of 4 offsets from ≤ start_of 4 offsets spot.0 = starts_to offsets end has from spot.0 is.0 (omega (arith, below)) in
+      between_both (start_of 4 offsets from) (start_of 4 offsets (spot.0 + 1)) (start_of 4 offsets end)
+      (spots_under (list_layout 4) offsets spot) (spots_inside (list_layout 4) offsets rest)
+      (between_wider (start_of 4 offsets from) (start_of 4 offsets spot.0) (start_of 4 offsets (spot.0 + 1)) (start_of 4 offsets (spot.0 + 1)) low (omega arith)
+      (spots_under (list_layout 4) offsets spot) (listed spot.0 spot.1 (omega (arith, below))))
+      (lists_between (spot.0 + 1) rest is.1)
+
+  span_one : (j : ℕ) (mark : Bool) → j < end → span_length (list_layout 4) offsets (j, mark) + start_of 4 offsets j ≤ start_of 4 offsets (j + 1)
+  span_one j true below = let next : start_of 4 offsets j ≤ start_of 4 offsets (j + 1) = has.rises j below in omega (arith, next)
+  span_one j false below = let next : start_of 4 offsets j ≤ start_of 4 offsets (j + 1) = has.rises j below in omega (arith, next)
+
+  pub spans_between : (from : ℕ) (spots : List Spot) → Between from end spots
+      → span_total (list_layout 4) offsets spots + start_of 4 offsets from ≤ start_of 4 offsets end
+  spans_between from [] is = omega (arith, starts_to offsets end has from end is (omega arith))
+  spans_between from (spot ∷ rest) is =
+      let below : spot.0 + 1 ≤ end = between_le (spot.0 + 1) end rest is.1 in
+      let low : start_of 4 offsets from ≤ start_of 4 offsets spot.0 = starts_to offsets end has from spot.0 is.0 (omega (arith, below)) in
+      let one : span_length (list_layout 4) offsets spot + start_of 4 offsets spot.0 ≤ start_of 4 offsets (spot.0 + 1) =
+      span_one spot.0 spot.1 (omega (arith, below)) in
+      omega (arith, low, one, spans_between (spot.0 + 1) rest is.1, sum_by-cons (span_length (list_layout 4) offsets) spot rest)
+
+sized_between : (size from end : ℕ) (second : List ℕ) (spots : List Spot) → Between from end spots
+    → Between (size * from) (size * end) (spots_inside (fixed_size_list_layout size) second spots)
+sized_between size from end second [] is = mul-le-mul_left size is
+sized_between size from end second (spot ∷ rest) is =
+    let low : size * from ≤ size * spot.0 = mul-le-mul_left size is.0 in
+    let next : size * (spot.0 + 1) ≡ size * spot.0 + size = omega arith in
+    between_both (size * from) (size * (spot.0 + 1)) (size * end) (spots_under (fixed_size_list_layout size) second spot)
+    (spots_inside (fixed_size_list_layout size) second rest)
+    (between_wider (size * from) (size * spot.0) (size * (spot.0 + 1)) (size * (spot.0 + 1)) low (omega arith)
+    (spots_under (fixed_size_list_layout size) second spot)
+    (marked_run spot.1 (size * spot.0) size (size * (spot.0 + 1)) (omega (arith, next))))
+    (sized_between size (spot.0 + 1) end second rest is.1)
+
+struct_between : (from end : ℕ) (second : List ℕ) (spots : List Spot) → Between from end spots → Between from end (spots_inside struct_layout second spots)
+struct_between from end second [] is = is
+struct_between from end second (spot ∷ rest) is = (is.0, struct_between (spot.0 + 1) end second rest is.1)
+
+nothing_between : (f : Spot → List Spot) → ((spot : Spot) → f spot ≡ []) → (spots : List Spot) → Between 0 0 (flat_map f spots)
+nothing_between f none spots = subst (Between 0 0) (sym (nothing spots)) (omega arith)
+  where
+    nothing : (xs : List Spot) → flat_map f xs ≡ []
+    nothing [] = refl
+    nothing (x ∷ xs) = ap₂ (λ ys zs. ys ++ zs) (none x) (nothing xs)
+
+inside_between : (layout : Layout) (second : List ℕ) (from end : ℕ) (spots : List Spot) → Reaches layout second end → Between from end spots
+    → Between (end_inside layout second from) (end_inside layout second end) (spots_inside layout second spots)
+inside_between null_layout second from end spots reach is = nothing_between (spots_under null_layout second) (λ spot. refl) spots
+inside_between bits_layout second from end spots reach is = nothing_between (spots_under bits_layout second) (λ spot. refl) spots
+inside_between (bytes_layout size) second from end spots reach is = nothing_between (spots_under (bytes_layout size) second) (λ spot. refl) spots
+inside_between (binary_layout offset) second from end spots reach is = nothing_between (spots_under (binary_layout offset) second) (λ spot. refl) spots
+inside_between (utf8_layout offset) second from end spots reach is = nothing_between (spots_under (utf8_layout offset) second) (λ spot. refl) spots
+inside_between (list_layout offset) second from end spots reach is = lists_between second end reach from spots is
+inside_between (fixed_size_list_layout size) second from end spots reach is = sized_between size from end second spots is
+inside_between struct_layout second from end spots reach is = struct_between from end second spots is
+
+pub around_between : (around : List Source) (from end inner : ℕ) (spots : List Spot) → LeadTo around end inner → Between from end spots
+    → Between 0 inner (spots_around spots around)
+around_between [] from end inner spots lead is = between_wider 0 from end inner (omega arith) (omega (arith, lead)) spots is
+around_between (s ∷ rest) from end inner spots lead is =
+    around_between rest (end_inside (layout_named s.layout) s.second.now from) (end_inside (layout_named s.layout) s.second.now end) inner
+    (source_spots s spots) lead.1
+    (inside_between (layout_named s.layout) s.second.now from end (map (seen s.validity.now) spots) lead.0.reaches (between_seen s.validity.now from end spots is))
+
+-- ---- what is read of fewer values
+
+layout_less : (layout : Layout) (second : List ℕ) (less end : ℕ) → less ≤ end → Reaches layout second end → Reaches layout second less
+layout_less null_layout second less end few reach = tt
+layout_less bits_layout second less end few reach = tt
+layout_less (bytes_layout size) second less end few reach = tt
+layout_less (binary_layout offset) second less end few reach = reach_less second end reach less few
+layout_less (utf8_layout offset) second less end few reach = reach_less second end reach less few
+layout_less (list_layout offset) second less end few reach = reach_less second end reach less few
+layout_less (fixed_size_list_layout size) second less end few reach =
+    let up : size * less ≤ size * end = mul-le-mul_left size few in omega (arith, up, reach)
+layout_less struct_layout second less end few reach = tt
+
+end_less : (layout : Layout) (second : List ℕ) (less end : ℕ) → less ≤ end → Reaches layout second end → end_inside layout second less ≤ end_inside layout second end
+end_less null_layout second less end few reach = omega arith
+end_less bits_layout second less end few reach = omega arith
+end_less (bytes_layout size) second less end few reach = omega arith
+end_less (binary_layout offset) second less end few reach = omega arith
+end_less (utf8_layout offset) second less end few reach = omega arith
+end_less (list_layout offset) second less end few reach = starts_to second end reach less end few (omega arith)
+end_less (fixed_size_list_layout size) second less end few reach = mul-le-mul_left size few
+end_less struct_layout second less end few reach = few
+
+pub reads_less : (s : Source) (less end : ℕ) → less ≤ end → ReadsTo s end → ReadsTo s less
+reads_less s less end few reads = record {
+  few = omega (arith, reads.few, few);
+  reaches = layout_less (layout_named s.layout) s.second.now less end few reads.reaches;
+}
+
+lead_less : (around : List Source) (less end inner : ℕ) → less ≤ end → LeadTo around end inner → (n : ℕ) × (n ≤ inner) × LeadTo around less n
+lead_less [] less end inner few lead = (less, omega (arith, few, lead), refl)
+lead_less (s ∷ rest) less end inner few lead =
+    let (n, below, more) = lead_less rest (end_inside (layout_named s.layout) s.second.now less) (end_inside (layout_named s.layout) s.second.now end) inner
+    (end_less (layout_named s.layout) s.second.now less end few lead.0.reaches) lead.1 in
+    (n, below, (reads_less s less end few lead.0, more))
+
+pub along_less : (around : List Source) (s : Source) (less end : ℕ) → less ≤ end → ReadsAlong around s end → ReadsAlong around s less
+along_less around s less end few along =
+    let (n, below, lead) = lead_less around less end along.0 few along.1 in (n, lead, reads_less s n along.0 below along.2)
+
+pub inside_less : (first : Source) (rest : List Source) (s : Source) (less end : ℕ) → less ≤ end → ReadsTo first end
+    → ReadsAlong rest s (end_inside (layout_named first.layout) first.second.now end)
+    → ReadsAlong rest s (end_inside (layout_named first.layout) first.second.now less)
+inside_less first rest s less end few reads along =
+    along_less rest s (end_inside (layout_named first.layout) first.second.now less) (end_inside (layout_named first.layout) first.second.now end)
+    (end_less (layout_named first.layout) first.second.now less end few reads.reaches) along
+
+-- ---- what is counted of it fits
+
+flat_fits : (f : Spot → ℕ) → ((spot : Spot) → f spot ≡ 0) → (xs : List Spot) → sum_by f xs ≡ 0
+flat_fits f none [] = refl
+flat_fits f none (x ∷ xs) = sum_by-cons f x xs ∙ ap₂ (λ m n. m + n) (none x) (flat_fits f none xs)
+
+spans_fit : (layout : Layout) (second : List ℕ) (from end : ℕ) (taken : List Spot) → Reaches layout second end → Between from end taken → span_total layout second taken < 2 ^ 64
+spans_fit null_layout second from end taken reach is = omega (arith, flat_fits (span_length null_layout second) (λ spot. refl) taken)
+spans_fit bits_layout second from end taken reach is = omega (arith, flat_fits (span_length bits_layout second) (λ spot. refl) taken)
+spans_fit (bytes_layout size) second from end taken reach is = omega (arith, flat_fits (span_length (bytes_layout size) second) (λ spot. refl) taken)
+spans_fit (binary_layout offset) second from end taken reach is = omega (arith, spans_between second end reach from taken is, reach.ends)
+spans_fit (utf8_layout offset) second from end taken reach is = omega (arith, spans_between second end reach from taken is, reach.ends)
+spans_fit (list_layout offset) second from end taken reach is = omega (arith, spans_between second end reach from taken is, reach.ends)
+spans_fit (fixed_size_list_layout size) second from end taken reach is =
+    omega (arith, flat_fits (span_length (fixed_size_list_layout size) second) (λ spot. refl) taken)
+spans_fit struct_layout second from end taken reach is = omega (arith, flat_fits (span_length struct_layout second) (λ spot. refl) taken)
+
+pub counted_fits : (s : Source) (from end : ℕ) (spots : List Spot) (counted : Counted) → ReadsTo s end → Between from end spots → IsCounted s spots counted
+    → counted.total < 2 ^ 64
+counted_fits s from end spots counted reads is of =
+    subst (λ n. n < 2 ^ 64) (sym of.lengths)
+    (spans_fit (layout_named s.layout) s.second.now from end (map (seen s.validity.now) spots) reads.reaches (between_seen s.validity.now from end spots is))
+
+pub along_fits : (around : List Source) (s : Source) (from end : ℕ) (spots : List Spot) (counted : Counted) → ReadsAlong around s end → Between from end spots
+    → IsCounted s (spots_around spots around) counted → counted.total < 2 ^ 64
+along_fits around s from end spots counted along is of =
+    counted_fits s 0 along.0 (spots_around spots around) counted along.2 (around_between around from end along.0 spots along.1 is) of
+
+-- the places inside the first column of a run
+pub inside_run : (first : Source) (start count end : ℕ) → start + count ≤ end → ReadsTo first end
+    → Between (end_inside (layout_named first.layout) first.second.now start) (end_inside (layout_named first.layout) first.second.now end)
+    (source_spots first (run_spots start count))
+inside_run first start count end within reads =
+    inside_between (layout_named first.layout) first.second.now start end (map (seen first.validity.now) (run_spots start count)) reads.reaches
+    (between_seen first.validity.now start end (run_spots start count) (between_run start count end within))

@@ -1,0 +1,96 @@
+-- Nothing is counted of blank cells, nor of any inside them.
+use Rattle.std.proofs.Common.{◌≡◌, refl, sym, ap, ap₂, subst, ◌∙◌, ℕ, zero, suc, ◌+◌, ◌*◌, ◌==◌, ◌||◌, ◌&&◌, Bool, true, false, true≢false, not, if◌then◌else◌, List, [], ◌∷◌, ◌++◌, map, arith}
+use Rattle.std.proofs.lemmas.List.Sums.{sum_by-cons}
+use Rattle.std.specs.List.{AllByRecursion, flat_map, range_with_len}
+use Rattle.bitmaps.specs.Bits.{zeros}
+use Rattle.batch_types.specs.Layouts.{Layout, null_layout, bits_layout, bytes_layout, binary_layout, utf8_layout}
+use Rattle.batch_types.specs.Layouts.{list_layout, fixed_size_list_layout, struct_layout}
+use Rattle.batch_columns.specs.Held.{layout_named}
+use Rattle.batch_columns.specs.declared.source.Source.{Source}
+use Rattle.batch_reading.specs.Spots.{Spot}
+use Rattle.batch_reading.specs.Taken.{valid_in, is_shown, seen}
+use Rattle.batch_reading.specs.Planned.{spots_under, spots_inside}
+use Rattle.batch_lengths.specs.declared.counted.Counted.{Counted}
+use Rattle.batch_lengths.specs.Along.{run_spots, source_spots, spots_around}
+use Rattle.batch_lengths.specs.Counted.{has_null, span_length, span_total, IsCounted}
+
+-- the cells at these spots are blank
+abbrev pub AreBlank : List Spot → Type 0
+AreBlank spots = AllByRecursion (λ spot. spot.1 ≡ false) spots
+
+both_blank : (xs ys : List Spot) → AreBlank xs → AreBlank ys → AreBlank (xs ++ ys)
+both_blank [] ys some more = more
+both_blank (x ∷ xs) ys some more = (some.0, both_blank xs ys some.1 more)
+
+listed_blank : (mark : Bool) (places : List ℕ) → mark ≡ false → AreBlank (map (λ place. (place, mark)) places)
+listed_blank mark [] is = tt
+listed_blank mark (p ∷ ps) is = (is, listed_blank mark ps is)
+
+by_mark : (layout : Layout) (second : List ℕ) (place : ℕ) (mark : Bool) → mark ≡ false → AreBlank (spots_under layout second (place, mark))
+by_mark null_layout second place mark is = tt
+by_mark bits_layout second place mark is = tt
+by_mark (bytes_layout size) second place mark is = tt
+by_mark (binary_layout offset) second place mark is = tt
+by_mark (utf8_layout offset) second place mark is = tt
+by_mark (list_layout offset) second place true is = absurd (true≢false is)
+by_mark (list_layout offset) second place false is = tt
+by_mark (fixed_size_list_layout size) second place mark is = listed_blank mark (range_with_len (size * place) size) is
+by_mark struct_layout second place mark is = (is, tt)
+
+inside_blank : (layout : Layout) (second : List ℕ) (spots : List Spot) → AreBlank spots → AreBlank (spots_inside layout second spots)
+inside_blank layout second [] all = tt
+inside_blank layout second (spot ∷ spots) all =
+    both_blank (spots_under layout second spot) (spots_inside layout second spots) (by_mark layout second spot.0 spot.1 all.0)
+    (inside_blank layout second spots all.1)
+
+seen_blank : (validity : List ℕ) (spots : List Spot) → AreBlank spots → AreBlank (map (seen validity) spots)
+seen_blank validity [] all = tt
+seen_blank validity (spot ∷ spots) all = (ap (λ mark. mark && valid_in validity spot.0) all.0, seen_blank validity spots all.1)
+
+pub around_blank : (around : List Source) (spots : List Spot) → AreBlank spots → AreBlank (spots_around spots around)
+around_blank [] spots all = all
+around_blank (s ∷ rest) spots all =
+    around_blank rest (source_spots s spots)
+    (inside_blank (layout_named s.layout) s.second.now (map (seen s.validity.now) spots) (seen_blank s.validity.now spots all))
+
+no_nulls : (validity : List ℕ) (spots : List Spot) → AreBlank spots → zeros (map (is_shown validity) spots) ≡ 0
+no_nulls validity [] all = refl
+no_nulls validity (spot ∷ spots) all =
+    sum_by-cons (λ bit. if not bit then 1 else 0) (is_shown validity spot) (map (is_shown validity) spots)
+    ∙ ap₂ (λ mark n. (if not (not mark || valid_in validity spot.0) then 1 else 0) + n) all.0 (no_nulls validity spots all.1)
+
+no_span : (layout : Layout) (second : List ℕ) (place : ℕ) (mark : Bool) → mark ≡ false → span_length layout second (place, mark) ≡ 0
+no_span null_layout second place mark is = refl
+no_span bits_layout second place mark is = refl
+no_span (bytes_layout size) second place mark is = refl
+no_span (binary_layout offset) second place true is = absurd (true≢false is)
+no_span (binary_layout offset) second place false is = refl
+no_span (utf8_layout offset) second place true is = absurd (true≢false is)
+no_span (utf8_layout offset) second place false is = refl
+no_span (list_layout offset) second place true is = absurd (true≢false is)
+no_span (list_layout offset) second place false is = refl
+no_span (fixed_size_list_layout size) second place mark is = refl
+no_span struct_layout second place mark is = refl
+
+no_spans : (layout : Layout) (second : List ℕ) (spots : List Spot) → AreBlank spots → span_total layout second spots ≡ 0
+no_spans layout second [] all = refl
+no_spans layout second (spot ∷ spots) all =
+    sum_by-cons (span_length layout second) spot spots
+    ∙ ap₂ (λ m n. m + n) (no_span layout second spot.0 spot.1 all.0) (no_spans layout second spots all.1)
+
+pub blank_counted : (s : Source) (spots : List Spot) → AreBlank spots → IsCounted s spots (record { has_null = false; total = 0 })
+blank_counted s spots all = record {
+  nulls = ap (λ n. not (n == 0)) (sym (no_nulls s.validity.now spots all));
+  lengths = sym (no_spans (layout_named s.layout) s.second.now (map (seen s.validity.now) spots) (seen_blank s.validity.now spots all));
+}
+
+-- nothing is taken under a null
+pub null_blank : (s : Source) (place : ℕ) → valid_in s.validity.now place ≡ false → AreBlank (source_spots s (run_spots place 1))
+null_blank s place null =
+    inside_blank (layout_named s.layout) s.second.now (map (seen s.validity.now) (run_spots place 1)) (null, tt)
+
+pub null_counted : (s first : Source) (rest : List Source) (place : ℕ) → valid_in first.validity.now place ≡ false
+    → IsCounted s (spots_around (source_spots first (run_spots place 1)) rest) (record { has_null = false; total = 0 })
+null_counted s first rest place null =
+    blank_counted s (spots_around (source_spots first (run_spots place 1)) rest)
+    (around_blank rest (source_spots first (run_spots place 1)) (null_blank first place null))

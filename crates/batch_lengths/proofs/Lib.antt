@@ -1,0 +1,10 @@
+pub mod Parts
+pub mod Blanks
+pub mod Whole
+pub mod Between
+pub mod Steps
+pub mod Buffers
+pub mod Inside
+pub mod Reached
+pub mod Walking
+pub mod Laying

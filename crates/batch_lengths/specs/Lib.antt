@@ -1,0 +1,4 @@
+pub mod Along
+pub mod Counted
+pub mod Reach
+pub mod Sizes

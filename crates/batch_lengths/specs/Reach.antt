@@ -1,0 +1,50 @@
+-- How far columns are read, each around the next: Apache Arrow, "Arrow Columnar Format", "Physical memory layout".
+use Rattle.std.specs.Prelude.{◌≡◌, ℕ, ◌+◌, ◌*◌, ◌^◌, ◌<◌, ◌≤◌, List, [], ◌∷◌, length}
+use Rattle.batch_types.specs.Layouts.{Layout, null_layout, bits_layout, bytes_layout, binary_layout, utf8_layout}
+use Rattle.batch_types.specs.Layouts.{list_layout, fixed_size_list_layout, struct_layout}
+use Rattle.batch_types.specs.Placed.{start_of}
+use Rattle.batch_types.specs.LaysOut.{values_limit}
+use Rattle.batch_columns.specs.Held.{layout_named}
+use Rattle.batch_columns.specs.declared.source.Source.{Source}
+
+-- where inside a column the places end that belong to its values before this place
+abbrev pub end_inside : Layout → List ℕ → ℕ → ℕ
+end_inside null_layout second end = 0
+end_inside bits_layout second end = 0
+end_inside (bytes_layout size) second end = 0
+end_inside (binary_layout offset) second end = 0
+end_inside (utf8_layout offset) second end = 0
+end_inside (list_layout offset) second end = start_of 4 second end
+end_inside (fixed_size_list_layout size) second end = size * end
+end_inside struct_layout second end = end
+
+-- the offsets of the values before this place are there and do not fall
+pub record DoReach (offsets : List ℕ) (end : ℕ) : Type 0 where
+  pub long : 0 < end → 4 * end + 4 ≤ length offsets
+  pub rises : (j : ℕ) → j < end → start_of 4 offsets j ≤ start_of 4 offsets (j + 1)
+  pub ends : start_of 4 offsets end < 2 ^ 64
+
+abbrev pub Reaches : Layout → List ℕ → ℕ → Type 0
+Reaches null_layout second end = Unit {0}
+Reaches bits_layout second end = Unit {0}
+Reaches (bytes_layout size) second end = Unit {0}
+Reaches (binary_layout offset) second end = DoReach second end
+Reaches (utf8_layout offset) second end = DoReach second end
+Reaches (list_layout offset) second end = DoReach second end
+Reaches (fixed_size_list_layout size) second end = size * end < 2 ^ 64
+Reaches struct_layout second end = Unit {0}
+
+-- the values before this place can be read
+pub record ReadsTo (source : Source) (end : ℕ) : Type 0 where
+  pub few : end ≤ values_limit
+  pub reaches : Reaches (layout_named source.layout) source.second.now end
+
+-- so can those of columns, each around the next; inside the last of them they end here
+abbrev pub LeadTo : List Source → ℕ → ℕ → Type 0
+LeadTo [] end inner = end ≡ inner
+LeadTo (source ∷ rest) end inner =
+    ReadsTo source end × LeadTo rest (end_inside (layout_named source.layout) source.second.now end) inner
+
+-- and those of a column inside them
+abbrev pub ReadsAlong : List Source → Source → ℕ → Type 0
+ReadsAlong around source end = (inner : ℕ) × LeadTo around end inner × ReadsTo source inner

@@ -1,0 +1,156 @@
+//! A run of following places of a column.
+
+ghost use Rattle.std.specs.Prelude.{◌≡◌, ◌+◌, ◌*◌, ◌<◌, ◌≤◌, ◌^◌, length, false, not};
+ghost use Rattle.batch_types.specs.Placed.{start_of};
+ghost use Rattle.batch_types.specs.LaysOut.{values_limit};
+ghost use Rattle.batch_columns.specs.Held.{layout_named};
+ghost use Rattle.batch_reading.specs.Taken.{valid_in};
+ghost use Rattle.batch_lengths.specs.Along.{run_spots, source_spots};
+ghost use Rattle.batch_lengths.specs.Counted.{has_null, has_spans as has_spans_of, span_total, IsCounted};
+ghost use Rattle.batch_lengths.specs.Reach.{DoReach, ReadsTo, end_inside};
+
+use crate::counted::Counted;
+use batch_columns::{Layout, Source};
+use bitmaps::{bit, count_zeros};
+use byteorder::{ByteOrder, LittleEndian};
+
+/// Where value `place` begins, by its offset without its sign (Apache Arrow, "Arrow Columnar Format", "Variable-size
+/// Binary Layout").
+fn start_at(offsets: &[u8], place: usize) -> usize
+    requires { 4 * place + 4 ≤ length offsets.now }
+    ensures { result ≡ start_of 4 offsets.now place }
+{
+    let start = 4 * place;
+    LittleEndian::read_int(&offsets[start..start + 4], 4).unsigned_abs() as usize
+}
+
+/// Whether the value at a place is valid by a bitmap ("Validity bitmaps").
+pub(crate) fn is_valid(validity: &[u8], place: usize) -> bool
+    ensures { result ≡ valid_in validity.now place }
+{
+    validity.is_empty() || bit(validity, place)
+}
+
+/// Whether each value of a run is valid by a bitmap.
+pub(crate) fn is_whole(validity: &[u8], start: usize, count: usize) -> bool
+    requires { start + count ≤ values_limit }
+    ensures { result ≡ not (has_null validity.now (run_spots start count)) }
+{
+    validity.is_empty() || count_zeros(validity, start, count) == 0
+}
+
+/// How many bytes or elements the values of a run have in all, by their offsets.
+fn span_of(offsets: &[u8], start: usize, count: usize) -> usize
+    requires some { 0 < count }
+    requires reach { DoReach offsets.now (start + count) }
+    ensures { result + start_of 4 offsets.now start ≡ start_of 4 offsets.now (start + count) }
+{
+    start_at(offsets, start + count) - start_at(offsets, start)
+}
+
+/// Whether the values of a layout may have any number of bytes or elements.
+pub(crate) fn has_spans(layout: Layout) -> bool
+    ensures { result ≡ has_spans_of (layout_named layout) }
+{
+    match layout {
+        Layout::Binary | Layout::Utf8 | Layout::List => true,
+        Layout::Null
+        | Layout::Bits
+        | Layout::Bytes { .. }
+        | Layout::FixedSizeList { .. }
+        | Layout::Struct => false,
+    }
+}
+
+/// How many bytes or elements the values of a run have in all; none in layouts where all have as many.
+fn length_of(source: &Source, start: usize, count: usize) -> usize
+    requires some { 0 < count }
+    requires reads { ReadsTo source.now (start + count) }
+    ensures { result ≡ span_total (layout_named source.now.layout) source.now.second.now (run_spots start count) }
+{
+    if has_spans(source.layout) {
+        span_of(source.second, start, count)
+    } else {
+        0
+    }
+}
+
+/// What is counted of a run of values that are valid.
+fn count_whole(source: &Source, start: usize, count: usize) -> Counted
+    requires some { 0 < count }
+    requires reads { ReadsTo source.now (start + count) }
+    requires whole { has_null source.now.validity.now (run_spots start count) ≡ false }
+    ensures { IsCounted source.now (run_spots start count) result }
+{
+    Counted {
+        has_null: false,
+        total: length_of(source, start, count),
+    }
+}
+
+/// What is counted of the value at a place.
+fn count_one(source: &Source, place: usize) -> Counted
+    requires { ReadsTo source.now (place + 1) }
+    ensures { IsCounted source.now (run_spots place 1) result }
+{
+    if is_valid(source.validity, place) {
+        count_whole(source, place, 1)
+    } else {
+        Counted {
+            has_null: true,
+            total: 0,
+        }
+    }
+}
+
+/// What is counted of a run of values, one by one.
+fn count_each(source: &Source, start: usize, count: usize) -> Counted
+    requires { ReadsTo source.now (start + count) }
+    ensures { IsCounted source.now (run_spots start count) result }
+{
+    let mut counted = Counted::NONE;
+    for place in start..start + count {
+        counted = counted.with(count_one(source, place));
+    }
+    counted
+}
+
+/// What is counted of a run of values. Only where some of them are null and any number of bytes or elements stands under
+/// those, they are looked at one by one.
+pub(crate) fn count_run(source: &Source, start: usize, count: usize) -> Counted
+    requires some { 0 < count }
+    requires reads { ReadsTo source.now (start + count) }
+    ensures { IsCounted source.now (run_spots start count) result }
+{
+    if is_whole(source.validity, start, count) {
+        return count_whole(source, start, count);
+    }
+    if has_spans(source.layout) {
+        return count_each(source, start, count);
+    }
+    Counted {
+        has_null: true,
+        total: 0,
+    }
+}
+
+/// Where inside a column the places begin that belong to a run of values that are valid, and how many they are.
+pub(crate) fn run_inside(source: &Source, start: usize, count: usize) -> (usize, usize)
+    requires some { 0 < count }
+    requires reads { ReadsTo source.now (start + count) }
+    requires whole { has_null source.now.validity.now (run_spots start count) ≡ false }
+    ensures spots { source_spots source.now (run_spots start count) ≡ run_spots result.0 result.1 }
+    ensures end { result.0 + result.1
+        ≡ end_inside (layout_named source.now.layout) source.now.second.now (start + count) }
+{
+    match source.layout {
+        Layout::List => (start_at(source.second, start), span_of(source.second, start, count)),
+        Layout::FixedSizeList { size } => (size as usize * start, size as usize * count),
+        Layout::Struct => (start, count),
+        Layout::Null
+        | Layout::Bits
+        | Layout::Bytes { .. }
+        | Layout::Binary
+        | Layout::Utf8 => (0, 0),
+    }
+}
