@@ -1,16 +1,14 @@
 -- What is wanted stands in order, and within what is read.
-use Rattle.std.proofs.Common.{◌≡◌, refl, sym, ap, ap₂, subst, ◌∙◌, ℕ, zero, suc, ◌+◌, ◌-◌, ◌*◌, ◌^◌, ◌<◌, ◌≤◌, ◌&&◌, Bool, true, false, if◌then◌else◌, List, [], ◌∷◌, ◌++◌, map, length, arith, mul-le-mul_left}
-use Rattle.std.proofs.lemmas.List.{length-append, length-map}
+use Rattle.std.proofs.Common.{◌≡◌, refl, sym, ap₂, subst, ◌∙◌, ℕ, zero, suc, ◌+◌, ◌*◌, ◌^◌, ◌<◌, ◌≤◌, Bool, true, false, List, [], ◌∷◌, ◌++◌, map, length, arith, mul-le-mul_left}
 use Rattle.std.proofs.lemmas.List.Sums.{sum_by-cons}
 use Rattle.std.specs.List.{flat_map, range_with_len, sum_by}
-use native.Mathlib.Nat.{mul-suc}
 use Rattle.batch_types.specs.Layouts.{Layout, null_layout, bits_layout, bytes_layout, binary_layout, utf8_layout}
 use Rattle.batch_types.specs.Layouts.{list_layout, fixed_size_list_layout, struct_layout}
 use Rattle.batch_types.specs.Placed.{start_of, length_of}
 use Rattle.batch_columns.specs.Held.{layout_named}
 use Rattle.batch_columns.specs.declared.source.Source.{Source}
 use Rattle.batch_reading.specs.Spots.{Spot}
-use Rattle.batch_reading.specs.Taken.{valid_in, seen}
+use Rattle.batch_reading.specs.Taken.{seen}
 use Rattle.batch_reading.specs.Planned.{elements_taken, spots_under, spots_inside}
 use Rattle.batch_lengths.specs.declared.counted.Counted.{Counted}
 use Rattle.batch_lengths.specs.Along.{run_spots, source_spots, spots_around}

@@ -1,7 +1,7 @@
 -- Nothing is counted of blank cells, nor of any inside them.
-use Rattle.std.proofs.Common.{◌≡◌, refl, sym, ap, ap₂, subst, ◌∙◌, ℕ, zero, suc, ◌+◌, ◌*◌, ◌==◌, ◌||◌, ◌&&◌, Bool, true, false, true≢false, not, if◌then◌else◌, List, [], ◌∷◌, ◌++◌, map, arith}
+use Rattle.std.proofs.Common.{◌≡◌, refl, sym, ap, ap₂, ◌∙◌, ℕ, ◌+◌, ◌*◌, ◌==◌, ◌||◌, ◌&&◌, Bool, true, false, true≢false, not, if◌then◌else◌, List, [], ◌∷◌, ◌++◌, map}
 use Rattle.std.proofs.lemmas.List.Sums.{sum_by-cons}
-use Rattle.std.specs.List.{AllByRecursion, flat_map, range_with_len}
+use Rattle.std.specs.List.{AllByRecursion, range_with_len}
 use Rattle.bitmaps.specs.Bits.{zeros}
 use Rattle.batch_types.specs.Layouts.{Layout, null_layout, bits_layout, bytes_layout, binary_layout, utf8_layout}
 use Rattle.batch_types.specs.Layouts.{list_layout, fixed_size_list_layout, struct_layout}
@@ -10,9 +10,8 @@ use Rattle.batch_columns.specs.declared.source.Source.{Source}
 use Rattle.batch_reading.specs.Spots.{Spot}
 use Rattle.batch_reading.specs.Taken.{valid_in, is_shown, seen}
 use Rattle.batch_reading.specs.Planned.{spots_under, spots_inside}
-use Rattle.batch_lengths.specs.declared.counted.Counted.{Counted}
 use Rattle.batch_lengths.specs.Along.{run_spots, source_spots, spots_around}
-use Rattle.batch_lengths.specs.Counted.{has_null, span_length, span_total, IsCounted}
+use Rattle.batch_lengths.specs.Counted.{span_length, span_total, IsCounted}
 
 -- the cells at these spots are blank
 abbrev pub AreBlank : List Spot → Type 0

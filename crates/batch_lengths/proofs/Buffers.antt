@@ -1,19 +1,18 @@
 -- How long the buffers of a column are that are written of its cells.
-use Rattle.std.proofs.Common.{◌≡◌, refl, sym, ap, ap₂, subst, ◌∙◌, ℕ, zero, suc, ◌+◌, ◌-◌, ◌*◌, ◌/◌, ◌<◌, ◌≤◌, ◌==◌, Bool, true, false, not, if◌then◌else◌, List, [], ◌∷◌, ◌++◌, map, length, take, drop, replicate, arith, mul-le-mul_left, length-append, length-take, length-drop}
+use Rattle.std.proofs.Common.{◌≡◌, refl, ap, ◌∙◌, ℕ, suc, ◌+◌, ◌-◌, ◌*◌, ◌/◌, ◌<◌, ◌≤◌, ◌==◌, Bool, true, false, not, if◌then◌else◌, List, [], ◌∷◌, ◌++◌, map, length, take, drop, replicate, arith, mul-le-mul_left, length-append, length-take, length-drop}
 use Rattle.std.proofs.lemmas.List.{length-map, length-replicate}
 use Rattle.std.proofs.lemmas.List.FromFn.{length-range_with_len, length-map-range_with_len}
 use Rattle.std.proofs.lemmas.List.Sums.{sum_by-cons}
-use Rattle.std.proofs.lemmas.Simd.{map-map}
 use Rattle.std.specs.List.{AllByRecursion, flat_map, range_with_len, sum_by}
 use native.Mathlib.Nat.{mul-suc}
 use Rattle.byteorder.specs.Endian.{little_bytes}
 use Rattle.byteorder.specs.Numbers.{length-bytes_low_first}
 use Rattle.bitmaps.specs.Bits.{bit_of, zeros}
 use Rattle.bitmaps.specs.Packing.{packed_bytes, number_of}
-use Rattle.batch_types.specs.Cells.{Cell, null_cell, bit_cell, bytes_cell, list_cell, tuple_cell, Cells, no_cell, cells_of}
+use Rattle.batch_types.specs.Cells.{Cell, bit_cell, bytes_cell, list_cell, tuple_cell, no_cell, cells_of}
 use Rattle.batch_types.specs.Layouts.{Layout, null_layout, bits_layout, bytes_layout, binary_layout, utf8_layout}
 use Rattle.batch_types.specs.Layouts.{list_layout, fixed_size_list_layout, struct_layout}
-use Rattle.batch_types.specs.Placed.{bytes_from, start_of, length_of, value_bytes, cell_at, cells_inside, fields_at, buffer_at}
+use Rattle.batch_types.specs.Placed.{bytes_from, start_of, length_of, value_bytes, cells_inside, fields_at, buffer_at}
 use Rattle.batch_types.specs.Rules.{bytes_for}
 use Rattle.batch_types.specs.Laid.{Node, Range, laid, LaidColumns}
 use Rattle.batch_types.specs.Shapes.{shape, Shapes}
@@ -24,8 +23,7 @@ use Rattle.batch_columns.specs.Made.{validity_bytes}
 use Rattle.batch_columns.specs.declared.layout.Layout.{Layout as Declared}
 use Rattle.batch_columns.specs.declared.layout.Layout.TheVariants.{Null, Bits, Bytes, Binary, Utf8, List as Lists, FixedSizeList, Struct}
 use Rattle.batch_reading.specs.Spots.{Spot}
-use Rattle.batch_reading.specs.Taken.{valid_in, is_shown, seen, block_taken, span_taken}
-use Rattle.batch_reading.specs.Planned.{elements_taken}
+use Rattle.batch_reading.specs.Taken.{is_shown, seen, block_taken, span_taken}
 use Rattle.batch_reading.specs.Built.{cells_wanted}
 use Rattle.batch_reading.proofs.Keeping.{built, validity_built, mapped_taken, gathered_by}
 use Rattle.batch_lengths.specs.Counted.{has_null, span_length, span_total}
@@ -158,8 +156,13 @@ module _ (validity : List ℕ) (value : ℕ → Cell) (blank : Cell) (values : (
   lists_sized offset =
       let offsets : padded (length (offsets_of offset (elements_lengths cells))) ≡ padded (offset * (length spots + 1)) =
       ap padded (offsets_long offset (length spots) (elements_lengths cells) (mapped_long (λ cell. length (elements_or [] cell)))) in
-      omega (arith, buffer_first (validity_of cells) (offsets_of offset (elements_lengths cells) ∷ []),
-      buffer_first (offsets_of offset (elements_lengths cells)) [], first_long, offsets)
+      omega (
+        arith,
+        buffer_first (validity_of cells) (offsets_of offset (elements_lengths cells) ∷ []),
+        buffer_first (offsets_of offset (elements_lengths cells)) [],
+        first_long,
+        offsets,
+      )
 
   bytes_sized : (blocks : List ℕ) (long : ℕ) → length blocks ≡ long → length (body_with (validity_of cells ∷ blocks ∷ []))
       ≡ validity_size (has_null validity spots) (length spots) + padded long
@@ -172,8 +175,15 @@ module _ (validity : List ℕ) (value : ℕ → Cell) (blank : Cell) (values : (
   texts_sized offset bytes long is =
       let offsets : padded (length (offsets_of offset (bytes_lengths cells))) ≡ padded (offset * (length spots + 1)) =
       ap padded (offsets_long offset (length spots) (bytes_lengths cells) (mapped_long (λ cell. length (bytes_or [] cell)))) in
-      omega (arith, buffer_first (validity_of cells) (offsets_of offset (bytes_lengths cells) ∷ bytes ∷ []),
-      buffer_first (offsets_of offset (bytes_lengths cells)) (bytes ∷ []), buffer_first bytes [], first_long, offsets, ap padded is)
+      omega (
+        arith,
+        buffer_first (validity_of cells) (offsets_of offset (bytes_lengths cells) ∷ bytes ∷ []),
+        buffer_first (offsets_of offset (bytes_lengths cells)) (bytes ∷ []),
+        buffer_first bytes [],
+        first_long,
+        offsets,
+        ap padded is,
+      )
 
 module _ (body : List ℕ) (node : Node) (ranges : List Range) (inner : LaidColumns) (shapes : Shapes) (spots : List Spot) (limit : ℕ) (below : AreBelow limit spots) where
   abbrev validity : List ℕ

@@ -1,15 +1,15 @@
 -- How long the columns inside a column are in the body that is written, and how many cells they have.
-use Rattle.std.proofs.Common.{◌≡◌, refl, sym, ap, ap₂, subst, ◌∙◌, ℕ, zero, suc, ◌+◌, ◌-◌, ◌*◌, Bool, true, false, if◌then◌else◌, List, [], ◌∷◌, ◌++◌, map, length, drop, replicate, arith, length-append}
+use Rattle.std.proofs.Common.{◌≡◌, refl, sym, ap, ap₂, ◌∙◌, ℕ, suc, ◌+◌, ◌-◌, ◌*◌, Bool, true, false, List, [], ◌∷◌, ◌++◌, map, length, drop, replicate, arith, length-append}
 use Rattle.std.proofs.lemmas.List.{append-nil, length-map}
 use Rattle.std.proofs.lemmas.List.FromFn.{length-range_with_len}
 use Rattle.std.proofs.lemmas.List.Sums.{sum_by-cons}
 use Rattle.std.proofs.lemmas.Grind.{flat_map-append}
 use Rattle.std.specs.List.{flat_map, range_with_len}
 use native.Mathlib.Nat.{mul-suc}
-use Rattle.header_types.specs.Fields.{Tree, tree, Forest, no_more, more, width}
-use Rattle.batch_types.specs.Cells.{Cell, cell_then}
+use Rattle.header_types.specs.Fields.{Forest, no_more, more, width}
+use Rattle.batch_types.specs.Cells.{Cell}
 use Rattle.batch_types.specs.Layouts.{Layout, null_layout, bits_layout, bytes_layout, binary_layout, utf8_layout}
-use Rattle.batch_types.specs.Layouts.{list_layout, fixed_size_list_layout, struct_layout}
+use Rattle.batch_types.specs.Layouts.{list_layout, fixed_size_list_layout}
 use Rattle.batch_types.specs.Laid.{Node, Range, laid, LaidColumns}
 use Rattle.batch_types.specs.Placed.{start_of, length_of, cell_at, fields_at, buffer_at}
 use Rattle.batch_types.specs.Shapes.{shape, Shapes, shape_of, shapes_of}

@@ -1,5 +1,5 @@
 -- The columns of a batch that is laid out, and how long the body is that is written of it.
-use Rattle.std.proofs.Common.{◌≡◌, refl, sym, ap, ap₂, subst, ◌∙◌, ℕ, ◌+◌, ◌^◌, ◌<◌, ◌≤◌, true, nat_abs, List, [], ◌∷◌, map, length, take, drop, arith}
+use Rattle.std.proofs.Common.{◌≡◌, refl, sym, ap, ap₂, subst, ◌∙◌, ℕ, ◌^◌, ◌<◌, true, nat_abs, List, [], ◌∷◌, length, arith}
 use Rattle.std.proofs.lemmas.Int.{ints}
 use Rattle.std.proofs.lemmas.List.{length-map}
 use Rattle.std.proofs.lemmas.List.FromFn.{length-range_with_len}
@@ -12,9 +12,9 @@ use Rattle.header_types.specs.Header.{Head}
 use Rattle.header_types.specs.HeaderViews.{head_of}
 use Rattle.header_types.specs.Profile.{InProfile}
 use Rattle.header_types.specs.Views.{schema_of}
-use Rattle.batch_types.specs.Cells.{Cell, Rows}
+use Rattle.batch_types.specs.Cells.{Rows}
 use Rattle.batch_types.specs.Laid.{LaidColumns, no_column, column_then, AreColumnsOf, node_count, buffer_count}
-use Rattle.batch_types.specs.LaysOut.{AreSound, HasColumns, LaysOut, body_of, columns_at, rows_limit}
+use Rattle.batch_types.specs.LaysOut.{AreSound, HasColumns, LaysOut, body_of, columns_at}
 use Rattle.batch_types.specs.Placed.{cell_at}
 use Rattle.batch_types.specs.Shapes.{shape_of, shapes_of}
 use Rattle.batch_types.specs.Canonical.{blank_of, canonical_body}

@@ -1,14 +1,12 @@
 -- A column that keeps its rules can be read as far as it is asked.
-use Rattle.std.proofs.Common.{◌≡◌, inl, inr, refl, sym, ap, subst, ◌∙◌, ℕ, zero, suc, ◌+◌, ◌-◌, ◌*◌, ◌^◌, ◌<◌, ◌≤◌, ◌≤ℤ◌, pos, nat_abs, List, [], ◌∷◌, ◌++◌, length, take, drop, get_or, map, arith, mul-le-mul_left, length-take, length-drop}
+use Rattle.std.proofs.Common.{◌≡◌, inl, inr, refl, sym, ap, subst, ◌∙◌, ℕ, zero, suc, ◌+◌, ◌-◌, ◌*◌, ◌^◌, ◌<◌, ◌≤◌, ◌≤ℤ◌, pos, nat_abs, List, [], ◌∷◌, ◌++◌, length, drop, arith, mul-le-mul_left, length-take, length-drop}
 use Rattle.std.proofs.lemmas.Int.{ints}
-use Rattle.std.specs.List.{AllByRecursion}
 use Rattle.header_types.specs.Fields.{tree, Forest, no_more, more, width}
-use Rattle.batch_types.specs.Layouts.{Layout, null_layout, bits_layout, bytes_layout, binary_layout, utf8_layout}
 use Rattle.batch_types.specs.Layouts.{list_layout, fixed_size_list_layout, struct_layout}
 use Rattle.batch_types.specs.Laid.{Node, Range, LaidColumn, laid, LaidColumns, no_column, column_then}
 use Rattle.batch_types.specs.LaysOut.{KeepsRule, IsSound, AreSound, values_limit}
 use Rattle.batch_types.specs.Order.{AreKept, column_order}
-use Rattle.batch_types.specs.Placed.{bytes_at, buffer_at, offset_at, start_of}
+use Rattle.batch_types.specs.Placed.{buffer_at, offset_at, start_of}
 use Rattle.batch_types.specs.Rules.{AreOffsetsLong, DoRise, OffsetsRise, asked_inside, places_inside, first_length}
 use Rattle.batch_columns.specs.Held.{layout_named}
 use Rattle.batch_columns.specs.Sources.{columns_from}
@@ -77,8 +75,13 @@ reach_of_rules offsets limit count total few short (inr rise) long =
       record {
         long = λ some. there some long;
         rises = λ j below.
-            omega (arith, ints, rise.rises j (omega (arith, few, below)), rises_from offsets count total rise j (omega (arith, few, below)),
-            rises_from offsets count total rise (j + 1) (omega (arith, few, below)));
+            omega (
+              arith,
+              ints,
+              rise.rises j (omega (arith, few, below)),
+              rises_from offsets count total rise j (omega (arith, few, below)),
+              rises_from offsets count total rise (j + 1) (omega (arith, few, below)),
+            );
         ends = omega (arith, last, short);
       },
       last,
@@ -150,8 +153,12 @@ module _ (body : List ℕ) (node : Node) (ranges : List Range) (inside : Forest)
   sized_few : (size : ℕ) → Facts (FixedSizeList size) → size * limit ≤ values_limit
   sized_few size f =
       let up : size * limit ≤ size * nat_abs node.0 = mul-le-mul_left size f.kept.1.1.1.0 in
-      omega (arith, up, f.first_few,
-      first_asked body inside nodes others (size * nat_abs node.0) (places_inside body (fixed_size_list_layout size) ranges places) f.may f.sound)
+      omega (
+        arith,
+        up,
+        f.first_few,
+        first_asked body inside nodes others (size * nat_abs node.0) (places_inside body (fixed_size_list_layout size) ranges places) f.may f.sound,
+      )
 
   pub reaches : (layout : Declared) → Facts layout → Reaches (layout_named layout) second limit
   reaches Null f = tt

@@ -1,22 +1,20 @@
 -- From the columns of some fields to those inside the first and to those behind it.
-use Rattle.std.proofs.Common.{◌≡◌, refl, sym, ap, ap₂, subst, ◌∙◌, ℕ, zero, suc, ◌+◌, ◌-◌, ◌*◌, ◌^◌, ◌<◌, ◌≤◌, min, max, pos, ◌≤ℤ◌, nat_abs, Bool, List, [], ◌∷◌, ◌++◌, map, length, get_or, take, drop, arith}
+use Rattle.std.proofs.Common.{◌≡◌, refl, sym, ap, ap₂, subst, ◌∙◌, ℕ, zero, suc, ◌+◌, ◌<◌, ◌≤◌, pos, ◌≤ℤ◌, nat_abs, List, [], ◌∷◌, ◌++◌, map, length, get_or, take, drop, arith}
 use Rattle.std.proofs.lemmas.Int.{ints}
 use Rattle.std.proofs.lemmas.List.{drop-drop, get_or-drop}
 use Rattle.header_types.specs.declared.schema.Field.{Field}
 use Rattle.header_types.specs.declared.header.BatchHead.{BatchHead}
 use Rattle.header_types.specs.Fields.{FieldHead, Entry, tree, Forest, no_more, more, width}
 use Rattle.header_types.specs.FieldView.{field_head_of, entries_in, fields_in}
-use Rattle.header_types.specs.Limits.{forest_depth}
 use Rattle.header_types.proofs.FieldTrees.{forest_next}
-use Rattle.batch_types.specs.Cells.{Cell}
-use Rattle.batch_types.specs.Layouts.{Layout, layout_of, buffers_in_layout}
+use Rattle.batch_types.specs.Layouts.{layout_of, buffers_in_layout}
 use Rattle.batch_types.specs.Laid.{Node, Range, laid, node_count, buffer_count}
 use Rattle.batch_types.specs.LaysOut.{KeepsRule, AreSound, values_limit}
 use Rattle.batch_types.specs.Order.{AreKept, column_order}
 use Rattle.batch_types.specs.Placed.{buffer_at}
 use Rattle.batch_types.specs.Rules.{asked_inside, places_inside, first_length}
 use Rattle.batch_types.specs.Shapes.{shape, shape_of, shapes_of}
-use Rattle.batch_types.specs.Canonical.{body_with, parts_of, columns_parts, own_buffers}
+use Rattle.batch_types.specs.Canonical.{body_with, parts_of, columns_parts}
 use Rattle.batch_columns.specs.Held.{layout_named}
 use Rattle.batch_columns.specs.Read.{IsSource}
 use Rattle.batch_columns.specs.declared.layout.Layout.{Layout as Declared}
@@ -26,7 +24,6 @@ use Rattle.batch_columns.specs.Sources.{nodes_of_tree, buffers_of_tree, column_f
 use Rattle.batch_reading.specs.Built.{cells_wanted, columns_wanted}
 use Rattle.batch_reading.specs.Planned.{spots_inside}
 use Rattle.batch_reading.specs.Readable.{forest_seen, columns_there}
-use Rattle.batch_reading.specs.Spots.{Spot}
 use Rattle.batch_reading.specs.Taken.{seen}
 use Rattle.batch_reading.proofs.Fitting.{MayHave, may_have}
 use Rattle.batch_lengths.specs.declared.around.Around.{Around}
@@ -37,7 +34,7 @@ use Rattle.batch_lengths.specs.Reach.{Reaches, ReadsTo, LeadTo, ReadsAlong, end_
 use Rattle.batch_lengths.specs.Sizes.{own_size, count_inside, columns_size, size_there, MayMeasure, Measured}
 use Rattle.batch_lengths.proofs.Parts.{around_more}
 use Rattle.batch_lengths.proofs.Between.{Between, between_run, around_between, between_long}
-use Rattle.batch_lengths.proofs.Buffers.{AreBelow, own_sized}
+use Rattle.batch_lengths.proofs.Buffers.{own_sized}
 use Rattle.batch_lengths.proofs.Inside.{both_long, column_long, inside_long}
 use Rattle.batch_lengths.proofs.Reached.{Facts, lead_more, between_below, reaches, are_there, end_few, inside_sound}
 
@@ -130,6 +127,37 @@ module _ (fh : FieldHead) (entries : List Entry) (inside rest : Forest) (head : 
           is.lengths ∙ ap₂ (λ b v. span_total (layout_named s.layout) b (map (seen v) (spots_in around))) of.second_is of.validity_is
 
       -- the column has so many bytes, and those of the columns inside it
+      column_own : length (body_with (parts_of (shape_of (tree fh entries inside))
+          (cells_wanted body (column_from (tree fh entries inside) nodes others) (shape_of (tree fh entries inside)) (spots_in around))).buffers)
+          ≡ own_size (layout_named s.layout) count counted.has_null counted.total
+          + columns_size (shapes_of inside) (columns_wanted body (columns_from inside inner_nodes inner_others) (shapes_of inside)
+          (spots_inside (layout_named s.layout) (buffer_at body ranges 1) (map (seen (buffer_at body ranges 0)) (spots_in around))))
+      column_own =
+          ap (λ l. length (body_with (parts_of (shape l (shapes_of inside))
+          (cells_wanted body (laid l node ranges (columns_from inside inner_nodes inner_others)) (shape l (shapes_of inside)) (spots_in around))).buffers)) (sym of.layout_is)
+          ∙ column_long body node ranges inner_nodes inner_others (spots_in around) s.layout inside here.may
+          ∙ ap (λ x. x + columns_size (shapes_of inside) (columns_wanted body (columns_from inside inner_nodes inner_others) (shapes_of inside)
+          (spots_inside (layout_named s.layout) (buffer_at body ranges 1) (map (seen (buffer_at body ranges 0)) (spots_in around)))))
+          (own_sized body node ranges (columns_from inside inner_nodes inner_others) (shapes_of inside) (spots_in around) m.limit
+          (between_below 0 m.limit (spots_in around) spots_between) s.layout
+          (are_there body node ranges inside inner_nodes inner_others m.limit m.places s.layout here)
+          ∙ ap (λ n. own_size (layout_named s.layout) n (has_null (buffer_at body ranges 0) (spots_in around))
+          (span_total (layout_named s.layout) (buffer_at body ranges 1) (map (seen (buffer_at body ranges 0)) (spots_in around)))) (sym m.wanted)
+          ∙ ap₂ (own_size (layout_named s.layout) count) (sym nulls_are) (sym total_is))
+
+      pub own_within : own_size (layout_named s.layout) count counted.has_null counted.total
+          ≤ size_there body (more (tree fh entries inside) rest) head place (spots_in around)
+      own_within =
+          omega (
+            arith,
+            both_long
+                (parts_of (shape_of (tree fh entries inside)) (cells_wanted body (column_from (tree fh entries inside) nodes others) (shape_of (tree fh entries inside)) (spots_in around)))
+                (columns_parts (shapes_of rest) (columns_wanted body (columns_from rest (drop (nodes_of_tree (tree fh entries inside)) nodes) (drop (buffers_of_tree (tree fh entries inside)) others))
+                (shapes_of rest) (spots_in around))),
+            column_own,
+          )
+
+      -- and those of the columns inside it, where they stand in the header
       module _ (cells : ℕ) (cells_are : cells ≡ count_inside (layout_named s.layout) count counted.total)
           (inner : Around) (inner_rows : inner.rows ≡ around.rows) (inner_depth : inner.depth ≡ around.depth + 1) (inner_room : length inner.levels ≡ 16)
           (inner_sources : sources_around inner ≡ sources_around around ++ s ∷ [])
@@ -176,26 +204,13 @@ module _ (fh : FieldHead) (entries : List Entry) (inside rest : Forest) (head : 
           few = m.few;
         }
 
-        cells_same : cells_wanted body (column_from (tree fh entries inside) nodes others) (shape_of (tree fh entries inside)) (spots_in around)
-            ≡ cells_wanted body (laid (layout_named s.layout) node ranges (columns_from inside inner_nodes inner_others)) (shape (layout_named s.layout) (shapes_of inside)) (spots_in around)
-        cells_same =
-            ap (λ l. cells_wanted body (laid l node ranges (columns_from inside inner_nodes inner_others)) (shape l (shapes_of inside)) (spots_in around)) (sym of.layout_is)
-
         column_size : length (body_with (parts_of (shape_of (tree fh entries inside))
             (cells_wanted body (column_from (tree fh entries inside) nodes others) (shape_of (tree fh entries inside)) (spots_in around))).buffers)
             ≡ own_size (layout_named s.layout) count counted.has_null counted.total + size_there body inside head within (spots_in inner)
         column_size =
-            ap (λ l. length (body_with (parts_of (shape l (shapes_of inside))
-            (cells_wanted body (laid l node ranges (columns_from inside inner_nodes inner_others)) (shape l (shapes_of inside)) (spots_in around))).buffers)) (sym of.layout_is)
-            ∙ column_long body node ranges inner_nodes inner_others (spots_in around) s.layout inside here.may
-            ∙ ap₂ (λ x y. x + y)
-            (own_sized body node ranges (columns_from inside inner_nodes inner_others) (shapes_of inside) (spots_in around) m.limit
-            (between_below 0 m.limit (spots_in around) spots_between) s.layout
-            (are_there body node ranges inside inner_nodes inner_others m.limit m.places s.layout here)
-            ∙ ap (λ n. own_size (layout_named s.layout) n (has_null (buffer_at body ranges 0) (spots_in around))
-            (span_total (layout_named s.layout) (buffer_at body ranges 1) (map (seen (buffer_at body ranges 0)) (spots_in around)))) (sym m.wanted)
-            ∙ ap₂ (own_size (layout_named s.layout) count) (sym nulls_are) (sym total_is))
-            (ap₂ (λ cs l. columns_size (shapes_of inside) (columns_wanted body cs (shapes_of inside) l)) columns_same (sym spots_here))
+            column_own
+            ∙ ap₂ (λ cs l. own_size (layout_named s.layout) count counted.has_null counted.total
+            + columns_size (shapes_of inside) (columns_wanted body cs (shapes_of inside) l)) columns_same (sym spots_here)
 
         -- the columns behind
         module _ (next : Place) (next_node : next.node ≡ place.node + nodes_of_tree (tree fh entries inside))
@@ -234,69 +249,95 @@ module _ (fh : FieldHead) (entries : List Entry) (inside rest : Forest) (head : 
               (shapes_of rest) (spots_in around)))
               ∙ ap₂ (λ x cs. x + columns_size (shapes_of rest) (columns_wanted body cs (shapes_of rest) (spots_in around))) column_size rest_same
 
--- ---- up to a largest number
-
-pub saturated : (most a b x y z : ℕ) → x ≡ min a most → y ≡ min b most → z ≡ min (x + y) most → z ≡ min (a + b) most
-saturated most a b x y z p q r = omega arith
-
 -- ---- one field after the other
 
 module _ (fields : List Field) (i : ℕ) (x : Field) (there : i < length fields) (is : x ≡ get_or fields i x) (head : BatchHead) (place next : Place) (body : List ℕ)
-    (count : ℕ) (around : Around) (total : ℕ) (was : Measured (forest_seen fields) head place body count around (forest_seen (drop i fields)) next total) where
+    (count : ℕ) (around : Around) (most left : ℕ)
+    (was : Measured (forest_seen fields) head place body count around most (forest_seen (drop i fields)) next left) where
   pub field_may : MayMeasure (more (tree (field_head_of x) (entries_in x) (fields_in x)) (forest_seen (drop (i + 1) fields))) head next body count around
   field_may = subst (λ f. MayMeasure f head next body count around) (forest_next fields i x there is) was.may
 
   pub field_few : count ≤ values_limit
   field_few = few_cells (field_head_of x) (entries_in x) (fields_in x) (forest_seen (drop (i + 1) fields)) head next body count around field_may
 
+  seen_first : size_there body (forest_seen (drop i fields)) head next (spots_in around)
+      ≡ size_there body (more (tree (field_head_of x) (entries_in x) (fields_in x)) (forest_seen (drop (i + 1) fields))) head next (spots_in around)
+  seen_first = ap (λ f. size_there body f head next (spots_in around)) (forest_next fields i x there is)
+
   module _ (s : Source) (of : IsSource body (layout_of (field_head_of x).data_type) (get_or (drop next.node head.nodes.items) 0 (pos 0, pos 0))
       (take (buffers_in_layout (layout_of (field_head_of x).data_type)) (drop next.buffer head.buffers.items)) s) where
     pub field_reads : ReadsAlong (sources_around around) s around.rows
     field_reads = reads_along (field_head_of x) (entries_in x) (fields_in x) (forest_seen (drop (i + 1) fields)) head next body count around field_may s of
 
-    module _ (counted : Counted) (has : IsCounted s (spots_in around) counted) (cells : ℕ) (cells_are : cells ≡ count_inside (layout_named s.layout) count counted.total)
-        (inner : Around) (inner_rows : inner.rows ≡ around.rows) (inner_depth : inner.depth ≡ around.depth + 1) (inner_room : length inner.levels ≡ 16)
-        (inner_sources : sources_around inner ≡ sources_around around ++ s ∷ [])
-        (within : Place) (at_node : within.node ≡ next.node + 1) (at_buffer : within.buffer ≡ next.buffer + buffers_in_layout (layout_named s.layout)) where
-      pub field_inside : MayMeasure (fields_in x) head within body cells inner
-      field_inside =
-          inside_may (field_head_of x) (entries_in x) (fields_in x) (forest_seen (drop (i + 1) fields)) head next body count around field_may s of counted has cells cells_are
-          inner inner_rows inner_depth inner_room inner_sources within at_node at_buffer
+    -- its own buffers are too many
+    pub own_long_here : ((counted : Counted) → IsCounted s (spots_in around) counted
+        → left < own_size (layout_named s.layout) count counted.has_null counted.total)
+        → most < size_there body (forest_seen fields) head place (spots_in around)
+    own_long_here long =
+        let counted : Counted = record {
+          has_null = has_null s.validity.now (spots_in around);
+          total = span_total (layout_named s.layout) s.second.now (map (seen s.validity.now) (spots_in around));
+        } in
+        let has : IsCounted s (spots_in around) counted = record { nulls = refl; lengths = refl } in
+        let within =
+        own_within (field_head_of x) (entries_in x) (fields_in x) (forest_seen (drop (i + 1) fields)) head next body count around field_may s of counted has in
+        omega (arith, was.fits, was.whole, seen_first, long counted has, within)
 
-      pub field_next : (after : Place) → after.node ≡ within.node + node_count (fields_in x) → after.buffer ≡ within.buffer + buffer_count (fields_in x)
-          → (own inside first last : ℕ) → own ≡ min (own_size (layout_named s.layout) count counted.has_null counted.total) (2 ^ 64 - 1)
-          → inside ≡ min (size_there body (fields_in x) head within (spots_in inner)) (2 ^ 64 - 1)
-          → first ≡ min (total + own) (2 ^ 64 - 1) → last ≡ min (first + inside) (2 ^ 64 - 1)
-          → Measured (forest_seen fields) head place body count around (forest_seen (drop (i + 1) fields)) after last
-      field_next after after_node after_buffer own inside first last own_is inside_is first_is last_is =
-          let node_is : after.node ≡ next.node + nodes_of_tree (tree (field_head_of x) (entries_in x) (fields_in x)) = omega (arith, after_node, at_node) in
-          let buffer_is : after.buffer ≡ next.buffer + buffers_of_tree (tree (field_head_of x) (entries_in x) (fields_in x)) =
-          omega (arith, after_buffer, at_buffer, ap buffers_in_layout of.layout_is) in
-          let seen_first : size_there body (forest_seen (drop i fields)) head next (spots_in around)
-          ≡ size_there body (more (tree (field_head_of x) (entries_in x) (fields_in x)) (forest_seen (drop (i + 1) fields))) head next (spots_in around) =
-          ap (λ f. size_there body f head next (spots_in around)) (forest_next fields i x there is) in
-          let more_size =
-          size_next (field_head_of x) (entries_in x) (fields_in x) (forest_seen (drop (i + 1) fields)) head next body count around field_may s of counted has cells cells_are
-          inner inner_rows inner_depth inner_room inner_sources within at_node at_buffer after node_is buffer_is in
-          record {
-            may =
-                next_may (field_head_of x) (entries_in x) (fields_in x) (forest_seen (drop (i + 1) fields)) head next body count around field_may s of counted has cells cells_are
-                inner inner_rows inner_depth inner_room inner_sources within at_node at_buffer after node_is buffer_is;
-            done =
-                was.done + own_size (layout_named s.layout) count counted.has_null counted.total
-                + size_there body (fields_in x) head within (spots_in inner);
-            totalled =
-                saturated (2 ^ 64 - 1) (was.done + own_size (layout_named s.layout) count counted.has_null counted.total)
-                (size_there body (fields_in x) head within (spots_in inner)) first inside last
-                (saturated (2 ^ 64 - 1) was.done (own_size (layout_named s.layout) count counted.has_null counted.total) total own first was.totalled own_is first_is)
-                inside_is last_is;
-            whole = sums was.done (own_size (layout_named s.layout) count counted.has_null counted.total) (size_there body (fields_in x) head within (spots_in inner))
-                (size_there body (forest_seen (drop (i + 1) fields)) head after (spots_in around))
-                (size_there body (forest_seen (drop i fields)) head next (spots_in around)) (size_there body (forest_seen fields) head place (spots_in around))
-                (seen_first ∙ more_size) was.whole;
-            nodes = omega (arith, was.nodes, ap node_count (forest_next fields i x there is), node_is);
-            buffers = omega (arith, was.buffers, ap buffer_count (forest_next fields i x there is), buffer_is);
-          }
-        where
-          sums : (d o n r w t : ℕ) → w ≡ o + n + r → d + w ≡ t → d + o + n + r ≡ t
-          sums d o n r w t parts all = omega (arith, parts, all)
+    module _ (counted : Counted) (has : IsCounted s (spots_in around) counted) where
+      module _ (cells : ℕ) (cells_are : cells ≡ count_inside (layout_named s.layout) count counted.total)
+          (inner : Around) (inner_rows : inner.rows ≡ around.rows) (inner_depth : inner.depth ≡ around.depth + 1) (inner_room : length inner.levels ≡ 16)
+          (inner_sources : sources_around inner ≡ sources_around around ++ s ∷ [])
+          (within : Place) (at_node : within.node ≡ next.node + 1) (at_buffer : within.buffer ≡ next.buffer + buffers_in_layout (layout_named s.layout)) where
+        pub field_inside : MayMeasure (fields_in x) head within body cells inner
+        field_inside =
+            inside_may (field_head_of x) (entries_in x) (fields_in x) (forest_seen (drop (i + 1) fields)) head next body count around field_may s of counted has cells cells_are
+            inner inner_rows inner_depth inner_room inner_sources within at_node at_buffer
+
+        module _ (after : Place) (after_node : after.node ≡ within.node + node_count (fields_in x)) (after_buffer : after.buffer ≡ within.buffer + buffer_count (fields_in x)) where
+          node_is : after.node ≡ next.node + nodes_of_tree (tree (field_head_of x) (entries_in x) (fields_in x))
+          node_is = omega (arith, after_node, at_node)
+
+          buffer_is : after.buffer ≡ next.buffer + buffers_of_tree (tree (field_head_of x) (entries_in x) (fields_in x))
+          buffer_is = omega (arith, after_buffer, at_buffer, ap buffers_in_layout of.layout_is)
+
+          pub field_size : size_there body (forest_seen (drop i fields)) head next (spots_in around)
+              ≡ own_size (layout_named s.layout) count counted.has_null counted.total + size_there body (fields_in x) head within (spots_in inner)
+              + size_there body (forest_seen (drop (i + 1) fields)) head after (spots_in around)
+          field_size =
+              seen_first
+              ∙ size_next (field_head_of x) (entries_in x) (fields_in x) (forest_seen (drop (i + 1) fields)) head next body count around field_may s of counted has cells cells_are
+              inner inner_rows inner_depth inner_room inner_sources within at_node at_buffer after node_is buffer_is
+
+          pub field_next : (rest last : ℕ) → rest + own_size (layout_named s.layout) count counted.has_null counted.total ≡ left
+              → last + size_there body (fields_in x) head within (spots_in inner) ≡ rest
+              → Measured (forest_seen fields) head place body count around most (forest_seen (drop (i + 1) fields)) after last
+          field_next rest last own_fits inside_fits =
+              record {
+                may =
+                    next_may (field_head_of x) (entries_in x) (fields_in x) (forest_seen (drop (i + 1) fields)) head next body count around field_may s of counted has cells cells_are
+                    inner inner_rows inner_depth inner_room inner_sources within at_node at_buffer after node_is buffer_is;
+                done =
+                    was.done + own_size (layout_named s.layout) count counted.has_null counted.total
+                    + size_there body (fields_in x) head within (spots_in inner);
+                fits = omega (arith, was.fits, own_fits, inside_fits);
+                whole = sums was.done (own_size (layout_named s.layout) count counted.has_null counted.total) (size_there body (fields_in x) head within (spots_in inner))
+                    (size_there body (forest_seen (drop (i + 1) fields)) head after (spots_in around))
+                    (size_there body (forest_seen (drop i fields)) head next (spots_in around)) (size_there body (forest_seen fields) head place (spots_in around))
+                    field_size was.whole;
+                nodes = omega (arith, was.nodes, ap node_count (forest_next fields i x there is), node_is);
+                buffers = omega (arith, was.buffers, ap buffer_count (forest_next fields i x there is), buffer_is);
+              }
+            where
+              sums : (d o n r w t : ℕ) → w ≡ o + n + r → d + w ≡ t → d + o + n + r ≡ t
+              sums d o n r w t parts all = omega (arith, parts, all)
+
+        -- the columns inside are too many
+        pub inside_long_here : (rest : ℕ) → rest + own_size (layout_named s.layout) count counted.has_null counted.total ≡ left
+            → rest < size_there body (fields_in x) head within (spots_in inner)
+            → most < size_there body (forest_seen fields) head place (spots_in around)
+        inside_long_here rest own_fits long =
+            let after : Place = record {
+              node = within.node + node_count (fields_in x);
+              buffer = within.buffer + buffer_count (fields_in x);
+            } in
+            omega (arith, was.fits, was.whole, field_size after refl refl, own_fits, long)

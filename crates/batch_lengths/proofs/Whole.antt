@@ -1,10 +1,8 @@
 -- Runs of values that are valid.
-use Rattle.std.proofs.Common.{◌≡◌, refl, sym, ap, ap₂, subst, ◌∙◌, ℕ, zero, suc, ◌+◌, ◌-◌, ◌*◌, ◌<◌, ◌≤◌, ◌==◌, ◌||◌, ◌&&◌, Bool, true, false, true≢false, not, if◌then◌else◌, List, [], ◌∷◌, ◌++◌, map, length, arith}
-use Rattle.std.proofs.lemmas.Bool.{eqb-true, ne_eqb}
+use Rattle.std.proofs.Common.{◌≡◌, refl, sym, ap, ap₂, subst, ◌∙◌, ℕ, zero, suc, ◌+◌, ◌-◌, ◌*◌, ◌≤◌, ◌==◌, ◌||◌, Bool, true, false, true≢false, not, if◌then◌else◌, List, [], ◌∷◌, ◌++◌, map, length, arith}
+use Rattle.std.proofs.lemmas.Bool.{eqb-true}
 use Rattle.std.proofs.lemmas.List.Sums.{sum_by-cons}
-use Rattle.std.proofs.lemmas.List.{map-append}
-use Rattle.std.proofs.lemmas.Simd.{map-map}
-use Rattle.std.specs.List.{AllByRecursion, flat_map, range_with_len}
+use Rattle.std.specs.List.{flat_map}
 use native.Mathlib.Nat.{mul-suc}
 use Rattle.bitmaps.specs.Bits.{bit_of, bits_of, zeros}
 use Rattle.batch_types.specs.Layouts.{Layout, null_layout, bits_layout, bytes_layout, binary_layout, utf8_layout}
@@ -18,11 +16,10 @@ use Rattle.batch_reading.specs.Spots.{Spot}
 use Rattle.batch_reading.specs.Taken.{valid_in, is_shown, seen}
 use Rattle.batch_reading.specs.Planned.{spots_under, spots_inside}
 use Rattle.batch_reading.proofs.Planning.{same_in_struct}
-use Rattle.batch_lengths.specs.declared.counted.Counted.{Counted}
-use Rattle.batch_lengths.specs.Along.{run_spots, source_spots, spots_around}
+use Rattle.batch_lengths.specs.Along.{run_spots, source_spots}
 use Rattle.batch_lengths.specs.Counted.{has_null, has_spans, span_length, span_total, IsCounted}
 use Rattle.batch_lengths.specs.Reach.{DoReach, Reaches, ReadsTo, end_inside}
-use Rattle.batch_lengths.proofs.Parts.{range_both, run_both}
+use Rattle.batch_lengths.proofs.Parts.{run_both}
 
 -- ---- which values are null
 
@@ -120,8 +117,15 @@ module _ (offsets : List ℕ) (end : ℕ) (has : DoReach offsets end) where
       starts_to (start + 1) (start + 1 + count) (omega arith) (omega (arith, within)) in
       let rest : start_of 4 offsets (start + 1 + count) - start_of 4 offsets (start + 1) ≡ span_total (list_layout 4) offsets (run_spots (start + 1) count) =
       list_total (start + 1) count (omega (arith, within)) (start_of 4 offsets (start + 1 + count) - start_of 4 offsets (start + 1)) (omega (arith, later)) in
-      omega (arith, is, ap (start_of 4 offsets) same, next, later, rest,
-      sum_by-cons (span_length (list_layout 4) offsets) (start, true) (run_spots (start + 1) count))
+      omega (
+        arith,
+        is,
+        ap (start_of 4 offsets) same,
+        next,
+        later,
+        rest,
+        sum_by-cons (span_length (list_layout 4) offsets) (start, true) (run_spots (start + 1) count),
+      )
 
   list_run : (start count : ℕ) → start + count ≤ end → (n : ℕ) → n + start_of 4 offsets start ≡ start_of 4 offsets (start + count)
       → spots_inside (list_layout 4) offsets (run_spots start count) ≡ run_spots (start_of 4 offsets start) n

@@ -1,6 +1,6 @@
 -- How long the buffers of columns are in the body that is written: Apache Arrow, "Arrow Columnar Format", "Physical
 -- memory layout" and "Buffer alignment and padding". The buffers themselves are defined in `Canonical` of `batch_types`.
-use Rattle.std.specs.Prelude.{◌≡◌, ℕ, ◌+◌, ◌-◌, ◌*◌, ◌^◌, ◌<◌, ◌≤◌, min, pos, ◌≤ℤ◌, Bool, if◌then◌else◌, List, length, get_or}
+use Rattle.std.specs.Prelude.{◌≡◌, ℕ, ◌+◌, ◌*◌, ◌^◌, ◌<◌, ◌≤◌, pos, ◌≤ℤ◌, Bool, if◌then◌else◌, List, length, get_or}
 use Rattle.header_types.specs.declared.header.BatchHead.{BatchHead}
 use Rattle.header_types.specs.Fields.{Forest}
 use Rattle.header_types.specs.Limits.{forest_depth}
@@ -82,13 +82,13 @@ pub record MayMeasure (fields : Forest) (head : BatchHead) (place : Place) (body
   pub counted : (k : ℕ) → k < length head.nodes.items → pos 0 ≤ℤ (get_or head.nodes.items k (pos 0, pos 0)).0
   pub few : (k : ℕ) → k < length head.nodes.items → (get_or head.nodes.items k (pos 0, pos 0)).0 ≤ℤ pos values_limit
 
--- Of the columns of these fields, which begin at the first place, the body has so many bytes without those of the rest: a
--- tool of the proofs.
+-- Of the columns of these fields, which begin at the first place, the body has so many bytes without those of the rest;
+-- of as many as there may be, these are left: a tool of the proofs.
 pub record Measured (fields : Forest) (head : BatchHead) (place : Place) (body : List ℕ) (count : ℕ) (around : Around)
-    (rest : Forest) (next : Place) (total : ℕ) : Type 0 where
+    (most : ℕ) (rest : Forest) (next : Place) (left : ℕ) : Type 0 where
   pub may : MayMeasure rest head next body count around
   pub done : ℕ
-  pub totalled : total ≡ min done (2 ^ 64 - 1)
+  pub fits : left + done ≡ most
   pub whole : done + size_there body rest head next (spots_in around) ≡ size_there body fields head place (spots_in around)
   pub nodes : next.node + node_count rest ≡ place.node + node_count fields
   pub buffers : next.buffer + buffer_count rest ≡ place.buffer + buffer_count fields

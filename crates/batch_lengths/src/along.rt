@@ -91,12 +91,7 @@ fn count_in_run(
 
 /// What is counted of the cells of a column that belong to a run of places around these columns, each around the next.
 #[cycle(counting)]
-pub(crate) fn count_along(
-    around: &[Source],
-    source: &Source,
-    start: usize,
-    count: usize,
-) -> Counted
+pub(crate) fn count_along(around: &[Source], source: &Source, start: usize, count: usize) -> Counted
     requires { ReadsAlong around.now source.now (start + count) }
     ensures { IsCounted source.now (spots_around (run_spots start count) around.now) result }
 {

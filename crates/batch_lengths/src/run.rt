@@ -144,13 +144,14 @@ pub(crate) fn run_inside(source: &Source, start: usize, count: usize) -> (usize,
         ≡ end_inside (layout_named source.now.layout) source.now.second.now (start + count) }
 {
     match source.layout {
-        Layout::List => (start_at(source.second, start), span_of(source.second, start, count)),
+        Layout::List => (
+            start_at(source.second, start),
+            span_of(source.second, start, count),
+        ),
         Layout::FixedSizeList { size } => (size as usize * start, size as usize * count),
         Layout::Struct => (start, count),
-        Layout::Null
-        | Layout::Bits
-        | Layout::Bytes { .. }
-        | Layout::Binary
-        | Layout::Utf8 => (0, 0),
+        Layout::Null | Layout::Bits | Layout::Bytes { .. } | Layout::Binary | Layout::Utf8 => (
+            0, 0,
+        ),
     }
 }

@@ -80,10 +80,6 @@ pub(crate) fn count_inside(layout: Layout, count: usize, total: usize) -> usize
         Layout::List => total,
         Layout::FixedSizeList { size } => size as usize * count,
         Layout::Struct => count,
-        Layout::Null
-        | Layout::Bits
-        | Layout::Bytes { .. }
-        | Layout::Binary
-        | Layout::Utf8 => 0,
+        Layout::Null | Layout::Bits | Layout::Bytes { .. } | Layout::Binary | Layout::Utf8 => 0,
     }
 }

@@ -1,6 +1,6 @@
 use Rattle.std.proofs.Common.{◌∙◌, sym, ap, not}
 use Rattle.batch_lengths.specs.Along.{run_spots}
-use Rattle.batch_lengths.proofs.Whole.{null_by_none, null_by_bits}
+use Rattle.batch_lengths.proofs.Whole.{null_by_none}
 use Rattle.batch_lengths.proofs.run.is_whole.Goals as goal
 
 pub returns-then-is_empty : goal.returns-then-is_empty
