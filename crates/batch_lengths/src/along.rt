@@ -82,6 +82,9 @@ fn count_in_run(
         (end_inside (layout_named first.now.layout) first.now.second.now (start + count)) }
     ensures { IsCounted source.now (spots_around (source_spots first.now (run_spots start count)) rest.now) result }
 {
+    if count == 1 {
+        return count_in_one(first, rest, source, start);
+    }
     if is_whole(first.validity, start, count) {
         count_in_whole(first, rest, source, start, count)
     } else {
