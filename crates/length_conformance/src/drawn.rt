@@ -110,7 +110,10 @@ fn offsets(draw: &mut Draw, count: u64) -> (i64, i64) {
     let long = count.wrapping_add(1);
     let first = draw.below(OFFSETS.saturating_sub(long));
     let start = VALUES.wrapping_add(first.wrapping_mul(4));
-    ((start & 0xffff) as i64, (long.wrapping_mul(4) & 0xffff) as i64)
+    (
+        (start & 0xffff) as i64,
+        (long.wrapping_mul(4) & 0xffff) as i64,
+    )
 }
 
 /// How many bytes the values of a column of so many need.

@@ -83,7 +83,9 @@ pub(crate) fn is_told(
         return Ok(false);
     };
     let is_less_told = length > 0 && told(schema, head, body, length - 1).is_some();
-    Ok(told(schema, head, body, u64::MAX) == Some(length)
-        && told(schema, head, body, length) == Some(length)
-        && !is_less_told)
+    Ok(
+        told(schema, head, body, u64::MAX) == Some(length)
+            && told(schema, head, body, length) == Some(length)
+            && !is_less_told,
+    )
 }

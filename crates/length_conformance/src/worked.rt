@@ -53,8 +53,14 @@ fn shared(alloc: Global) -> Result<(Schema, BatchHead), AllocError> {
 fn columns_that_share_a_buffer_are_counted_each(rt: HostRuntime) -> Result<(), Fail> {
     let (schema, head) = shared(rt.alloc())?;
     let body = [7; 64];
-    assert!(rt; told(&schema, &head, &body, u64::MAX) == Some(32_768), "512 of 64 bytes");
-    assert!(rt; told(&schema, &head, &body, 32_768) == Some(32_768), "as many as may be");
+    assert!(rt;
+        told(&schema, &head, &body, u64::MAX) == Some(32_768),
+        "512 of 64 bytes"
+    );
+    assert!(rt;
+        told(&schema, &head, &body, 32_768) == Some(32_768),
+        "as many as may be"
+    );
     assert!(rt; told(&schema, &head, &body, 32_767).is_none(), "one more");
     assert!(rt; is_told(rt.alloc(), &schema, &head, &body)?, "as written");
     Ok(())
@@ -63,14 +69,15 @@ fn columns_that_share_a_buffer_are_counted_each(rt: HostRuntime) -> Result<(), F
 #[test]
 fn no_row_of_a_long_list_has_no_byte(rt: HostRuntime) -> Result<(), Fail> {
     let alloc = rt.alloc();
-    let ty = Ty::FixedSizeList {
-        list_size: 1 << 30,
-    };
+    let ty = Ty::FixedSizeList { list_size: 1 << 30 };
     let schema = one(alloc, around(alloc, ty, plain(alloc, Ty::Null))?)?;
     let none = head(alloc, 0, &[(0, 0), (0, 0)], &[(0, 0)], 0)?;
     assert!(rt; told(&schema, &none, &[], 0) == Some(0), "no row");
     let row = head(alloc, 1, &[(1, 0), (0, 0)], &[(0, 0)], 0)?;
-    assert!(rt; told(&schema, &row, &[], u64::MAX).is_none(), "a row is not laid out");
+    assert!(rt;
+        told(&schema, &row, &[], u64::MAX).is_none(),
+        "a row is not laid out"
+    );
     assert!(rt; is_told(alloc, &schema, &none, &[])?, "as written");
     Ok(())
 }
@@ -78,13 +85,14 @@ fn no_row_of_a_long_list_has_no_byte(rt: HostRuntime) -> Result<(), Fail> {
 #[test]
 fn nulls_of_a_long_list_have_no_byte(rt: HostRuntime) -> Result<(), Fail> {
     let alloc = rt.alloc();
-    let ty = Ty::FixedSizeList {
-        list_size: 1 << 20,
-    };
+    let ty = Ty::FixedSizeList { list_size: 1 << 20 };
     let schema = one(alloc, around(alloc, ty, plain(alloc, Ty::Null))?)?;
     let nodes = [(16, 16), (1 << 24, 0)];
     let head = head(alloc, 16, &nodes, &[(0, 2)], 2)?;
-    assert!(rt; told(&schema, &head, &[0, 0], u64::MAX) == Some(8), "a bitmap");
+    assert!(rt;
+        told(&schema, &head, &[0, 0], u64::MAX) == Some(8),
+        "a bitmap"
+    );
     assert!(rt; is_told(alloc, &schema, &head, &[0, 0])?, "as written");
     Ok(())
 }
@@ -119,7 +127,10 @@ fn texts_are_counted_from_the_first_offset_on(rt: HostRuntime) -> Result<(), Fai
     body[5] = 3;
     let ranges = [(0, 0), (0, 8), (0, 1024)];
     let head = head(alloc, 1, &[(1, 0)], &ranges, 1024)?;
-    assert!(rt; told(&schema, &head, &body, u64::MAX) == Some(8 + 512), "256 to 768");
+    assert!(rt;
+        told(&schema, &head, &body, u64::MAX) == Some(8 + 512),
+        "256 to 768"
+    );
     assert!(rt; is_told(alloc, &schema, &head, &body)?, "as written");
     Ok(())
 }
@@ -138,14 +149,29 @@ fn what_stands_under_a_null_is_not_counted(rt: HostRuntime) -> Result<(), Fail> 
     let alloc = rt.alloc();
     let schema = lists(alloc)?;
     let body = [
-        0, 0, 0, 0, 2, 0, 0, 0, 3, 0, 0, 0, 4, 0, 0, 0, 5, 0, 0, 0, 0b101, 0b0111, 0, 0, 0, 0, 0, 0, 0, 0, 0, 0, 0,
-        0, 0, 0, 0, 0, 0, 0, 0, 0, 0, 0, 0, 0, 0, 0, 0, 0, 0, 0, 0, 0, 0, 0, 0, 0, 0, 0, 0, 0, 0, 0,
+        0, 0, 0, 0, 2, 0, 0, 0, 3, 0, 0, 0, 4, 0, 0, 0, 5, 0, 0, 0, 0b101, 0b0111, 0, 0, 0, 0, 0,
+        0, 0, 0, 0, 0, 0, 0, 0, 0, 0, 0, 0, 0, 0, 0, 0, 0, 0, 0, 0, 0, 0, 0, 0, 0, 0, 0, 0, 0, 0,
+        0, 0, 0, 0, 0, 0, 0,
     ];
     let nodes = [(3, 1), (3, 0), (4, 1), (5, 0), (3, 0)];
-    let buffers = [(20, 1), (0, 0), (0, 16), (21, 1), (0, 20), (0, 0), (22, 40), (0, 0), (0, 16), (22, 5)];
+    let buffers = [
+        (20, 1),
+        (0, 0),
+        (0, 16),
+        (21, 1),
+        (0, 20),
+        (0, 0),
+        (22, 40),
+        (0, 0),
+        (0, 16),
+        (22, 5),
+    ];
     let head = head(alloc, 3, &nodes, &buffers, 64)?;
     let expected = 8 + 16 + (8 + 16 + 24) + 16 + 8;
-    assert!(rt; told(&schema, &head, &body, u64::MAX) == Some(expected), "the second row is null");
+    assert!(rt;
+        told(&schema, &head, &body, u64::MAX) == Some(expected),
+        "the second row is null"
+    );
     assert!(rt; is_told(alloc, &schema, &head, &body)?, "as written");
     Ok(())
 }
