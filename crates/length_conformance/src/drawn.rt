@@ -35,12 +35,12 @@ impl Draw {
 fn body_of(alloc: Global, draw: &mut Draw) -> Result<Vec<u8>, AllocError> {
     let mut body = Vec::new(alloc);
     for _ in 0..VALUES {
-        body.push(draw.below(128) as u8)?;
+        body.push((draw.below(128) & 0x7f) as u8)?;
     }
     let mut offset = draw.below(3);
     for _ in 0..OFFSETS {
         body.extend_from_slice(&offset.to_le_bytes()[..4])?;
-        offset = (offset.wrapping_add(draw.below(2) * draw.below(2))).min(HIGHEST);
+        offset = (offset.wrapping_add(draw.below(2) & draw.below(2))).min(HIGHEST);
     }
     Ok(body)
 }
