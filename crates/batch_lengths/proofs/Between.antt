@@ -11,15 +11,10 @@ use Rattle.batch_reading.specs.Spots.{Spot}
 use Rattle.batch_reading.specs.Taken.{seen}
 use Rattle.batch_reading.specs.Planned.{elements_taken, spots_under, spots_inside}
 use Rattle.batch_lengths.specs.declared.counted.Counted.{Counted}
-use Rattle.batch_lengths.specs.Along.{run_spots, source_spots, spots_around}
+use Rattle.batch_lengths.specs.Along.{run_spots}
 use Rattle.batch_lengths.specs.Counted.{span_length, span_total, IsCounted}
-use Rattle.batch_lengths.specs.Reach.{DoReach, Reaches, ReadsTo, LeadTo, ReadsAlong, end_inside}
+use Rattle.batch_lengths.specs.Reach.{DoReach, Reaches, ReadsTo, end_inside, Between}
 use Rattle.batch_lengths.proofs.Whole.{starts_to, reach_less}
-
--- each place stands behind the one before, the first not before this one and the last before the other
-abbrev pub Between : ℕ → ℕ → List Spot → Type 0
-Between from end [] = from ≤ end
-Between from end (spot ∷ rest) = (from ≤ spot.0) × Between (spot.0 + 1) end rest
 
 pub between_le : (from end : ℕ) (spots : List Spot) → Between from end spots → from ≤ end
 between_le from end [] is = is
@@ -41,7 +36,7 @@ marked_run mark start (suc count) end within = (omega arith, marked_run mark (st
 pub between_run : (start count end : ℕ) → start + count ≤ end → Between start end (run_spots start count)
 between_run start count end within = marked_run true start count end within
 
-between_seen : (validity : List ℕ) (from end : ℕ) (spots : List Spot) → Between from end spots → Between from end (map (seen validity) spots)
+pub between_seen : (validity : List ℕ) (from end : ℕ) (spots : List Spot) → Between from end spots → Between from end (map (seen validity) spots)
 between_seen validity from end [] is = is
 between_seen validity from end (spot ∷ rest) is = (is.0, between_seen validity (spot.0 + 1) end rest is.1)
 
@@ -109,7 +104,7 @@ nothing_between f none spots = subst (Between 0 0) (sym (nothing spots)) (omega 
     nothing [] = refl
     nothing (x ∷ xs) = ap₂ (λ ys zs. ys ++ zs) (none x) (nothing xs)
 
-inside_between : (layout : Layout) (second : List ℕ) (from end : ℕ) (spots : List Spot) → Reaches layout second end → Between from end spots
+pub inside_between : (layout : Layout) (second : List ℕ) (from end : ℕ) (spots : List Spot) → Reaches layout second end → Between from end spots
     → Between (end_inside layout second from) (end_inside layout second end) (spots_inside layout second spots)
 inside_between null_layout second from end spots reach is = nothing_between (spots_under null_layout second) (λ spot. refl) spots
 inside_between bits_layout second from end spots reach is = nothing_between (spots_under bits_layout second) (λ spot. refl) spots
@@ -119,14 +114,6 @@ inside_between (utf8_layout offset) second from end spots reach is = nothing_bet
 inside_between (list_layout offset) second from end spots reach is = lists_between second end reach from spots is
 inside_between (fixed_size_list_layout size) second from end spots reach is = sized_between size from end second spots is
 inside_between struct_layout second from end spots reach is = struct_between from end second spots is
-
-pub around_between : (around : List Source) (from end inner : ℕ) (spots : List Spot) → LeadTo around end inner → Between from end spots
-    → Between 0 inner (spots_around spots around)
-around_between [] from end inner spots lead is = between_wider 0 from end inner (omega arith) (omega (arith, lead)) spots is
-around_between (s ∷ rest) from end inner spots lead is =
-    around_between rest (end_inside (layout_named s.layout) s.second.now from) (end_inside (layout_named s.layout) s.second.now end) inner
-    (source_spots s spots) lead.1
-    (inside_between (layout_named s.layout) s.second.now from end (map (seen s.validity.now) spots) lead.0.reaches (between_seen s.validity.now from end spots is))
 
 -- ---- what is read of fewer values
 
@@ -141,7 +128,7 @@ layout_less (fixed_size_list_layout size) second less end few reach =
     let up : size * less ≤ size * end = mul-le-mul_left size few in omega (arith, up, reach)
 layout_less struct_layout second less end few reach = tt
 
-end_less : (layout : Layout) (second : List ℕ) (less end : ℕ) → less ≤ end → Reaches layout second end → end_inside layout second less ≤ end_inside layout second end
+pub end_less : (layout : Layout) (second : List ℕ) (less end : ℕ) → less ≤ end → Reaches layout second end → end_inside layout second less ≤ end_inside layout second end
 end_less null_layout second less end few reach = omega arith
 end_less bits_layout second less end few reach = omega arith
 end_less (bytes_layout size) second less end few reach = omega arith
@@ -157,31 +144,13 @@ reads_less s less end few reads = record {
   reaches = layout_less (layout_named s.layout) s.second.now less end few reads.reaches;
 }
 
-lead_less : (around : List Source) (less end inner : ℕ) → less ≤ end → LeadTo around end inner → (n : ℕ) × (n ≤ inner) × LeadTo around less n
-lead_less [] less end inner few lead = (less, omega (arith, few, lead), refl)
-lead_less (s ∷ rest) less end inner few lead =
-    let (n, below, more) = lead_less rest (end_inside (layout_named s.layout) s.second.now less) (end_inside (layout_named s.layout) s.second.now end) inner
-    (end_less (layout_named s.layout) s.second.now less end few lead.0.reaches) lead.1 in
-    (n, below, (reads_less s less end few lead.0, more))
-
-pub along_less : (around : List Source) (s : Source) (less end : ℕ) → less ≤ end → ReadsAlong around s end → ReadsAlong around s less
-along_less around s less end few along =
-    let (n, below, lead) = lead_less around less end along.0 few along.1 in (n, lead, reads_less s n along.0 below along.2)
-
-pub inside_less : (first : Source) (rest : List Source) (s : Source) (less end : ℕ) → less ≤ end → ReadsTo first end
-    → ReadsAlong rest s (end_inside (layout_named first.layout) first.second.now end)
-    → ReadsAlong rest s (end_inside (layout_named first.layout) first.second.now less)
-inside_less first rest s less end few reads along =
-    along_less rest s (end_inside (layout_named first.layout) first.second.now less) (end_inside (layout_named first.layout) first.second.now end)
-    (end_less (layout_named first.layout) first.second.now less end few reads.reaches) along
-
 -- ---- what is counted of it fits
 
 flat_fits : (f : Spot → ℕ) → ((spot : Spot) → f spot ≡ 0) → (xs : List Spot) → sum_by f xs ≡ 0
 flat_fits f none [] = refl
 flat_fits f none (x ∷ xs) = sum_by-cons f x xs ∙ ap₂ (λ m n. m + n) (none x) (flat_fits f none xs)
 
-spans_fit : (layout : Layout) (second : List ℕ) (from end : ℕ) (taken : List Spot) → Reaches layout second end → Between from end taken → span_total layout second taken < 2 ^ 64
+pub spans_fit : (layout : Layout) (second : List ℕ) (from end : ℕ) (taken : List Spot) → Reaches layout second end → Between from end taken → span_total layout second taken < 2 ^ 64
 spans_fit null_layout second from end taken reach is = omega (arith, flat_fits (span_length null_layout second) (λ spot. refl) taken)
 spans_fit bits_layout second from end taken reach is = omega (arith, flat_fits (span_length bits_layout second) (λ spot. refl) taken)
 spans_fit (bytes_layout size) second from end taken reach is = omega (arith, flat_fits (span_length (bytes_layout size) second) (λ spot. refl) taken)
@@ -197,16 +166,3 @@ pub counted_fits : (s : Source) (from end : ℕ) (spots : List Spot) (counted : 
 counted_fits s from end spots counted reads is of =
     subst (λ n. n < 2 ^ 64) (sym of.lengths)
     (spans_fit (layout_named s.layout) s.second.now from end (map (seen s.validity.now) spots) reads.reaches (between_seen s.validity.now from end spots is))
-
-pub along_fits : (around : List Source) (s : Source) (from end : ℕ) (spots : List Spot) (counted : Counted) → ReadsAlong around s end → Between from end spots
-    → IsCounted s (spots_around spots around) counted → counted.total < 2 ^ 64
-along_fits around s from end spots counted along is of =
-    counted_fits s 0 along.0 (spots_around spots around) counted along.2 (around_between around from end along.0 spots along.1 is) of
-
--- the places inside the first column of a run
-pub inside_run : (first : Source) (start count end : ℕ) → start + count ≤ end → ReadsTo first end
-    → Between (end_inside (layout_named first.layout) first.second.now start) (end_inside (layout_named first.layout) first.second.now end)
-    (source_spots first (run_spots start count))
-inside_run first start count end within reads =
-    inside_between (layout_named first.layout) first.second.now start end (map (seen first.validity.now) (run_spots start count)) reads.reaches
-    (between_seen first.validity.now start end (run_spots start count) (between_run start count end within))

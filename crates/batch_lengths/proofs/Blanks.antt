@@ -10,7 +10,6 @@ use Rattle.batch_columns.specs.declared.source.Source.{Source}
 use Rattle.batch_reading.specs.Spots.{Spot}
 use Rattle.batch_reading.specs.Taken.{valid_in, is_shown, seen}
 use Rattle.batch_reading.specs.Planned.{spots_under, spots_inside}
-use Rattle.batch_lengths.specs.Along.{run_spots, source_spots, spots_around}
 use Rattle.batch_lengths.specs.Counted.{span_length, span_total, IsCounted}
 
 -- the cells at these spots are blank
@@ -25,34 +24,28 @@ listed_blank : (mark : Bool) (places : List ℕ) → mark ≡ false → AreBlank
 listed_blank mark [] is = tt
 listed_blank mark (p ∷ ps) is = (is, listed_blank mark ps is)
 
-by_mark : (layout : Layout) (second : List ℕ) (place : ℕ) (mark : Bool) → mark ≡ false → AreBlank (spots_under layout second (place, mark))
-by_mark null_layout second place mark is = tt
-by_mark bits_layout second place mark is = tt
-by_mark (bytes_layout size) second place mark is = tt
-by_mark (binary_layout offset) second place mark is = tt
-by_mark (utf8_layout offset) second place mark is = tt
-by_mark (list_layout offset) second place true is = absurd (true≢false is)
-by_mark (list_layout offset) second place false is = tt
-by_mark (fixed_size_list_layout size) second place mark is = listed_blank mark (range_with_len (size * place) size) is
-by_mark struct_layout second place mark is = (is, tt)
+pub under_blank : (layout : Layout) (second : List ℕ) (place : ℕ) (mark : Bool) → mark ≡ false → AreBlank (spots_under layout second (place, mark))
+under_blank null_layout second place mark is = tt
+under_blank bits_layout second place mark is = tt
+under_blank (bytes_layout size) second place mark is = tt
+under_blank (binary_layout offset) second place mark is = tt
+under_blank (utf8_layout offset) second place mark is = tt
+under_blank (list_layout offset) second place true is = absurd (true≢false is)
+under_blank (list_layout offset) second place false is = tt
+under_blank (fixed_size_list_layout size) second place mark is = listed_blank mark (range_with_len (size * place) size) is
+under_blank struct_layout second place mark is = (is, tt)
 
-inside_blank : (layout : Layout) (second : List ℕ) (spots : List Spot) → AreBlank spots → AreBlank (spots_inside layout second spots)
+pub inside_blank : (layout : Layout) (second : List ℕ) (spots : List Spot) → AreBlank spots → AreBlank (spots_inside layout second spots)
 inside_blank layout second [] all = tt
 inside_blank layout second (spot ∷ spots) all =
-    both_blank (spots_under layout second spot) (spots_inside layout second spots) (by_mark layout second spot.0 spot.1 all.0)
+    both_blank (spots_under layout second spot) (spots_inside layout second spots) (under_blank layout second spot.0 spot.1 all.0)
     (inside_blank layout second spots all.1)
 
-seen_blank : (validity : List ℕ) (spots : List Spot) → AreBlank spots → AreBlank (map (seen validity) spots)
+pub seen_blank : (validity : List ℕ) (spots : List Spot) → AreBlank spots → AreBlank (map (seen validity) spots)
 seen_blank validity [] all = tt
 seen_blank validity (spot ∷ spots) all = (ap (λ mark. mark && valid_in validity spot.0) all.0, seen_blank validity spots all.1)
 
-pub around_blank : (around : List Source) (spots : List Spot) → AreBlank spots → AreBlank (spots_around spots around)
-around_blank [] spots all = all
-around_blank (s ∷ rest) spots all =
-    around_blank rest (source_spots s spots)
-    (inside_blank (layout_named s.layout) s.second.now (map (seen s.validity.now) spots) (seen_blank s.validity.now spots all))
-
-no_nulls : (validity : List ℕ) (spots : List Spot) → AreBlank spots → zeros (map (is_shown validity) spots) ≡ 0
+pub no_nulls : (validity : List ℕ) (spots : List Spot) → AreBlank spots → zeros (map (is_shown validity) spots) ≡ 0
 no_nulls validity [] all = refl
 no_nulls validity (spot ∷ spots) all =
     sum_by-cons (λ bit. if not bit then 1 else 0) (is_shown validity spot) (map (is_shown validity) spots)
@@ -71,25 +64,14 @@ no_span (list_layout offset) second place false is = refl
 no_span (fixed_size_list_layout size) second place mark is = refl
 no_span struct_layout second place mark is = refl
 
-no_spans : (layout : Layout) (second : List ℕ) (spots : List Spot) → AreBlank spots → span_total layout second spots ≡ 0
-no_spans layout second [] all = refl
-no_spans layout second (spot ∷ spots) all =
+pub no_spans_blank : (layout : Layout) (second : List ℕ) (spots : List Spot) → AreBlank spots → span_total layout second spots ≡ 0
+no_spans_blank layout second [] all = refl
+no_spans_blank layout second (spot ∷ spots) all =
     sum_by-cons (span_length layout second) spot spots
-    ∙ ap₂ (λ m n. m + n) (no_span layout second spot.0 spot.1 all.0) (no_spans layout second spots all.1)
+    ∙ ap₂ (λ m n. m + n) (no_span layout second spot.0 spot.1 all.0) (no_spans_blank layout second spots all.1)
 
 pub blank_counted : (s : Source) (spots : List Spot) → AreBlank spots → IsCounted s spots (record { has_null = false; total = 0 })
 blank_counted s spots all = record {
   nulls = ap (λ n. not (n == 0)) (sym (no_nulls s.validity.now spots all));
-  lengths = sym (no_spans (layout_named s.layout) s.second.now (map (seen s.validity.now) spots) (seen_blank s.validity.now spots all));
+  lengths = sym (no_spans_blank (layout_named s.layout) s.second.now (map (seen s.validity.now) spots) (seen_blank s.validity.now spots all));
 }
-
--- nothing is taken under a null
-pub null_blank : (s : Source) (place : ℕ) → valid_in s.validity.now place ≡ false → AreBlank (source_spots s (run_spots place 1))
-null_blank s place null =
-    inside_blank (layout_named s.layout) s.second.now (map (seen s.validity.now) (run_spots place 1)) (null, tt)
-
-pub null_counted : (s first : Source) (rest : List Source) (place : ℕ) → valid_in first.validity.now place ≡ false
-    → IsCounted s (spots_around (source_spots first (run_spots place 1)) rest) (record { has_null = false; total = 0 })
-null_counted s first rest place null =
-    blank_counted s (spots_around (source_spots first (run_spots place 1)) rest)
-    (around_blank rest (source_spots first (run_spots place 1)) (null_blank first place null))

@@ -1,5 +1,5 @@
 -- The columns of a batch that is laid out, and how long the body is that is written of it.
-use Rattle.std.proofs.Common.{◌≡◌, refl, sym, ap, ap₂, subst, ◌∙◌, ℕ, ◌^◌, ◌<◌, true, nat_abs, List, [], ◌∷◌, length, arith}
+use Rattle.std.proofs.Common.{◌≡◌, refl, sym, ap, ap₂, subst, ◌∙◌, ℕ, ◌+◌, ◌^◌, ◌<◌, ◌≤◌, true, nat_abs, List, ◌∷◌, length, arith}
 use Rattle.std.proofs.lemmas.Int.{ints}
 use Rattle.std.proofs.lemmas.List.{length-map}
 use Rattle.std.proofs.lemmas.List.FromFn.{length-range_with_len}
@@ -10,6 +10,7 @@ use Rattle.header_types.specs.declared.schema.Schema.{Schema}
 use Rattle.header_types.specs.Fields.{Forest, no_more, more, SchemaTree}
 use Rattle.header_types.specs.Header.{Head}
 use Rattle.header_types.specs.HeaderViews.{head_of}
+use Rattle.header_types.specs.Limits.{fields_limit}
 use Rattle.header_types.specs.Profile.{InProfile}
 use Rattle.header_types.specs.Views.{schema_of}
 use Rattle.batch_types.specs.Cells.{Rows}
@@ -19,15 +20,15 @@ use Rattle.batch_types.specs.Placed.{cell_at}
 use Rattle.batch_types.specs.Shapes.{shape_of, shapes_of}
 use Rattle.batch_types.specs.Canonical.{blank_of, canonical_body}
 use Rattle.batch_types.proofs.Unique.{columns_are_one}
-use Rattle.batch_columns.specs.declared.place.Place.{Place}
 use Rattle.batch_columns.specs.Sources.{columns_from}
 use Rattle.batch_reading.specs.Built.{cell_wanted, columns_wanted}
 use Rattle.batch_reading.specs.Readable.{columns_there}
 use Rattle.batch_reading.specs.Spots.{Spot}
-use Rattle.batch_lengths.specs.declared.around.Around.{Around}
-use Rattle.batch_lengths.specs.Along.{run_spots, spots_around, sources_around, spots_in}
-use Rattle.batch_lengths.specs.Reach.{LeadTo}
-use Rattle.batch_lengths.specs.Sizes.{columns_size, size_there, MayMeasure}
+use Rattle.batch_lengths.specs.declared.counted.Counted.{Counted}
+use Rattle.batch_lengths.specs.Along.{run_spots}
+use Rattle.batch_lengths.specs.Sizes.{columns_size, size_there, first_place, MayWalk, MayMeasure}
+use Rattle.batch_lengths.specs.Tally.{tally, BeginsWith}
+use Rattle.batch_lengths.proofs.Between.{between_run}
 
 -- all rows are wanted of the columns of a batch
 rows_wanted : (body : List ℕ) (count : ℕ) (f : Forest) (cs : LaidColumns) → AreColumnsOf f cs
@@ -39,55 +40,58 @@ rows_wanted body count (more t ts) (column_then c cs) of =
     ap₂ (λ x xs. x ∷ xs) (map-map (cell_wanted (cell_at body c) (blank_of (shape_of t))) (λ place. (place, true)) (range_with_len 0 count))
     (rows_wanted body count ts cs of.1)
 
-abbrev pub first_place : Place
-first_place = record { node = 0; buffer = 0 }
+few_in_all : (n : ℕ) → n + 0 ≤ fields_limit → 0 + n ≤ fields_limit
+few_in_all n few = omega (arith, few)
 
 module _ (schema : Schema) (head : BatchHead) (body spoken : List ℕ) (profile : InProfile (schema_of schema))
     (sources : (s : SchemaTree) (h : Head) → length h.nodes ≡ node_count s.fields → length h.buffers ≡ buffer_count s.fields
     → HasColumns s h (columns_from s.fields h.nodes h.buffers))
     (spoken_is : spoken ≡ body_of (head_of head) body) (short : length spoken < 2 ^ 64)
     (count : ℕ) (counted : count ≡ nat_abs head.length)
-    (around : Around) (rows_around : around.rows ≡ count) (depth : around.depth ≡ 0) (room : length around.levels ≡ 16) (none : sources_around around ≡ []) where
-  module _ (rows : Rows) (laid_out : LaysOut (schema_of schema) (head_of head) body rows) where
-    columns_are : laid_out.columns ≡ columns_there (schema_of schema).fields head first_place
-    columns_are =
-        columns_are_one (schema_of schema) (head_of head) laid_out.columns (columns_from (schema_of schema).fields head.nodes.items head.buffers.items) laid_out.columns_are
-        (sources (schema_of schema) (head_of head) laid_out.head_kept.1.1.0 laid_out.head_kept.1.1.1.0)
+    (rows : Rows) (laid_out : LaysOut (schema_of schema) (head_of head) body rows) where
+  columns_are : laid_out.columns ≡ columns_there (schema_of schema).fields head first_place
+  columns_are =
+      columns_are_one (schema_of schema) (head_of head) laid_out.columns (columns_from (schema_of schema).fields head.nodes.items head.buffers.items) laid_out.columns_are
+      (sources (schema_of schema) (head_of head) laid_out.head_kept.1.1.0 laid_out.head_kept.1.1.1.0)
 
-    count_is : count ≡ rows.count
-    count_is = counted ∙ ap nat_abs laid_out.count
+  count_is : count ≡ rows.count
+  count_is = counted ∙ ap nat_abs laid_out.count
 
-    spots_are : spots_in around ≡ run_spots 0 rows.count
-    spots_are = ap₂ (λ n l. spots_around (run_spots 0 n) l) (rows_around ∙ count_is) none
+  of_fields : AreColumnsOf (schema_of schema).fields (columns_there (schema_of schema).fields head first_place)
+  of_fields = subst (AreColumnsOf (schema_of schema).fields) columns_are laid_out.columns_are.of_schema
 
-    of_fields : AreColumnsOf (schema_of schema).fields (columns_there (schema_of schema).fields head first_place)
-    of_fields = subst (AreColumnsOf (schema_of schema).fields) columns_are laid_out.columns_are.of_schema
+  pub batch_walk : MayWalk (schema_of schema).fields head first_place spoken count
+  batch_walk = record {
+    places = range_with_len 0 rows.count;
+    few_values = omega (arith, ints, count_is, laid_out.count, laid_out.head_kept.1.0.few);
+    short = short;
+    sound =
+        subst (λ n. AreSound spoken (columns_there (schema_of schema).fields head first_place) n (range_with_len 0 rows.count)) (sym count_is)
+        (subst (λ b. AreSound b (columns_there (schema_of schema).fields head first_place) rows.count (range_with_len 0 rows.count)) (sym spoken_is)
+        (subst (λ cs. AreSound (body_of (head_of head) body) cs rows.count (range_with_len 0 rows.count)) columns_are laid_out.sound));
+    formed = profile.well_formed;
+    nodes_there = omega (arith, laid_out.head_kept.1.1.0);
+    buffers_there = omega (arith, laid_out.head_kept.1.1.1.0);
+    nodes_few = few_in_all (node_count (schema_of schema).fields) profile.within.fields_within;
+    buffers_few = omega arith;
+    counted = laid_out.head_kept.1.0.nodes_counted;
+    few = laid_out.head_kept.1.0.nodes_few;
+  }
 
-    pub batch_may : MayMeasure (schema_of schema).fields head first_place spoken count around
-    batch_may = record {
-      limit = rows.count;
-      places = range_with_len 0 rows.count;
-      lead = subst (λ l. LeadTo l around.rows rows.count) (sym none) (rows_around ∙ count_is);
-      few_values = omega (arith, ints, laid_out.count, laid_out.head_kept.1.0.few);
-      short = short;
-      sound =
-          subst (λ b. AreSound b (columns_there (schema_of schema).fields head first_place) rows.count (range_with_len 0 rows.count)) (sym spoken_is)
-          (subst (λ cs. AreSound (body_of (head_of head) body) cs rows.count (range_with_len 0 rows.count)) columns_are laid_out.sound);
-      wanted =
-          count_is ∙ sym (length-range_with_len 0 rows.count) ∙ sym (length-map {B = Spot} (range_with_len 0 rows.count) (λ place. (place, true))) ∙ ap length (sym spots_are);
-      shallow = omega (arith, depth, profile.not_deep);
-      room = room;
-      formed = profile.well_formed;
-      nodes_there = omega (arith, laid_out.head_kept.1.1.0);
-      buffers_there = omega (arith, laid_out.head_kept.1.1.1.0);
-      counted = laid_out.head_kept.1.0.nodes_counted;
-      few = laid_out.head_kept.1.0.nodes_few;
-    }
+  pub batch_may : (table : List Counted) → BeginsWith table (tally spoken (columns_there (schema_of schema).fields head first_place) (run_spots 0 count))
+      → MayMeasure (schema_of schema).fields head first_place spoken count table (run_spots 0 count)
+  batch_may table begins = record {
+    limit = count;
+    walk = batch_walk;
+    between = between_run 0 count count (omega arith);
+    wanted = sym (length-range_with_len 0 count) ∙ sym (length-map {B = Spot} (range_with_len 0 count) (λ place. (place, true)));
+    tallied = begins;
+  }
 
-    pub body_size : length (canonical_body (schema_of schema) rows) ≡ size_there spoken (schema_of schema).fields head first_place (spots_in around)
-    body_size =
-        ap (columns_size (shapes_of (schema_of schema).fields))
-        (laid_out.cells
-        ∙ ap₂ (λ b cs. columns_at b cs rows.count) (sym spoken_is) columns_are
-        ∙ sym (rows_wanted spoken rows.count (schema_of schema).fields (columns_there (schema_of schema).fields head first_place) of_fields)
-        ∙ ap (columns_wanted spoken (columns_there (schema_of schema).fields head first_place) (shapes_of (schema_of schema).fields)) (sym spots_are))
+  pub body_size : length (canonical_body (schema_of schema) rows) ≡ size_there spoken (schema_of schema).fields head first_place (run_spots 0 count)
+  body_size =
+      ap (columns_size (shapes_of (schema_of schema).fields))
+      (laid_out.cells
+      ∙ ap₂ (λ b cs. columns_at b cs rows.count) (sym spoken_is) columns_are
+      ∙ sym (rows_wanted spoken rows.count (schema_of schema).fields (columns_there (schema_of schema).fields head first_place) of_fields)
+      ∙ ap (λ n. columns_wanted spoken (columns_there (schema_of schema).fields head first_place) (shapes_of (schema_of schema).fields) (run_spots 0 n)) (sym count_is))

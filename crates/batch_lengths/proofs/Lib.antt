@@ -3,8 +3,12 @@ pub mod Blanks
 pub mod Whole
 pub mod Between
 pub mod Steps
+pub mod Marking
+pub mod Tallying
 pub mod Buffers
 pub mod Inside
 pub mod Reached
 pub mod Walking
+pub mod Adding
+pub mod Measuring
 pub mod Laying

@@ -1,5 +1,5 @@
 -- What is wanted, and what is counted of it, in two parts.
-use Rattle.std.proofs.Common.{◌≡◌, refl, sym, ap, ap₂, ◌∙◌, ℕ, zero, suc, ◌+◌, ◌==◌, ◌||◌, true, not, if◌then◌else◌, List, [], ◌∷◌, ◌++◌, map, arith}
+use Rattle.std.proofs.Common.{◌≡◌, sym, ap, ap₂, ◌∙◌, ℕ, zero, suc, ◌+◌, ◌==◌, ◌||◌, true, not, if◌then◌else◌, List, ◌∷◌, ◌++◌, map, arith}
 use Rattle.std.proofs.lemmas.List.{map-append}
 use Rattle.std.proofs.lemmas.List.Sums.{sum_by-append}
 use Rattle.std.proofs.lemmas.Bool.{ne_eqb}
@@ -13,7 +13,7 @@ use Rattle.batch_reading.specs.Spots.{Spot}
 use Rattle.batch_reading.specs.Taken.{is_shown, seen}
 use Rattle.batch_reading.specs.Planned.{spots_under, spots_inside}
 use Rattle.batch_lengths.specs.declared.counted.Counted.{Counted}
-use Rattle.batch_lengths.specs.Along.{run_spots, source_spots, spots_around}
+use Rattle.batch_lengths.specs.Along.{run_spots, source_spots}
 use Rattle.batch_lengths.specs.Counted.{has_null, span_length, span_total, IsCounted}
 
 -- ---- runs
@@ -44,18 +44,6 @@ pub source_both : (s : Source) (xs ys : List Spot) → source_spots s (xs ++ ys)
 source_both s xs ys =
     ap (spots_inside (layout_named s.layout) s.second.now) (map-append (seen s.validity.now) xs ys)
     ∙ inside_both (layout_named s.layout) s.second.now (map (seen s.validity.now) xs) (map (seen s.validity.now) ys)
-
-pub around_both : (around : List Source) (xs ys : List Spot) → spots_around (xs ++ ys) around ≡ spots_around xs around ++ spots_around ys around
-around_both [] xs ys = refl
-around_both (s ∷ rest) xs ys = ap (λ l. spots_around l rest) (source_both s xs ys) ∙ around_both rest (source_spots s xs) (source_spots s ys)
-
-pub around_none : (around : List Source) → spots_around [] around ≡ []
-around_none [] = refl
-around_none (s ∷ rest) = around_none rest
-
-pub around_more : (spots : List Spot) (around : List Source) (s : Source) → spots_around spots (around ++ s ∷ []) ≡ source_spots s (spots_around spots around)
-around_more spots [] s = refl
-around_more spots (x ∷ rest) s = around_more (source_spots x spots) rest s
 
 -- ---- what is counted
 

@@ -1,5 +1,5 @@
 -- A column that keeps its rules can be read as far as it is asked.
-use Rattle.std.proofs.Common.{◌≡◌, inl, inr, refl, sym, ap, subst, ◌∙◌, ℕ, zero, suc, ◌+◌, ◌-◌, ◌*◌, ◌^◌, ◌<◌, ◌≤◌, ◌≤ℤ◌, pos, nat_abs, List, [], ◌∷◌, ◌++◌, length, drop, arith, mul-le-mul_left, length-take, length-drop}
+use Rattle.std.proofs.Common.{◌≡◌, inl, inr, refl, sym, ap, subst, ◌∙◌, ℕ, zero, suc, ◌+◌, ◌-◌, ◌*◌, ◌^◌, ◌<◌, ◌≤◌, ◌≤ℤ◌, pos, nat_abs, List, [], ◌∷◌, length, drop, arith, mul-le-mul_left, length-take, length-drop}
 use Rattle.std.proofs.lemmas.Int.{ints}
 use Rattle.header_types.specs.Fields.{tree, Forest, no_more, more, width}
 use Rattle.batch_types.specs.Layouts.{list_layout, fixed_size_list_layout, struct_layout}
@@ -12,20 +12,11 @@ use Rattle.batch_columns.specs.Held.{layout_named}
 use Rattle.batch_columns.specs.Sources.{columns_from}
 use Rattle.batch_columns.specs.declared.layout.Layout.{Layout as Declared}
 use Rattle.batch_columns.specs.declared.layout.Layout.TheVariants.{Null, Bits, Bytes, Binary, Utf8, List as Lists, FixedSizeList, Struct}
-use Rattle.batch_columns.specs.declared.source.Source.{Source}
 use Rattle.batch_reading.specs.Spots.{Spot}
 use Rattle.batch_reading.proofs.Fitting.{MayHave}
-use Rattle.batch_lengths.specs.Reach.{DoReach, Reaches, ReadsTo, LeadTo, end_inside}
-use Rattle.batch_lengths.proofs.Between.{Between, between_le}
+use Rattle.batch_lengths.specs.Reach.{DoReach, Reaches, Between, end_inside}
+use Rattle.batch_lengths.proofs.Between.{between_le}
 use Rattle.batch_lengths.proofs.Buffers.{AreBelow, AreThere}
-
--- ---- lists of columns
-
-pub lead_more : (around : List Source) (end inner : ℕ) (s : Source) → LeadTo around end inner → ReadsTo s inner
-    → LeadTo (around ++ s ∷ []) end (end_inside (layout_named s.layout) s.second.now inner)
-lead_more [] end inner s lead reads = (subst (ReadsTo s) (sym lead) reads, ap (end_inside (layout_named s.layout) s.second.now) lead)
-lead_more (x ∷ rest) end inner s lead reads =
-    (lead.0, lead_more rest (end_inside (layout_named x.layout) x.second.now end) inner s lead.1 reads)
 
 pub between_below : (from limit : ℕ) (spots : List Spot) → Between from limit spots → AreBelow limit spots
 between_below from limit [] is = tt
@@ -108,7 +99,7 @@ one_less body (laid layout node ranges inner) asked less places few sound =
     let kept = sound.0 in
     ((kept.0, (kept.1.0, (kept.1.1.0, (omega (arith, few, kept.1.1.1.0), kept.1.1.1.1)))), sound.1)
 
-sound_less : (body : List ℕ) (columns : LaidColumns) (asked less : ℕ) (places : List ℕ) → less ≤ asked → AreSound body columns asked places → AreSound body columns less places
+pub sound_less : (body : List ℕ) (columns : LaidColumns) (asked less : ℕ) (places : List ℕ) → less ≤ asked → AreSound body columns asked places → AreSound body columns less places
 sound_less body no_column asked less places few sound = tt
 sound_less body (column_then column rest) asked less places few sound =
     (one_less body column asked less places few sound.0, sound_less body rest asked less places few sound.1)

@@ -1,14 +1,13 @@
--- Which cells a column has once it is written, where other columns stand around it: a tool of contracts. Which are wanted
--- inside one column is defined in `Planned` of `batch_reading`, after Apache Arrow, "Arrow Columnar Format", "Physical
--- memory layout".
-use Rattle.std.specs.Prelude.{ℕ, true, List, [], ◌∷◌, map, take}
+-- Which cells of a column are wanted: tools of contracts. Which are wanted inside a column is defined in `Planned` of
+-- `batch_reading`, after Apache Arrow, "Arrow Columnar Format", "Physical memory layout".
+use Rattle.std.specs.Prelude.{◌≡◌, ℕ, ◌+◌, ◌<◌, ◌≤◌, ◌||◌, Bool, true, false, List, map, get_or}
 use Rattle.std.specs.List.{range_with_len}
 use Rattle.batch_columns.specs.Held.{layout_named}
 use Rattle.batch_columns.specs.declared.source.Source.{Source}
 use Rattle.batch_reading.specs.Spots.{Spot}
-use Rattle.batch_reading.specs.Taken.{seen}
+use Rattle.batch_reading.specs.Taken.{valid_in, seen}
 use Rattle.batch_reading.specs.Planned.{spots_inside}
-use Rattle.batch_lengths.specs.declared.around.Around.{Around}
+use Rattle.batch_lengths.specs.declared.marks.Marks.{Marks}
 
 -- so many following places, whose cells are wanted
 abbrev pub run_spots : ℕ → ℕ → List Spot
@@ -19,16 +18,20 @@ abbrev pub source_spots : Source → List Spot → List Spot
 source_spots source spots =
     spots_inside (layout_named source.layout) source.second.now (map (seen source.validity.now) spots)
 
--- and inside columns, each around the next
-abbrev pub spots_around : List Spot → List Source → List Spot
-spots_around spots [] = spots
-spots_around spots (source ∷ rest) = spots_around (source_spots source spots) rest
+-- ---- marks
 
--- ---- the columns around others
+-- whether the cell of this number among the marked ones is wanted
+abbrev pub mark_of : Marks → ℕ → Bool
+mark_of marks number = marks.all || get_or marks.set number false
 
-abbrev pub sources_around : Around → List Source
-sources_around around = take around.depth around.levels
+abbrev pub spots_marked : Marks → List Spot
+spots_marked marks = map (λ number. (marks.start + number, mark_of marks number)) (range_with_len 0 marks.count)
 
--- what is wanted inside them
-abbrev pub spots_in : Around → List Spot
-spots_in around = spots_around (run_spots 0 around.rows) (sources_around around)
+-- there are marks for all of them
+abbrev pub IsMarked : Marks → Type 0
+IsMarked marks = (0 < marks.count) × (marks.all ≡ false → marks.count ≤ 256)
+
+-- those that are wanted are valid by a bitmap
+abbrev pub AreTaken : List ℕ → Marks → Type 0
+AreTaken validity marks =
+    (number : ℕ) → number < marks.count → mark_of marks number ≡ true → valid_in validity (marks.start + number) ≡ true

@@ -1,11 +1,12 @@
--- How far columns are read, each around the next: Apache Arrow, "Arrow Columnar Format", "Physical memory layout".
-use Rattle.std.specs.Prelude.{◌≡◌, ℕ, ◌+◌, ◌*◌, ◌^◌, ◌<◌, ◌≤◌, List, [], ◌∷◌, length}
+-- How far columns are read: Apache Arrow, "Arrow Columnar Format", "Physical memory layout".
+use Rattle.std.specs.Prelude.{ℕ, ◌+◌, ◌*◌, ◌^◌, ◌<◌, ◌≤◌, List, [], ◌∷◌, length}
 use Rattle.batch_types.specs.Layouts.{Layout, null_layout, bits_layout, bytes_layout, binary_layout, utf8_layout}
 use Rattle.batch_types.specs.Layouts.{list_layout, fixed_size_list_layout, struct_layout}
 use Rattle.batch_types.specs.Placed.{start_of}
 use Rattle.batch_types.specs.LaysOut.{values_limit}
 use Rattle.batch_columns.specs.Held.{layout_named}
 use Rattle.batch_columns.specs.declared.source.Source.{Source}
+use Rattle.batch_reading.specs.Spots.{Spot}
 
 -- where inside a column the places end that belong to its values before this place
 abbrev pub end_inside : Layout → List ℕ → ℕ → ℕ
@@ -39,12 +40,7 @@ pub record ReadsTo (source : Source) (end : ℕ) : Type 0 where
   pub few : end ≤ values_limit
   pub reaches : Reaches (layout_named source.layout) source.second.now end
 
--- so can those of columns, each around the next; inside the last of them they end here
-abbrev pub LeadTo : List Source → ℕ → ℕ → Type 0
-LeadTo [] end inner = end ≡ inner
-LeadTo (source ∷ rest) end inner =
-    ReadsTo source end × LeadTo rest (end_inside (layout_named source.layout) source.second.now end) inner
-
--- and those of a column inside them
-abbrev pub ReadsAlong : List Source → Source → ℕ → Type 0
-ReadsAlong around source end = (inner : ℕ) × LeadTo around end inner × ReadsTo source inner
+-- each place stands behind the one before, the first not before this one and the last before the other
+abbrev pub Between : ℕ → ℕ → List Spot → Type 0
+Between from end [] = from ≤ end
+Between from end (spot ∷ rest) = (from ≤ spot.0) × Between (spot.0 + 1) end rest

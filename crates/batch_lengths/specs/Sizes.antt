@@ -1,9 +1,9 @@
 -- How long the buffers of columns are in the body that is written: Apache Arrow, "Arrow Columnar Format", "Physical
 -- memory layout" and "Buffer alignment and padding". The buffers themselves are defined in `Canonical` of `batch_types`.
-use Rattle.std.specs.Prelude.{◌≡◌, ℕ, ◌+◌, ◌*◌, ◌^◌, ◌<◌, ◌≤◌, pos, ◌≤ℤ◌, Bool, if◌then◌else◌, List, length, get_or}
+use Rattle.std.specs.Prelude.{◌≡◌, ℕ, ◌+◌, ◌*◌, ◌^◌, ◌<◌, ◌≤◌, pos, ◌≤ℤ◌, Bool, if◌then◌else◌, List, length, drop, get_or}
 use Rattle.header_types.specs.declared.header.BatchHead.{BatchHead}
 use Rattle.header_types.specs.Fields.{Forest}
-use Rattle.header_types.specs.Limits.{forest_depth}
+use Rattle.header_types.specs.Limits.{fields_limit}
 use Rattle.header_types.specs.Profile.{IsWellFormedForest}
 use Rattle.batch_types.specs.Cells.{Cell}
 use Rattle.batch_types.specs.Layouts.{Layout, null_layout, bits_layout, bytes_layout, binary_layout, utf8_layout}
@@ -17,9 +17,9 @@ use Rattle.batch_columns.specs.declared.place.Place.{Place}
 use Rattle.batch_reading.specs.Built.{columns_wanted}
 use Rattle.batch_reading.specs.Readable.{columns_there}
 use Rattle.batch_reading.specs.Spots.{Spot}
-use Rattle.batch_lengths.specs.declared.around.Around.{Around}
-use Rattle.batch_lengths.specs.Along.{sources_around, spots_in}
-use Rattle.batch_lengths.specs.Reach.{LeadTo}
+use Rattle.batch_lengths.specs.declared.counted.Counted.{Counted}
+use Rattle.batch_lengths.specs.Reach.{Between}
+use Rattle.batch_lengths.specs.Tally.{tally, BeginsWith}
 
 -- ---- one column
 
@@ -63,32 +63,37 @@ abbrev pub size_there : List ℕ → Forest → BatchHead → Place → List Spo
 size_there body fields head place spots =
     columns_size (shapes_of fields) (columns_wanted body (columns_there fields head place) (shapes_of fields) spots)
 
--- the header has the columns of these fields from this place on, they keep their rules, and of each so many cells are
--- wanted inside the columns around
-pub record MayMeasure (fields : Forest) (head : BatchHead) (place : Place) (body : List ℕ) (count : ℕ) (around : Around)
-    : Type 0 where
-  pub limit : ℕ
+abbrev pub first_place : Place
+first_place = record { node = 0; buffer = 0 }
+
+-- the header has the columns of these fields from this place on, and they keep their rules where so many values are asked
+pub record MayWalk (fields : Forest) (head : BatchHead) (place : Place) (body : List ℕ) (end : ℕ) : Type 0 where
   pub places : List ℕ
-  pub lead : LeadTo (sources_around around) around.rows limit
-  pub few_values : limit ≤ values_limit
+  pub few_values : end ≤ values_limit
   pub short : length body < 2 ^ 64
-  pub sound : AreSound body (columns_there fields head place) limit places
-  pub wanted : count ≡ length (spots_in around)
-  pub shallow : around.depth + forest_depth fields ≤ 16
-  pub room : length around.levels ≡ 16
+  pub sound : AreSound body (columns_there fields head place) end places
   pub formed : IsWellFormedForest fields
   pub nodes_there : place.node + node_count fields ≤ length head.nodes.items
   pub buffers_there : place.buffer + buffer_count fields ≤ length head.buffers.items
+  pub nodes_few : place.node + node_count fields ≤ fields_limit
+  pub buffers_few : place.buffer ≤ 3 * place.node
   pub counted : (k : ℕ) → k < length head.nodes.items → pos 0 ≤ℤ (get_or head.nodes.items k (pos 0, pos 0)).0
   pub few : (k : ℕ) → k < length head.nodes.items → (get_or head.nodes.items k (pos 0, pos 0)).0 ≤ℤ pos values_limit
 
+-- the same, the table has what was counted of them at these spots, which stand in order, and there are so many
+pub record MayMeasure (fields : Forest) (head : BatchHead) (place : Place) (body : List ℕ) (count : ℕ) (table : List Counted)
+    (spots : List Spot) : Type 0 where
+  pub limit : ℕ
+  pub walk : MayWalk fields head place body limit
+  pub between : Between 0 limit spots
+  pub wanted : count ≡ length spots
+  pub tallied : BeginsWith (drop place.node table) (tally body (columns_there fields head place) spots)
+
 -- Of the columns of these fields, which begin at the first place, the body has so many bytes without those of the rest;
 -- of as many as there may be, these are left: a tool of the proofs.
-pub record Measured (fields : Forest) (head : BatchHead) (place : Place) (body : List ℕ) (count : ℕ) (around : Around)
-    (most : ℕ) (rest : Forest) (next : Place) (left : ℕ) : Type 0 where
-  pub may : MayMeasure rest head next body count around
+pub record Measured (fields : Forest) (head : BatchHead) (place : Place) (body : List ℕ) (count : ℕ) (table : List Counted)
+    (spots : List Spot) (most : ℕ) (rest : Forest) (next : Place) (left : ℕ) : Type 0 where
+  pub may : MayMeasure rest head next body count table spots
   pub done : ℕ
   pub fits : left + done ≡ most
-  pub whole : done + size_there body rest head next (spots_in around) ≡ size_there body fields head place (spots_in around)
-  pub nodes : next.node + node_count rest ≡ place.node + node_count fields
-  pub buffers : next.buffer + buffer_count rest ≡ place.buffer + buffer_count fields
+  pub whole : done + size_there body rest head next spots ≡ size_there body fields head place spots

@@ -1,6 +1,7 @@
 //! What is counted of cells.
 
 ghost use Rattle.std.specs.Prelude.{◌≡◌, ◌+◌, ◌^◌, ◌<◌, ◌||◌, false};
+ghost use Rattle.batch_lengths.specs.Tally.{plus as sum_of};
 
 /// What is counted of the cells of a column.
 #[derive(Clone, Copy, Debug, PartialEq, Eq)]
@@ -27,6 +28,16 @@ impl Counted {
         Counted {
             has_null: self.has_null || others.has_null,
             total: self.total + others.total,
+        }
+    }
+
+    /// Of these cells and of others, up to the largest number.
+    pub(crate) fn plus(self, others: Counted) -> Counted
+        ensures { result ≡ sum_of self others }
+    {
+        Counted {
+            has_null: self.has_null || others.has_null,
+            total: self.total.saturating_add(others.total),
         }
     }
 }

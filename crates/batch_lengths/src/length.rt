@@ -6,13 +6,20 @@ ghost use Rattle.header_types.specs.Profile.{InProfile};
 ghost use Rattle.header_types.specs.Views.{schema_of};
 ghost use Rattle.batch_types.specs.Canonical.{canonical_body};
 ghost use Rattle.batch_types.specs.Cells.{Rows};
+ghost use Rattle.batch_types.specs.Laid.{node_count};
 ghost use Rattle.batch_types.specs.LaysOut.{LaysOut, body_of};
+ghost use Rattle.batch_reading.specs.Readable.{columns_there};
+ghost use Rattle.batch_lengths.specs.Along.{run_spots};
+ghost use Rattle.batch_lengths.specs.Sizes.{MayWalk, first_place};
+ghost use Rattle.batch_lengths.specs.Tally.{tally, added_from, BeginsWith};
 
-use crate::around::Around;
+use crate::counted::Counted;
 use crate::fields::fields_left;
+use crate::marks::Marks;
+use crate::walk::walk;
 use batch_columns::Place;
 use batch_columns::laws::sources_are_the_columns;
-use header_types::{BatchHead, Schema};
+use header_types::{BatchHead, MAX_FIELDS, Schema};
 
 /// The most bytes that a header can say, which it does as a signed number of 64 bits.
 const LONGEST: u64 = (1 << 63) - 1;
@@ -33,14 +40,38 @@ fn spoken_of<'a>(head: &BatchHead, body: &'a [u8]) -> &'a [u8]
     &body[..head.body_length.unsigned_abs() as usize]
 }
 
+/// Adds to the table what is counted of so many rows of each column.
+fn count_rows(schema: &Schema, head: &BatchHead, body: &[u8], rows: usize, table: &mut [Counted])
+    requires may { MayWalk (schema_of schema.now).fields head.now first_place body.now rows }
+    requires room { node_count (schema_of schema.now).fields ≤ length table.old }
+    ensures { table.new ≡ added_from 0 table.old
+        (tally body.now (columns_there (schema_of schema.now).fields head.now first_place) (run_spots 0 rows)) }
+{
+    if rows > 0 {
+        let marks = Marks::run(0, rows);
+        walk(&schema.fields, head, Place::FIRST, body, &marks, table);
+    }
+}
+
+/// What is counted of so many rows of each column, in the order of the nodes.
+fn counted(schema: &Schema, head: &BatchHead, body: &[u8], rows: usize) -> [Counted; MAX_FIELDS]
+    requires { MayWalk (schema_of schema.now).fields head.now first_place body.now rows }
+    ensures { BeginsWith result
+        (tally body.now (columns_there (schema_of schema.now).fields head.now first_place) (run_spots 0 rows)) }
+{
+    let mut table = [Counted::NONE; MAX_FIELDS];
+    count_rows(schema, head, body, rows, &mut table);
+    table
+}
+
 /// How many bytes the body has that is written of the batch that a header and a body lay out for a schema (Apache Arrow,
 /// "Arrow Columnar Format", "RecordBatch message"), however many of its columns share the bytes that they name; `None`
 /// exactly where they are more than `most`, or 2^63 or more, which no header can say. It is known that a batch is laid out,
 /// and that the schema is in profile ([`Schema::in_profile`]).
 ///
-/// It takes no memory. It takes time in proportion to the bytes of the columns' buffers, where those of the columns around a
-/// column are counted again for it. A column is looked into only where a value of it may be null, or where values have any
-/// number of bytes or elements; and none is once there are more than `most` bytes.
+/// It takes no memory but a table of one entry for each field that a schema may have. Each column costs its own values: they
+/// are counted a run at a time where nothing around them is null, in blocks inside structures, and else for each value around
+/// them. A column is looked into only where a value of it may be null, or where values have any number of bytes or elements.
 pub fn canonical_length(schema: &Schema, head: &BatchHead, body: &[u8], most: u64) -> Option<u64>
     requires profile { InProfile (schema_of schema.now) }
     requires laid { (rows : Rows) × LaysOut (schema_of schema.now) (head_of head.now) body.now rows }
@@ -54,18 +85,18 @@ pub fn canonical_length(schema: &Schema, head: &BatchHead, body: &[u8], most: u6
     sources_are_the_columns();
     let most = most.min(LONGEST);
     let rows = row_count(head);
-    let around = Around::none(rows);
     let spoken = spoken_of(head, body);
+    let table = counted(schema, head, spoken, rows);
     match fields_left(
         &schema.fields,
         head,
         Place::FIRST,
         spoken,
         rows,
-        &around,
+        &table,
         most,
     ) {
-        Some((left, _)) => Some(most - left),
+        Some(left) => Some(most - left),
         None => None,
     }
 }

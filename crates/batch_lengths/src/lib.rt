@@ -5,23 +5,23 @@
 //! says that length and takes no memory: who has a limit asks it between `check_batch` of `batch_checking` and `build_batch`
 //! of `batch_reading`, and builds nothing that is too long.
 //!
-//! The columns are gone over depth first (`fields`). How many cells a column has follows from the column around it; whether
-//! one of them is null, and how many bytes or elements they have, is counted from the rows down through the columns around it
-//! (`along`), a run of following places at a time (`run`) for as long as nothing in it is null; `sizes` says from that how long
-//! the column's own buffers are.
+//! The columns are gone over twice, depth first, and each time once. The first time (`walk`) what follows from their values is
+//! added up in a table with an entry for each node: whether one of the cells that are written is null, and how many bytes or
+//! elements these have. Where no value is null a run of following places is counted at once (`run`), and else a block of
+//! places with a mark for each (`marks`). The second time (`fields`) the table says how many cells each column has and how
+//! long its own buffers are (`sizes`).
 //!
-//! In `specs/`, `Along` says which cells a column has once it is written, where others stand around it, `Counted` what is
-//! counted of them, `Reach` how far a column is read, and `Sizes` how long buffers are; they are tools of contracts. Which
-//! cells are wanted inside a column is defined in `specs/` of `batch_reading`, and the body that is written in `Canonical` of
-//! `batch_types`.
+//! In `specs/`, `Along` says which cells of a column are wanted, `Counted` and `Tally` what is counted of one and of several,
+//! `Reach` how far a column is read, and `Sizes` how long buffers are; they are tools of contracts. Which cells are wanted
+//! inside a column is defined in `specs/` of `batch_reading`, and the body that is written in `Canonical` of `batch_types`.
 #![tactic(auto)]
 
-mod along;
-mod around;
 mod counted;
 mod fields;
 mod length;
+mod marks;
 mod run;
 mod sizes;
+mod walk;
 
 pub use length::canonical_length;

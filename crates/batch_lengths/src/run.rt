@@ -89,7 +89,7 @@ fn count_whole(source: &Source, start: usize, count: usize) -> Counted
 }
 
 /// What is counted of the value at a place.
-fn count_one(source: &Source, place: usize) -> Counted
+pub(crate) fn count_one(source: &Source, place: usize) -> Counted
     requires { ReadsTo source.now (place + 1) }
     ensures { IsCounted source.now (run_spots place 1) result }
 {

@@ -1,7 +1,8 @@
-use Rattle.std.proofs.Common.{drop}
+use Rattle.std.proofs.Common.{List, drop}
 use Rattle.batch_types.specs.Laid.{node_count}
 use Rattle.batch_reading.specs.Readable.{forest_seen}
-use Rattle.batch_lengths.specs.Sizes.{Measured}
+use Rattle.batch_reading.specs.Spots.{Spot}
+use Rattle.batch_lengths.specs.Sizes.{MayMeasure, Measured}
 use Rattle.batch_lengths.proofs.fields.+fields_left.Given as goal
 
 abbrev pub decreases-fields_left : goal.decreases-fields_left
@@ -9,4 +10,5 @@ decreases-fields_left l = node_count (forest_seen l.fields.now)
 
 abbrev pub invariant-loop-field : goal.invariant-loop-field
 invariant-loop-field l =
-    Measured (forest_seen l.fn.fields) l.fn.head l.fn.place l.fn.body l.fn.count l.fn.around l.fn.most (forest_seen (drop l.field-index l.fn.fields)) l.next l.left
+    (spots : List Spot) → MayMeasure (forest_seen l.fn.fields) l.fn.head l.fn.place l.fn.body l.fn.count l.fn.table spots
+    → Measured (forest_seen l.fn.fields) l.fn.head l.fn.place l.fn.body l.fn.count l.fn.table spots l.fn.most (forest_seen (drop l.field-index l.fn.fields)) l.next l.left

@@ -1,0 +1,310 @@
+//! What is counted of the columns of fields, in one walk from the rows down.
+
+ghost use Rattle.std.specs.Prelude.{◌≡◌, ◌+◌, ◌-◌, ◌*◌, ◌<◌, ◌≤◌, ◌≤ℤ◌, ◌∷◌, [], ℕ, List, pos, min, map, length, get_or, true, false, IsTrue};
+ghost use Rattle.header_types.specs.Fields.{tree, more, no_more};
+ghost use Rattle.header_types.specs.FieldView.{field_head_of, entries_in, fields_in};
+ghost use Rattle.header_types.specs.Limits.{fields_limit};
+ghost use Rattle.batch_types.specs.Laid.{node_count};
+ghost use Rattle.batch_types.specs.LaysOut.{values_limit};
+ghost use Rattle.batch_types.specs.Layouts.{layout_of as layout_of_type, buffers_in_layout};
+ghost use Rattle.batch_columns.specs.Held.{layout_named};
+ghost use Rattle.batch_columns.specs.Read.{column_at, IsSourceOf, LiesInside};
+ghost use Rattle.batch_columns.specs.Sources.{nodes_of_tree, buffers_of_tree};
+ghost use Rattle.batch_reading.specs.Planned.{spots_inside};
+ghost use Rattle.batch_reading.specs.Readable.{forest_seen, columns_there};
+ghost use Rattle.batch_reading.specs.Spots.{Spot};
+ghost use Rattle.batch_reading.specs.Taken.{seen};
+ghost use Rattle.batch_lengths.specs.Along.{run_spots, source_spots, mark_of, spots_marked, IsMarked, AreTaken};
+ghost use Rattle.batch_lengths.specs.Reach.{ReadsTo, end_inside};
+ghost use Rattle.batch_lengths.specs.Sizes.{MayWalk};
+ghost use Rattle.batch_lengths.specs.Tally.{tally, tally_of, added_from};
+
+use crate::counted::Counted;
+use crate::marks::{BLOCK, Marks, count_marks};
+use crate::run::{is_whole, run_inside};
+use batch_columns::{Layout, Place, Source, layout_of, place_behind, source_at};
+use header_types::{BatchHead, Field};
+
+/// The column of a field as the header and the body have it, whose buffers lie inside the body.
+fn source_of<'a>(field: &Field, head: &BatchHead, place: Place, body: &'a [u8]) -> Source<'a>
+    requires node { place.node < length head.now.nodes.items }
+    requires counted { pos 0 ≤ℤ (get_or head.now.nodes.items place.node (pos 0, pos 0)).0 }
+    requires buffers { place.buffer + buffers_in_layout (layout_of_type (field_head_of field.now).data_type)
+        ≤ length head.now.buffers.items }
+    requires inside { LiesInside body.now (column_at field.now head.now place) }
+    ensures { IsSourceOf body.now (column_at field.now head.now place) result }
+{
+    source_at(field, head, place, body).unwrap()
+}
+
+/// Where the column behind that of a field and behind those inside it stands.
+pub(crate) fn place_after(field: &Field, place: Place) -> Place
+    requires node { place.node + 1 + node_count (fields_in field.now) ≤ fields_limit }
+    requires buffer { place.buffer ≤ 3 * place.node }
+    ensures node { result.node ≡ place.node + nodes_of_tree
+        (tree (field_head_of field.now) (entries_in field.now) (fields_in field.now)) }
+    ensures buffer { result.buffer ≡ place.buffer + buffers_of_tree
+        (tree (field_head_of field.now) (entries_in field.now) (fields_in field.now)) }
+    ensures few { result.buffer ≤ 3 * result.node }
+{
+    place_behind(&field.children, place.inside(layout_of(&field.ty)))
+}
+
+/// Whether the places inside a column are those of its values themselves.
+fn has_same_places(layout: Layout) -> bool
+    ensures spots { IsTrue result → (second : List ℕ) (spots : List Spot)
+        → spots_inside (layout_named layout) second spots ≡ spots }
+    ensures ends { IsTrue result → (second : List ℕ) (end : ℕ) → end_inside (layout_named layout) second end ≡ end }
+{
+    match layout {
+        Layout::Struct => true,
+        Layout::FixedSizeList { size } => size == 1,
+        Layout::List
+        | Layout::Null
+        | Layout::Bits
+        | Layout::Bytes { .. }
+        | Layout::Binary
+        | Layout::Utf8 => false,
+    }
+}
+
+/// Counts what is inside the value of this number, where it is wanted.
+#[cycle(walking)]
+fn walk_place(
+    field: &Field,
+    source: &Source,
+    head: &BatchHead,
+    first: Place,
+    body: &[u8],
+    marks: &Marks,
+    number: usize,
+    table: &mut [Counted],
+)
+    requires there { number < marks.now.count }
+    requires taken { AreTaken source.now.validity.now marks.now }
+    requires reads { ReadsTo source.now (marks.now.start + marks.now.count) }
+    requires may { MayWalk (fields_in field.now) head.now first body.now
+        (end_inside (layout_named source.now.layout) source.now.second.now (marks.now.start + marks.now.count)) }
+    requires room { first.node + node_count (fields_in field.now) ≤ length table.old }
+    ensures { table.new ≡ added_from first.node table.old (tally body.now (columns_there (fields_in field.now) head.now first)
+        (spots_inside (layout_named source.now.layout) source.now.second.now
+        ((marks.now.start + number, mark_of marks.now number) ∷ []))) }
+{
+    if !marks.is_marked(number) {
+        return;
+    }
+    let (start, count) = run_inside(source, marks.start + number, 1);
+    if count > 0 {
+        walk(
+            &field.children,
+            head,
+            first,
+            body,
+            &Marks::run(start, count),
+            table,
+        );
+    }
+}
+
+/// Counts what is inside the values that are wanted and valid, one by one.
+#[cycle(walking)]
+fn walk_places(
+    field: &Field,
+    source: &Source,
+    head: &BatchHead,
+    first: Place,
+    body: &[u8],
+    marks: &Marks,
+    table: &mut [Counted],
+)
+    requires taken { AreTaken source.now.validity.now marks.now }
+    requires reads { ReadsTo source.now (marks.now.start + marks.now.count) }
+    requires may { MayWalk (fields_in field.now) head.now first body.now
+        (end_inside (layout_named source.now.layout) source.now.second.now (marks.now.start + marks.now.count)) }
+    requires room { first.node + node_count (fields_in field.now) ≤ length table.old }
+    ensures { table.new ≡ added_from first.node table.old (tally body.now (columns_there (fields_in field.now) head.now first)
+        (spots_inside (layout_named source.now.layout) source.now.second.now (spots_marked marks.now))) }
+{
+    for number in 0..marks.count {
+        walk_place(field, source, head, first, body, marks, number, table);
+    }
+}
+
+/// Counts what is inside the values that are wanted and valid.
+#[cycle(walking)]
+fn walk_taken(
+    field: &Field,
+    source: &Source,
+    head: &BatchHead,
+    first: Place,
+    body: &[u8],
+    marks: &Marks,
+    table: &mut [Counted],
+)
+    requires marked { IsMarked marks.now }
+    requires taken { AreTaken source.now.validity.now marks.now }
+    requires reads { ReadsTo source.now (marks.now.start + marks.now.count) }
+    requires may { MayWalk (fields_in field.now) head.now first body.now
+        (end_inside (layout_named source.now.layout) source.now.second.now (marks.now.start + marks.now.count)) }
+    requires room { first.node + node_count (fields_in field.now) ≤ length table.old }
+    ensures { table.new ≡ added_from first.node table.old (tally body.now (columns_there (fields_in field.now) head.now first)
+        (spots_inside (layout_named source.now.layout) source.now.second.now (spots_marked marks.now))) }
+{
+    if has_same_places(source.layout) {
+        walk(&field.children, head, first, body, marks, table);
+    } else {
+        walk_places(field, source, head, first, body, marks, table);
+    }
+}
+
+/// Counts what is inside one block of a run of values.
+#[cycle(walking)]
+fn walk_block(
+    field: &Field,
+    source: &Source,
+    head: &BatchHead,
+    first: Place,
+    body: &[u8],
+    start: usize,
+    count: usize,
+    table: &mut [Counted],
+)
+    requires some { (0 < count) × (count ≤ 256) }
+    requires reads { ReadsTo source.now (start + count) }
+    requires may { MayWalk (fields_in field.now) head.now first body.now
+        (end_inside (layout_named source.now.layout) source.now.second.now (start + count)) }
+    requires room { first.node + node_count (fields_in field.now) ≤ length table.old }
+    ensures { table.new ≡ added_from first.node table.old (tally body.now (columns_there (fields_in field.now) head.now first)
+        (source_spots source.now (run_spots start count))) }
+{
+    let marks = Marks::run(start, count).taken(source.validity);
+    walk_taken(field, source, head, first, body, &marks, table);
+}
+
+/// Counts what is inside a run of values, block by block.
+#[cycle(walking)]
+fn walk_blocks(
+    field: &Field,
+    source: &Source,
+    head: &BatchHead,
+    first: Place,
+    body: &[u8],
+    start: usize,
+    count: usize,
+    table: &mut [Counted],
+)
+    requires reads { ReadsTo source.now (start + count) }
+    requires may { MayWalk (fields_in field.now) head.now first body.now
+        (end_inside (layout_named source.now.layout) source.now.second.now (start + count)) }
+    requires room { first.node + node_count (fields_in field.now) ≤ length table.old }
+    ensures { table.new ≡ added_from first.node table.old (tally body.now (columns_there (fields_in field.now) head.now first)
+        (source_spots source.now (run_spots start count))) }
+{
+    let mut done = 0;
+    while done < count {
+        let more = (count - done).min(BLOCK);
+        walk_block(field, source, head, first, body, start + done, more, table);
+        done += more;
+    }
+}
+
+/// Counts what is inside a column of whose values these are wanted.
+#[cycle(walking)]
+fn walk_inside(
+    field: &Field,
+    source: &Source,
+    head: &BatchHead,
+    first: Place,
+    body: &[u8],
+    marks: &Marks,
+    table: &mut [Counted],
+)
+    requires marked { IsMarked marks.now }
+    requires reads { ReadsTo source.now (marks.now.start + marks.now.count) }
+    requires may { MayWalk (fields_in field.now) head.now first body.now
+        (end_inside (layout_named source.now.layout) source.now.second.now (marks.now.start + marks.now.count)) }
+    requires room { first.node + node_count (fields_in field.now) ≤ length table.old }
+    ensures { table.new ≡ added_from first.node table.old (tally body.now (columns_there (fields_in field.now) head.now first)
+        (source_spots source.now (spots_marked marks.now))) }
+{
+    if !marks.all {
+        let marks = marks.taken(source.validity);
+        walk_taken(field, source, head, first, body, &marks, table);
+        return;
+    }
+    if !is_whole(source.validity, marks.start, marks.count) {
+        walk_blocks(
+            field,
+            source,
+            head,
+            first,
+            body,
+            marks.start,
+            marks.count,
+            table,
+        );
+        return;
+    }
+    let (start, count) = run_inside(source, marks.start, marks.count);
+    if count > 0 {
+        walk(
+            &field.children,
+            head,
+            first,
+            body,
+            &Marks::run(start, count),
+            table,
+        );
+    }
+}
+
+/// Counts a column and what is inside it.
+#[cycle(walking)]
+fn walk_column(
+    field: &Field,
+    head: &BatchHead,
+    place: Place,
+    body: &[u8],
+    marks: &Marks,
+    table: &mut [Counted],
+)
+    requires marked { IsMarked marks.now }
+    requires may { MayWalk (more (tree (field_head_of field.now) (entries_in field.now) (fields_in field.now)) no_more) head.now
+        place body.now (marks.now.start + marks.now.count) }
+    requires room { place.node + 1 + node_count (fields_in field.now) ≤ length table.old }
+    ensures { table.new ≡ added_from place.node table.old
+        (tally_of body.now (column_at field.now head.now place) (spots_marked marks.now)) }
+{
+    let source = source_of(field, head, place, body);
+    let counted = count_marks(&source, marks);
+    table[place.node] = table[place.node].plus(counted);
+    if !field.children.is_empty() {
+        let first = place.inside(source.layout);
+        walk_inside(field, &source, head, first, body, marks, table);
+    }
+}
+
+/// Adds to the table, in which each node of the header has an entry, what is counted of the columns of some fields and of
+/// those inside them where these cells are wanted. Their columns stand at this place of the header. Each column costs its own
+/// values, in runs where none is null, and some steps for each run.
+#[cycle(walking)]
+pub(crate) fn walk(
+    fields: &[Field],
+    head: &BatchHead,
+    place: Place,
+    body: &[u8],
+    marks: &Marks,
+    table: &mut [Counted],
+)
+    requires marked { IsMarked marks.now }
+    requires may { MayWalk (forest_seen fields.now) head.now place body.now (marks.now.start + marks.now.count) }
+    requires room { place.node + node_count (forest_seen fields.now) ≤ length table.old }
+    ensures { table.new ≡ added_from place.node table.old
+        (tally body.now (columns_there (forest_seen fields.now) head.now place) (spots_marked marks.now)) }
+{
+    let mut next = place;
+    for field in fields {
+        walk_column(field, head, next, body, marks, table);
+        next = place_after(field, next);
+    }
+}
