@@ -10,18 +10,18 @@
 # messages that were sent and all steps. First it shows that the plain nodes give what tools/runs_model.py says of each
 # event of many schedules, and that both programs add up to the same sums over all messages and steps.
 #
-# Seen on four processors that twelve other tasks shared, in microseconds for an event:
+# Seen on four processors that four other tasks shared, in microseconds for an event:
 #
 #                           ours  plain Rust  ratio  instructions, ratio  bytes for each byte put, plain Rust
-#   100 small uploads       1.38        0.59   2.33         6,886   1.88        29.5        14.2
-#   1,000                   1.62        1.05   1.55         6,586   1.78        20.4        14.2
-#   10,000                  1.92        0.96   2.00         6,534   1.79        19.8        13.9
-#   100 uploads of 64 KiB   13.4        10.0   1.33        57,742   1.64        4.15        4.09
-#   1,000                   14.0        15.2   0.92        57,604   1.64        4.09        4.05
+#   100 small uploads       1.17        0.49   2.40         7,265   1.98        31.1        19.1
+#   1,000                   1.39        0.64   2.19         7,010   1.89        21.5        14.7
+#   10,000                  1.49        0.72   2.06         6,884   1.88        21.1        13.9
+#   100 uploads of 64 KiB   7.90        9.08   0.87        58,125   1.65        4.16        4.08
+#   1,000                   10.8        9.34   1.16        57,970   1.65        4.10        4.06
 #
 # The times swing: beside one or two tasks the first three ratios were 2.07, 1.83 and 1.79. From 100 to 10,000 small uploads an
-# event took 1.39 times as long (plain Rust 1.62), and 1.19 times beside one or two tasks, with 0.95 times the instructions: a
-# run holds 7 KB for each upload, and soon no cache holds a run.
+# event took 1.27 times as long (plain Rust 1.48), with 0.95 times the instructions: a run holds 7 KB for each upload, and soon no
+# cache holds a run. A node knows its records beside its store, which costs a twentieth of the instructions and of the memory.
 # What is more than in plain Rust: of the 131,000 instructions of a small upload (plain Rust 74,000) 43,000 read it at
 # the three nodes (39,000), 10,000 find its parts again, 7,000 read its schema and its header once more, and 25,000
 # move plans and steps from one function to the next. An upload took 140 allocations, in plain Rust 102.
