@@ -4,16 +4,19 @@ use stable_records::StoreFault;
 use std::alloc::AllocError;
 use thiserror::Error;
 
-/// Why a seat did not apply an event, or can't be opened.
+/// Why a seat did not apply an event.
 #[derive(Clone, Copy, Debug, PartialEq, Eq, Error)]
 pub enum SeatFault {
-    /// Memory was refused.
+    /// Memory for messages that are due was refused: for copies of them, or for room behind those that were sent. The
+    /// node, its records and the messages are as before.
     #[error("OutOfMemory")]
     OutOfMemory,
-    /// The store of the records failed, and its count of faults rose.
+    /// The store of the records failed, and its count of faults rose. In a tick or a delivery the node is down then, as a
+    /// cut of it would leave it, and the record that was due may be kept or not; a restart leaves the seat as it was.
     #[error("Store: {0}")]
     Store(StoreFault),
-    /// The store gave back other records than it had kept.
+    /// A restart was given other records than were kept, which no store does that tells what it has. The seat is as it
+    /// was.
     #[error("Lost")]
     Lost,
 }

@@ -125,12 +125,7 @@ impl<S: Stable + Drop> Seat<S> {
     /// behind those that were sent before. Where memory that the node wants is refused, so is the event
     /// ([`Reason::OutOfMemory`]), and the node is as before; but a restart that is refused leaves it down.
     ///
-    /// A fault says that the event is not applied. [`SeatFault::OutOfMemory`]: memory for messages that are due was
-    /// refused, for copies of them or for room in `sent`; the node, its records and `sent` are as before.
-    /// [`SeatFault::Store`]: the store failed, and its count of faults rose. In a tick or a delivery the node is down
-    /// then, as a cut of it would leave it, and the record that was due may be kept or not; a restart leaves the seat
-    /// as it was. [`SeatFault::Lost`]: a restart was given other records than were kept, which no store does that tells
-    /// what it has; the seat is as it was.
+    /// A fault says that the event is not applied; [`SeatFault`] has what each of them leaves.
     pub fn apply(
         &mut self,
         sent: &mut Vec<Message>,
@@ -181,8 +176,7 @@ impl<S: Stable + Drop> Seat<S> {
         }
     }
 
-    // The node is opened with all records that it kept, and nothing else. They are recalled before the node that there is
-    // is let go.
+    // The node is opened with all records that it kept. They are recalled before the node that there is is let go.
     fn restart(&mut self) -> Result<EventResult, SeatFault>
         ensures counted { IfErr result (λ fault. CountsSeatFault S.tells fault
             (S.faults self.old.store) (S.faults self.new.store)) }
@@ -305,8 +299,7 @@ impl<S: Stable + Drop> Seat<S> {
         }
     }
 
-    // Goes down behind the record that is due to the input, if one is. The fault says that the record was not kept, or is
-    // in doubt; the node is down then too.
+    // Goes down behind the record that is due to the input, if one is; after a fault it is not kept, or in doubt.
     fn cut(&mut self, input: Input) -> Result<(), StoreFault>
         ensures { CutApplies self.old self.new (input_of input) result }
     {
@@ -348,7 +341,6 @@ impl<S: Stable + Drop> Seat<S> {
         };
         match message_for(node, sent, number) {
             Ok(message) => {
-                // Whatever the store answers, a restart says what it kept.
                 let _ = self.cut(Input::Deliver(message));
                 EventResult::Done
             }
