@@ -1,6 +1,7 @@
 -- Headers that are shown, and what is written of them.
-use Rattle.std.proofs.Common.{◌≡◌, refl, sym, ap, ap₂, subst, ◌∙◌, ℕ, suc, ◌+◌, ◌<◌, ◌≤◌, List, [], ◌∷◌, ◌++◌, map, length, pos, false, arith}
-use Rattle.std.proofs.Common.{Bool, true, not, ◌==◌, ◌↔◌, IsTrue, Result, Ok, Err, IfOk}
+use Rattle.std.proofs.Common.{◌≡◌, ◌≢◌, ◌⊎◌, inl, inr, refl, sym, ap, ap₂, subst, ◌∙◌, ℕ, suc, ◌+◌, ◌^◌, ◌<◌, ◌≤◌, List, [], ◌∷◌, ◌++◌, map, length, pos, false, arith}
+use Rattle.std.proofs.Common.{Bool, true, not, ◌==◌, ◌↔◌, IsTrue, Option, None, Result, Ok, Err, IfOk}
+use Rattle.std.specs.Option.{IfNone}
 use Rattle.std.specs.Cmp.{unsigned_Decides}
 use Rattle.std.specs.Cmp.Lexicographic.{pointwise}
 use Rattle.std.proofs.lemmas.Slice.Eq.{slice_eq-Decides}
@@ -13,8 +14,12 @@ use Rattle.header_writing.specs.Written.{FitsSchema}
 use Rattle.flatbuf_meta.specs.Writable.{IsWritable}
 use Rattle.batch_types.specs.Cells.{Rows}
 use Rattle.batch_types.specs.Canonical.{canonical_head, canonical_body}
-use Rattle.batch_types.specs.LaysOut.{LaysOut}
+use Rattle.batch_types.specs.declared.fault.BatchFault.{BatchFault}
+use Rattle.batch_types.specs.declared.fault.BatchFault.TheVariants.{OutOfMemory}
+use Rattle.batch_types.specs.LaysOut.{LaysOut, IsFaultOf}
+use Rattle.record_batches.specs.Reading.{IsToldOf}
 use Rattle.batch_types.specs.Written.{CanBeWritten}
+use Rattle.batch_columns.specs.declared.batch.Batch.{Batch}
 use Rattle.table_types.specs.Uploads.{schema_text, head_text}
 use Rattle.table_types.specs.Valid.{upload_limit}
 use Rattle.upload_reading.specs.Read.{IsSchemaText, AreRowsText, AreBatchesText}
@@ -67,6 +72,31 @@ pub rows_moved : (schema : SchemaTree) (parts : List ℕ × List ℕ) (x y : Row
 rows_moved schema parts x y e are = subst (AreRowsText schema parts) (sym e) are
 
 -- ---- batches
+
+-- a batch that is laid out, and of which more is written than the body has
+abbrev LongerThan : SchemaTree → Head → List ℕ → Type 0
+LongerThan schema head body =
+    (rows : Rows) × LaysOut schema head body rows
+    × ((length body < length (canonical_body schema rows)) ⊎ (2 ^ 63 ≤ length (canonical_body schema rows)))
+
+-- it is the one that is laid out
+pub longer_than : (schema : SchemaTree) (head : Head) (body : List ℕ)
+    → ((schema : SchemaTree) (head : Head) (body : List ℕ) (x y : Rows) → LaysOut schema head body x → LaysOut schema head body y → x ≡ y)
+    → length body ≤ upload_limit → (read : Option Batch) → read ≡ None → IfNone read (LongerThan schema head body)
+    → (rows : Rows) → LaysOut schema head body rows → length body < length (canonical_body schema rows)
+longer_than schema head body one short read none told rows laid = of_it (subst (λ r. IfNone r (LongerThan schema head body)) none told)
+  where
+    of_it : LongerThan schema head body → length body < length (canonical_body schema rows)
+    of_it (other, other_laid, long) =
+        subst (λ r. length body < length (canonical_body schema r)) (one schema head body other rows other_laid laid)
+        (elim long [ inl more ↦ more | inr much ↦ omega (arith, much, short) ])
+
+-- what is told, but for want of memory, is told of what lays out no batch
+pub fault_stands : (schema : SchemaTree) (head : Head) (body : List ℕ)
+    → ((schema : SchemaTree) (head : Head) (body : List ℕ) (rows : Rows) (fault : BatchFault) → LaysOut schema head body rows → IsFaultOf schema head body fault → ⊥)
+    → (fault : BatchFault) → fault ≢ OutOfMemory → IsToldOf schema head body fault → (rows : Rows) → ¬ LaysOut schema head body rows
+fault_stands schema head body apart fault other told rows laid =
+    elim told [ inl stands ↦ apart schema head body rows fault laid stands | inr memory ↦ other memory.0 ]
 
 pub rows_then : (schema : SchemaTree) (parts : List ℕ × List ℕ) (list : List (List ℕ × List ℕ)) (rows : Rows) → AreRowsText schema parts rows
     → (batches : List Rows) × AreBatchesText schema list batches → (batches : List Rows) × AreBatchesText schema (parts ∷ list) batches

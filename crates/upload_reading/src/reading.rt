@@ -1,7 +1,7 @@
 //! The schema and the batches of an upload, read from their parts. They are taken only where writing them again gives
 //! the same bytes.
 
-ghost use Rattle.std.specs.Prelude.{◌≡◌, ◌≢◌, ◌≤◌, ◌↔◌, ℕ, List, length, IfOk, IfErr, OnOk, IsTrue};
+ghost use Rattle.std.specs.Prelude.{◌≡◌, ◌≢◌, ◌≤◌, ◌<◌, ◌↔◌, ℕ, List, length, IfOk, IfErr, OnOk, IsTrue};
 ghost use Rattle.header_types.specs.declared.fault.MetaFault.TheVariants.{OutOfMemory as Refused};
 ghost use Rattle.header_types.specs.Fields.{SchemaTree};
 ghost use Rattle.header_types.specs.Header.{Head, schema_header, batch_header, ShowsHeader};
@@ -10,7 +10,9 @@ ghost use Rattle.header_types.specs.Profile.{InProfile};
 ghost use Rattle.header_types.specs.Views.{schema_of};
 ghost use Rattle.header_writing.specs.Canonical.{header_text};
 ghost use Rattle.flatbuf_meta.specs.Writable.{IsWritable};
+ghost use Rattle.batch_types.specs.Canonical.{canonical_body};
 ghost use Rattle.batch_types.specs.Cells.{Rows};
+ghost use Rattle.batch_types.specs.declared.fault.BatchFault.TheVariants.{OutOfMemory as NoMemory};
 ghost use Rattle.batch_types.specs.LaysOut.{LaysOut};
 ghost use Rattle.batch_columns.specs.Batches.{rows_of, IsBatchOf};
 ghost use Rattle.table_types.specs.Valid.{upload_limit};
@@ -19,16 +21,15 @@ ghost use Rattle.upload_reading.specs.Read.{IsSchemaText, AreRowsText, AreBatche
 ghost use Rattle.upload_reading.specs.declared.fault.DecodeFault.TheVariants.{NotAnUpload};
 
 use crate::fault::DecodeFault;
-use batch_checking::check_batch;
 use batch_columns::Batch;
-use batch_reading::build_batch;
+use batch_types::BatchFault;
 use batch_types::laws::{batches_are_one, written_rows_are_laid_out};
 use flatbuf_meta::laws::written_headers_are_shown;
 use header_reading::read_message;
 use header_types::laws::shown_schemas_are_in_profile;
 use header_types::{BatchHead, Header, MetaFault, Schema};
 use header_writing::{write_batch, write_schema};
-use record_batches::write_body;
+use record_batches::{read_batch_within, write_body};
 use std::alloc::{AllocError, Global};
 use table_types::laws::batches_have_headers;
 use upload_parts::EncodedBatches;
@@ -107,7 +108,18 @@ pub fn read_schema(alloc: Global, bytes: &[u8]) -> Result<Schema, DecodeFault>
     }
 }
 
-/// The batch that a header and a body lay out.
+/// What is told of a header and a body of which no batch is read.
+fn fault_of_batch(fault: BatchFault) -> DecodeFault
+    ensures { result ≡ NotAnUpload → fault ≢ NoMemory }
+{
+    match fault {
+        BatchFault::OutOfMemory => DecodeFault::OutOfMemory,
+        _ => DecodeFault::NotAnUpload,
+    }
+}
+
+/// The batch that a header and a body lay out, where the body that is written of it is no longer than this one. Else none is
+/// built: the body is not the one that is written of it.
 fn laid_batch(
     alloc: Global,
     schema: &Schema,
@@ -115,18 +127,20 @@ fn laid_batch(
     body: &[u8],
 ) -> Result<Batch, DecodeFault>
     requires profile { InProfile (schema_of schema.now) }
+    requires short { length body.now ≤ upload_limit }
     ensures laid { IfOk result (λ batch. LaysOut (schema_of schema.now) (head_of head.now) body.now (rows_of batch)) }
     ensures of_schema { IfOk result (λ batch. IsBatchOf (schema_of schema.now) batch) }
+    ensures within { IfOk result
+        (λ batch. length (canonical_body (schema_of schema.now) (rows_of batch)) ≤ length body.now) }
     ensures fault { IfErr result (λ fault. fault ≡ NotAnUpload
-        → (rows : Rows) → ¬ LaysOut (schema_of schema.now) (head_of head.now) body.now rows) }
+        → (rows : Rows) → LaysOut (schema_of schema.now) (head_of head.now) body.now rows
+        → length body.now < length (canonical_body (schema_of schema.now) rows)) }
 {
     batches_are_one();
-    match check_batch(schema, head, body) {
-        Ok(()) => match build_batch(alloc, schema, head, body) {
-            Ok(batch) => Ok(batch),
-            Err(_) => Err(DecodeFault::OutOfMemory),
-        },
-        Err(_) => Err(DecodeFault::NotAnUpload),
+    match read_batch_within(alloc, schema, head, body, body.len() as u64) {
+        Ok(Some(batch)) => Ok(batch),
+        Ok(None) => Err(DecodeFault::NotAnUpload),
+        Err(fault) => Err(fault_of_batch(fault)),
     }
 }
 

@@ -1,4 +1,4 @@
-use Rattle.std.proofs.Common.{subst, sym, ◌∙◌}
+use Rattle.std.proofs.Common.{arith, ap, length, subst, sym, ◌∙◌}
 use Rattle.std.proofs.lemmas.Bool.{false≢true}
 use Rattle.header_types.specs.HeaderViews.{head_of}
 use Rattle.header_types.specs.Views.{schema_of}
@@ -18,9 +18,10 @@ returns-in-Err-laid_batch-clause-fault c = λ is rows are.
     let same = c.in-Ok.ensures.only (canonical_head (schema_of c.args.schema.now) rows)
     (head_shows c.written_headers_are_shown.ensures c.batches_have_headers.ensures (schema_of c.args.schema.now) c.args.header.now c.args.body.now rows
     c.requires.profile c.requires.short are) in
-    c.in-Err-laid_batch.ensures.fault is rows
+    let longer = c.in-Err-laid_batch.ensures.fault is rows
     (rows_laid c.written_rows_are_laid_out.ensures.laid (schema_of c.args.schema.now) c.args.header.now c.args.body.now rows (head_of c.in-Ok.head)
-    c.requires.profile are same)
+    c.requires.profile are same) in
+    omega (arith, longer, ap length are.body_is)
 
 pub returns-in-Ok-false-clause-fault : goal.returns-in-Ok-false-clause-fault
 returns-in-Ok-false-clause-fault c = λ is rows are.
