@@ -1,5 +1,6 @@
 //! Why what stands behind the calls can't answer.
 
+use std::alloc::AllocError;
 use thiserror::Error;
 
 /// Why a backend can't answer a call.
@@ -29,4 +30,15 @@ pub enum BackFault {
     /// Memory was refused.
     #[error("OutOfMemory")]
     OutOfMemory,
+}
+
+impl From<AllocError> for BackFault {
+    ghost use Rattle.std.specs.Prelude.{◌≡◌};
+    ghost use Rattle.call_words.specs.declared.back_fault.BackFault.TheVariants.{OutOfMemory};
+
+    ghost from_gives = { λ _ fault. fault ≡ OutOfMemory };
+
+    fn from(_refused: AllocError) -> BackFault {
+        BackFault::OutOfMemory
+    }
 }

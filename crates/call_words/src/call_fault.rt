@@ -1,5 +1,6 @@
 //! Why a call could not be carried to its end.
 
+use std::alloc::AllocError;
 use thiserror::Error;
 
 /// Why a call could not be carried to its end.
@@ -14,4 +15,15 @@ pub enum CallFault {
     /// Memory was refused.
     #[error("OutOfMemory")]
     OutOfMemory,
+}
+
+impl From<AllocError> for CallFault {
+    ghost use Rattle.std.specs.Prelude.{◌≡◌};
+    ghost use Rattle.call_words.specs.declared.call_fault.CallFault.TheVariants.{OutOfMemory};
+
+    ghost from_gives = { λ _ fault. fault ≡ OutOfMemory };
+
+    fn from(_refused: AllocError) -> CallFault {
+        CallFault::OutOfMemory
+    }
 }

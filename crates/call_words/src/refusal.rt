@@ -10,6 +10,7 @@ use batch_types::BatchFault;
 use grpc_frames::FrameFault;
 use header_types::MetaFault;
 use proto_fields::WireFault;
+use std::alloc::AllocError;
 
 /// Why a call is refused. Its trailer has the status and, as its text, the name of the refusal.
 #[derive(Clone, Copy, Debug, PartialEq, Eq)]
@@ -210,6 +211,17 @@ fn back_name(fault: BackFault) -> &'static str
         BackFault::JournalFull => "JournalFull",
         BackFault::Store => "Store",
         BackFault::OutOfMemory => "OutOfMemory",
+    }
+}
+
+impl From<AllocError> for Refusal {
+    ghost use Rattle.std.specs.Prelude.{◌≡◌};
+    ghost use Rattle.call_words.specs.declared.refusal.Refusal.TheVariants.{OutOfMemory};
+
+    ghost from_gives = { λ _ refusal. refusal ≡ OutOfMemory };
+
+    fn from(_refused: AllocError) -> Refusal {
+        Refusal::OutOfMemory
     }
 }
 
