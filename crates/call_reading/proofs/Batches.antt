@@ -1,7 +1,9 @@
 -- An upload on its way, before and behind a message.
-use Rattle.std.proofs.Common.{◌≡◌, ◌≤◌, ◌<◌, ◌+◌, ◌⊎◌, ℕ, List, [], ◌∷◌, ◌++◌, length, map, refl, sym, ap, subst, ◌∙◌, append-nil, arith, string_bytes, inl, inr}
+use Rattle.std.proofs.Common.{◌≡◌, ◌≤◌, ◌<◌, ◌+◌, ◌⊎◌, ℕ, List, [], ◌∷◌, ◌++◌, length, map, refl, sym, ap, subst, ◌∙◌, append-nil, arith, string_bytes, inl, inr, Bool, true, Result, Ok, Err, OnOk, IfOk, IfErr}
 use Rattle.std.specs.List.{AllByRecursion}
+use Rattle.std.proofs.lemmas.Bool.{cases_lt}
 use Rattle.std.proofs.lemmas.List.{map_push, length_push}
+use Rattle.grpc_frames.specs.Frame.{payload_limit}
 use Rattle.proto_messages.specs.Descriptor.{IsMessage}
 use Rattle.proto_wire.specs.Flight.{data_descriptor}
 use Rattle.header_types.specs.Fields.{SchemaTree}
@@ -9,17 +11,21 @@ use Rattle.header_types.specs.Views.{schema_of}
 use Rattle.header_types.specs.Profile.{InProfile}
 use Rattle.batch_columns.specs.Batches.{rows_of, IsBatchOf}
 use Rattle.batch_columns.specs.declared.batch.Batch.{Batch}
+use Rattle.batch_types.specs.Canonical.{canonical_body}
 use Rattle.batch_types.specs.Cells.{Rows}
-use Rattle.table_types.specs.Uploads.{Upload, schema_text}
+use Rattle.table_types.specs.Uploads.{Upload, schema_text, head_text}
 use Rattle.table_types.specs.Valid.{IsTableName, IsId, FitsFrame, batches_limit, upload_limit}
 use Rattle.upload_parts.specs.Parts.{batch_parts, batches_parts, batch_text, batches_text, served_of}
-use Rattle.upload_parts.proofs.CallerLemmas.{part, parts_text, parts_fit, more_long}
+use Rattle.upload_parts.proofs.CallerLemmas.{part, parts_text, parts_fit, more_long, message_long}
 use Rattle.upload_writing.specs.Making.{upload_of, AreOfSchema, IsSmall}
 use Rattle.upload_writing.specs.Sized.{parts_held}
 use Rattle.call_words.specs.declared.refusal.Refusal.{Refusal}
 use Rattle.call_words.specs.Names.{Descriptor, NamesUpload}
 use Rattle.call_reading.specs.declared.incoming.Incoming.{Incoming}
-use Rattle.call_reading.specs.Requests.{Data, header_in, body_in, IsBlank, Adds}
+use Rattle.call_reading.specs.Requests.{Data, header_in, body_in, IsBlank, HasBatch, Adds}
+use Rattle.call_reading.specs.declared.incoming.Addition.{Addition}
+use Rattle.call_reading.specs.declared.incoming.Addition.TheVariants as additions
+use Rattle.call_reading.specs.Additions.{HasAddition, AddsAs, HasRoom}
 use Rattle.call_reading.specs.Faults.{MeansAtFault, OpeningFault, SchemaFault, HeadFault, BatchFaultIn, FurtherFault}
 use Rattle.call_reading.specs.Incoming.{IsTooMuch, IsOnItsWay, Holds, HoldsMore, SizeWith, IsCounted, with_more, Grows}
 
@@ -135,11 +141,11 @@ module _ (old : Incoming) (rows : Rows) (size : ℕ) (way : IsOnItsWay old) (cou
         | inr much ↦ too_much_more upload (rows ∷ []) much.1
         | inl held ↦
             elim counted [
-              | inl already ↦ absurd (omega (arith, already.0, held.0))
-              | inr now ↦
-                  elim now [
-                    | inl served ↦ long_with upload holds held.0 held.1 over served.2
-                    | inr unserved ↦ unserved_with upload holds unserved.1
+              | inl served ↦ long_with upload holds held.0 held.1 over served.2
+              | inr much ↦
+                  elim much.0 [
+                    | inl already ↦ absurd (omega (arith, already, held.0))
+                    | inr unserved ↦ unserved_with upload holds unserved
                   ]
             ]
       ]
@@ -180,11 +186,7 @@ module _ (old : Incoming) (rows : Rows) (size : ℕ) (way : IsOnItsWay old) (cou
   }
     where
       not_over : old.size ≤ upload_limit
-      not_over =
-          elim counted [
-            | inl already ↦ absurd (omega (arith, already.0, already.1, within))
-            | inr now ↦ elim now [ inl served ↦ served.0 | inr unserved ↦ unserved.0 ]
-          ]
+      not_over = elim counted [ inl served ↦ served.0 | inr much ↦ absurd (omega (arith, much.1, within)) ]
 
       all_of : (upload : Upload) → Holds old upload → upload.batches ++ rows ∷ [] ≡ map rows_of new.batches.items
       all_of upload holds =
@@ -219,12 +221,8 @@ module _ (old : Incoming) (rows : Rows) (size : ℕ) (way : IsOnItsWay old) (cou
       grown : size ≡ length (batches_text (parts_held S old.batches.items)) + size_of
       grown =
           elim counted [
-            | inl already ↦ absurd (omega (arith, already.0, already.1, within))
-            | inr now ↦
-                elim now [
-                  | inl served ↦ served.2 ∙ ap (λ n. n + size_of) (way.sized served.0)
-                  | inr unserved ↦ absurd (omega (arith, unserved.2, within))
-                ]
+            | inl served ↦ served.2 ∙ ap (λ n. n + size_of) (way.sized served.0)
+            | inr much ↦ absurd (omega (arith, much.1, within))
           ]
 
       written : length (batches_text (parts_held (schema_of new.schema) new.batches.items)) ≡ length (batches_text (parts_held S old.batches.items)) + size_of
@@ -234,6 +232,47 @@ module _ (old : Incoming) (rows : Rows) (size : ℕ) (way : IsOnItsWay old) (cou
           ∙ ap (λ l. length (batches_text (map (batch_parts S) l))) (map_push rows_of old.batches.items batch)
           ∙ ap (λ r. length (batches_text (map (batch_parts S) (map rows_of old.batches.items ++ r ∷ [])))) same
           ∙ text_push S (map rows_of old.batches.items) rows
+
+-- ---- a batch that is left out
+
+-- no frame has room for what is served of a batch whose body is longer by itself
+too_long : (schema : SchemaTree) (id : List ℕ) (rows : Rows) → payload_limit < length (canonical_body schema rows)
+    → ¬ FitsFrame (served_of id (batch_parts schema rows))
+too_long schema id rows long = λ fits. omega (arith, long, fits, (message_long (head_text schema rows) id (canonical_body schema rows)).2)
+
+-- it is too much with those before it
+pub left_out_size : (i : Incoming) (rows : Rows) (size : ℕ) → (i.size ≤ upload_limit → payload_limit < length (canonical_body (schema_of i.schema) rows))
+    → upload_limit < size → SizeWith i rows size
+left_out_size i rows size long over =
+    elim (cases_lt upload_limit i.size) [
+      | inl already ↦ inr (inl already, over)
+      | inr within ↦ inr (inr (too_long (schema_of i.schema) i.id rows (long within)), over)
+    ]
+
+-- what is left out is counted, and is too much
+abbrev LeavesOut : Incoming → List ℕ → Bool → Type 0
+LeavesOut i message wanted =
+    (rows : Rows) × Adds (schema_of i.schema) message (rows ∷ [])
+    × (wanted ≡ true → payload_limit < length (canonical_body (schema_of i.schema) rows))
+
+module _ (old new : Incoming) (message : List ℕ) (wanted : Bool) (added : Addition) (way : IsOnItsWay old) (is : added ≡ additions.LeftOut)
+    (adds : AddsAs (schema_of old.schema) wanted message added) (room : HasRoom old.count added) (within : old.size ≤ upload_limit → wanted ≡ true) where
+  left_out : LeavesOut old message wanted
+  left_out = subst (AddsAs (schema_of old.schema) wanted message) is adds
+
+  pub grows_left_out : (size : ℕ) → upload_limit < size → IsCounted old new [] (old.count + 1) size → Grows message old new
+  grows_left_out size over counted = record {
+    more = left_out.0 ∷ [];
+    adds = left_out.1;
+    holds =
+        holds_over old left_out.0 size way (left_out_size old left_out.0 size (λ small. left_out.2 (within small)) over) new counted
+        over;
+  }
+
+  pub way_left_out : (size : ℕ) → upload_limit < size → IsCounted old new [] (old.count + 1) size → IsOnItsWay new
+  way_left_out size over counted =
+      way_over old left_out.0 size way (left_out_size old left_out.0 size (λ small. left_out.2 (within small)) over) new counted over
+      (subst (HasRoom old.count) is room)
 
 -- an upload that was opened
 pub way_opened : (i : Incoming) (descriptor : Descriptor) (table : List ℕ) → NamesUpload descriptor table i.id → string_bytes i.table ≡ table → InProfile (schema_of i.schema)
@@ -333,6 +372,44 @@ further_fault schema count message header body values refusal means head tail th
       subst (λ h. (¬ IsBlank h (body_in values)) × (HeadFault h refusal ⊎ BatchFaultIn schema count h (body_in values) refusal)) head
           (subst (λ b. (¬ IsBlank header b) × (HeadFault header refusal ⊎ BatchFaultIn schema count header b refusal)) tail (there, fault)),
     )
+
+pub further_faults : (schema : SchemaTree) (count : ℕ) (message header body : List ℕ) (values : Data) → IsMessage data_descriptor message values
+    → header ≡ header_in values → body ≡ body_in values → (¬ IsBlank header body) → (r : Result Addition Refusal)
+    → IfErr r (λ refusal. HeadFault header refusal ⊎ BatchFaultIn schema count header body refusal)
+    → IfErr r (MeansAtFault data_descriptor (FurtherFault schema count) message)
+further_faults schema count message header body values means head tail there (Ok added) fault = tt
+further_faults schema count message header body values means head tail there (Err refusal) fault =
+    further_fault schema count message header body values refusal means head tail there fault
+
+-- and one that has a batch
+adds_batch : (schema : SchemaTree) (message header body : List ℕ) (values : Data) (rows : Rows) → IsMessage data_descriptor message values
+    → header ≡ header_in values → body ≡ body_in values → HasBatch schema header body rows → Adds schema message (rows ∷ [])
+adds_batch schema message header body values rows means head tail has = record {
+  values = values;
+  means = means;
+  adds =
+      inr (
+        rows,
+        subst (λ h. HasBatch schema h (body_in values) rows) head (subst (λ b. HasBatch schema header b rows) tail has),
+        refl,
+      );
+}
+
+pub adds_as : (schema : SchemaTree) (wanted : Bool) (message header body : List ℕ) (values : Data) → IsMessage data_descriptor message values
+    → header ≡ header_in values → body ≡ body_in values → (r : Result Addition Refusal)
+    → IfOk r (HasAddition schema wanted header body) → IfOk r (AddsAs schema wanted message)
+adds_as schema wanted message header body values means head tail (Err refusal) has = tt
+adds_as schema wanted message header body values means head tail (Ok additions.Nothing) has = absurd has
+adds_as schema wanted message header body values means head tail (Ok (additions.Built batch)) has =
+    (adds_batch schema message header body values (rows_of batch) means head tail has.0, has.1, has.2)
+adds_as schema wanted message header body values means head tail (Ok additions.LeftOut) has =
+    (has.0, adds_batch schema message header body values has.0 means head tail has.1, has.2)
+
+pub room_as : (count : ℕ) (r : Result Addition Refusal) → OnOk r (count < batches_limit) → IfOk r (λ added. HasRoom count added)
+room_as count (Err refusal) room = tt
+room_as count (Ok additions.Nothing) room = tt
+room_as count (Ok (additions.Built batch)) room = room
+room_as count (Ok additions.LeftOut) room = room
 
 -- a schema at fault in a first message
 pub opening_schema : (message header : List ℕ) (values : Data) (refusal : Refusal) → IsMessage data_descriptor message values → header ≡ header_in values → SchemaFault header refusal

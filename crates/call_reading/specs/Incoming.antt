@@ -1,5 +1,5 @@
 -- An upload on its way, message by message: tools of the contracts of private functions.
-use Rattle.std.specs.Prelude.{◌≡◌, ◌≤◌, ◌<◌, ◌⊎◌, ℕ, ◌+◌, List, [], ◌∷◌, ◌++◌, length, map, string_bytes, Option, None, Some, Result, Ok, Err}
+use Rattle.std.specs.Prelude.{◌≡◌, ◌≤◌, ◌<◌, ◌⊎◌, ℕ, ◌+◌, List, [], ◌∷◌, ◌++◌, length, map, string_bytes, Result, Ok, Err}
 use Rattle.std.specs.List.{AllByRecursion}
 use Rattle.proto_fields.specs.Field.{field_text}
 use Rattle.proto_messages.specs.Canonical.{bytes_field}
@@ -52,11 +52,6 @@ IsOpened message i =
     Opens message (string_bytes i.table) i.id (schema_of i.schema)
     × Holds i (upload_of (string_bytes i.table) i.id (schema_of i.schema) [])
 
--- the rows that a batch adds, if there is one
-abbrev pub rows_in : Option Batch → List Rows
-rows_in None = []
-rows_in (Some batch) = rows_of batch ∷ []
-
 -- a head and a body lay out no batch, or there is one more than an upload may have
 abbrev pub LayFault : SchemaTree → ℕ → Head → List ℕ → Refusal → Type 0
 LayFault schema count head body refusal =
@@ -84,10 +79,10 @@ pub record IsCounted (old new : Incoming) (batches : List Batch) (count size : �
 -- so many bytes are written of the batches with one more, or they are too much with it
 abbrev pub SizeWith : Incoming → Rows → ℕ → Type 0
 SizeWith i rows size =
-    ((upload_limit < i.size) × (size ≡ i.size))
-    ⊎ ((i.size ≤ upload_limit) × FitsFrame (served_of i.id (batch_parts (schema_of i.schema) rows))
+    ((i.size ≤ upload_limit) × FitsFrame (served_of i.id (batch_parts (schema_of i.schema) rows))
     × (size ≡ i.size + length (field_text (bytes_field 4 (batch_text (batch_parts (schema_of i.schema) rows))))))
-    ⊎ ((i.size ≤ upload_limit) × (¬ FitsFrame (served_of i.id (batch_parts (schema_of i.schema) rows))) × (upload_limit < size))
+    ⊎ (((upload_limit < i.size) ⊎ (¬ FitsFrame (served_of i.id (batch_parts (schema_of i.schema) rows))))
+    × (upload_limit < size))
 
 -- the same upload with what a message adds
 pub record Grows (message : List ℕ) (old new : Incoming) : Type 0 where

@@ -1,28 +1,32 @@
 //! An upload on its way, message by message.
 
-ghost use Rattle.std.specs.Prelude.{◌≡◌, ◌++◌, ◌∷◌, [], ◌≤◌, ◌<◌, ◌+◌, ◌⊎◌, ◌↔◌, IsTrue, length, IfOk, IfErr, IfSome, OnOk, OnErr};
+ghost use Rattle.std.specs.Prelude.{◌≡◌, ◌++◌, ◌∷◌, [], ◌≤◌, ◌<◌, ◌+◌, ◌⊎◌, ◌↔◌, IsTrue, IfOk, IfErr, IfSome, IfNone, OnOk, OnErr};
 ghost use Rattle.header_types.specs.Header.{schema_header, batch_header, ShowsHeader};
 ghost use Rattle.header_types.specs.HeaderViews.{header_of, head_of};
 ghost use Rattle.header_types.specs.Profile.{InProfile};
 ghost use Rattle.header_types.specs.Views.{schema_of};
 ghost use Rattle.batch_columns.specs.Batches.{rows_of, IsBatchOf};
+ghost use Rattle.record_batches.specs.Reading.{IsToldOf};
 ghost use Rattle.proto_wire.specs.Flight.{data_descriptor};
-ghost use Rattle.batch_types.specs.LaysOut.{LaysOut};
 ghost use Rattle.table_types.specs.Uploads.{Upload as Uploaded};
-ghost use Rattle.table_types.specs.Valid.{batches_limit};
+ghost use Rattle.table_types.specs.Valid.{batches_limit, upload_limit};
 ghost use Rattle.call_words.specs.declared.refusal.Refusal.TheVariants.{OutOfMemory};
-ghost use Rattle.call_reading.specs.Requests.{IsBlank, HasBatch, Adds};
+ghost use Rattle.call_reading.specs.Requests.{IsBlank};
 ghost use Rattle.call_reading.specs.Faults.{IsNoHeader, MeansAtFault, OpeningFault, SchemaFault, HeadFault, BatchFaultIn, FurtherFault};
-ghost use Rattle.call_reading.specs.Incoming.{IsOnItsWay, Holds, HoldsMore, IsOpened, SizeWith, IsCounted, Grows, Finishes, LayFault, rows_in};
+ghost use Rattle.call_reading.specs.Incoming.{IsOnItsWay, Holds, HoldsMore, IsOpened, SizeWith, IsCounted, Grows, Finishes, LayFault};
+ghost use Rattle.call_reading.specs.Additions.{IsBuilt, IsLeftOut, HasAddition, AddsAs, HasRoom};
 
 use crate::one::decoded;
+use batch_checking::check_batch;
 use batch_columns::Batch;
+use batch_types::BatchFault;
 use call_words::{Refusal, upload_in};
+use grpc_frames::MAX_FRAME_PAYLOAD;
 use header_reading::read_message;
 use header_types::laws::shown_schemas_are_in_profile;
 use header_types::{BatchHead, Header, Schema};
 use proto_wire::FlightData;
-use record_batches::read_batch;
+use record_batches::read_batch_within;
 use std::alloc::{AllocError, Global};
 use upload_writing::batch_size;
 use uploads::{MAX_UPLOAD_BATCHES, MAX_UPLOAD_BYTES, Upload, UploadFault};
@@ -47,6 +51,17 @@ pub(crate) struct Incoming {
     size: u64,
 }
 
+/// What a message behind the first adds to an upload.
+#[derive(Debug, Drop)]
+enum Addition {
+    /// Nothing: the message is passed over.
+    Nothing,
+    /// A batch.
+    Built(Batch),
+    /// A batch that was judged and not built, since there is no upload with it: it would be too large.
+    LeftOut,
+}
+
 /// What a header shows.
 fn shown(alloc: Global, header: &[u8]) -> Result<Header, Refusal>
     ensures shown { IfOk result (λ shown. ShowsHeader header.now (header_of shown)) }
@@ -66,10 +81,9 @@ fn schema_in(alloc: Global, header: &[u8]) -> Result<Schema, Refusal>
     if header.is_empty() {
         return Err(Refusal::NoSchema);
     }
-    match shown(alloc, header) {
-        Ok(Header::Schema(schema)) => Ok(schema),
-        Ok(Header::Batch(_)) => Err(Refusal::NoSchema),
-        Err(refusal) => Err(refusal),
+    match shown(alloc, header)? {
+        Header::Schema(schema) => Ok(schema),
+        Header::Batch(_) => Err(Refusal::NoSchema),
     }
 }
 
@@ -78,49 +92,76 @@ fn head_in(alloc: Global, header: &[u8]) -> Result<BatchHead, Refusal>
     ensures shown { IfOk result (λ head. ShowsHeader header.now (batch_header (head_of head))) }
     ensures fault { IfErr result (HeadFault header.now) }
 {
-    match shown(alloc, header) {
-        Ok(Header::Batch(head)) => Ok(head),
-        Ok(Header::Schema(_)) => Err(Refusal::SecondSchema),
-        Err(refusal) => Err(refusal),
+    match shown(alloc, header)? {
+        Header::Batch(head) => Ok(head),
+        Header::Schema(_) => Err(Refusal::SecondSchema),
     }
 }
 
-/// The batch that a header of one and a body lay out, where so many came before.
+/// The batch that a header and a body lay out. None is built where none is wanted, or where no frame has room for the body
+/// that is written of it.
+fn wanted_batch(
+    alloc: Global,
+    schema: &Schema,
+    wanted: bool,
+    head: &BatchHead,
+    body: &[u8],
+) -> Result<Option<Batch>, BatchFault>
+    requires profile { InProfile (schema_of schema.now) }
+    ensures built { IfOk result (λ read. IfSome read
+        (λ batch. IsBuilt (schema_of schema.now) wanted (head_of head.now) body.now batch)) }
+    ensures left_out { IfOk result (λ read. IfNone read
+        (IsLeftOut (schema_of schema.now) wanted (head_of head.now) body.now)) }
+    ensures fault { IfErr result (λ fault. IsToldOf (schema_of schema.now) (head_of head.now) body.now fault) }
+{
+    if wanted {
+        return read_batch_within(alloc, schema, head, body, MAX_FRAME_PAYLOAD as u64);
+    }
+    match check_batch(schema, head, body) {
+        Ok(()) => Ok(None),
+        Err(fault) => Err(fault),
+    }
+}
+
+/// The batch that a header of one and a body lay out, where so many came before: built where it is wanted.
 fn laid_batch(
     alloc: Global,
     schema: &Schema,
     count: usize,
+    wanted: bool,
     head: &BatchHead,
     body: &[u8],
-) -> Result<Batch, Refusal>
+) -> Result<Option<Batch>, Refusal>
     requires profile { InProfile (schema_of schema.now) }
     requires few { count ≤ batches_limit }
-    ensures laid { IfOk result (λ batch. LaysOut (schema_of schema.now) (head_of head.now) body.now (rows_of batch)) }
-    ensures of_schema { IfOk result (λ batch. IsBatchOf (schema_of schema.now) batch) }
+    ensures built { IfOk result (λ read. IfSome read
+        (λ batch. IsBuilt (schema_of schema.now) wanted (head_of head.now) body.now batch)) }
+    ensures left_out { IfOk result (λ read. IfNone read
+        (IsLeftOut (schema_of schema.now) wanted (head_of head.now) body.now)) }
     ensures room { OnOk result (count < batches_limit) }
     ensures fault { IfErr result (LayFault (schema_of schema.now) count (head_of head.now) body.now) }
 {
     if count == MAX_UPLOAD_BATCHES {
         return Err(Refusal::TooManyBatches);
     }
-    match read_batch(alloc, schema, head, body) {
+    match wanted_batch(alloc, schema, wanted, head, body) {
         Ok(batch) => Ok(batch),
         Err(fault) => Err(Refusal::Batch(fault)),
     }
 }
 
-/// The batch of a message that has one, where so many came before.
+/// What a message adds that has a batch, where so many came before.
 fn batch_in(
     alloc: Global,
     schema: &Schema,
     count: usize,
+    wanted: bool,
     header: &[u8],
     body: &[u8],
-) -> Result<Batch, Refusal>
+) -> Result<Addition, Refusal>
     requires profile { InProfile (schema_of schema.now) }
     requires few { count ≤ batches_limit }
-    ensures batch { IfOk result (λ batch. HasBatch (schema_of schema.now) header.now body.now (rows_of batch)) }
-    ensures of_schema { IfOk result (λ batch. IsBatchOf (schema_of schema.now) batch) }
+    ensures batch { IfOk result (HasAddition (schema_of schema.now) wanted header.now body.now) }
     ensures room { OnOk result (count < batches_limit) }
     ensures fault { IfErr result (λ refusal. HeadFault header.now refusal
         ⊎ BatchFaultIn (schema_of schema.now) count header.now body.now refusal) }
@@ -129,8 +170,9 @@ fn batch_in(
         Ok(head) => head,
         Err(refusal) => return Err(refusal),
     };
-    match laid_batch(alloc, schema, count, &head, body) {
-        Ok(batch) => Ok(batch),
+    match laid_batch(alloc, schema, count, wanted, &head, body) {
+        Ok(Some(batch)) => Ok(Addition::Built(batch)),
+        Ok(None) => Ok(Addition::LeftOut),
         Err(refusal) => Err(refusal),
     }
 }
@@ -142,18 +184,18 @@ fn is_blank(header: &[u8], body: &[u8]) -> bool
     header.is_empty() && body.is_empty()
 }
 
-/// The batch of a further message, if it has one, where so many came before.
-fn batch_of(
+/// What a further message adds, where so many batches came before.
+fn addition_of(
     alloc: Global,
     schema: &Schema,
     count: usize,
+    wanted: bool,
     message: &[u8],
-) -> Result<Option<Batch>, Refusal>
+) -> Result<Addition, Refusal>
     requires profile { InProfile (schema_of schema.now) }
     requires few { count ≤ batches_limit }
-    ensures added { IfOk result (λ batch. Adds (schema_of schema.now) message.now (rows_in batch)) }
-    ensures of_schema { IfOk result (λ batch. IfSome batch (IsBatchOf (schema_of schema.now))) }
-    ensures room { IfOk result (λ batch. IfSome batch (λ some. count < batches_limit)) }
+    ensures added { IfOk result (AddsAs (schema_of schema.now) wanted message.now) }
+    ensures room { IfOk result (λ added. HasRoom count added) }
     ensures fault { IfErr result
         (MeansAtFault data_descriptor (FurtherFault (schema_of schema.now) count) message.now) }
 {
@@ -161,12 +203,9 @@ fn batch_of(
     let header = data.data_header.as_slice();
     let body = data.data_body.as_slice();
     if is_blank(header, body) {
-        return Ok(None);
+        return Ok(Addition::Nothing);
     }
-    match batch_in(alloc, schema, count, header, body) {
-        Ok(batch) => Ok(Some(batch)),
-        Err(refusal) => Err(refusal),
-    }
+    batch_in(alloc, schema, count, wanted, header, body)
 }
 
 impl Incoming {
@@ -190,17 +229,15 @@ impl Incoming {
             Ok(schema) => schema,
             Err(refusal) => return Err(refusal),
         };
-        match String::from_str(alloc, table) {
-            Ok(table) => Ok(Incoming {
-                table,
-                id,
-                schema,
-                batches: Vec::new(alloc),
-                count: 0,
-                size: 0,
-            }),
-            Err(_) => Err(Refusal::OutOfMemory),
-        }
+        let table = String::from_str(alloc, table)?;
+        Ok(Incoming {
+            table,
+            id,
+            schema,
+            batches: Vec::new(alloc),
+            count: 0,
+            size: 0,
+        })
     }
 
     /// Takes what a further message adds.
@@ -212,22 +249,32 @@ impl Incoming {
             (FurtherFault (schema_of self.old.schema) self.old.count) message.now refusal
             ⊎ (refusal ≡ OutOfMemory)) }
     {
-        match batch_of(alloc, &self.schema, self.count, message) {
-            Ok(Some(batch)) => self.add(batch),
-            Ok(None) => Ok(()),
+        let wanted = self.is_within_limit();
+        match addition_of(alloc, &self.schema, self.count, wanted, message) {
+            Ok(Addition::Nothing) => Ok(()),
+            Ok(Addition::Built(batch)) => self.add(batch),
+            Ok(Addition::LeftOut) => {
+                self.give_up(u64::MAX);
+                Ok(())
+            }
             Err(refusal) => Err(refusal),
         }
     }
 
-    /// How many bytes the batches have with one more, or more than there may be where that is too much.
+    /// Whether the batches that came are not too much already.
+    fn is_within_limit(&self) -> bool
+        ensures { IsTrue result ↔ (self.now.size ≤ upload_limit) }
+    {
+        self.size <= SIZE_LIMIT
+    }
+
+    /// How many bytes the batches have with one more, or more than there may be where no frame has room for it.
     fn size_with(&self, batch: &Batch) -> u64
         requires on_its_way { IsOnItsWay self.now }
+        requires small { self.now.size ≤ upload_limit }
         requires of_schema { IsBatchOf (schema_of self.now.schema) batch.now }
         ensures { SizeWith self.now (rows_of batch.now) result }
     {
-        if self.size > SIZE_LIMIT {
-            return self.size;
-        }
         match batch_size(&self.schema, &self.id, batch) {
             Some(size) => self.size + size,
             None => u64::MAX,
@@ -262,6 +309,7 @@ impl Incoming {
     /// Takes a batch.
     fn add(&mut self, batch: Batch) -> Result<(), Refusal>
         requires on_its_way { IsOnItsWay self.old }
+        requires small { self.old.size ≤ upload_limit }
         requires of_schema { IsBatchOf (schema_of self.old.schema) batch }
         requires room { self.old.count < batches_limit }
         ensures holds { OnOk result (HoldsMore (rows_of batch ∷ []) self.old self.new) }
@@ -273,10 +321,8 @@ impl Incoming {
             self.give_up(size);
             return Ok(());
         }
-        match self.keep(batch, size) {
-            Ok(()) => Ok(()),
-            Err(_) => Err(Refusal::OutOfMemory),
-        }
+        self.keep(batch, size)?;
+        Ok(())
     }
 
     /// The upload, whose end has come.

@@ -42,10 +42,7 @@ fn table_asked(alloc: Global, message: &[u8]) -> Result<String, Refusal>
         Ok(table) => table,
         Err(refusal) => return Err(refusal),
     };
-    match String::from_str(alloc, table) {
-        Ok(table) => Ok(table),
-        Err(_) => Err(Refusal::OutOfMemory),
-    }
+    Ok(String::from_str(alloc, table)?)
 }
 
 /// Whether the criteria leave out no flight.

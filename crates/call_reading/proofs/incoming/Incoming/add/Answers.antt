@@ -8,7 +8,7 @@ returns-then-size-gt-SIZE_LIMIT-clause-holds c =
     holds_over c.args.self.now (rows_of c.args.batch) c.size_with-size.result c.requires.on_its_way c.size_with-size.ensures c.give_up.new.self c.give_up.ensures
     (omega (arith, c.if-size-gt-SIZE_LIMIT.true))
 
-pub returns-in-Ok-clause-on_its_way : goal.returns-in-Ok-clause-on_its_way
-returns-in-Ok-clause-on_its_way c =
-    way_kept c.args.self.now (rows_of c.args.batch) c.size_with-size.result c.requires.on_its_way c.size_with-size.ensures c.keep.new.self c.args.batch c.in-Ok.ensures.kept
+pub returns-clause-on_its_way : goal.returns-clause-on_its_way
+returns-clause-on_its_way c =
+    way_kept c.args.self.now (rows_of c.args.batch) c.size_with-size.result c.requires.on_its_way c.size_with-size.ensures c.keep.new.self c.args.batch c.in_ok-keep.ensures.kept
     (omega (arith, c.if-size-gt-SIZE_LIMIT.false)) refl c.requires.of_schema c.requires.room
