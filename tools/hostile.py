@@ -1,0 +1,253 @@
+#!/usr/bin/env python3
+"""Sends a server batches whose columns name the same bytes, so that a frame of some 4 MiB speaks of gigabytes, and looks at how
+much memory and time each costs, beside a frame of as many bytes that are each their own.
+
+    tools/hostile.py [PROGRAM]
+
+It starts PROGRAM (crates/call_server/out/call_server) once for each upload, sends a DoPut of one batch, and compares the answer
+with what it has to be: what is written of the batch is too large for a frame, or the upload is taken. The status is 1 where an
+answer is another one, where the server ever held more than MOST_HELD bytes, or where a call took more than MOST_TIME seconds of
+the processor. Memory and time are those that the kernel counts for the process (Linux, proc(5)), which is running still."""
+import os
+import struct
+import sys
+
+from peer import PROGRAM, Server, Structs, Table, Wrong, descriptor, field, message, name_of, schema_text, want, whole
+
+# What a server may hold at most: a frame as it came, the message in it, the batch, the upload's encoding and its frames, each
+# once, and itself.
+MOST_HELD = 48 << 20
+MOST_TIME = 4.0
+# The bytes of a body that leave room for the rest of a frame.
+BODY = (4 << 20) - (1 << 16)
+# As many fields as a schema may have, as many rows as a batch, and as many values as a column.
+FIELDS, ROWS, VALUES = 512, 1 << 20, 1 << 24
+TOO_LARGE = (8, "TooLarge")
+TAKEN = (0, "")
+
+
+class Laid:
+    """A batch as its parts are laid out: nodes, and buffers by what they hold, which columns may share."""
+
+    def __init__(self):
+        self.nodes, self.buffers, self.body, self.places = [], [], bytearray(), {}
+
+    def bytes(self, name, content=b""):
+        """Where these bytes stand, under a name: they are put once."""
+        if name not in self.places:
+            self.places[name] = (len(self.body), len(content))
+            self.body += content + bytes(-len(content) % 8)
+        return self.places[name]
+
+    def column(self, count, nulls, *buffers):
+        self.nodes.append((count, nulls))
+        self.buffers += buffers
+
+    def parts(self, rows):
+        header = message(3, Table(("q", rows), Structs(self.nodes), Structs(self.buffers)), len(self.body))
+        return header, bytes(self.body)
+
+
+NONE = (0, 0)
+
+
+def numbers(count, kind, parameter=None):
+    return [(f"c{it}", kind, parameter) for it in range(count)]
+
+
+def plain():
+    """Numbers of eight columns, each with bytes of its own."""
+    laid, rows = Laid(), BODY // 64
+    for count in range(8):
+        laid.column(rows, 0, NONE, laid.bytes(count, os.urandom(8 * rows)))
+    return numbers(8, "Int", 64), laid.parts(rows), TAKEN
+
+
+def shared_numbers():
+    laid, rows = Laid(), BODY // 8
+    place = laid.bytes("numbers", bytes(8 * rows))
+    for _ in range(FIELDS):
+        laid.column(rows, 0, NONE, place)
+    return numbers(FIELDS, "Int", 64), laid.parts(rows), TOO_LARGE
+
+
+def half_null(count):
+    """A bitmap in which every other value is null."""
+    return b"\x55" * ((count + 7) // 8)
+
+
+def shared_bits_in_a_struct():
+    """Bits inside structures, of which half are null, that all have one bitmap."""
+    laid, rows = Laid(), ROWS
+    place = laid.bytes("bits", half_null(rows))
+    laid.column(rows, rows // 2, place)
+    for _ in range(FIELDS - 1):
+        laid.column(rows, rows // 2, place, place)
+    return [("s", "Struct", None, numbers(FIELDS - 1, "Bool"))], laid.parts(rows), TOO_LARGE
+
+
+def shared_structs():
+    """Structures without fields that all have one bitmap."""
+    laid, rows = Laid(), ROWS
+    place = laid.bytes("bits", half_null(rows))
+    for _ in range(FIELDS):
+        laid.column(rows, rows // 2, place)
+    return numbers(FIELDS, "Struct"), laid.parts(rows), TOO_LARGE
+
+
+def one_element_each(count):
+    return struct.pack(f"<{count + 1}i", *range(count + 1))
+
+
+def lists_half_null(kind, parameter=None):
+    """Lists of one element each, of which half are null, around a structure of many columns that share their bytes."""
+    laid, rows = Laid(), BODY // 6
+    validity = laid.bytes("validity", half_null(rows))
+    laid.column(rows, rows // 2, validity, laid.bytes("offsets", one_element_each(rows)))
+    laid.column(rows, 0, NONE)
+    values = {"Null": (), "Struct": (validity,), "Bool": (validity, validity), "Int": (validity, laid.bytes("offsets"))}[kind]
+    for _ in range(FIELDS - 2):
+        laid.column(rows, rows if kind == "Null" else rows // 2, *values)
+    inside = ("item", "Struct", None, numbers(FIELDS - 2, kind, parameter))
+    wanted = TAKEN if kind == "Null" else TOO_LARGE
+    return [("l", "List", None, [inside])], laid.parts(rows), wanted
+
+
+def many_lists():
+    """Lists that share their offsets, and of which half are null."""
+    laid, rows = Laid(), BODY // 6
+    validity = laid.bytes("validity", half_null(rows))
+    ends = laid.bytes("offsets", one_element_each(rows))
+    for _ in range(FIELDS // 2):
+        laid.column(rows, rows // 2, validity, ends)
+        laid.column(rows, rows // 2, validity, validity)
+    columns = [(f"l{it}", "List", None, [("item", "Bool")]) for it in range(FIELDS // 2)]
+    return columns, laid.parts(rows), TOO_LARGE
+
+
+def lists_of_lists():
+    """Columns of lists of lists, fourteen deep, that all share their offsets, and of which half are null."""
+    laid, rows, deep = Laid(), BODY // 6, 14
+    validity = laid.bytes("validity", half_null(rows))
+    ends = laid.bytes("offsets", one_element_each(rows))
+    column, count = ("x", "Int", 8), FIELDS // (deep + 1)
+    for _ in range(deep):
+        column = ("item", "List", None, [column])
+    for _ in range(count):
+        for _ in range(deep):
+            laid.column(rows, rows // 2, validity, ends)
+        laid.column(rows, 0, NONE, ends)
+    return [(f"l{it}", *column[1:]) for it in range(count)], laid.parts(rows), TOO_LARGE
+
+
+def shared_texts():
+    laid, rows = Laid(), BODY // 8
+    ends = laid.bytes("offsets", struct.pack(f"<{rows + 1}i", *(4 * it for it in range(rows + 1))))
+    place = laid.bytes("texts", b"text" * rows)
+    count = FIELDS
+    for _ in range(count):
+        laid.column(rows, 0, NONE, ends, place)
+    return numbers(count, "Utf8"), laid.parts(rows), TOO_LARGE
+
+
+def long_list_of_bits():
+    """One list of as many elements as there may be: structures, half of them null, of bits that all have one bitmap."""
+    laid = Laid()
+    place = laid.bytes("bits", half_null(VALUES))
+    laid.column(1, 0, NONE, laid.bytes("offsets", struct.pack("<2i", 0, VALUES)))
+    laid.column(VALUES, VALUES // 2, place)
+    for _ in range(FIELDS - 2):
+        laid.column(VALUES, VALUES // 2, place, place)
+    inside = ("item", "Struct", None, numbers(FIELDS - 2, "Bool"))
+    return [("l", "List", None, [inside])], laid.parts(1), TOO_LARGE
+
+
+def long_list_of_nulls(size, wanted):
+    """One list of so many elements that have no bytes."""
+    laid = Laid()
+    laid.column(1, 0, NONE)
+    laid.column(size, size)
+    return [("f", "FixedSizeList", size, [("item", "Null")])], laid.parts(1), wanted
+
+
+def lists_in_lists_of_nulls():
+    """Lists of four lists of four elements that have no bytes, where half of the outer ones are null."""
+    laid = Laid()
+    laid.column(ROWS, ROWS // 2, laid.bytes("validity", half_null(ROWS)))
+    laid.column(4 * ROWS, 0, NONE)
+    laid.column(16 * ROWS, 16 * ROWS)
+    inside = ("item", "FixedSizeList", 4, [("item", "Null")])
+    return [("f", "FixedSizeList", 4, [inside])], laid.parts(ROWS), TAKEN
+
+
+def pairs_of_bits():
+    """Lists of two bits, of which half are null, and whose columns share their bytes."""
+    laid, rows, count = Laid(), ROWS, FIELDS // 2
+    outer = laid.bytes("bits", half_null(2 * rows))
+    for _ in range(count):
+        laid.column(rows, rows // 2, outer)
+        laid.column(2 * rows, rows, outer, outer)
+    columns = [(f"f{it}", "FixedSizeList", 2, [("item", "Bool")]) for it in range(count)]
+    return columns, laid.parts(rows), TOO_LARGE
+
+
+CASES = {
+    "numbers with bytes of their own": plain,
+    "512 columns of the same numbers": shared_numbers,
+    "511 columns of the same bits in structures": shared_bits_in_a_struct,
+    "512 structures with one bitmap": shared_structs,
+    "510 columns of nulls in lists": lambda: lists_half_null("Null"),
+    "510 structures with one bitmap in lists": lambda: lists_half_null("Struct"),
+    "510 columns of the same bits in lists": lambda: lists_half_null("Bool"),
+    "510 columns of the same numbers in lists": lambda: lists_half_null("Int", 8),
+    "256 lists with the same offsets": many_lists,
+    "34 lists of lists with the same offsets": lists_of_lists,
+    "512 columns of the same texts": shared_texts,
+    "510 columns of the same bits in one list": long_list_of_bits,
+    "one list of 2^24 nulls": lambda: long_list_of_nulls(VALUES, TAKEN),
+    "one list of 2^30 nulls": lambda: long_list_of_nulls(1 << 30, (3, "TooManyRows")),
+    "lists of four lists of four nulls": lists_in_lists_of_nulls,
+    "256 lists of two of the same bits": pairs_of_bits,
+}
+
+
+def held(process):
+    """How many bytes a process has held at most."""
+    with open(f"/proc/{process.pid}/status", encoding="ascii") as status:
+        return next(int(line.split()[1]) << 10 for line in status if line.startswith("VmHWM"))
+
+
+def spent(process):
+    """How many seconds of the processor it has taken."""
+    with open(f"/proc/{process.pid}/stat", encoding="ascii") as stat:
+        fields = stat.read().rpartition(")")[2].split()
+    return (int(fields[11]) + int(fields[12])) / os.sysconf("SC_CLK_TCK")
+
+
+def try_case(program, name, case):
+    columns, (header, body), wanted = case()
+    parts = [field(1, descriptor("t", name_of("t", 0).hex())) + field(2, schema_text(whole(columns)))]
+    parts.append(field(2, header) + (field(1000, body) if body else b""))
+    server = Server(program)
+    _, *told = server.call(b"DoPut", *parts)
+    memory, time = held(server.process), spent(server.process)
+    print(f"{name:<45} {len(parts[1]):>9,} bytes  {memory / 2**20:6.1f} MiB  {time:6.2f} s  {told[1] or 'taken'}")
+    want(server.end(), 0)
+    want(tuple(told), wanted)
+    if memory > MOST_HELD or time > MOST_TIME:
+        raise Wrong(f"{memory} bytes and {time} s are more than {MOST_HELD} and {MOST_TIME}")
+
+
+def main(program=PROGRAM):
+    wrong = 0
+    for name, case in CASES.items():
+        try:
+            try_case(program, name, case)
+        except Wrong as why:
+            print(f"hostile: {name}: {why}")
+            wrong = 1
+    return wrong
+
+
+if __name__ == "__main__":
+    sys.exit(main(*sys.argv[1:]))
