@@ -2,3 +2,5 @@ pub mod Names
 pub mod Sizes
 pub mod Messages
 pub mod Calls
+pub mod Counted
+pub mod Versions

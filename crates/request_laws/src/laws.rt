@@ -1,18 +1,33 @@
-//! Laws of what a client writes, as a service reads it.
+//! Laws of what a client writes, as a service reads it, and of what it is given.
 
-ghost use Rattle.std.specs.Prelude.{◌++◌, ℕ, List};
+ghost use Rattle.std.specs.Prelude.{◌≤◌, ◌++◌, ℕ, List, length, Result};
 ghost use Rattle.table_types.specs.Uploads.{Upload};
 ghost use Rattle.table_types.specs.Valid.{IsTableName, IsUpload};
 ghost use Rattle.table_types.specs.Ticket.{TableVersion, IsTableVersion};
+ghost use Rattle.table_types.specs.Tables.{Version};
+ghost use Rattle.table_types.specs.Answers.{answer_messages, answer_of};
+ghost use Rattle.table_versions.specs.State.{values_limit};
+ghost use Rattle.call_words.specs.Statuses.{ok_trailer};
+ghost use Rattle.downloads.specs.declared.download.Download.{Download};
+ghost use Rattle.downloads.specs.Downloads.{IsServedVersion};
+ghost use Rattle.downloads.specs.Taken.{GivesDownload, HasDownload};
+ghost use Rattle.client_calls.specs.declared.client_fault.ClientFault.{ClientFault};
+ghost use Rattle.client_calls.specs.Answers.{IsAnswer, Receives};
 ghost use Rattle.client_calls.specs.Requests.{info_request, get_request, put_request};
+ghost use Rattle.client_calls.specs.Results.{GivesServed};
 ghost use Rattle.request_laws.specs.Asked.{InfoRequestsAreCalls, GetRequestsAreCalls, PutRequestsAreCalls, IsFaultless};
+ghost use Rattle.request_laws.specs.Versions.{IsMadeOf};
 
 use batch_types::laws::written_rows_are_laid_out;
 use call_reading::laws::calls_are_not_refused;
 use call_words::laws::descriptors_name_one;
+use client_calls::laws::versions_are_given;
 use flatbuf_meta::laws::{written_headers_are_shown, written_schemas_are_short};
 use proto_messages::laws::canonical_messages_are_messages;
-use table_types::laws::{batches_have_headers, tickets_have_one_encoding};
+use table_types::laws::{
+    batches_have_headers, shapes_are_without_metadata, tables_have_one_shape,
+    tickets_have_one_encoding, uploads_count_once,
+};
 
 /// What a client writes is the call that it means, and whatever stands behind it is left: of the name of a table it
 /// asks what is told of that table, of a ticket for its version, and of an upload to take it. Frames have room for all
@@ -41,4 +56,26 @@ pub fn requests_are_not_refused()
 {
     requests_are_calls();
     calls_are_not_refused();
+}
+
+/// Each version that uploads make can be got: it is one that is served, and its answer with the trailer of a call that was
+/// answered is one that a client reads, where the uploads are no more than the 1,000,000 values that tables take. So of such an
+/// answer [`call_get`] gives the version's schema, and of each of its uploads the name and the batches, cell for cell; it leaves
+/// what stands behind, and tells something else only where a read failed, a write did or memory was refused.
+///
+/// [`call_get`]: client_calls::call_get
+pub fn versions_can_be_got()
+    ensures served { (version : Version) (uploads : List Upload) → IsMadeOf version uploads → IsServedVersion version }
+    ensures answered { (version : Version) (uploads : List Upload) (rest : List ℕ) → IsMadeOf version uploads
+        → length uploads ≤ values_limit
+        → IsAnswer (answer_of version ++ ok_trailer ++ rest) (answer_messages version) rest }
+    ensures given { (version : Version) (uploads : List Upload) (rest left : List ℕ) (result : Result Download ClientFault)
+        → IsMadeOf version uploads → length uploads ≤ values_limit
+        → Receives GivesDownload HasDownload result (answer_of version ++ ok_trailer ++ rest) left
+        → GivesServed version rest result left }
+{
+    uploads_count_once();
+    tables_have_one_shape();
+    shapes_are_without_metadata();
+    versions_are_given();
 }
