@@ -1,12 +1,14 @@
 //! Laws of what a client writes, as a service reads it, and of what it is given.
 
-ghost use Rattle.std.specs.Prelude.{◌≤◌, ◌++◌, ℕ, List, length, Result};
+ghost use Rattle.std.specs.Prelude.{◌≡◌, ◌≤◌, ◌++◌, ℕ, List, length, Some, Result};
+ghost use Rattle.ballots.specs.declared.value.Value.{Value};
 ghost use Rattle.table_types.specs.Uploads.{Upload};
 ghost use Rattle.table_types.specs.Valid.{IsTableName, IsUpload};
 ghost use Rattle.table_types.specs.Ticket.{TableVersion, IsTableVersion};
-ghost use Rattle.table_types.specs.Tables.{Version};
+ghost use Rattle.table_types.specs.Tables.{Version, version_of};
 ghost use Rattle.table_types.specs.Answers.{answer_messages, answer_of};
-ghost use Rattle.table_versions.specs.State.{values_limit};
+ghost use Rattle.table_versions.specs.State.{values_limit, TablesState, HasTaken};
+ghost use Rattle.table_versions.specs.Values.{AreUploadsIn};
 ghost use Rattle.call_words.specs.Statuses.{ok_trailer};
 ghost use Rattle.downloads.specs.declared.download.Download.{Download};
 ghost use Rattle.downloads.specs.Downloads.{IsServedVersion};
@@ -28,6 +30,7 @@ use table_types::laws::{
     batches_have_headers, shapes_are_without_metadata, tables_have_one_shape,
     tickets_have_one_encoding, uploads_count_once,
 };
+use table_versions::laws::values_hold_one_list_of_uploads;
 
 /// What a client writes is the call that it means, and whatever stands behind it is left: of the name of a table it
 /// asks what is told of that table, of a ticket for its version, and of an upload to take it. Frames have room for all
@@ -58,24 +61,29 @@ pub fn requests_are_not_refused()
     calls_are_not_refused();
 }
 
-/// Each version that uploads make can be got: it is one that is served, and its answer with the trailer of a call that was
-/// answered is one that a client reads, where the uploads are no more than the 1,000,000 values that tables take. So of such an
-/// answer [`call_get`] gives the version's schema, and of each of its uploads the name and the batches, cell for cell; it leaves
-/// what stands behind, and tells something else only where a read failed, a write did or memory was refused.
+/// Each version that uploads make can be got. It is one that is served; and where the uploads are no more than the
+/// 1,000,000 values that tables take, as they are of values that tables have taken, its answer with the trailer of a
+/// call that was answered is one that a client reads. So [`call_get`] gives of it the version's schema, and of each
+/// upload its own name and its batches, cell for cell; it leaves what stands behind, and tells something else only
+/// where a read failed, a write did or memory was refused.
 ///
 /// [`call_get`]: client_calls::call_get
 pub fn versions_can_be_got()
+    ensures held { (state : TablesState) (values : List Value) (uploads : List Upload) (table : List ℕ) (number : ℕ)
+        (version : Version) → HasTaken state values → AreUploadsIn values uploads
+        → version_of table number uploads ≡ Some version → IsMadeOf version uploads × (length uploads ≤ values_limit) }
     ensures served { (version : Version) (uploads : List Upload) → IsMadeOf version uploads → IsServedVersion version }
     ensures answered { (version : Version) (uploads : List Upload) (rest : List ℕ) → IsMadeOf version uploads
         → length uploads ≤ values_limit
         → IsAnswer (answer_of version ++ ok_trailer ++ rest) (answer_messages version) rest }
-    ensures given { (version : Version) (uploads : List Upload) (rest left : List ℕ) (result : Result Download ClientFault)
-        → IsMadeOf version uploads → length uploads ≤ values_limit
+    ensures given { (version : Version) (uploads : List Upload) (rest left : List ℕ)
+        (result : Result Download ClientFault) → IsMadeOf version uploads → length uploads ≤ values_limit
         → Receives GivesDownload HasDownload result (answer_of version ++ ok_trailer ++ rest) left
         → GivesServed version rest result left }
 {
     uploads_count_once();
     tables_have_one_shape();
     shapes_are_without_metadata();
+    values_hold_one_list_of_uploads();
     versions_are_given();
 }

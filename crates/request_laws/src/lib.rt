@@ -2,7 +2,8 @@
 //! "RPC Methods and Request Patterns").
 //!
 //! What a client writes is defined in `client_calls`, and what a text asks for as a call in `call_reading`, apart from
-//! each other. Here the two are held together: there is no code, but the laws.
+//! each other; so are the versions that uploads make, in `table_types`, and those that are served, in `downloads`. Here
+//! they are held together: there is no code, but the laws.
 #![tactic(auto)]
 
 pub mod laws;

@@ -1,8 +1,19 @@
-use Rattle.std.proofs.Common.{◌++◌, length}
+use Rattle.std.proofs.Common.{◌++◌, length, arith}
 use Rattle.table_types.specs.Answers.{answer_of}
 use Rattle.call_words.specs.Statuses.{ok_trailer}
 use Rattle.request_laws.proofs.Versions.{made_can, is_answer}
 use Rattle.request_laws.proofs.laws.versions_can_be_got.Goals as goal
+
+pub returns-clause-held : goal.returns-clause-held
+returns-clause-held c state values uploads table number version took are stands = (
+  record {
+    table = table;
+    number = number;
+    taken = c.values_hold_one_list_of_uploads.ensures.valid values uploads are;
+    is = stands;
+  },
+  omega (arith, c.values_hold_one_list_of_uploads.ensures.few values uploads are, took.few),
+)
 
 pub returns-clause-served : goal.returns-clause-served
 returns-clause-served c version uploads made =
