@@ -61,11 +61,11 @@ pub fn requests_are_not_refused()
     calls_are_not_refused();
 }
 
-/// Each version that uploads make can be got. It is one that is served; and where the uploads are no more than the
-/// 1,000,000 values that tables take, as they are of values that tables have taken, its answer with the trailer of a
-/// call that was answered is one that a client reads. So [`call_get`] gives of it the version's schema, and of each
-/// upload its own name and its batches, cell for cell; it leaves what stands behind, and tells something else only
-/// where a read failed, a write did or memory was refused.
+/// Each version that uploads make can be got. It is one that is served; and where the uploads are at most
+/// 1,000,000, as many as tables take values, what is answered of it, with the trailer of a call that was answered,
+/// is an answer that a client reads. So [`call_get`] gives of it the version's schema, and of each upload its own
+/// name and its batches, cell for cell; it leaves what stands behind, and tells something else only where a read
+/// failed, a write did or memory was refused. The versions that tables have are of such uploads.
 ///
 /// [`call_get`]: client_calls::call_get
 pub fn versions_can_be_got()
