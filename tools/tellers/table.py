@@ -30,6 +30,14 @@ def frames_of(text):
     return frames
 
 
+def told_frames(answer):
+    """The frames that an answer tells, each a word of it."""
+    frames = [bytes.fromhex(it) for it in answer.split(" ")]
+    if frames != frames_of(b"".join(frames)):
+        raise ValueError("each frame stands by itself")
+    return frames
+
+
 def told_upload(answer):
     """The line that tells which upload bytes are."""
     if answer == "NotAnUpload":
@@ -131,10 +139,11 @@ class Teller:
         (answer,) = yield self.asked(words)
         if answer == "none":
             return ["none"]
-        text = bytes.fromhex(answer)
-        lengths = " ".join(str(len(frame)) for frame in frames_of(text))
+        frames = told_frames(answer)
+        lengths = " ".join(str(len(frame)) for frame in frames)
+        text = b"".join(frames)
         return [f"{len(text)} bytes in frames of {lengths}, md5 {md5(text)}"]
 
     def frames(self, words):
         (answer,) = yield self.asked(words)
-        return ["none"] if answer == "none" else [spelled(it) for it in frames_of(bytes.fromhex(answer))]
+        return ["none"] if answer == "none" else [spelled(it) for it in told_frames(answer)]

@@ -1,6 +1,5 @@
 -- What serving a call gives, of what its parts give.
-use Rattle.std.proofs.Common.{◌≡◌, ◌⊎◌, ℕ, List, [], ◌∷◌, ◌++◌, Option, Some, None, Vec, Result, Ok, Err, refl, ap, subst, inl, inr, ◌∙◌}
-use Rattle.std.specs.declared.alloc.Global.{Global}
+use Rattle.std.proofs.Common.{◌≡◌, ◌⊎◌, ℕ, List, [], ◌∷◌, ◌++◌, Option, Some, None, Result, Ok, Err, refl, ap, subst, inl, inr, ◌∙◌}
 use Rattle.grpc_frames.specs.FrameFaults.{WhereKnown}
 use Rattle.call_words.specs.declared.refusal.Refusal.{Refusal}
 use Rattle.call_reading.specs.declared.request.FlightRequest.{FlightRequest}
@@ -8,6 +7,7 @@ use Rattle.call_reading.specs.Requests.{Request, describes, shows, lists, serves
 use Rattle.call_reading.specs.Reading.{request_of, ReadsCall}
 use Rattle.call_words.specs.declared.call_fault.CallFault.{CallFault}
 use Rattle.call_words.specs.declared.call_fault.CallFault.TheVariants as faults
+use Rattle.flight_calls.specs.declared.outgoing.Outgoing.{Outgoing}
 use Rattle.flight_calls.specs.Replies.{Reply, reply_text}
 use Rattle.flight_calls.specs.Serving.{MayAnswer, Handed, Leaves, Stays, Responds, IsDue, Serves}
 use Rattle.flight_calls.specs.Responding.{AnswersIn, RespondsBy, AnswersText}
@@ -16,7 +16,7 @@ use Rattle.flight_calls.specs.Sending.{SendsReply}
 -- ---- an answer to what was read
 
 -- the backend has answered the request that was read
-pub answered : {B : Type 0} (may : MayAnswer B) (handed : Handed B) (leaves : Leaves B) (stays : Stays B) (old new : B) (asked : FlightRequest) (r : Result (Vec ℕ Global) Refusal) (text rest : Option (List ℕ))
+pub answered : {B : Type 0} (may : MayAnswer B) (handed : Handed B) (leaves : Leaves B) (stays : Stays B) (old new : B) (asked : FlightRequest) (r : Result Outgoing Refusal) (text rest : Option (List ℕ))
     → WhereKnown text rest (ReadsCall (Ok asked)) → RespondsBy may handed leaves stays (request_of asked) old new r
     → WhereKnown text rest (AnswersText may handed leaves stays old new r)
 answered may handed leaves stays old new asked r None rest call responds = tt
@@ -44,7 +44,7 @@ serves_where_known may handed leaves stays old new reply r text rest (Some x) No
 serves_where_known may handed leaves stays old new reply r text rest (Some x) (Some y) due sends =
     serves_by may handed leaves stays old new reply r text rest x y due sends
 
-pub served : {B : Type 0} (may : MayAnswer B) (handed : Handed B) (leaves : Leaves B) (stays : Stays B) (old new : B) (answer : Result (Vec ℕ Global) Refusal) (r : Result (Unit {0}) CallFault) (text rest before after : Option (List ℕ))
+pub served : {B : Type 0} (may : MayAnswer B) (handed : Handed B) (leaves : Leaves B) (stays : Stays B) (old new : B) (answer : Result Outgoing Refusal) (r : Result (Unit {0}) CallFault) (text rest before after : Option (List ℕ))
     → WhereKnown text rest (AnswersText may handed leaves stays old new answer)
     → ((reply : Reply) → AnswersIn answer reply → WhereKnown before after (SendsReply r reply))
     → WhereKnown text rest (λ x y. WhereKnown before after (Serves may handed leaves stays r old new x y))

@@ -3,3 +3,4 @@ pub mod Sizes
 pub mod Replying
 pub mod Calls
 pub mod OneReply
+pub mod Writing

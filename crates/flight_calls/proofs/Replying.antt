@@ -1,7 +1,6 @@
 -- Replies to what a backend answers, in frames.
-use Rattle.std.proofs.Common.{◌≡◌, ◌⊎◌, ℕ, List, [], ◌∷◌, map, Vec, Result, Ok, Err, refl, sym, ap, ap₂, subst, ◌∙◌, inl, inr}
+use Rattle.std.proofs.Common.{◌≡◌, ◌⊎◌, ℕ, List, [], ◌∷◌, map, Result, Ok, Err, refl, sym, ap, ap₂, subst, ◌∙◌, inl, inr}
 use Rattle.std.specs.List.{AllByRecursion}
-use Rattle.std.specs.declared.alloc.Global.{Global}
 use Rattle.header_types.specs.Fields.{SchemaTree}
 use Rattle.table_types.specs.Uploads.{Upload, upload_text, schema_text}
 use Rattle.table_types.specs.Valid.{IsUpload, FitsFrame}
@@ -12,6 +11,8 @@ use Rattle.call_words.specs.declared.refusal.Refusal.{Refusal}
 use Rattle.call_words.specs.declared.refusal.Refusal.TheVariants as refusals
 use Rattle.call_reading.specs.Requests.{describes, shows, lists, serves}
 use Rattle.flight_calls.specs.declared.described.Described.{Described}
+use Rattle.flight_calls.specs.declared.outgoing.Outgoing.{Outgoing}
+use Rattle.flight_calls.specs.declared.outgoing.Outgoing.TheVariants.{Shared}
 use Rattle.flight_calls.specs.Replies.{Description, described, shown, listed, served, Reply, answers, refuses, RepliesBy, info_message, schema_result}
 use Rattle.call_words.specs.Results.{put_result}
 use Rattle.flight_calls.specs.Backing.{Describes, DescribeAll}
@@ -65,7 +66,7 @@ messages_are (x ∷ xs) (y ∷ ys) h = ap₂ (λ (m : List ℕ) (ms : List (List
 -- ---- frames as a reply
 
 -- frames of these messages are a reply by them, or memory was refused
-framed_reply : (messages : List (List ℕ)) (r : Result (Vec ℕ Global) Refusal) → Frames messages r
+framed_reply : (messages : List (List ℕ)) (r : Result Outgoing Refusal) → Frames messages r
     → (reply : Reply) × (RepliesBy messages reply ⊎ (reply ≡ refuses refusals.OutOfMemory)) × AnswersIn r reply
 framed_reply messages (Ok frames) h = (answers messages, inl (inl (h.0, refl)), (messages, refl, h.1))
 framed_reply messages (Err refusal) h = (
@@ -76,7 +77,7 @@ framed_reply messages (Err refusal) h = (
 
 -- ---- an upload that was put
 
-pub applied_told : (text : List ℕ) (version : ℕ) (upload : Upload) (r : Result (Vec ℕ Global) Refusal) → IsUpload upload → upload_text upload ≡ text
+pub applied_told : (text : List ℕ) (version : ℕ) (upload : Upload) (r : Result Outgoing Refusal) → IsUpload upload → upload_text upload ≡ text
     → Frames (put_result upload.id version ∷ []) r → TellsOutcome text (applied version) r
 applied_told text version upload (Ok frames) valid is h =
     (answers (put_result upload.id version ∷ []), inl (upload, valid, is, refl), (put_result upload.id version ∷ [], refl, h.1))
@@ -89,7 +90,7 @@ applied_told text version upload (Err refusal) valid is h = (
 -- ---- a request, and what the backend answered
 
 module _ {B : Type 0} (may : MayAnswer B) (handed : Handed B) (leaves : Leaves B) (stays : Stays B) (old new : B) (same : handed new ≡ handed old) (took_nothing : stays old new) where
-  pub described_by : (table : List ℕ) (found : Described) (r : Result (Vec ℕ Global) Refusal)
+  pub described_by : (table : List ℕ) (found : Described) (r : Result Outgoing Refusal)
       → (description : Description) × may old (describes table) (described description) × Describes found description
       → Frames (message_of found ∷ []) r → RespondsBy may handed leaves stays (describes table) old new r
   described_by table found r told frames =
@@ -97,14 +98,14 @@ module _ {B : Type 0} (may : MayAnswer B) (handed : Handed B) (leaves : Leaves B
       let k = framed_reply (info_message told.0 ∷ []) r (subst (λ (m : List ℕ). Frames (m ∷ []) r) is frames) in
       (k.0, record { answer = described told.0; may_answer = told.1; replies = k.1; hands_nothing = same; takes_nothing = took_nothing }, k.2)
 
-  pub shown_by : (table schema : List ℕ) (r : Result (Vec ℕ Global) Refusal)
+  pub shown_by : (table schema : List ℕ) (r : Result Outgoing Refusal)
       → (tree : SchemaTree) × may old (shows table) (shown tree) × (schema ≡ schema_text tree) × FitsFrame schema
       → Frames (schema_told schema ∷ []) r → RespondsBy may handed leaves stays (shows table) old new r
   shown_by table schema r told frames =
       let k = framed_reply (schema_result told.0 ∷ []) r (subst (λ (s : List ℕ). Frames (schema_told s ∷ []) r) told.2 frames) in
       (k.0, record { answer = shown told.0; may_answer = told.1; replies = k.1; hands_nothing = same; takes_nothing = took_nothing }, k.2)
 
-  pub listed_by : (all : List Described) (r : Result (Vec ℕ Global) Refusal)
+  pub listed_by : (all : List Described) (r : Result Outgoing Refusal)
       → (descriptions : List Description) × may old lists (listed descriptions) × DescribeAll all descriptions
       → Frames (map message_of all) r → RespondsBy may handed leaves stays lists old new r
   listed_by all r told frames =
@@ -112,9 +113,9 @@ module _ {B : Type 0} (may : MayAnswer B) (handed : Handed B) (leaves : Leaves B
       let k = framed_reply (map info_message told.0) r (subst (λ (ms : List (List ℕ)). Frames ms r) is frames) in
       (k.0, record { answer = listed told.0; may_answer = told.1; replies = k.1; hands_nothing = same; takes_nothing = took_nothing }, k.2)
 
-  pub served_by : (asked : TableVersion) (frames : Vec ℕ Global) → (version : Version) × may old (serves asked) (served version) × (frames.items ≡ answer_of version)
-      → RespondsBy may handed leaves stays (serves asked) old new (Ok frames)
-  served_by asked frames told = (
+  pub served_by : (asked : TableVersion) (answer : List ℕ) → (version : Version) × may old (serves asked) (served version) × (answer ≡ answer_of version)
+      → RespondsBy may handed leaves stays (serves asked) old new (Ok (Shared answer))
+  served_by asked answer told = (
     answers (answer_messages told.0),
     record { answer = served told.0; may_answer = told.1; replies = inl refl; hands_nothing = same; takes_nothing = took_nothing },
     (answer_messages told.0, refl, told.2),

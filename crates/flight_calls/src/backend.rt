@@ -16,7 +16,7 @@ use crate::described::Described;
 use call_words::BackFault;
 use std::alloc::Global;
 use table_types::Ticket;
-use table_versions::Outcome;
+use table_versions::{Answer, Outcome};
 use uploads::Upload;
 
 /// What stands behind the calls of one connection: it takes uploads, and tells of tables. It names which answers each
@@ -50,10 +50,10 @@ pub trait Backend {
         ensures same { handed self.new ≡ handed self.old }
         ensures stays { stays self.old self.new };
 
-    /// The bytes that answer a ticket: the frames of the version that it asks for.
-    fn get(&mut self, alloc: Global, ticket: &Ticket) -> Result<Vec<u8>, BackFault>
-        ensures served { IfOk result (λ bytes. (version : Version)
-            × may_answer self.old (serves ticket.now) (served version) × (bytes.items ≡ answer_of version)) }
+    /// What answers a ticket: the frames of the version that it asks for.
+    fn get(&mut self, alloc: Global, ticket: &Ticket) -> Result<Answer, BackFault>
+        ensures served { IfOk result (λ answer. (version : Version)
+            × may_answer self.old (serves ticket.now) (served version) × (answer ≡ answer_of version)) }
         ensures fault { IfErr result (λ fault. may_answer self.old (serves ticket.now) (failed fault)) }
         ensures same { handed self.new ≡ handed self.old }
         ensures stays { stays self.old self.new };

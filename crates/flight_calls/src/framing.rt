@@ -11,6 +11,7 @@ ghost use Rattle.flight_calls.specs.Framing.{Frames};
 
 use crate::described::Described;
 use crate::describing::{info_message, schema_message};
+use crate::outgoing::Outgoing;
 use call_words::Refusal;
 use grpc_frames::{MAX_FRAME_PAYLOAD, MESSAGE_FLAG};
 use std::alloc::{AllocError, Global};
@@ -46,18 +47,18 @@ fn append_frame(out: &mut Vec<u8>, message: &[u8]) -> Result<(), Refusal>
 }
 
 /// The frame of a message. The refusals are those of [`append_frame`].
-pub(crate) fn frame_of(alloc: Global, message: &[u8]) -> Result<Vec<u8>, Refusal>
+pub(crate) fn frame_of(alloc: Global, message: &[u8]) -> Result<Outgoing, Refusal>
     ensures { Frames (message.now ∷ []) result }
 {
     let mut frames = Vec::new(alloc);
     match append_frame(&mut frames, message) {
-        Ok(()) => Ok(frames),
+        Ok(()) => Ok(Outgoing::Made(frames)),
         Err(refusal) => Err(refusal),
     }
 }
 
 /// The frame of the message with a schema, whose own message this is.
-pub(crate) fn schema_frame(alloc: Global, schema: &[u8]) -> Result<Vec<u8>, Refusal>
+pub(crate) fn schema_frame(alloc: Global, schema: &[u8]) -> Result<Outgoing, Refusal>
     requires { FitsFrame schema.now }
     ensures { Frames (schema_told schema.now ∷ []) result }
 {
@@ -68,7 +69,7 @@ pub(crate) fn schema_frame(alloc: Global, schema: &[u8]) -> Result<Vec<u8>, Refu
 }
 
 /// The frame of what is told of a table.
-pub(crate) fn info_frame(alloc: Global, described: &Described) -> Result<Vec<u8>, Refusal>
+pub(crate) fn info_frame(alloc: Global, described: &Described) -> Result<Outgoing, Refusal>
     requires { CanBeTold described.now }
     ensures { Frames (message_of described.now ∷ []) result }
 {
@@ -93,7 +94,7 @@ fn append_info(alloc: Global, frames: &mut Vec<u8>, described: &Described) -> Re
 }
 
 /// The frames of what is told of each table. The refusals are those of [`append_frame`].
-pub(crate) fn info_frames(alloc: Global, all: &[Described]) -> Result<Vec<u8>, Refusal>
+pub(crate) fn info_frames(alloc: Global, all: &[Described]) -> Result<Outgoing, Refusal>
     requires { AllByRecursion CanBeTold all.now }
     ensures { Frames (map message_of all.now) result }
 {
@@ -104,5 +105,5 @@ pub(crate) fn info_frames(alloc: Global, all: &[Described]) -> Result<Vec<u8>, R
             Err(refusal) => return Err(refusal),
         }
     }
-    Ok(frames)
+    Ok(Outgoing::Made(frames))
 }

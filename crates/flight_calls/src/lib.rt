@@ -10,6 +10,7 @@ mod described;
 mod describing;
 mod framing;
 pub mod laws;
+mod outgoing;
 mod responding;
 mod sending;
 mod serving;

@@ -14,6 +14,7 @@ ghost use Rattle.flight_calls.specs.Responding.{TellsOutcome, DecidesBy, Respond
 use crate::backend::Backend;
 use crate::describing::put_message;
 use crate::framing::{frame_of, info_frame, info_frames, schema_frame};
+use crate::outgoing::Outgoing;
 use call_reading::FlightRequest;
 use call_words::Refusal;
 use std::alloc::Global;
@@ -22,7 +23,7 @@ use table_versions::Outcome;
 use uploads::Upload;
 
 /// The frame of what is told of a table.
-fn describe<B: Backend>(alloc: Global, b: &mut B, table: &str) -> Result<Vec<u8>, Refusal>
+fn describe<B: Backend>(alloc: Global, b: &mut B, table: &str) -> Result<Outgoing, Refusal>
     ensures { RespondsBy B.may_answer B.handed B.leaves B.stays (describes table.now) b.old b.new result }
 {
     match b.info(alloc, table) {
@@ -32,7 +33,7 @@ fn describe<B: Backend>(alloc: Global, b: &mut B, table: &str) -> Result<Vec<u8>
 }
 
 /// The frame of a table's schema.
-fn show<B: Backend>(alloc: Global, b: &mut B, table: &str) -> Result<Vec<u8>, Refusal>
+fn show<B: Backend>(alloc: Global, b: &mut B, table: &str) -> Result<Outgoing, Refusal>
     ensures { RespondsBy B.may_answer B.handed B.leaves B.stays (shows table.now) b.old b.new result }
 {
     match b.schema(alloc, table) {
@@ -42,7 +43,7 @@ fn show<B: Backend>(alloc: Global, b: &mut B, table: &str) -> Result<Vec<u8>, Re
 }
 
 /// The frames of what is told of each table.
-fn list<B: Backend>(alloc: Global, b: &mut B) -> Result<Vec<u8>, Refusal>
+fn list<B: Backend>(alloc: Global, b: &mut B) -> Result<Outgoing, Refusal>
     ensures { RespondsBy B.may_answer B.handed B.leaves B.stays lists b.old b.new result }
 {
     match b.list(alloc) {
@@ -52,17 +53,17 @@ fn list<B: Backend>(alloc: Global, b: &mut B) -> Result<Vec<u8>, Refusal>
 }
 
 /// The frames of a version.
-fn serve<B: Backend>(alloc: Global, b: &mut B, ticket: &Ticket) -> Result<Vec<u8>, Refusal>
+fn serve<B: Backend>(alloc: Global, b: &mut B, ticket: &Ticket) -> Result<Outgoing, Refusal>
     ensures { RespondsBy B.may_answer B.handed B.leaves B.stays (serves ticket.now) b.old b.new result }
 {
     match b.get(alloc, ticket) {
-        Ok(frames) => Ok(frames),
+        Ok(answer) => Ok(Outgoing::Shared(answer)),
         Err(fault) => Err(Refusal::Back(fault)),
     }
 }
 
 /// The frame that tells of an upload which counts.
-fn applied_frame(alloc: Global, upload: &Upload, version: u64) -> Result<Vec<u8>, Refusal>
+fn applied_frame(alloc: Global, upload: &Upload, version: u64) -> Result<Outgoing, Refusal>
     ensures upload { IsUploadText upload.now }
     ensures frame { (u : Uploaded) → IsUpload u → upload_text u ≡ upload.now
         → Frames (put_result u.id version ∷ []) result }
@@ -75,7 +76,7 @@ fn applied_frame(alloc: Global, upload: &Upload, version: u64) -> Result<Vec<u8>
 }
 
 /// The frame of what has become of an upload, where it counts, and else why it does not.
-fn tell(alloc: Global, upload: &Upload, outcome: Outcome) -> Result<Vec<u8>, Refusal>
+fn tell(alloc: Global, upload: &Upload, outcome: Outcome) -> Result<Outgoing, Refusal>
     ensures { TellsOutcome upload.now (told outcome) result }
 {
     match outcome {
@@ -87,7 +88,7 @@ fn tell(alloc: Global, upload: &Upload, outcome: Outcome) -> Result<Vec<u8>, Ref
 }
 
 /// The frame of what has become of an upload that was put.
-fn decide<B: Backend>(alloc: Global, b: &mut B, upload: &Upload) -> Result<Vec<u8>, Refusal>
+fn decide<B: Backend>(alloc: Global, b: &mut B, upload: &Upload) -> Result<Outgoing, Refusal>
     ensures decided { DecidesBy B.may_answer upload.now b.old result }
     ensures same { B.handed b.new ≡ B.handed b.old }
     ensures stays { B.stays b.old b.new }
@@ -99,7 +100,7 @@ fn decide<B: Backend>(alloc: Global, b: &mut B, upload: &Upload) -> Result<Vec<u
 }
 
 /// Hands an upload over, and gives the frame of what has become of it.
-fn put<B: Backend>(alloc: Global, b: &mut B, upload: &Upload) -> Result<Vec<u8>, Refusal>
+fn put<B: Backend>(alloc: Global, b: &mut B, upload: &Upload) -> Result<Outgoing, Refusal>
     ensures { RespondsBy B.may_answer B.handed B.leaves B.stays (puts upload.now) b.old b.new result }
 {
     match b.put(upload) {
@@ -113,7 +114,7 @@ pub(crate) fn respond<B: Backend>(
     alloc: Global,
     b: &mut B,
     asked: &FlightRequest,
-) -> Result<Vec<u8>, Refusal>
+) -> Result<Outgoing, Refusal>
     ensures { RespondsBy B.may_answer B.handed B.leaves B.stays (request_of asked.now) b.old b.new result }
 {
     match asked {

@@ -1,15 +1,19 @@
 //! What goes out for a call.
 
 ghost use Rattle.std.specs.Prelude.{◌≡◌, ◌++◌, ◌∷◌, ◌+◌, ◌<◌, ◌↔◌, IsTrue, IfErr, length, take};
-ghost use Rattle.grpc_frames.specs.FrameFaults.{WhereKnown};
+ghost use Rattle.std.specs.List.{concat};
+ghost use Rattle.grpc_frames.specs.FrameFaults.{WhereKnown, Writes};
 ghost use Rattle.grpc_frames.specs.declared.fault.FrameFault.TheVariants.{Io};
 ghost use Rattle.call_words.specs.declared.refusal.Refusal.TheVariants.{Frame};
 ghost use Rattle.call_words.specs.Statuses.{code_of, trailer_text, ok_trailer, refusal_trailer};
 ghost use Rattle.call_words.specs.declared.call_fault.CallFault.TheVariants.{Read};
 ghost use Rattle.flight_calls.specs.Replies.{Reply, refuses};
+ghost use Rattle.flight_calls.specs.Framing.{outgoing_text};
 ghost use Rattle.flight_calls.specs.Responding.{AnswersIn};
 ghost use Rattle.flight_calls.specs.Sending.{Sends, SendsReply};
 
+use crate::outgoing::Outgoing;
+use bytes::Bytes;
 use call_words::laws::refusals_are_told;
 use call_words::{CallFault, Refusal, Status};
 use grpc_frames::transfer::put;
@@ -45,11 +49,35 @@ fn send_trailer<W: Write>(w: &mut W, status: Status, text: &str) -> Result<(), C
     Ok(())
 }
 
-/// Writes the frames of an answer and the trailer behind them.
-fn send_frames<W: Write>(w: &mut W, frames: &[u8]) -> Result<(), CallFault>
-    ensures { WhereKnown (W.contents w.old) (W.contents w.new) (Sends result (frames.now ++ ok_trailer)) }
+/// Writes frames, one by one.
+fn put_frames<W: Write>(w: &mut W, frames: &[Bytes]) -> Result<(), FrameFault>
+    ensures { WhereKnown (W.contents w.old) (W.contents w.new) (Writes result (concat frames.now)) }
 {
-    if put(w, frames).is_err() {
+    for frame in frames {
+        match put(w, frame.as_slice()) {
+            Ok(()) => {}
+            Err(fault) => return Err(fault),
+        }
+    }
+    Ok(())
+}
+
+/// Writes what goes out before the trailer.
+fn put_outgoing<W: Write>(w: &mut W, outgoing: &Outgoing) -> Result<(), FrameFault>
+    ensures { WhereKnown (W.contents w.old) (W.contents w.new) (Writes result (outgoing_text outgoing.now)) }
+{
+    match outgoing {
+        Outgoing::Made(frames) => put(w, frames.as_slice()),
+        Outgoing::Shared(answer) => put_frames(w, answer.frames()),
+    }
+}
+
+/// Writes what goes out before the trailer, and the trailer behind it.
+fn send_outgoing<W: Write>(w: &mut W, outgoing: &Outgoing) -> Result<(), CallFault>
+    ensures { WhereKnown (W.contents w.old) (W.contents w.new)
+        (Sends result (outgoing_text outgoing.now ++ ok_trailer)) }
+{
+    if put_outgoing(w, outgoing).is_err() {
         return Err(CallFault::Write);
     }
     send_trailer(w, Status::Ok, "")
@@ -101,13 +129,13 @@ fn send_refusal<W: Write>(w: &mut W, refusal: Refusal) -> Result<(), CallFault>
 /// failed, and that a beginning of what was to be written has gone out.
 pub(crate) fn send_answer<W: Write>(
     w: &mut W,
-    answer: Result<Vec<u8>, Refusal>,
+    answer: Result<Outgoing, Refusal>,
 ) -> Result<(), CallFault>
     ensures { (reply : Reply) → AnswersIn answer reply
         → WhereKnown (W.contents w.old) (W.contents w.new) (SendsReply result reply) }
 {
     match answer {
-        Ok(frames) => send_frames(w, &frames),
+        Ok(outgoing) => send_outgoing(w, &outgoing),
         Err(refusal) => send_refusal(w, refusal),
     }
 }

@@ -6,6 +6,7 @@ ghost use Rattle.flight_calls.specs.Serving.{Serves};
 ghost use Rattle.flight_calls.specs.Responding.{AnswersText};
 
 use crate::backend::Backend;
+use crate::outgoing::Outgoing;
 use crate::responding::respond;
 use crate::sending::send_answer;
 use call_reading::read_call;
@@ -14,7 +15,7 @@ use std::alloc::Global;
 use std::io::{Read, Write};
 
 /// Reads a call to its end, or to the first fault that stands in it, and asks the backend once the end was read.
-fn answer<R: Read, B: Backend>(alloc: Global, r: &mut R, b: &mut B) -> Result<Vec<u8>, Refusal>
+fn answer<R: Read, B: Backend>(alloc: Global, r: &mut R, b: &mut B) -> Result<Outgoing, Refusal>
     ensures { WhereKnown (R.remaining r.old) (R.remaining r.new)
         (AnswersText B.may_answer B.handed B.leaves B.stays b.old b.new result) }
 {

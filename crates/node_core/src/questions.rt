@@ -18,16 +18,16 @@ use ballots::OutOfMemory;
 use decided_log::laws::prefixes_are_one;
 use learner::laws::learned_is_one;
 use table_types::Ticket;
-use table_versions::{Outcome, TableInfo};
+use table_versions::{Answer, Outcome, TableInfo};
 use uploads::Upload;
 
 impl Node {
-    /// The bytes that answer a ticket: those of this version of this table, in the tables that the node's prefix makes.
-    /// `None` exactly where it has none; and memory can be refused only where it has one. Nothing changes.
-    pub fn get(&self, ticket: &Ticket) -> Result<Option<Vec<u8>>, OutOfMemory>
+    /// What answers a ticket: the frames of this version of this table, in the tables that the node's prefix makes. They
+    /// are shared. `None` exactly where it has none; and memory can be refused only where it has one. Nothing changes.
+    pub fn get(&self, ticket: &Ticket) -> Result<Option<Answer>, OutOfMemory>
         ensures answer { (views : Views) (uploads : List Uploaded) → NodeHas self.now views
             → HasUploads self.now.agreement.config.members views.learner_calls uploads
-            → IfOk result (λ answer. option_map (λ bytes. bytes.items) answer
+            → IfOk result (λ answer. answer
             ≡ option_map answer_of (version_of ticket.now.table ticket.now.version uploads)) }
         ensures memory { OnErr result ((views : Views) (uploads : List Uploaded) → NodeHas self.now views
             → HasUploads self.now.agreement.config.members views.learner_calls uploads

@@ -1,7 +1,6 @@
 //! What an event gives.
 
-use bytes::Bytes;
-use table_versions::Outcome;
+use table_versions::{Answer, Outcome};
 use thiserror::Error;
 
 /// What an event gave.
@@ -16,8 +15,8 @@ pub enum EventResult {
     },
     /// A put was taken, a node went down, or it started again.
     Done,
-    /// The bytes of the version that was asked for.
-    Answer(Bytes),
+    /// What the version that was asked for is answered with: its frames, which are shared.
+    Answer(Answer),
     /// The node's tables have no such version.
     Unavailable,
     /// The number of the table's latest version.

@@ -1,28 +1,16 @@
 //! What a node answers to clients.
 
-ghost use Rattle.std.specs.Prelude.{◌≡◌, ◌⊎◌, List};
+ghost use Rattle.std.specs.Prelude.{List};
 ghost use Rattle.table_types.specs.Uploads.{Upload as Uploaded};
 ghost use Rattle.agreement_rules.specs.Views.{Views};
 ghost use Rattle.histories.specs.Texts.{HasUploads};
 ghost use Rattle.histories.specs.Following.{GetGivesIfAble, InfoGivesIfAble};
-ghost use Rattle.histories.specs.EventResult.{Answer, Refused, OutOfMemory};
 ghost use Rattle.node_core.specs.State.{NodeHas};
 ghost use Rattle.node_events.specs.Told.{result_of};
 
-use bytes::Bytes;
 use node_core::Node;
 use node_events::{EventResult, Reason};
 use table_types::Ticket;
-
-// The bytes as an answer.
-fn answer(bytes: Vec<u8>) -> EventResult
-    ensures { (result_of result ≡ Answer bytes.items) ⊎ (result_of result ≡ Refused OutOfMemory) }
-{
-    match Bytes::from_vec(bytes) {
-        Ok(bytes) => EventResult::Answer(bytes),
-        Err(_) => EventResult::Refused(Reason::OutOfMemory),
-    }
-}
 
 /// What a client gets that asks for a version of a table.
 pub(crate) fn version_asked(node: &Node, ticket: &Ticket) -> EventResult
@@ -31,7 +19,7 @@ pub(crate) fn version_asked(node: &Node, ticket: &Ticket) -> EventResult
         → GetGivesIfAble uploads ticket.now.table ticket.now.version (result_of result) }
 {
     match node.get(ticket) {
-        Ok(Some(bytes)) => answer(bytes),
+        Ok(Some(answer)) => EventResult::Answer(answer),
         Ok(None) => EventResult::Unavailable,
         Err(_) => EventResult::Refused(Reason::OutOfMemory),
     }

@@ -6,7 +6,7 @@ ghost use Rattle.replay_command.specs.Lines.{numbers_text, sent_text, done_text,
 
 use schedule_runner::{Event, EventResult, Reason, Step};
 use std::alloc::{AllocError, Global};
-use table_versions::Outcome;
+use table_versions::{Answer, Outcome};
 
 /// The number so many places behind the first one. Two numbers of 64 bits have room for their sum in 128.
 fn number_behind(first: u64, more: u64) -> u128
@@ -93,10 +93,11 @@ fn reason_text(reason: Reason) -> &'static str
     }
 }
 
-fn answer_text(alloc: Global, bytes: &[u8]) -> Result<String, AllocError>
-    ensures { IfOk result (λ text. string_bytes text ≡ codes "answer " ++ encode_lower bytes.now) }
+fn answer_text(alloc: Global, answer: &Answer) -> Result<String, AllocError>
+    ensures { IfOk result (λ text. string_bytes text ≡ codes "answer " ++ encode_lower answer.now) }
 {
-    let digits = hex::encode(alloc, bytes)?;
+    let bytes = answer.to_vec(alloc)?;
+    let digits = hex::encode(alloc, bytes.as_slice())?;
     format!(in alloc; "answer {digits}")
 }
 
@@ -114,7 +115,7 @@ fn result_text(alloc: Global, step: &Step) -> Result<String, AllocError>
     match &step.result {
         EventResult::Sent { first, count } => sent_text(alloc, *first, *count),
         EventResult::Done => String::from_str(alloc, done_text(&step.event)),
-        EventResult::Answer(bytes) => answer_text(alloc, bytes.as_slice()),
+        EventResult::Answer(answer) => answer_text(alloc, answer),
         EventResult::Unavailable => String::from_str(alloc, "unavailable"),
         EventResult::Info(version) => format!(in alloc; "info {version}"),
         EventResult::NoTable => String::from_str(alloc, "notable"),

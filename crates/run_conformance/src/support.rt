@@ -64,7 +64,7 @@ pub(crate) fn push_attempt(events: &mut Vec<Event>, first: u64) -> Result<(), Fa
 /// Whether all answers in the run are one.
 pub(crate) fn answers_are_one(trace: &Trace) -> bool {
     let mut answers = trace.steps().iter().filter_map(|step| match &step.result {
-        EventResult::Answer(bytes) => Some(bytes.as_slice()),
+        EventResult::Answer(answer) => Some(answer),
         _ => None,
     });
     match answers.next() {

@@ -49,7 +49,7 @@ fn tell_judged(alloc: Global, trace: &Trace, answer: &mut Answer) -> Result<(), 
 
 fn play(alloc: Global, story: &Story, answer: &mut Answer) -> Result<(), RequestFault> {
     match &played(alloc, story)? {
-        Some(trace) => tell_steps(trace.steps(), answer),
+        Some(trace) => tell_steps(alloc, trace.steps(), answer),
         None => answer.word("BadConfig"),
     }
 }

@@ -4,7 +4,7 @@ use ballots::Message;
 use schedule_runner::{Event, EventResult, Reason, Step};
 use std::alloc::Global;
 use story_requests::{Answer, RequestFault};
-use table_versions::Outcome;
+use table_versions::{Answer as Served, Outcome};
 
 fn tell_numbered(name: &str, number: u64, answer: &mut Answer) -> Result<(), RequestFault> {
     answer.word(name)?;
@@ -16,9 +16,9 @@ fn tell_sent(first: u64, count: u64, answer: &mut Answer) -> Result<(), RequestF
     answer.number(count)
 }
 
-fn tell_bytes(bytes: &[u8], answer: &mut Answer) -> Result<(), RequestFault> {
+fn tell_served(alloc: Global, served: &Served, answer: &mut Answer) -> Result<(), RequestFault> {
     answer.word("answer")?;
-    answer.bytes(bytes)
+    answer.bytes(served.to_vec(alloc)?.as_slice())
 }
 
 fn tell_outcome(outcome: Outcome, answer: &mut Answer) -> Result<(), RequestFault> {
@@ -54,11 +54,11 @@ fn done_name(event: &Event) -> &'static str {
     }
 }
 
-fn tell_step(step: &Step, answer: &mut Answer) -> Result<(), RequestFault> {
+fn tell_step(alloc: Global, step: &Step, answer: &mut Answer) -> Result<(), RequestFault> {
     match &step.result {
         EventResult::Sent { first, count } => tell_sent(*first, *count, answer),
         EventResult::Done => answer.word(done_name(&step.event)),
-        EventResult::Answer(bytes) => tell_bytes(bytes.as_slice(), answer),
+        EventResult::Answer(served) => tell_served(alloc, served, answer),
         EventResult::Unavailable => answer.word("unavailable"),
         EventResult::Info(version) => tell_numbered("info", *version, answer),
         EventResult::NoTable => answer.word("notable"),
@@ -68,9 +68,13 @@ fn tell_step(step: &Step, answer: &mut Answer) -> Result<(), RequestFault> {
 }
 
 /// Tells what each step gave.
-pub(crate) fn tell_steps(steps: &[Step], answer: &mut Answer) -> Result<(), RequestFault> {
+pub(crate) fn tell_steps(
+    alloc: Global,
+    steps: &[Step],
+    answer: &mut Answer,
+) -> Result<(), RequestFault> {
     for step in steps {
-        tell_step(step, answer)?;
+        tell_step(alloc, step, answer)?;
     }
     Ok(())
 }

@@ -16,7 +16,7 @@ use std::marker::Model;
 use table_types::Ticket;
 use table_types::laws::tables_have_one_shape;
 use table_versions::laws::{same_tables_hold_the_same, values_hold_one_list_of_uploads};
-use table_versions::{Outcome, Tables};
+use table_versions::{Answer, Outcome, Tables};
 use uploads::Upload;
 
 /// The most values that tables take.
@@ -160,9 +160,9 @@ impl Backend for TableBackend {
         Ok(self.tables.outcome(upload))
     }
 
-    fn get(&mut self, _alloc: Global, ticket: &Ticket) -> Result<Vec<u8>, BackFault> {
+    fn get(&mut self, _alloc: Global, ticket: &Ticket) -> Result<Answer, BackFault> {
         match self.tables.answer(ticket) {
-            Ok(Some(bytes)) => Ok(bytes),
+            Ok(Some(answer)) => Ok(answer),
             Ok(None) => Err(BackFault::Unavailable),
             Err(_) => Err(BackFault::OutOfMemory),
         }

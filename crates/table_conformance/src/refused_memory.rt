@@ -9,7 +9,7 @@ use header_types::Schema;
 use std::alloc::{AllocError, Global};
 use std::test::Fail;
 use table_types::{Ticket, TicketFault};
-use table_versions::{Outcome, TableInfo, Tables};
+use table_versions::{Answer, Outcome, TableInfo, Tables};
 use uploads::{DecodeFault, Upload, UploadFault};
 
 /// An upload of these batches.
@@ -188,8 +188,8 @@ fn uploads_are_taken(rt: HostRuntime) -> Result<(), Fail> {
     Ok(())
 }
 
-/// The bytes of a version of the table `t`.
-fn answer(tables: &Tables, ticket: &Ticket) -> Result<Option<Vec<u8>>, AllocError> {
+/// What answers a ticket.
+fn answer(tables: &Tables, ticket: &Ticket) -> Result<Option<Answer>, AllocError> {
     match tables.answer(ticket) {
         Ok(answer) => Ok(answer),
         Err(_) => tables.answer(ticket),
@@ -201,7 +201,7 @@ fn a_ticket_is_answered(rt: HostRuntime) -> Result<(), Fail> {
     let tables = taken(&rt)?;
     let ticket = ticket_for(rt.alloc(), 2)?;
     let answer = answer(&tables, &ticket)?;
-    assert!(rt; answer.is_some_and(|bytes| bytes.len() == 152 + 2 * 23));
+    assert!(rt; answer.is_some_and(|answer| answer.len() == 152 + 2 * 23));
     Ok(())
 }
 

@@ -8,7 +8,7 @@
 //! `new` begins with tables of no values. `take BYTES ..` hands in values, no bytes being the one for nothing, and tells how
 //! many were taken in all. `outcome BYTES` tells what has become of an upload, and `tables` the names of the tables. `latest
 //! TABLE` tells a table's latest version, its rows, the bytes of its answer and its schema, and `answer VERSION TABLE` the
-//! bytes that answer a ticket; each `none` where there is no such version.
+//! frames that answer a ticket, each by itself; each `none` where there is no such version.
 //!
 //! Nothing is claimed here but that answering is safe and ends: what is told is promised by the crates that do it.
 #![tactic(auto)]

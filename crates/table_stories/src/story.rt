@@ -1,7 +1,7 @@
 //! Tables that have taken some values, and what is asked of them.
 
 use crate::asked::{table_of, ticket_of, upload_of, values_of};
-use crate::told::{tell_info, tell_outcome, tell_ticket, tell_upload};
+use crate::told::{tell_frames, tell_info, tell_outcome, tell_ticket, tell_upload};
 use std::alloc::{AllocError, Global};
 use std::hash::RandomState;
 use std::io;
@@ -119,7 +119,7 @@ fn answered(
         return Err(RequestFault::BadRequest);
     };
     match &tables.answer(ticket)? {
-        Some(bytes) => answer.bytes(bytes.as_slice()),
+        Some(served) => tell_frames(served.frames(), answer),
         None => answer.word("none"),
     }
 }

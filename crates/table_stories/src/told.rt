@@ -1,5 +1,6 @@
 //! The words of what is told.
 
+use bytes::Bytes;
 use std::alloc::Global;
 use story_requests::{Answer, RequestFault};
 use table_types::Ticket;
@@ -44,6 +45,14 @@ pub(crate) fn tell_info(info: &TableInfo, answer: &mut Answer) -> Result<(), Req
     answer.number(info.records)?;
     answer.number(info.total_bytes)?;
     answer.bytes(info.schema.as_slice())
+}
+
+/// Tells each frame of an answer.
+pub(crate) fn tell_frames(frames: &[Bytes], answer: &mut Answer) -> Result<(), RequestFault> {
+    for frame in frames {
+        answer.bytes(frame.as_slice())?;
+    }
+    Ok(())
 }
 
 /// Tells the version and the table of a ticket.

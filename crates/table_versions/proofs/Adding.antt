@@ -16,7 +16,7 @@ use Rattle.table_types.specs.Tables.{is_to, effective}
 use Rattle.table_versions.specs.declared.place.Place.{Place}
 use Rattle.table_versions.specs.declared.table.Table.{Table}
 use Rattle.table_versions.specs.declared.prepared.Part.{Part}
-use Rattle.table_versions.specs.Ledger.{frames_of, rows_of_upload, TableEntries, FrameEntries, table_in, is_place, frames_in, names_in}
+use Rattle.table_versions.specs.Ledger.{frames_of, frames_text, rows_of_upload, TableEntries, FrameEntries, table_in, is_place, frames_in, names_in}
 use Rattle.table_versions.specs.Ledger.{IsTableOf, IsTable, HasFrames, IsPartOf}
 use Rattle.table_versions.specs.Steps.{PutsTable, PutsFrames, IsOpened, IsGrown}
 use Rattle.table_versions.proofs.Growing.{bytes_same, effective_other}
@@ -24,12 +24,12 @@ use Rattle.table_versions.proofs.Growing.{bytes_same, effective_other}
 -- ---- answers
 
 pub answer_push : (schema : SchemaTree) (xs : List Upload) (u : Upload)
-    → answer_of (record { schema = schema; uploads = xs ++ u ∷ [] }) ≡ answer_of (record { schema = schema; uploads = xs }) ++ frames_of u
+    → answer_of (record { schema = schema; uploads = xs ++ u ∷ [] }) ≡ answer_of (record { schema = schema; uploads = xs }) ++ frames_text u
 answer_push schema xs u =
     ap (λ l. in_frame (schema_message schema) ++ flat_map in_frame l)
     (flat_map-append upload_messages xs (u ∷ []) ∙ ap (λ l. flat_map upload_messages xs ++ l) (append-nil (upload_messages u)))
     ∙ ap (λ l. in_frame (schema_message schema) ++ l) (flat_map-append in_frame (flat_map upload_messages xs) (upload_messages u))
-    ∙ sym (append_assoc (in_frame (schema_message schema)) (flat_map in_frame (flat_map upload_messages xs)) (frames_of u))
+    ∙ sym (append_assoc (in_frame (schema_message schema)) (flat_map in_frame (flat_map upload_messages xs)) (frames_text u))
 
 -- ---- one table
 
@@ -47,15 +47,15 @@ table_opened table number part u opened is =
             arith,
             opened.total_bytes,
             ap length is.schema_frame,
-            ap length is.frames,
+            is.bytes,
             whole,
-            length-append (answer_of (record { schema = u.schema; uploads = [] })) (frames_of u),
+            length-append (answer_of (record { schema = u.schema; uploads = [] })) (frames_text u),
             ap length (append-nil (in_frame (schema_message u.schema))),
           );
     }
 
 pub table_grown : (old new : Table) (records bytes : ℕ) (first u : Upload) (counted : List Upload) → IsGrown old new records bytes → records ≡ rows_of_upload u
-    → bytes ≡ length (frames_of u) → IsTableOf old first counted → IsTableOf new first (counted ++ u ∷ [])
+    → bytes ≡ length (frames_text u) → IsTableOf old first counted → IsTableOf new first (counted ++ u ∷ [])
 table_grown old new records bytes first u counted grown rows long is = record {
   schema = ap schema_of grown.schema ∙ is.schema;
   schema_frame = grown.schema_frame ∙ is.schema_frame;
@@ -68,7 +68,7 @@ table_grown old new records bytes first u counted grown rows long is = record {
         is.total_bytes,
         long,
         ap length (answer_push first.schema counted u),
-        length-append (answer_of (record { schema = first.schema; uploads = counted })) (frames_of u),
+        length-append (answer_of (record { schema = first.schema; uploads = counted })) (frames_text u),
       );
 }
 
@@ -130,12 +130,12 @@ numbers_put old new named put puts number stay are name table is =
 
 -- ---- frames
 
-pub frames_stay : (old new : FrameEntries) (place : Place) (bytes : List ℕ) → PutsFrames old new place bytes → (number version : ℕ) (xs : List Upload)
+pub frames_stay : (old new : FrameEntries) (place : Place) (served : List (List ℕ)) → PutsFrames old new place served → (number version : ℕ) (xs : List Upload)
     → ((k : ℕ) → k < version + length xs → is_place place (record { table = number; version = k }) ≡ false) → HasFrames old number version xs → HasFrames new number version xs
-frames_stay old new place bytes puts number version [] apart has = tt
-frames_stay old new place bytes puts number version (x ∷ xs) apart has = (
+frames_stay old new place served puts number version [] apart has = tt
+frames_stay old new place served puts number version (x ∷ xs) apart has = (
   puts.others number version (apart version (omega arith)) ∙ has.0,
-  frames_stay old new place bytes puts number (suc version) xs (λ k below. apart k (omega (arith, below))) has.1,
+  frames_stay old new place served puts number (suc version) xs (λ k below. apart k (omega (arith, below))) has.1,
 )
 
 pub frames_push : (frames : FrameEntries) (number version : ℕ) (xs : List Upload) (u : Upload) → HasFrames frames number version xs

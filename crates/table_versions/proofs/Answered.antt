@@ -1,6 +1,6 @@
 -- What is told of uploads, and what answers tickets.
-use Rattle.std.proofs.Common.{◌≡◌, ◌≢◌, refl, sym, ap, ap₂, subst, ◌∙◌, ℕ, zero, suc, ◌+◌, ◌<◌, ◌≤◌, Bool, true, false, if◌then◌else◌, Option, Some, None, List, [], ◌∷◌, ◌++◌, length, take, append_assoc, arith}
-use Rattle.std.specs.List.{flat_map}
+use Rattle.std.proofs.Common.{◌≡◌, ◌≢◌, refl, sym, ap, ap₂, subst, ◌∙◌, ℕ, zero, suc, ◌+◌, ◌<◌, ◌≤◌, Bool, true, false, if◌then◌else◌, Option, Some, None, List, [], ◌∷◌, ◌++◌, length, take, arith}
+use Rattle.std.specs.List.{AllByRecursion, concat, flat_map}
 use Rattle.std.specs.Option.{option_map}
 use Rattle.std.proofs.lemmas.List.{append-nil}
 use Rattle.table_types.specs.Uploads.{Upload, upload_text}
@@ -8,14 +8,16 @@ use Rattle.table_types.specs.Valid.{IsUpload}
 use Rattle.std.specs.Prelude.{nat_le}
 use Rattle.std.proofs.lemmas.Bool.{le-leb, leb-true}
 use Rattle.std.proofs.lemmas.Grind.{flat_map-append}
-use Rattle.table_types.specs.Served.{in_frame, upload_messages}
 use Rattle.table_types.specs.Answers.{answer_of}
 use Rattle.table_versions.specs.declared.table.Table.{Table}
 use Rattle.table_types.specs.Tables.{Version, first_of_all, version_of, conflicting, unknown, is_same, first_named, place_from, told_of, effective, outcome_of}
 use Rattle.table_versions.specs.declared.first.First.{First}
 use Rattle.table_versions.specs.Outcomes.{told}
 use Rattle.table_versions.specs.Ledger.{frames_of, seen_first, told_of_first, FirstEntries, TableEntries, FrameEntries, first_in, table_in, frames_in, HasFrames, IsTable, IsLedger}
+use Rattle.table_versions.specs.Answering.{AreFrames}
 use Rattle.table_versions.proofs.Growing.{bytes_same, named_all}
+use Rattle.table_versions.proofs.Sizes.{all_effective, few_effective}
+use Rattle.table_versions.proofs.Frames.{all_taken, few_taken, answer_text, answer_frames}
 
 none_is_some : {X : Type 0} (x : X) → None ≡ Some x → ⊥
 none_is_some x same = cc
@@ -80,24 +82,18 @@ frames_there frames number version (x ∷ xs) (suc k) has within =
     let here : suc version + k ≡ version + suc k = omega arith in
     (rest.0, subst (λ v. frames_in frames number v ≡ Some (frames_of rest.0)) here rest.1, ap (λ l. x ∷ l) rest.2)
 
-pub frames_more : (first old new bytes : List ℕ) (xs : List Upload) (k : ℕ) (u : Upload) → new ≡ old ++ bytes → old ≡ first ++ flat_map frames_of (take k xs)
-    → bytes ≡ frames_of u → take (suc k) xs ≡ take k xs ++ u ∷ [] → new ≡ first ++ flat_map frames_of (take (k + 1) xs)
-frames_more first old new bytes xs k u grown before is taken =
+pub frames_more : (first : List ℕ) (old new served : List (List ℕ)) (xs : List Upload) (k : ℕ) (u : Upload) → new ≡ old ++ served → old ≡ first ∷ flat_map frames_of (take k xs)
+    → served ≡ frames_of u → take (suc k) xs ≡ take k xs ++ u ∷ [] → new ≡ first ∷ flat_map frames_of (take (k + 1) xs)
+frames_more first old new served xs k u grown before is taken =
     let more : k + 1 ≡ suc k = omega arith in
     grown
     ∙ ap₂ (λ a b. a ++ b) before is
-    ∙ append_assoc first (flat_map frames_of (take k xs)) (frames_of u)
-    ∙ ap (λ l. first ++ (flat_map frames_of (take k xs) ++ l)) (sym (append-nil (frames_of u)))
-    ∙ ap (λ l. first ++ l) (sym (flat_map-append frames_of (take k xs) (u ∷ [])))
-    ∙ ap (λ l. first ++ flat_map frames_of l) (sym taken)
-    ∙ ap (λ n. first ++ flat_map frames_of (take n xs)) (sym more)
+    ∙ ap (λ l. first ∷ (flat_map frames_of (take k xs) ++ l)) (sym (append-nil (frames_of u)))
+    ∙ ap (λ l. first ∷ l) (sym (flat_map-append frames_of (take k xs) (u ∷ [])))
+    ∙ ap (λ l. first ∷ flat_map frames_of l) (sym taken)
+    ∙ ap (λ n. first ∷ flat_map frames_of (take n xs)) (sym more)
 
 -- ---- what answers a ticket
-
-served_is : (xs : List Upload) → flat_map frames_of xs ≡ flat_map in_frame (flat_map upload_messages xs)
-served_is [] = refl
-served_is (x ∷ xs) =
-    ap (λ l. frames_of x ++ l) (served_is xs) ∙ sym (flat_map-append in_frame (upload_messages x) (flat_map upload_messages xs))
 
 over_one : (number : ℕ) (xs : List Upload) (b : Bool) → nat_le number (length xs) ≡ b → length xs < number → b ≡ false
 over_one number xs true is over = absurd (omega (arith, leb-true number (length xs) is, over))
@@ -127,18 +123,18 @@ module _ (firsts : FirstEntries) (tables : TableEntries) (frames : FrameEntries)
   pub version_over : (table : Table) → table_in tables name ≡ Some table → table.version < number → version_of name number uploads ≡ None
   version_over table some over = over_of table (effective name uploads) (counted_of (Some table) some) over
 
-  there_of : (table : Table) (counted : List Upload) (bytes : List ℕ) → IsTable (Some table) counted → number ≤ table.version
-      → bytes ≡ table.schema_frame ++ flat_map frames_of (take number counted) → option_map answer_of (first_of_all number counted) ≡ Some bytes
-  there_of table [] bytes is within joined = absurd is
-  there_of table (first ∷ rest) bytes is within joined =
+  there_of : (table : Table) (counted : List Upload) (shared : List (List ℕ)) → IsTable (Some table) counted → number ≤ table.version
+      → shared ≡ table.schema_frame ∷ flat_map frames_of (take number counted) → option_map answer_of (first_of_all number counted) ≡ Some (concat shared)
+  there_of table [] shared is within joined = absurd is
+  there_of table (first ∷ rest) shared is within joined =
       ap (λ b. option_map answer_of (version_with b first number (first ∷ rest))) (le-leb number (length (first ∷ rest)) (omega (arith, is.version, within)))
-      ∙ ap Some (sym (joined ∙ ap₂ (λ a b. a ++ b) is.schema_frame (served_is (take number (first ∷ rest)))))
+      ∙ ap Some (sym (answer_text table.schema_frame first (take number (first ∷ rest)) shared is.schema_frame joined))
 
-  pub version_there : (table : Table) (bytes : List ℕ) → table_in tables name ≡ Some table → number ≤ table.version
-      → bytes ≡ table.schema_frame ++ flat_map frames_of (take number (effective name uploads))
-      → option_map answer_of (version_of name number uploads) ≡ Some bytes
-  version_there table bytes some within joined =
-      there_of table (effective name uploads) bytes (counted_of (Some table) some) within joined
+  pub version_there : (table : Table) (shared : List (List ℕ)) → table_in tables name ≡ Some table → number ≤ table.version
+      → shared ≡ table.schema_frame ∷ flat_map frames_of (take number (effective name uploads))
+      → option_map answer_of (version_of name number uploads) ≡ Some (concat shared)
+  version_there table shared some within joined =
+      there_of table (effective name uploads) shared (counted_of (Some table) some) within joined
 
   long_of : (table : Table) (counted : List Upload) → IsTable (Some table) counted → table.version ≡ length counted
   long_of table [] is = absurd is
@@ -146,3 +142,16 @@ module _ (firsts : FirstEntries) (tables : TableEntries) (frames : FrameEntries)
 
   pub version_long : (table : Table) → table_in tables name ≡ Some table → table.version ≡ length (effective name uploads)
   version_long table some = long_of table (effective name uploads) (counted_of (Some table) some)
+
+  frames_are : (table : Table) (counted : List Upload) (shared : List (List ℕ)) → IsTable (Some table) counted → AllByRecursion IsUpload counted → length counted ≤ 1000000
+      → shared ≡ table.schema_frame ∷ flat_map frames_of (take number counted) → AreFrames shared
+  frames_are table [] shared is valid few joined = absurd is
+  frames_are table (first ∷ rest) shared is valid few joined =
+      answer_frames table.schema_frame first (take number (first ∷ rest)) shared is.schema_frame joined valid.0 (all_taken number (first ∷ rest) valid)
+      (omega (arith, few, few_taken number (first ∷ rest)))
+
+  pub version_frames : (table : Table) (shared : List (List ℕ)) → table_in tables name ≡ Some table → length uploads ≤ 1000000
+      → shared ≡ table.schema_frame ∷ flat_map frames_of (take number (effective name uploads)) → AreFrames shared
+  version_frames table shared some few joined =
+      frames_are table (effective name uploads) shared (counted_of (Some table) some) (all_effective IsUpload name uploads ledger.valid)
+      (omega (arith, few, few_effective name uploads)) joined

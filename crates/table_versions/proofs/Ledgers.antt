@@ -138,7 +138,7 @@ module _ (stay : OutcomesStay) (first_uploads : FirstEntries) (tables : TableEnt
     module _ (new : FirstEntries) (more : TableEntries) (served : FrameEntries) (entry : First) (old grown : Table) (part : Part) (place : Place) (head : Upload) (rest : List Upload)
         (puts : PutsFirst first_uploads new u.id entry) (grows : PutsTable tables more u.table grown) (serves : PutsFrames frames served place part.frames)
         (counted : effective u.table uploads ≡ head ∷ rest) (like : has_shape (shape_text head) u ≡ true) (names : names_in more ≡ names_in tables)
-        (there : table_in tables u.table ≡ Some old) (is_grown : IsGrown old grown part.records (length part.frames)) (is_part : IsPartOf part u)
+        (there : table_in tables u.table ≡ Some old) (is_grown : IsGrown old grown part.records part.bytes) (is_part : IsPartOf part u)
         (place_table : place.table ≡ old.number) (place_version : place.version ≡ grown.version) (seen : seen_first entry ≡ (upload_text u, applied grown.version)) where
       abbrev counted_after : List Upload
       counted_after = effective u.table uploads ++ u ∷ []
@@ -156,7 +156,7 @@ module _ (stay : OutcomesStay) (first_uploads : FirstEntries) (tables : TableEnt
       is_new : IsTable (Some grown) (effective u.table after)
       is_new =
           subst (IsTable (Some grown)) (sym (grown_by ∙ ap (λ l. l ++ u ∷ []) counted))
-          (table_grown old grown part.records (length part.frames) head u (head ∷ rest) is_grown is_part.records (ap length is_part.frames) is_old)
+          (table_grown old grown part.records part.bytes head u (head ∷ rest) is_grown is_part.records is_part.bytes is_old)
 
       version_is : 1 + length (effective u.table uploads) ≡ grown.version
       version_is = omega (arith, is_grown.version, is_old.version, ap length counted)

@@ -7,11 +7,13 @@ pub mod BareSchemas
 pub mod Sizes
 pub mod Taken
 pub mod Placed
+pub mod Frames
 pub mod Answered
 pub mod Queue
 pub mod States
 pub mod Listed
 pub mod Naming
+pub mod Messages
 pub mod Serving
 pub mod Readying
 pub mod Same

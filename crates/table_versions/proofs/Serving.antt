@@ -1,13 +1,10 @@
 -- An upload is served batch by batch.
-use Rattle.std.proofs.Common.{◌≡◌, ◌≢◌, refl, sym, ap, ap₂, subst, ◌∙◌, ℕ, ◌+◌, ◌*◌, ◌<◌, ◌≤◌, ◌==◌, ℤ, pos, Fits, w64, Bool, true, false, true≢false, not, cond, Some, None, List, [], ◌∷◌, ◌++◌, map, length, length-append, append_assoc, arith}
+use Rattle.std.proofs.Common.{◌≡◌, ◌≢◌, refl, sym, ap, ap₂, subst, ◌∙◌, ℕ, ◌+◌, ◌<◌, ◌≤◌, ℤ, pos, Fits, w64, Bool, true, false, true≢false, Some, None, List, [], ◌∷◌, ◌++◌, map, length, length-append, append_assoc, arith}
 use Rattle.std.specs.Borrow.{Bor}
-use Rattle.std.specs.List.{AllByRecursion, flat_map, sum_by}
-use Rattle.std.proofs.lemmas.Bool.{eqb-true}
-use Rattle.std.proofs.lemmas.Grind.{flat_map-append}
-use Rattle.std.proofs.lemmas.List.{append-nil}
+use Rattle.std.specs.List.{AllByRecursion, sum_by}
+use Rattle.std.proofs.lemmas.List.{append-nil, map_push}
 use Rattle.std.proofs.lemmas.List.Sums.{sum_by-cons, sum_by-append}
-use Rattle.proto_fields.specs.Field.{Field, field_text, fields_text, present}
-use Rattle.proto_fields.specs.Varint.{varint_text}
+use Rattle.proto_fields.specs.Field.{present}
 use Rattle.proto_messages.specs.Canonical.{bytes_field}
 use Rattle.header_types.specs.Fields.{SchemaTree}
 use Rattle.header_types.specs.Header.{Head, Header, schema_header, batch_header, ShowsHeader}
@@ -23,41 +20,8 @@ use Rattle.table_types.specs.Served.{data_text, in_frame, batch_message, message
 use Rattle.uploads.specs.Parts.{batch_parts, batch_text, HasLeft, Gives}
 use Rattle.table_versions.specs.Ledger.{frames_of, rows_of_upload}
 use Rattle.table_versions.specs.Serving.{IsWrittenHead}
+use Rattle.table_versions.proofs.Messages.{text_long, held_long, present_long, both_long, body_long}
 use Rattle.table_versions.proofs.Sizes.{rows_few}
-
--- ---- a message is no shorter than its body
-
-text_long : (f : Field) (rest : List Field) → length (fields_text (f ∷ rest)) ≡ length (field_text f) + length (fields_text rest)
-text_long f rest = length-append (field_text f) (fields_text rest)
-
-held_long : (number : ℕ) (bytes : List ℕ) → length bytes ≤ length (field_text (bytes_field number bytes))
-held_long number bytes =
-    omega (
-      arith,
-      length-append (varint_text (8 * number + 2)) (varint_text (length bytes) ++ bytes),
-      length-append (varint_text (length bytes)) bytes,
-    )
-
-kept_long : (f : Field) (n : ℕ) (b : Bool) → (b ≡ true → n ≡ 0) → n ≤ length (field_text f) → n ≤ length (fields_text (cond (not b) (f ∷ []) []))
-kept_long f n true none few = omega (arith, none refl)
-kept_long f n false none few = omega (arith, text_long f [], few)
-
-present_long : (number : ℕ) (bytes : List ℕ) → length bytes ≤ length (fields_text (present (bytes_field number bytes ∷ [])))
-present_long number bytes =
-    kept_long (bytes_field number bytes) (length bytes) (length bytes == 0) (eqb-true (length bytes) 0) (held_long number bytes)
-
-both_long : (xs ys : List Field) → length (fields_text (xs ++ ys)) ≡ length (fields_text xs) + length (fields_text ys)
-both_long xs ys = ap length (flat_map-append field_text xs ys) ∙ length-append (fields_text xs) (fields_text ys)
-
-body_long : (header metadata body : List ℕ) → length body ≤ length (data_text header metadata body)
-body_long header metadata body =
-    omega (
-      arith,
-      both_long (present (bytes_field 2 header ∷ [])) (present (bytes_field 3 metadata ∷ []) ++ (present (bytes_field 1000 body ∷ []) ++ [])),
-      both_long (present (bytes_field 3 metadata ∷ [])) (present (bytes_field 1000 body ∷ []) ++ []),
-      both_long (present (bytes_field 1000 body ∷ [])) [],
-      present_long 1000 body,
-    )
 
 -- ---- what stands behind some of a list
 
@@ -69,10 +33,6 @@ behind_rows : (P : Rows → Type 0) (done : List Rows) (rows : Rows) (rest : Lis
 behind_rows P [] rows rest all = all.0
 behind_rows P (x ∷ done) rows rest all = behind_rows P done rows rest all.1
 
-map_push : (f : Rows → List ℕ) (xs : List Rows) (x : Rows) → map f (xs ++ x ∷ []) ≡ map f xs ++ f x ∷ []
-map_push f [] x = refl
-map_push f (y ∷ xs) x = ap (λ l. f y ∷ l) (map_push f xs x)
-
 served_all : (u : Upload) (batches : List Rows) (done : List Rows) (rows : Rows) (rest : List Rows) → batches ≡ done ++ rows ∷ rest
     → AllByRecursion FitsFrame (messages_of u batches) → AllByRecursion FitsFrame (map (batch_message u) (done ++ rows ∷ rest))
 served_all u [] [] rows rest split fit = absurd cc
@@ -81,21 +41,21 @@ served_all u (x ∷ more) done rows rest split fit = subst (λ l. AllByRecursion
 
 -- ---- some batches were served, and the others are left
 
-pub record IsServing (u : Upload) (frames : List ℕ) (records : ℕ) (left : List ℕ) : Type 0 where
+pub record IsServing (u : Upload) (frames : List (List ℕ)) (records : ℕ) (left : List ℕ) : Type 0 where
   pub done : List Rows
   pub rest : List Rows
   pub split : u.batches ≡ done ++ rest
   pub left_is : HasLeft left (map (batch_parts u.schema) rest)
-  pub frames_are : frames ≡ flat_map in_frame (map (batch_message u) done)
+  pub frames_are : frames ≡ map in_frame (map (batch_message u) done)
   pub records_are : records ≡ sum_by (λ rows. rows.count) done
 
 -- the next batch
-pub record IsNextServed (u : Upload) (frames : List ℕ) (records : ℕ) (left header body : List ℕ) : Type 0 where
+pub record IsNextServed (u : Upload) (frames : List (List ℕ)) (records : ℕ) (left header body : List ℕ) : Type 0 where
   pub rows : Rows
   pub fits : FitsFrame (data_text header u.id body)
   pub written : IsWrittenHead header u.schema rows
   pub small : records + rows.count ≤ 1073741824
-  pub step : (more : List ℕ) → more ≡ frames ++ in_frame (data_text header u.id body) → IsServing u more (records + rows.count) left
+  pub step : (more : List (List ℕ)) → more ≡ frames ++ in_frame (data_text header u.id body) ∷ [] → IsServing u more (records + rows.count) left
 
 pub serving_start : (u : Upload) (left : List ℕ) → HasLeft left (map (batch_parts u.schema) u.batches) → IsServing u [] 0 left
 serving_start u left is = record {
@@ -107,8 +67,8 @@ serving_start u left is = record {
   records_are = refl;
 }
 
-module _ (u : Upload) (valid : IsUpload u) (frames : List ℕ) (records : ℕ) (done : List Rows)
-    (frames_are : frames ≡ flat_map in_frame (map (batch_message u) done)) (records_are : records ≡ sum_by (λ rows. rows.count) done) where
+module _ (u : Upload) (valid : IsUpload u) (frames : List (List ℕ)) (records : ℕ) (done : List Rows)
+    (frames_are : frames ≡ map in_frame (map (batch_message u) done)) (records_are : records ≡ sum_by (λ rows. rows.count) done) where
   next_of : (rest : List Rows) (given : Bor (List ℕ) × Bor (List ℕ)) (left : List ℕ) → u.batches ≡ done ++ rest
       → Gives (Some given) left (map (batch_parts u.schema) rest) → IsNextServed u frames records left given.0.now given.1.now
   next_of [] given left split gives = absurd (none_given given gives.0)
@@ -146,9 +106,9 @@ module _ (u : Upload) (valid : IsUpload u) (frames : List ℕ) (records : ℕ) (
           left_is = gives.2;
           frames_are =
               grown
-              ∙ ap₂ (λ a b. a ++ b) frames_are (ap in_frame message ∙ sym (append-nil (in_frame (batch_message u rows))))
-              ∙ sym (flat_map-append in_frame (map (batch_message u) done) (batch_message u rows ∷ []))
-              ∙ ap (flat_map in_frame) (sym (map_push (batch_message u) done rows));
+              ∙ ap₂ (λ a b. a ++ in_frame b ∷ []) frames_are message
+              ∙ sym (map_push in_frame (map (batch_message u) done) (batch_message u rows))
+              ∙ ap (map in_frame) (sym (map_push (batch_message u) done rows));
           records_are =
               omega (
                 arith,
@@ -159,7 +119,7 @@ module _ (u : Upload) (valid : IsUpload u) (frames : List ℕ) (records : ℕ) (
         };
       }
 
-pub serving_next : (u : Upload) → IsUpload u → (frames : List ℕ) (records : ℕ) (old left : List ℕ) (given : Bor (List ℕ) × Bor (List ℕ)) (serving : IsServing u frames records old)
+pub serving_next : (u : Upload) → IsUpload u → (frames : List (List ℕ)) (records : ℕ) (old left : List ℕ) (given : Bor (List ℕ) × Bor (List ℕ)) (serving : IsServing u frames records old)
     → Gives (Some given) left (map (batch_parts u.schema) serving.rest) → IsNextServed u frames records left given.0.now given.1.now
 serving_next u valid frames records old left given serving gives =
     next_of u valid frames records serving.done serving.frames_are serving.records_are serving.rest given left serving.split gives
@@ -173,15 +133,15 @@ messages_are u [] some = absurd (some refl)
 messages_are u (rows ∷ rest) some = refl
 
 -- all were served
-pub serving_end : (u : Upload) (frames : List ℕ) (records : ℕ) (old left : List ℕ) (serving : IsServing u frames records old) → length u.batches ≢ 0
+pub serving_end : (u : Upload) (frames : List (List ℕ)) (records : ℕ) (old left : List ℕ) (serving : IsServing u frames records old) → length u.batches ≢ 0
     → Gives None left (map (batch_parts u.schema) serving.rest) → (frames ≡ frames_of u) × (records ≡ rows_of_upload u)
 serving_end u frames records old left serving some gives =
     let whole : u.batches ≡ serving.done =
     serving.split ∙ ap (λ l. serving.done ++ l) (end_of u serving.rest left gives) ∙ append-nil serving.done
     in (
       serving.frames_are
-          ∙ ap (λ l. flat_map in_frame (map (batch_message u) l)) (sym whole)
-          ∙ ap (flat_map in_frame) (sym (messages_are u u.batches some)),
+          ∙ ap (λ l. map in_frame (map (batch_message u) l)) (sym whole)
+          ∙ ap (map in_frame) (sym (messages_are u u.batches some)),
       serving.records_are ∙ ap (sum_by (λ rows. rows.count)) (sym whole),
     )
 
@@ -193,10 +153,10 @@ name_alone u (rows ∷ rest) none = absurd (omega (arith, none))
 pub alone_fits : (u : Upload) → IsUpload u → length u.batches ≡ 0 → FitsFrame (data_text [] u.id [])
 alone_fits u valid none = (subst (AllByRecursion FitsFrame) (name_alone u u.batches none).0 valid.batches_served).0
 
-pub alone_served : (u : Upload) → length u.batches ≡ 0 → (in_frame (data_text [] u.id []) ≡ frames_of u) × (0 ≡ rows_of_upload u)
+pub alone_served : (u : Upload) → length u.batches ≡ 0 → (in_frame (data_text [] u.id []) ∷ [] ≡ frames_of u) × (0 ≡ rows_of_upload u)
 alone_served u none =
     let alone = name_alone u u.batches none in (
-      sym (append-nil (in_frame (data_text [] u.id []))) ∙ ap (flat_map in_frame) (sym alone.0),
+      ap (map in_frame) (sym alone.0),
       sym alone.1,
     )
 
@@ -231,7 +191,7 @@ shorter_one u [] old left given before gives = absurd (none_given given gives.0)
 shorter_one u (rows ∷ rest) old left given before gives =
     fewer_left old left (batch_parts u.schema rows) (map (batch_parts u.schema) rest) before gives.2
 
-pub serving_shorter : (u : Upload) (frames : List ℕ) (records : ℕ) (old left : List ℕ) (given : Bor (List ℕ) × Bor (List ℕ)) (serving : IsServing u frames records old)
+pub serving_shorter : (u : Upload) (frames : List (List ℕ)) (records : ℕ) (old left : List ℕ) (given : Bor (List ℕ) × Bor (List ℕ)) (serving : IsServing u frames records old)
     → Gives (Some given) left (map (batch_parts u.schema) serving.rest) → length left < length old
 serving_shorter u frames records old left given serving gives =
     shorter_one u serving.rest old left given serving.left_is gives

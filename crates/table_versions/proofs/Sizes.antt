@@ -12,7 +12,7 @@ use Rattle.table_types.specs.Valid.{IsUpload, FitsFrame, batches_limit}
 use Rattle.table_types.specs.Served.{in_frame, batch_message, messages_of, upload_messages, schema_message}
 use Rattle.table_types.specs.Answers.{answer_of}
 use Rattle.table_types.specs.Tables.{has_id, is_to, shape_text, has_shape, firsts, like_the_first, effective}
-use Rattle.table_versions.specs.Ledger.{frames_of, rows_of_upload, records_of}
+use Rattle.table_versions.specs.Ledger.{frames_text, rows_of_upload, records_of}
 use Rattle.table_versions.proofs.Growing.{unless}
 
 -- ---- frames
@@ -44,7 +44,7 @@ few_messages : (u : Upload) (batches : List Rows) → length batches ≤ batches
 few_messages u [] few = omega arith
 few_messages u (rows ∷ rest) few = omega (arith, length-map (batch_message u) rest)
 
-pub frames_long : (u : Upload) → IsUpload u → length (frames_of u) ≤ 4294972416
+pub frames_long : (u : Upload) → IsUpload u → length (frames_text u) ≤ 4294972416
 frames_long u valid =
     omega (
       arith,
@@ -74,7 +74,7 @@ served_long (x ∷ xs) valid =
     omega (
       arith,
       ap length (flat_map-append in_frame (upload_messages x) (flat_map upload_messages xs)),
-      length-append (frames_of x) (flat_map in_frame (flat_map upload_messages xs)),
+      length-append (frames_text x) (flat_map in_frame (flat_map upload_messages xs)),
       frames_long x valid.0,
       served_long xs valid.1,
     )

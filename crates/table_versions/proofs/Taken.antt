@@ -67,7 +67,7 @@ module _ (firsts : FirstEntries) (tables : TableEntries) (frames : FrameEntries)
       omega (
         arith,
         ap length is.schema_frame,
-        ap length is.frames,
+        is.bytes,
         framed (schema_message u.schema) valid.schema_served,
         frames_long u valid,
       )
@@ -79,7 +79,7 @@ module _ (firsts : FirstEntries) (tables : TableEntries) (frames : FrameEntries)
       let bytes = answer_few here.0 (here.0 ∷ here.1) all.0 all in (
         omega (arith, here.3.version, few_here, few),
         omega (arith, here.3.records, rows, few_here, few, is.records, rows_few u valid),
-        omega (arith, here.3.total_bytes, bytes, few_here, few, ap length is.frames, frames_long u valid),
+        omega (arith, here.3.total_bytes, bytes, few_here, few, is.bytes, frames_long u valid),
       )
 
 -- ---- it is taken

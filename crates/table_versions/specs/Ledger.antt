@@ -23,9 +23,13 @@ use Rattle.table_versions.specs.Outcomes.{told}
 
 -- ---- what is served, and how many rows there are
 
--- the frames of an upload
-abbrev pub frames_of : Upload → List ℕ
-frames_of upload = flat_map in_frame (upload_messages upload)
+-- the frames of an upload, each by itself
+abbrev pub frames_of : Upload → List (List ℕ)
+frames_of upload = map in_frame (upload_messages upload)
+
+-- their bytes, one behind the other
+abbrev pub frames_text : Upload → List ℕ
+frames_text upload = flat_map in_frame (upload_messages upload)
 
 -- the frame with which an answer begins
 abbrev pub schema_frame_of : SchemaTree → List ℕ
@@ -60,7 +64,7 @@ abbrev pub TableEntries : Type 0
 TableEntries = List (String Global × Table)
 
 abbrev pub FrameEntries : Type 0
-FrameEntries = List (Place × List ℕ)
+FrameEntries = List (Place × List (List ℕ))
 
 abbrev pub first_in : FirstEntries → List ℕ → Option First
 first_in entries id = lookup (bytes_eq id) entries
@@ -71,7 +75,7 @@ table_in entries name = lookup (λ key. bytes_eq name (string_bytes key)) entrie
 abbrev pub is_place : Place → Place → Bool
 is_place a b = a.table == b.table && a.version == b.version
 
-abbrev pub frames_in : FrameEntries → ℕ → ℕ → Option (List ℕ)
+abbrev pub frames_in : FrameEntries → ℕ → ℕ → Option (List (List ℕ))
 frames_in entries number version = lookup (is_place (record { table = number; version = version })) entries
 
 abbrev pub names_in : TableEntries → List (List ℕ)
@@ -126,6 +130,7 @@ pub record IsPartOf (part : Part) (upload : Upload) : Type 0 where
   pub schema : schema_of part.schema ≡ upload.schema
   pub schema_frame : part.schema_frame ≡ schema_frame_of upload.schema
   pub frames : part.frames ≡ frames_of upload
+  pub bytes : part.bytes ≡ length (frames_text upload)
   pub records : part.records ≡ rows_of_upload upload
 
 -- the upload, with all that taking it needs

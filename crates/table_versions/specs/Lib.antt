@@ -4,5 +4,6 @@ pub mod Ledger
 pub mod Steps
 pub mod State
 pub mod Info
+pub mod Answering
 pub mod Serving
 pub mod Preparing

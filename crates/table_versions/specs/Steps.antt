@@ -24,7 +24,7 @@ pub record PutsTable (old new : TableEntries) (name : List ℕ) (table : Table) 
   pub others : (other : List ℕ) → bytes_eq name other ≡ false → table_in new other ≡ table_in old other
 
 -- the frames of a version are put, and the others are as before
-pub record PutsFrames (old new : FrameEntries) (place : Place) (frames : List ℕ) : Type 0 where
+pub record PutsFrames (old new : FrameEntries) (place : Place) (frames : List (List ℕ)) : Type 0 where
   pub here : frames_in new place.table place.version ≡ Some frames
   pub others : (number version : ℕ) → is_place place (record { table = number; version = version }) ≡ false
       → frames_in new number version ≡ frames_in old number version
@@ -36,7 +36,7 @@ pub record IsOpened (table : Table) (number : ℕ) (part : Part) : Type 0 where
   pub schema_frame : table.schema_frame ≡ part.schema_frame
   pub version : table.version ≡ 1
   pub records : table.records ≡ part.records
-  pub total_bytes : table.total_bytes ≡ length part.schema_frame + length part.frames
+  pub total_bytes : table.total_bytes ≡ length part.schema_frame + part.bytes
 
 -- a table with the rows and the bytes of one upload more
 pub record IsGrown (old new : Table) (records bytes : ℕ) : Type 0 where
@@ -49,10 +49,10 @@ pub record IsGrown (old new : Table) (records bytes : ℕ) : Type 0 where
 
 -- a table has room for the numbers of one upload more
 abbrev pub HasRoomToGrow : Option Table → Part → Type 0
-HasRoomToGrow None part = length part.schema_frame + length part.frames < 2 ^ 64
+HasRoomToGrow None part = length part.schema_frame + part.bytes < 2 ^ 64
 HasRoomToGrow (Some table) part =
     (table.version + 1 < 2 ^ 64) × (table.records + part.records < 2 ^ 64)
-    × (table.total_bytes + length part.frames < 2 ^ 64)
+    × (table.total_bytes + part.bytes < 2 ^ 64)
 
 -- whether the table is of this schema's shape was told, and nothing where there is no table
 abbrev pub TellsShape : Option Table → Schema → Option Bool → Type 0
@@ -85,7 +85,7 @@ pub record OpensTable (tables more : TableEntries) (frames served : FrameEntries
 pub record AddsVersion (tables more : TableEntries) (frames served : FrameEntries) (name : List ℕ) (part : Part)
     (old : Table) (version : ℕ) : Type 0 where
   pub place : Place
-  pub grows : Grows tables more name old part.records (length part.frames) place
+  pub grows : Grows tables more name old part.records part.bytes place
   pub serves : PutsFrames frames served place part.frames
   pub names : names_in more ≡ names_in tables
   pub version_is : version ≡ place.version

@@ -1,6 +1,6 @@
 //! What is told of an upload, and what answers a ticket.
 
-ghost use Rattle.std.specs.Prelude.{◌≡◌, ◌≤◌, ◌++◌, ◌<◌, ℕ, List, Some, length, take, IfOk, OnErr, IsSome};
+ghost use Rattle.std.specs.Prelude.{◌≡◌, ◌≤◌, ◌++◌, ◌∷◌, ℕ, List, Some, length, take, IfOk, OnOk, OnErr, IsSome};
 ghost use Rattle.std.specs.List.{flat_map};
 ghost use Rattle.table_types.specs.Uploads.{Upload, upload_text};
 ghost use Rattle.table_types.specs.Valid.{IsUpload};
@@ -11,9 +11,11 @@ ghost use Rattle.table_versions.specs.Outcomes.{told};
 ghost use Rattle.table_versions.specs.Ledger.{FirstEntries, FrameEntries, TableEntries, IsLedger, HasFrames, frames_of};
 ghost use Rattle.table_versions.specs.Ledger.{frames_in};
 
+use crate::answer::Answer;
 use crate::outcome::Outcome;
 use crate::place::Place;
 use crate::steps::{Firsts, Frames, NamedTables};
+use crate::upload_frames::UploadFrames;
 use ballots::OutOfMemory;
 use bytes::Bytes;
 use std::alloc::Global;
@@ -38,51 +40,61 @@ pub(crate) fn told_of(firsts: &Firsts, id: [u8; 16], text: &[u8]) -> Outcome
     }
 }
 
-/// The frames of a version, which stands.
-fn frames_at(frames: &Frames, table: usize, version: u64) -> &Bytes
-    requires { (bytes : List ℕ) × (frames_in frames.now.entries table version ≡ Some bytes) }
+/// The frames of a version's last upload, where the version stands.
+fn frames_at(frames: &Frames, table: usize, version: u64) -> &UploadFrames
+    requires { (served : List (List ℕ)) × (frames_in frames.now.entries table version ≡ Some served) }
     ensures { frames_in frames.now.entries table version ≡ Some result.now }
 {
     match frames.get(&Place { table, version }) {
-        Some(bytes) => bytes,
+        Some(served) => served,
         None => unreachable!(),
     }
 }
 
-/// These bytes, and behind them the frames of the first so many uploads of a table.
+/// Puts these frames behind others, and copies no byte of them.
+fn share_frames(shared: &mut Vec<Bytes>, frames: &[Bytes]) -> Result<(), OutOfMemory>
+    ensures { OnOk result (shared.new.items ≡ shared.old.items ++ frames.now) }
+{
+    for frame in frames {
+        shared.push(frame.clone()?)?;
+    }
+    Ok(())
+}
+
+/// This frame, and behind it those of the first so many uploads of a table.
 pub(crate) fn with_frames(
     alloc: Global,
-    first: &[u8],
+    first: &Bytes,
     frames: &Frames,
     table: usize,
     version: u64,
-) -> Result<Vec<u8>, OutOfMemory>
+) -> Result<Vec<Bytes>, OutOfMemory>
     requires { (uploads : List Upload) × HasFrames frames.now.entries table 1 uploads × (version ≤ length uploads) }
     ensures { (uploads : List Upload) → HasFrames frames.now.entries table 1 uploads → version ≤ length uploads
-        → IfOk result (λ bytes. bytes.items ≡ first.now ++ flat_map frames_of (take version uploads)) }
+        → IfOk result (λ shared. shared.items ≡ first.now ∷ flat_map frames_of (take version uploads)) }
 {
-    let mut bytes = Vec::from_slice(alloc, first)?;
+    let mut shared = Vec::new(alloc);
+    shared.push(first.clone()?)?;
     for before in 0..version {
-        bytes.extend_from_slice(frames_at(frames, table, before + 1).as_slice())?;
+        share_frames(&mut shared, frames_at(frames, table, before + 1).as_slice())?;
     }
-    Ok(bytes)
+    Ok(shared)
 }
 
-/// The bytes of a version of a table, `None` where there is no such version.
+/// The frames of a version of a table, `None` where there is no such version.
 pub(crate) fn answer_by(
     alloc: Global,
     tables: &NamedTables,
     frames: &Frames,
     name: &str,
     version: u64,
-) -> Result<Option<Vec<u8>>, OutOfMemory>
+) -> Result<Option<Answer>, OutOfMemory>
     requires version { 1 ≤ version }
     requires ledger { (firsts : FirstEntries) × (uploads : List Upload)
-        × IsLedger firsts tables.now.entries frames.now.entries uploads }
+        × IsLedger firsts tables.now.entries frames.now.entries uploads × (length uploads ≤ 1000000) }
     ensures answer { (firsts : FirstEntries) (uploads : List Upload)
         → IsLedger firsts tables.now.entries frames.now.entries uploads
-        → IfOk result (λ answer. option_map (λ bytes. bytes.items) answer
-        ≡ option_map answer_of (version_of name.now version uploads)) }
+        → IfOk result (λ answer. answer ≡ option_map answer_of (version_of name.now version uploads)) }
     ensures memory { OnErr result ((firsts : FirstEntries) (uploads : List Upload)
         → IsLedger firsts tables.now.entries frames.now.entries uploads
         → IsSome (version_of name.now version uploads)) }
@@ -92,14 +104,8 @@ pub(crate) fn answer_by(
             if version > table.version {
                 return Ok(None);
             }
-            match with_frames(
-                alloc,
-                table.schema_frame.as_slice(),
-                frames,
-                table.number,
-                version,
-            ) {
-                Ok(bytes) => Ok(Some(bytes)),
+            match with_frames(alloc, &table.schema_frame, frames, table.number, version) {
+                Ok(shared) => Ok(Some(Answer::of(shared))),
                 Err(refused) => Err(refused),
             }
         }

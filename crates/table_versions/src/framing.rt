@@ -1,14 +1,17 @@
 //! Frames with messages of Arrow Flight (Apache Arrow, "Flight.proto", `FlightData`; gRPC, "gRPC over HTTP2",
 //! "Length-Prefixed-Message").
 
-ghost use Rattle.std.specs.Prelude.{◌≡◌, ◌++◌, IfOk, OnOk};
+ghost use Rattle.std.specs.Prelude.{◌≡◌, ◌≤◌, ◌++◌, length, IfOk, OnOk};
+ghost use Rattle.grpc_frames.specs.Frame.{header_text, payload_limit};
 ghost use Rattle.table_types.specs.Served.{in_frame, data_text};
 ghost use Rattle.table_types.specs.Valid.{FitsFrame};
 
 use ballots::OutOfMemory;
+use bytes::Bytes;
 use grpc_frames::MESSAGE_FLAG;
 use proto_messages::append_bytes;
 use std::alloc::Global;
+use upload_parts::field_length;
 
 /// The number of the field with the header.
 const HEADER: u32 = 2;
@@ -19,54 +22,59 @@ const METADATA: u32 = 3;
 /// The number of the field with the body.
 const BODY: u32 = 1_000;
 
-/// The most bytes that the three keys and lengths have.
-const MAX_KEY_BYTES: usize = 20;
+/// How many bytes stand before the message of a frame.
+const PREFIX_BYTES: usize = 5;
 
-/// The message with this header, what the service adds, and this body.
+/// How many bytes the message has with this header, what the service adds, and this body.
+fn message_length(header: &[u8], metadata: &[u8], body: &[u8]) -> usize
+    requires { FitsFrame (data_text header.now metadata.now body.now) }
+    ensures { result ≡ length (data_text header.now metadata.now body.now) }
+{
+    let header = field_length(HEADER, header.len() as u64);
+    let metadata = field_length(METADATA, metadata.len() as u64);
+    let body = field_length(BODY, body.len() as u64);
+    (header + metadata + body) as usize
+}
+
+/// The beginning of a frame with a message of so many bytes, and room for the message.
+fn begun(alloc: Global, length: usize) -> Result<Vec<u8>, OutOfMemory>
+    requires { length ≤ payload_limit }
+    ensures { IfOk result (λ frame. frame.items ≡ header_text 0 length) }
+{
+    let mut frame = Vec::with_capacity(alloc, PREFIX_BYTES + length)?;
+    let [a, b, c, d] = (length as u32).to_be_bytes();
+    frame.extend_from_slice(&[MESSAGE_FLAG, a, b, c, d])?;
+    Ok(frame)
+}
+
+/// Appends the message with this header, what the service adds, and this body.
 #[tactic(auto, using(proto_messages::proofs::CallerLemmas::chains))]
-fn data_message(
-    alloc: Global,
-    header: &[u8],
-    metadata: &[u8],
-    body: &[u8],
-) -> Result<Vec<u8>, OutOfMemory>
-    ensures { IfOk result (λ message. message.items ≡ data_text header.now metadata.now body.now) }
-{
-    let room = header
-        .len()
-        .saturating_add(metadata.len())
-        .saturating_add(body.len())
-        .saturating_add(MAX_KEY_BYTES);
-    let mut message = Vec::with_capacity(alloc, room)?;
-    append_bytes(&mut message, HEADER, header)?;
-    append_bytes(&mut message, METADATA, metadata)?;
-    append_bytes(&mut message, BODY, body)?;
-    Ok(message)
-}
-
-/// Appends a message in a frame of its own.
-fn append_frame(frames: &mut Vec<u8>, message: &[u8]) -> Result<(), OutOfMemory>
-    requires { FitsFrame message.now }
-    ensures { OnOk result (frames.new.items ≡ frames.old.items ++ in_frame message.now) }
-{
-    frames.reserve(message.len().saturating_add(5))?;
-    frames.push(MESSAGE_FLAG)?;
-    frames.extend_from_slice(&(message.len() as u32).to_be_bytes())?;
-    frames.extend_from_slice(message)
-}
-
-/// Appends the message with this header, what the service adds, and this body, in a frame of its own.
-pub(crate) fn append_data(
-    alloc: Global,
-    frames: &mut Vec<u8>,
+fn append_message(
+    frame: &mut Vec<u8>,
     header: &[u8],
     metadata: &[u8],
     body: &[u8],
 ) -> Result<(), OutOfMemory>
-    requires { FitsFrame (data_text header.now metadata.now body.now) }
-    ensures { OnOk result (frames.new.items
-        ≡ frames.old.items ++ in_frame (data_text header.now metadata.now body.now)) }
+    ensures { OnOk result (frame.new.items ≡ frame.old.items ++ data_text header.now metadata.now body.now) }
 {
-    let message = data_message(alloc, header, metadata, body)?;
-    append_frame(frames, message.as_slice())
+    append_bytes(frame, HEADER, header)?;
+    append_bytes(frame, METADATA, metadata)?;
+    append_bytes(frame, BODY, body)
+}
+
+/// The frame of the message with this header, what the service adds, and this body. Each byte is written once, into a
+/// vector of the frame's length.
+pub(crate) fn data_frame(
+    alloc: Global,
+    header: &[u8],
+    metadata: &[u8],
+    body: &[u8],
+) -> Result<Bytes, OutOfMemory>
+    requires { FitsFrame (data_text header.now metadata.now body.now) }
+    ensures { IfOk result (λ frame. frame ≡ in_frame (data_text header.now metadata.now body.now)) }
+{
+    let length = message_length(header, metadata, body);
+    let mut frame = begun(alloc, length)?;
+    append_message(&mut frame, header, metadata, body)?;
+    Ok(Bytes::from_vec(frame)?)
 }

@@ -10,7 +10,7 @@
 //! keep(record)?;                       // whatever has to be kept before
 //! tables.apply(ready);                 // takes the values, and no memory
 //! tables.outcome(&upload);             // what is told of an upload from now on
-//! tables.answer(&ticket)?;             // the bytes of a version
+//! tables.answer(&ticket)?;             // the frames of a version
 //! ```
 //!
 //! `HasTaken tables values` in `specs/State` says that the tables hold what this list makes. [`Tables::apply`] takes it
@@ -18,10 +18,11 @@
 //! (`AreUploadsIn` in `specs/Values`): values for nothing and bytes that are no upload's encoding add none.
 //!
 //! `outcome` and `latest` take the time of a look-up, `ready` and `apply` time in proportion to the new values, and
-//! `answer` in proportion to its bytes. The keys of the maps are names that clients choose, so they are hashed with
-//! random keys, which [`Tables::new`] is given.
+//! `answer` in proportion to the number of frames, which answers share. The keys of the maps are names that clients choose,
+//! so they are hashed with random keys, which [`Tables::new`] is given.
 #![tactic(auto)]
 
+mod answer;
 mod answering;
 mod first;
 mod framing;
@@ -38,7 +39,9 @@ mod ready;
 mod steps;
 mod table;
 mod tables;
+mod upload_frames;
 
+pub use answer::Answer;
 pub use info::TableInfo;
 pub use outcome::Outcome;
 pub use ready::Ready;

@@ -41,7 +41,7 @@ fn open_table(tables: &mut NamedTables, frames: &mut Frames, name: String, part:
     requires table_room { 0 < spare tables.old }
     requires frame_room { 0 < spare frames.old }
     requires none { table_in tables.old.entries (string_bytes name) ≡ None }
-    requires numbers { length part.schema_frame + length part.frames < 2 ^ 64 }
+    requires numbers { length part.schema_frame + part.bytes < 2 ^ 64 }
     ensures opens { OpensTable tables.old.entries tables.new.entries frames.old.entries frames.new.entries
         (string_bytes name) part }
     ensures table_room { spare tables.old ≤ spare tables.new + 1 }
@@ -67,7 +67,7 @@ fn add_version(tables: &mut NamedTables, frames: &mut Frames, name: &str, part: 
     ensures table_room { spare tables.old ≤ spare tables.new + 1 }
     ensures frame_room { spare frames.old ≤ spare frames.new + 1 }
 {
-    let place = grow_table(tables, name, part.records, part.frames.len() as u64);
+    let place = grow_table(tables, name, part.records, part.bytes);
     put_frames(frames, place, part.frames);
     place.version
 }

@@ -1,5 +1,6 @@
 //! An upload, ready to be taken without memory.
 
+use crate::upload_frames::UploadFrames;
 use bytes::Bytes;
 use header_types::Schema;
 
@@ -11,7 +12,9 @@ pub(crate) struct Part {
     /// The frame with its schema.
     pub(crate) schema_frame: Bytes,
     /// The frames that are served of it.
-    pub(crate) frames: Bytes,
+    pub(crate) frames: UploadFrames,
+    /// How many bytes these have.
+    pub(crate) bytes: u64,
     /// How many rows it has.
     pub(crate) records: u64,
 }

@@ -9,8 +9,10 @@ ghost use Rattle.table_types.specs.Texts.{IsUploadText};
 ghost use Rattle.table_versions.specs.Ledger.{IsPartOf, IsPrepared};
 ghost use Rattle.table_versions.specs.Serving.{IsWrittenHead, IsServed};
 
-use crate::framing::append_data;
+use crate::answer::bytes_in;
+use crate::framing::data_frame;
 use crate::prepared::{Part, Prepared};
+use crate::upload_frames::UploadFrames;
 use ballots::OutOfMemory;
 use bytes::Bytes;
 use flatbuf_meta::laws::written_headers_are_shown;
@@ -23,7 +25,7 @@ use uploads::Upload;
 /// What is served of an upload, and how many rows it has.
 #[derive(Drop)]
 struct ServedFrames {
-    frames: Vec<u8>,
+    frames: Vec<Bytes>,
     records: u64,
 }
 
@@ -52,12 +54,12 @@ fn served(alloc: Global, upload: &Upload) -> Result<ServedFrames, OutOfMemory>
     let mut records = 0;
     let id = upload.id();
     if upload.batch_count() == 0 {
-        append_data(alloc, &mut frames, &[], &id, &[])?;
+        frames.push(data_frame(alloc, &[], &id, &[])?)?;
         return Ok(ServedFrames { frames, records });
     }
     let mut batches = upload.encoded_batches();
     while let Some((header, body)) = batches.next() {
-        append_data(alloc, &mut frames, header, &id, body)?;
+        frames.push(data_frame(alloc, header, &id, body)?)?;
         records += rows_in(alloc, header)?;
     }
     Ok(ServedFrames { frames, records })
@@ -70,14 +72,14 @@ fn part_of(alloc: Global, upload: &Upload) -> Result<Part, OutOfMemory>
         → IfOk result (λ part. IsPartOf part uploaded) }
 {
     let schema = upload.schema(alloc)?;
-    let mut schema_frame = Vec::new(alloc);
-    let schema_bytes = upload.schema_bytes();
-    append_data(alloc, &mut schema_frame, schema_bytes, &[], &[])?;
+    let schema_frame = data_frame(alloc, upload.schema_bytes(), &[], &[])?;
     let served = served(alloc, upload)?;
+    let bytes = bytes_in(served.frames.as_slice()) as u64;
     Ok(Part {
         schema,
-        schema_frame: Bytes::from_vec(schema_frame)?,
-        frames: Bytes::from_vec(served.frames)?,
+        schema_frame,
+        frames: UploadFrames::new(served.frames),
+        bytes,
         records: served.records,
     })
 }

@@ -10,7 +10,7 @@ use crate::first::First;
 use crate::place::Place;
 use crate::prepared::Part;
 use crate::table::Table;
-use bytes::Bytes;
+use crate::upload_frames::UploadFrames;
 use indexmap::IndexMap;
 use std::hash::RandomState;
 
@@ -20,8 +20,8 @@ pub(crate) type Firsts = IndexMap<[u8; 16], First, RandomState>;
 /// The tables by name, in the order of their first effective uploads.
 pub(crate) type NamedTables = IndexMap<String, Table, RandomState>;
 
-/// The frames of each effective upload.
-pub(crate) type Frames = IndexMap<Place, Bytes, RandomState>;
+/// The frames of each effective upload, at the version that it made.
+pub(crate) type Frames = IndexMap<Place, UploadFrames, RandomState>;
 
 /// Whether an upload of the name has come.
 pub(crate) fn has_come(firsts: &Firsts, id: [u8; 16]) -> bool
@@ -42,12 +42,12 @@ pub(crate) fn put_first(firsts: &mut Firsts, id: [u8; 16], first: First)
 }
 
 /// Puts the frames of a version.
-pub(crate) fn put_frames(frames: &mut Frames, place: Place, bytes: Bytes)
+pub(crate) fn put_frames(frames: &mut Frames, place: Place, served: UploadFrames)
     requires { 0 < spare frames.old }
-    ensures puts { PutsFrames frames.old.entries frames.new.entries place bytes }
+    ensures puts { PutsFrames frames.old.entries frames.new.entries place served }
     ensures room { spare frames.old ≤ spare frames.new + 1 }
 {
-    let Ok(_) = frames.insert(place, bytes) else {
+    let Ok(_) = frames.insert(place, served) else {
         unreachable!()
     };
 }
@@ -66,12 +66,12 @@ pub(crate) fn put_table(tables: &mut NamedTables, name: String, table: Table)
 }
 
 /// A table of this number with its first upload.
-pub(crate) fn opened(number: usize, part: Part) -> (Table, Bytes)
-    requires { length part.schema_frame + length part.frames < 2 ^ 64 }
+pub(crate) fn opened(number: usize, part: Part) -> (Table, UploadFrames)
+    requires { length part.schema_frame + part.bytes < 2 ^ 64 }
     ensures table { IsOpened result.0 number part }
     ensures frames { result.1 ≡ part.frames }
 {
-    let total_bytes = part.schema_frame.len() as u64 + part.frames.len() as u64;
+    let total_bytes = part.schema_frame.len() as u64 + part.bytes;
     let table = Table {
         number,
         schema: part.schema,

@@ -13,6 +13,7 @@ ghost use Rattle.table_versions.specs.State.{values_limit, HasTaken, IsReadyFor,
 ghost use Rattle.table_versions.specs.Info.{IsLatest};
 ghost use Rattle.table_versions.specs.Ledger.{table_names};
 
+use crate::answer::Answer;
 use crate::answering::{answer_by, told_of};
 use crate::info::TableInfo;
 use crate::ledger::take_all;
@@ -117,12 +118,12 @@ impl Tables {
         told_of(&self.firsts, upload.id(), upload.as_slice())
     }
 
-    /// The bytes that answer a ticket: the frame with the schema of the table's first upload, and then those of each of
-    /// its first uploads, so many as the version says. `None` exactly where the table has no such version; and memory
-    /// can be refused only where it has.
-    pub fn answer(&self, ticket: &Ticket) -> Result<Option<Vec<u8>>, OutOfMemory>
+    /// What answers a ticket: the frame with the schema of the table's first upload, and then those of each of its
+    /// first uploads, so many as the version says. They are shared, and none is copied: the time is in proportion to
+    /// their number. `None` exactly where the table has no such version; and memory can be refused only where it has.
+    pub fn answer(&self, ticket: &Ticket) -> Result<Option<Answer>, OutOfMemory>
         ensures answer { (values : List Agreed) (uploads : List Uploaded) → HasTaken self.now values
-            → AreUploadsIn values uploads → IfOk result (λ answer. option_map (λ bytes. bytes.items) answer
+            → AreUploadsIn values uploads → IfOk result (λ answer. answer
             ≡ option_map answer_of (version_of ticket.now.table ticket.now.version uploads)) }
         ensures memory { OnErr result ((values : List Agreed) (uploads : List Uploaded) → HasTaken self.now values
             → AreUploadsIn values uploads → IsSome (version_of ticket.now.table ticket.now.version uploads)) }

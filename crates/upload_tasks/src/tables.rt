@@ -3,6 +3,7 @@
 ghost use Rattle.std.specs.Prelude.{◌≡◌, IfOk};
 
 use crate::values::{upload_of, values_in};
+use crate::weights::answer_weight;
 use ballots::Value;
 use part_tasks::{TaskFault, push, weight_of};
 use std::alloc::{AllocError, Global};
@@ -185,9 +186,9 @@ fn first_ticket(tables: &Tables) -> Result<Ticket, TaskFault> {
 }
 
 /// What the answer to a ticket weighs.
-fn answer_weight(tables: &Tables, ticket: &Ticket) -> Result<u64, TaskFault> {
+fn asked_weight(tables: &Tables, ticket: &Ticket) -> Result<u64, TaskFault> {
     match tables.answer(ticket)? {
-        Some(bytes) => Ok(weight_of(bytes.as_slice())),
+        Some(answer) => Ok(answer_weight(&answer)),
         None => Err(TaskFault::Uploads),
     }
 }
@@ -199,7 +200,7 @@ fn answers_weight(tables: &Tables, count: u64) -> Result<u64, TaskFault>
     let ticket = first_ticket(tables)?;
     let mut sum: u64 = 0;
     for _ in 0..count {
-        sum = sum.wrapping_add(answer_weight(tables, &ticket)?);
+        sum = sum.wrapping_add(asked_weight(tables, &ticket)?);
     }
     Ok(sum)
 }

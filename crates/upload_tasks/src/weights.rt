@@ -3,7 +3,7 @@
 use ballots::{Acceptance, Ballot, Body, Message, Value};
 use part_tasks::weight_of;
 use schedule_runner::{EventResult, Trace};
-use table_versions::Outcome;
+use table_versions::{Answer, Outcome};
 
 fn mixed(sum: u64, number: u64) -> u64 {
     sum.wrapping_mul(31).wrapping_add(number)
@@ -64,11 +64,22 @@ fn outcome_weight(outcome: Outcome) -> u64 {
     }
 }
 
+/// What an answer weighs: the number of its bytes, and the last of them.
+pub(crate) fn answer_weight(answer: &Answer) -> u64 {
+    let bytes = answer.len() as u64;
+    match answer.frames().last() {
+        Some(last) => bytes
+            .wrapping_sub(last.len() as u64)
+            .wrapping_add(weight_of(last.as_slice())),
+        None => bytes,
+    }
+}
+
 fn result_weight(given: &EventResult) -> u64 {
     match given {
         EventResult::Sent { first, count } => mixed(mixed(1, *first), *count),
         EventResult::Done => 2,
-        EventResult::Answer(bytes) => mixed(3, weight_of(bytes.as_slice())),
+        EventResult::Answer(answer) => mixed(3, answer_weight(answer)),
         EventResult::Unavailable => 4,
         EventResult::Info(version) => mixed(5, *version),
         EventResult::NoTable => 6,

@@ -19,5 +19,5 @@ loop-before-preserved c = λ uploads has within.
     some_is c.frames_at.result.now (frames_of f.0)
     (sym c.frames_at.ensures ∙ subst (λ v. frames_in c.args.frames.now.entries c.args.table v ≡ Some (frames_of f.0)) here f.1)
     in
-    frames_more c.args.first.now c.loop-before.bytes.items c.extend_from_slice.new.self.items c.as_slice.result.now uploads c.loop-before.before f.0
-    c.in_ok-extend_from_slice.ensures.items (c.loop-before.invariant uploads has within) (c.as_slice.ensures ∙ got) f.2
+    frames_more c.args.first.now c.loop-before.shared.items c.share_frames.new.shared.items c.as_slice.result.now uploads c.loop-before.before f.0
+    c.in_ok-share_frames.ensures (c.loop-before.invariant uploads has within) (c.as_slice.ensures ∙ got) f.2

@@ -13,7 +13,7 @@ use Rattle.node_core.proofs.node.Node.get.Goals as goal
 pub returns-clause-answer : goal.returns-clause-answer
 returns-clause-answer c =
     subst (λ (s : NodeState). (views : Views) (uploads : List Upload) → NodeHas s views → HasUploads s.agreement.config.members views.learner_calls uploads
-    → IfOk c.answer.result (λ answer. option_map (λ bytes. bytes.items) answer ≡ option_map answer_of (version_of c.args.ticket.now.table c.args.ticket.now.version uploads))) c.self.view_is
+    → IfOk c.answer.result (λ answer. answer ≡ option_map answer_of (version_of c.args.ticket.now.table c.args.ticket.now.version uploads))) c.self.view_is
     (λ views uploads has of. c.answer.ensures.answer has.values uploads has.taken
     (same_uploads c.prefixes_are_one.ensures.one c.learned_is_one.ensures.learned _ views.learner_calls has.values uploads has.prefix of))
 
