@@ -23,7 +23,7 @@ const OK: &str = "800000000100";
 const UNAVAILABLE: &str = "800000000c0e556e617661696c61626c65";
 
 /// The ticket for this version of t.
-fn ticket(alloc: Global, version: u64) -> Result<Ticket, Fail> {
+pub(crate) fn ticket(alloc: Global, version: u64) -> Result<Ticket, Fail> {
     match Ticket::new(String::from_str(alloc, "t")?, version) {
         Some(ticket) => Ok(ticket),
         None => Err(Fail::from("no ticket")),
@@ -31,7 +31,7 @@ fn ticket(alloc: Global, version: u64) -> Result<Ticket, Fail> {
 }
 
 /// The request of a version, which is not answered.
-fn get_request(alloc: Global, ticket: &Ticket) -> Result<Vec<u8>, Fail> {
+pub(crate) fn get_request(alloc: Global, ticket: &Ticket) -> Result<Vec<u8>, Fail> {
     let mut reader: &[u8] = &[];
     let mut writer = Vec::new(alloc);
     match call_get(alloc, &mut reader, &mut writer, ticket) {

@@ -16,3 +16,5 @@ mod samples;
 mod served;
 #[cfg(test)]
 mod support;
+#[cfg(test)]
+mod written;
