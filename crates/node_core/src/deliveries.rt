@@ -38,7 +38,7 @@ impl Node {
         if grown.is_empty() {
             return Ok(Planned::Steps(step));
         }
-        let ready = self.tables.ready(grown)?;
+        let ready = self.tables.ready_with(grown, &self.waiting)?;
         Ok(Planned::Learns(step, ready))
     }
 }

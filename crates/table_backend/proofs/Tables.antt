@@ -1,5 +1,5 @@
 -- What tables say of the uploads that they have taken.
-use Rattle.std.proofs.Common.{◌≡◌, ◌≤◌, ◌<◌, ◌+◌, ℕ, suc, Bool, true, false, cond, List, [], ◌∷◌, ◌++◌, length, get_or, refl, sym, ap, subst, ◌∙◌, arith, string_bytes, map}
+use Rattle.std.proofs.Common.{◌≡◌, ◌≢◌, ◌≤◌, ◌<◌, ◌+◌, ℕ, suc, Bool, true, false, cond, List, [], ◌∷◌, ◌++◌, length, get_or, refl, sym, ap, subst, ◌∙◌, arith, string_bytes, map}
 use Rattle.std.specs.Prelude.{String, Option, Some, take}
 use Rattle.std.specs.declared.alloc.Global.{Global}
 use Rattle.std.specs.Str.{bytes_eq}
@@ -145,6 +145,12 @@ pub tells_latest : (locations : List (List ℕ)) (table : List ℕ) (counted : L
     → found.info ≡ info → map string_bytes found.locations.items ≡ locations → TellsLatest locations table counted found
 tells_latest locations table counted latest info found is some same at =
     tells locations table counted info found (subst (λ l. IsLatest l table counted) some is) same at
+
+-- there is one only where an upload counts
+pub some_counts : (table : List ℕ) (counted : List Upload) (latest : Option TableInfo) (info : TableInfo) → IsLatest latest table counted → latest ≡ Some info
+    → counted ≢ []
+some_counts table [] latest info is some = absurd (subst (λ l. IsLatest l table []) some is)
+some_counts table (first ∷ rest) latest info is some = λ none. cc
 
 -- its schema
 pub schema_of_latest : (table : List ℕ) (uploads : List Upload) → AllByRecursion IsUpload uploads → (latest : Option TableInfo) (info : TableInfo) → IsLatest latest table (effective table uploads) → latest ≡ Some info

@@ -1,6 +1,6 @@
 -- What a backend of tables may answer, by the uploads that its tables have taken: `table_types` has what tables these make,
 -- and which versions and outcomes.
-use Rattle.std.specs.Prelude.{◌≡◌, ◌⊎◌, ◌≤◌, ◌++◌, ℕ, List, [], ◌∷◌, length, None, Some, map, string_bytes}
+use Rattle.std.specs.Prelude.{◌≡◌, ◌≢◌, ◌⊎◌, ◌≤◌, ◌<◌, ◌++◌, ℕ, List, [], ◌∷◌, length, None, Some, map, string_bytes}
 use Rattle.std.specs.List.{AllZip}
 use Rattle.ballots.specs.declared.value.Value.{Value}
 use Rattle.ballots.specs.declared.value.Value.TheVariants as agreed
@@ -43,15 +43,23 @@ TellsLatest locations table [] found = ⊥
 TellsLatest locations table (first ∷ rest) found =
     IsInfoOf found.info table first (first ∷ rest) × (map string_bytes found.locations.items ≡ locations)
 
--- no upload to the table counts; or memory was refused
+-- no upload to the table counts; or one does, and memory was refused
 abbrev pub TableFault : List Upload → BackFault → Type 0
-TableFault counted fault = ((counted ≡ []) × (fault ≡ faults.NoTable)) ⊎ (fault ≡ faults.OutOfMemory)
+TableFault counted fault =
+    ((counted ≡ []) × (fault ≡ faults.NoTable)) ⊎ ((counted ≢ []) × (fault ≡ faults.OutOfMemory))
 
--- as many values were taken as may be; or memory was refused
-abbrev pub PutFault : Shelf → BackFault → Type 0
-PutFault shelf fault =
-    (((shelf.slots ≤ shelf.tables.taken) ⊎ (values_limit ≤ shelf.tables.taken)) × (fault ≡ faults.SlotsSpent))
-    ⊎ (fault ≡ faults.OutOfMemory)
+-- as many values were taken as may be
+abbrev pub IsFull : Shelf → Type 0
+IsFull shelf = (shelf.slots ≤ shelf.tables.taken) ⊎ (values_limit ≤ shelf.tables.taken)
+
+-- nothing is known of the upload of this encoding
+abbrev pub IsUnknown : List Upload → List ℕ → Type 0
+IsUnknown uploads text = (upload : Upload) → IsUpload upload → upload_text upload ≡ text → outcome_of uploads upload ≡ unknown
+
+-- nothing is known of an upload, and as many were taken as may be; or memory was refused
+abbrev pub PutFault : Shelf → List Upload → List ℕ → BackFault → Type 0
+PutFault shelf uploads text fault =
+    (IsFull shelf × IsUnknown uploads text × (fault ≡ faults.SlotsSpent)) ⊎ (fault ≡ faults.OutOfMemory)
 
 -- By these uploads, this is an answer to the request.
 abbrev pub Answers : Shelf → List Upload → Request → BackAnswer → Type 0
@@ -68,7 +76,7 @@ Answers shelf uploads (serves asked) (failed fault) =
     ((version_of asked.table asked.version uploads ≡ None) × (fault ≡ faults.Unavailable)) ⊎ (fault ≡ faults.OutOfMemory)
 Answers shelf uploads (puts text) (decided outcome) =
     (upload : Upload) → IsUpload upload → upload_text upload ≡ text → outcome ≡ outcome_of uploads upload
-Answers shelf uploads (puts text) (failed fault) = PutFault shelf fault
+Answers shelf uploads (puts text) (failed fault) = PutFault shelf uploads text fault
 Answers shelf uploads request other = ⊥
 
 -- the tables have taken values of uploads of which this holds
@@ -87,18 +95,20 @@ pub record HoldsTheSame (old new : Shelf) : Type 0 where
   pub locations : new.locations ≡ old.locations
   pub slots : new.slots ≡ old.slots
 
--- What tables are after a put of an upload of which this was told before: where nothing of its name had come, they have taken one
--- value more, which is that upload, behind the others; else they hold the same.
-abbrev pub Takes : Outcome → List ℕ → TablesState → TablesState → Type 0
-Takes unknown text old new = (values : List Value) → HasTaken old values → HasTaken new (values ++ agreed.Upload text ∷ [])
-Takes (applied version) text old new = IsSame old new
-Takes mismatched text old new = IsSame old new
-Takes conflicting text old new = IsSame old new
+-- What tables are after a put of an upload of which this was told before, where so many uploads are taken: where nothing of its
+-- name had come, there was room for one more, and they have taken one value more, which is that upload, behind the others; else
+-- they hold the same.
+abbrev pub Takes : Outcome → List ℕ → ℕ → TablesState → TablesState → Type 0
+Takes unknown text slots old new =
+    (old.taken < slots) × ((values : List Value) → HasTaken old values → HasTaken new (values ++ agreed.Upload text ∷ []))
+Takes (applied version) text slots old new = IsSame old new
+Takes mismatched text slots old new = IsSame old new
+Takes conflicting text slots old new = IsSame old new
 
 -- what a put leaves that did not fail
 pub record Leaves (old : Shelf) (text : List ℕ) (new : Shelf) : Type 0 where
   pub tables : (values : List Value) (uploads : List Upload) (upload : Upload) → HasTaken old.tables values
       → AreUploadsIn values uploads → IsUpload upload → upload_text upload ≡ text
-      → Takes (outcome_of uploads upload) text old.tables new.tables
+      → Takes (outcome_of uploads upload) text old.slots old.tables new.tables
   pub locations : new.locations ≡ old.locations
   pub slots : new.slots ≡ old.slots

@@ -1,11 +1,11 @@
 //! A backend of tables.
 
-ghost use Rattle.std.specs.Prelude.{◌≡◌, ◌++◌, ◌∷◌, List, [], map, string_bytes, IfOk, IfErr, OnOk, OnErr};
+ghost use Rattle.std.specs.Prelude.{◌≡◌, ◌⊎◌, ◌<◌, ◌++◌, ◌∷◌, List, [], map, string_bytes, IfOk, IfErr, OnOk, OnErr};
 ghost use Rattle.ballots.specs.declared.value.Value.{Value as Agreed};
 ghost use Rattle.ballots.specs.declared.value.Value.TheVariants as agreed;
 ghost use Rattle.table_versions.specs.State.{HasTaken, IsSame};
-ghost use Rattle.call_words.specs.declared.back_fault.BackFault.TheVariants.{OutOfMemory};
-ghost use Rattle.table_backend.specs.Backing.{MayAnswer, Leaves, HoldsTheSame, Stands, PutFault};
+ghost use Rattle.call_words.specs.declared.back_fault.BackFault.TheVariants.{SlotsSpent, OutOfMemory};
+ghost use Rattle.table_backend.specs.Backing.{MayAnswer, Leaves, HoldsTheSame, IsFull};
 
 use crate::parts::{all_described, described, schema_in, value_of};
 use call_words::BackFault;
@@ -98,8 +98,9 @@ impl TableBackend {
             → HasTaken self.new.tables (values ++ agreed.Upload upload.now ∷ [])) }
         ensures same { (self.new.handed ≡ self.old.handed) × (self.new.locations ≡ self.old.locations)
             × (self.new.slots ≡ self.old.slots) }
+        ensures room { OnOk result (self.old.tables.taken < self.old.slots) }
         ensures refused { OnErr result (IsSame self.old.tables self.new.tables) }
-        ensures fault { IfErr result (λ fault. Stands self.old (λ uploads. PutFault self.old fault)) }
+        ensures fault { IfErr result (λ fault. (IsFull self.old × (fault ≡ SlotsSpent)) ⊎ (fault ≡ OutOfMemory)) }
     {
         same_tables_hold_the_same();
         let taken = self.tables.taken();
@@ -109,7 +110,7 @@ impl TableBackend {
         let Ok(value) = value_of(upload) else {
             return Err(BackFault::OutOfMemory);
         };
-        match self.tables.ready(&[value]) {
+        match self.tables.ready_with(&[value], upload) {
             Ok(ready) => {
                 self.tables.apply(ready);
                 Ok(())
@@ -126,9 +127,7 @@ impl TableBackend {
         ensures refused { OnErr result (self.new.handed ≡ self.old.handed) }
         ensures fault { IfErr result (λ fault. fault ≡ OutOfMemory) }
     {
-        let Ok(copy) = upload.clone() else {
-            return Err(BackFault::OutOfMemory);
-        };
+        let copy = upload.clone()?;
         match self.handed.push(copy) {
             Ok(()) => Ok(()),
             Err(_) => Err(BackFault::OutOfMemory),

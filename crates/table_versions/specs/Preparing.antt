@@ -5,9 +5,15 @@ use Rattle.ballots.specs.declared.value.Value.{Value}
 use Rattle.ballots.specs.declared.value.Value.TheVariants as values
 use Rattle.table_types.specs.Uploads.{Upload, upload_text}
 use Rattle.table_types.specs.Valid.{IsUpload}
+use Rattle.table_types.specs.Texts.{IsUploadText}
 use Rattle.table_versions.specs.declared.prepared.Prepared.{Prepared}
 use Rattle.table_versions.specs.Ledger.{IsPrepared}
 use Rattle.table_versions.specs.Values.{AreUploadsIn}
+
+-- the bytes are the upload's encoding, or they are that of none
+abbrev pub IsUploadIn : List ℕ → Option (List ℕ) → Type 0
+IsUploadIn bytes None = ¬ IsUploadText bytes
+IsUploadIn bytes (Some text) = (text ≡ bytes) × IsUploadText text
 
 -- the upload that the bytes are is ready, or they are none
 abbrev pub PreparesBytes : List ℕ → Option Prepared → Type 0

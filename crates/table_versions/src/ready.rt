@@ -1,7 +1,7 @@
 //! Values whose uploads are ready to be taken without memory.
 
 ghost use Rattle.std.specs.Prelude.{◌≡◌, length, IfOk, OnOk};
-ghost use Rattle.table_versions.specs.Preparing.{PreparesBytes, PushesBytes, PushesValue};
+ghost use Rattle.table_versions.specs.Preparing.{IsUploadIn, PreparesBytes, PushesBytes, PushesValue};
 
 use crate::prepared::Prepared;
 use crate::preparing::prepare;
@@ -11,7 +11,7 @@ use std::alloc::{AllocError, Global};
 use std::collections::VecDeque;
 use std::marker::Model;
 use table_types::laws::texts_hold_one_list_of_uploads;
-use uploads::{DecodeFault, Upload};
+use uploads::{DecodeFault, HeldUploads, Upload};
 
 /// The next values of the list, with all that [`crate::Tables::apply`] needs of them.
 #[derive(Debug, Drop)]
@@ -43,14 +43,18 @@ impl Model for Ready {
 impl Ready {
     ghost use Rattle.table_versions.specs.State.{IsReadyFor};
 
-    /// These values, made ready.
-    pub(crate) fn of(alloc: Global, values: &[Value]) -> Result<Ready, OutOfMemory>
+    /// These values, made ready, of which some may be uploads that are held.
+    pub(crate) fn of<H: HeldUploads>(
+        alloc: Global,
+        values: &[Value],
+        held: &H,
+    ) -> Result<Ready, OutOfMemory>
         ensures { IfOk result (λ ready. IsReadyFor ready values.now) }
     {
         texts_hold_one_list_of_uploads();
         let mut uploads = VecDeque::new(alloc);
         for value in values {
-            push_value(alloc, &mut uploads, value)?;
+            push_value(alloc, &mut uploads, value, held)?;
         }
         Ok(Ready {
             uploads,
@@ -66,29 +70,52 @@ impl Ready {
     }
 }
 
-/// The upload that these bytes are, made ready, or `None` where they are none.
-fn prepared_of(alloc: Global, bytes: &Bytes) -> Result<Option<Prepared>, OutOfMemory>
-    ensures { IfOk result (PreparesBytes bytes.now) }
+/// The upload that these bytes are, or `None` where they are none. Those of one that is held are not looked at again.
+fn upload_of<H: HeldUploads>(
+    alloc: Global,
+    bytes: &Bytes,
+    held: &H,
+) -> Result<Option<Upload>, OutOfMemory>
+    ensures { IfOk result (IsUploadIn bytes.now) }
 {
+    if let Some(upload) = held.find(bytes.as_slice()) {
+        let _text = upload.as_slice();
+        return Ok(Some(upload.clone()?));
+    }
     match Upload::decode(alloc, bytes.clone()?) {
-        Ok(upload) => match prepare(alloc, upload) {
-            Ok(prepared) => Ok(Some(prepared)),
-            Err(refused) => Err(refused),
-        },
+        Ok(upload) => Ok(Some(upload)),
         Err(DecodeFault::NotAnUpload) => Ok(None),
         Err(DecodeFault::OutOfMemory) => Err(AllocError),
     }
 }
 
+/// The upload that these bytes are, made ready, or `None` where they are none.
+fn prepared_of<H: HeldUploads>(
+    alloc: Global,
+    bytes: &Bytes,
+    held: &H,
+) -> Result<Option<Prepared>, OutOfMemory>
+    ensures { IfOk result (PreparesBytes bytes.now) }
+{
+    match upload_of(alloc, bytes, held)? {
+        Some(upload) => match prepare(alloc, upload) {
+            Ok(prepared) => Ok(Some(prepared)),
+            Err(refused) => Err(refused),
+        },
+        None => Ok(None),
+    }
+}
+
 /// Puts the upload that these bytes are behind the others, and nothing where they are none.
-fn push_bytes(
+fn push_bytes<H: HeldUploads>(
     alloc: Global,
     uploads: &mut VecDeque<Prepared>,
     bytes: &Bytes,
+    held: &H,
 ) -> Result<(), OutOfMemory>
     ensures { OnOk result (PushesBytes uploads.old.items uploads.new.items bytes.now) }
 {
-    match prepared_of(alloc, bytes)? {
+    match prepared_of(alloc, bytes, held)? {
         Some(prepared) => {
             uploads.push_back(prepared)?;
             Ok(())
@@ -98,16 +125,17 @@ fn push_bytes(
 }
 
 /// Puts what a value adds behind the others.
-fn push_value(
+fn push_value<H: HeldUploads>(
     alloc: Global,
     uploads: &mut VecDeque<Prepared>,
     value: &Value,
+    held: &H,
 ) -> Result<(), OutOfMemory>
     ensures { OnOk result (PushesValue uploads.old.items uploads.new.items value.now) }
 {
     texts_hold_one_list_of_uploads();
     match value {
         Value::Noop => Ok(()),
-        Value::Upload(bytes) => push_bytes(alloc, uploads, bytes.as_bytes()),
+        Value::Upload(bytes) => push_bytes(alloc, uploads, bytes.as_bytes(), held),
     }
 }

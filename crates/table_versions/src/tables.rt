@@ -28,7 +28,7 @@ use std::hash::RandomState;
 use std::marker::Model;
 use table_types::Ticket;
 use table_types::laws::texts_hold_one_list_of_uploads;
-use uploads::Upload;
+use uploads::{HeldUploads, NoUploads, Upload};
 
 /// The tables that the agreed values make, the first so many of them.
 #[derive(Debug)]
@@ -174,7 +174,22 @@ impl Tables {
         ensures same { IsSame self.old self.new }
         ensures room { self.old.room ≤ self.new.room }
     {
-        let ready = Ready::of(*self.firsts.allocator(), values)?;
+        self.ready_with(values, &NoUploads)
+    }
+
+    /// As [`Tables::ready`], where some of the values may be uploads that are held: their bytes are not looked at again.
+    pub fn ready_with<H: HeldUploads>(
+        &mut self,
+        values: &[Value],
+        held: &H,
+    ) -> Result<Ready, OutOfMemory>
+        requires { self.old.taken + length values.now ≤ values_limit }
+        ensures ready { IfOk result (λ ready. IsReadyFor ready values.now) }
+        ensures can { IfOk result (CanTake self.new) }
+        ensures same { IsSame self.old self.new }
+        ensures room { self.old.room ≤ self.new.room }
+    {
+        let ready = Ready::of(*self.firsts.allocator(), values, held)?;
         self.reserve(ready.len())?;
         Ok(ready)
     }

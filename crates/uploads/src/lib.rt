@@ -6,11 +6,13 @@
 //! [`EncodedBatches`] for the batches, one after the other).
 //!
 //! [`Upload::new`] makes an upload of a schema and batches (`upload_writing`), [`Upload::decode`] one of bytes that nobody
-//! has checked (`upload_reading`).
+//! has checked (`upload_reading`). Bytes that somebody holds as an upload's need not be looked at again ([`HeldUploads`]).
 #![tactic(auto)]
 
+mod held;
 mod upload;
 
+pub use held::{HeldUploads, NoUploads};
 pub use table_types::{MAX_TABLE_NAME_BYTES, is_table_name};
 pub use upload::Upload;
 pub use upload_parts::{

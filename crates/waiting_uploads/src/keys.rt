@@ -1,6 +1,6 @@
 //! The keys by which uploads are found: their names, and hashes of their encodings.
 
-ghost use Rattle.std.specs.Prelude.{◌≡◌, ◌↔◌, ◌+◌, ◌<◌, ◌≤◌, ◌∷◌, ◌++◌, [], IsTrue, OnOk, OnErr, IfErr};
+ghost use Rattle.std.specs.Prelude.{◌≡◌, ◌↔◌, ◌+◌, ◌<◌, ◌≤◌, ◌∷◌, ◌++◌, [], IsTrue, IfSome, OnOk, OnErr, IfErr};
 ghost use Rattle.std.specs.List.{Contains, AllByRecursion};
 ghost use Rattle.indexmap.specs.IndexMap.{values, spare, IsUnchanged};
 ghost use Rattle.waiting_uploads.specs.Keys.{StandsByName, StandsByHash, hash_of as hash_of_text};
@@ -22,6 +22,26 @@ fn hash_of(hashing: &RandomState, upload: &Upload) -> u64
     let mut hasher = hashing.build_hasher();
     hasher.write(upload.as_slice());
     hasher.finish()
+}
+
+/// The name at the place where an upload's encoding has it, behind the field of its table (Protocol Buffers, "Encoding").
+/// Of bytes that are no upload's it may be any: it serves to look for those that are.
+fn name_in(text: &[u8]) -> Option<[u8; 16]> {
+    let table = usize::from(*text.get(1)?);
+    let name = text.get(4 + table..20 + table)?;
+    name.first_chunk::<16>().copied()
+}
+
+/// The upload of which these bytes are the encoding, where it stands under its name.
+pub(crate) fn find_named<'a>(named: &'a Named, text: &[u8]) -> Option<&'a Upload>
+    ensures { IfSome result (λ upload. upload.now ≡ text.now) }
+{
+    let found = named.get(&name_in(text)?)?;
+    if found.as_slice() == text {
+        Some(found)
+    } else {
+        None
+    }
 }
 
 /// Whether the upload is one of these.

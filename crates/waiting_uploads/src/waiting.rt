@@ -11,14 +11,14 @@ ghost use Rattle.table_versions.specs.Values.{AreUploadsIn};
 ghost use Rattle.histories.specs.Due.{AreStillWaiting};
 
 use crate::keyed;
-use crate::keys::{Hashed, Named, is_keyed, put_keyed};
+use crate::keys::{Hashed, Named, find_named, is_keyed, put_keyed};
 use crate::unknown::is_unknown;
 use indexmap::IndexMap;
 use std::alloc::{AllocError, Global};
 use std::hash::RandomState;
 use std::marker::Model;
 use table_versions::Tables;
-use uploads::Upload;
+use uploads::{HeldUploads, Upload};
 
 /// Uploads that wait, in the order in which they came.
 #[derive(Debug)]
@@ -153,5 +153,13 @@ impl WaitingUploads {
         keyed::keep_unknown(&mut self.named, tables);
         keyed::keep_unknown(&mut self.hashed, tables);
         self.others.retain(|upload| is_unknown(tables, upload));
+    }
+}
+
+/// Each upload that waits and is found by its name: an agreed value that has its bytes is an upload, and need not be looked
+/// at again.
+impl HeldUploads for WaitingUploads {
+    fn find(&self, text: &[u8]) -> Option<&Upload> {
+        find_named(&self.named, text)
     }
 }

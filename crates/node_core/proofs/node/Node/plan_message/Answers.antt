@@ -62,8 +62,8 @@ returns-then-is_empty-clause-same c =
 
 -- ---- where it grows
 
-pub ready-requires : goal.ready-requires
-ready-requires c =
+pub ready_with-requires : goal.ready_with-requires
+ready_with-requires c =
     let has = c.self.invariant in
     subst (λ (l : List Value). c.self.inside.tables.taken + length l ≤ values_limit) (sym c.as_slice-grown.ensures.value)
     (ready_fits c.learned_where_chosen_or_decided.ensures.learned c.learned_where_chosen_or_decided.ensures.settled c.states_are_what_was_learned.ensures.decided
@@ -74,22 +74,22 @@ pub invariant_of-self-in_err-ready : goal.invariant_of-self-in_err-ready
 invariant_of-self-in_err-ready c =
     let has = c.self.invariant in (
       has.0,
-      stands_on c.self.inside.agreement c.plan_message.new.self c.self.inside.tables c.ready.new.self c.self.inside.waiting c.self.inside.waiting
-          c.in_ok-step.ensures.ready.same c.in_ok-step.ensures.config c.ready.ensures.same refl has.0 has.1,
+      stands_on c.self.inside.agreement c.plan_message.new.self c.self.inside.tables c.ready_with.new.self c.self.inside.waiting c.self.inside.waiting
+          c.in_ok-step.ensures.ready.same c.in_ok-step.ensures.config c.ready_with.ensures.same refl has.0 has.1,
     )
 
 pub returns-in_err-ready-clause-same : goal.returns-in_err-ready-clause-same
 returns-in_err-ready-clause-same c =
-    subst (λ (s : NodeState). (views : Views) → NodeHas s views → NodeHas (node_of c.plan_message.new.self c.ready.new.self c.self.inside.waiting) views) c.self.view_is
-    (stands_on c.self.inside.agreement c.plan_message.new.self c.self.inside.tables c.ready.new.self c.self.inside.waiting c.self.inside.waiting
-    c.in_ok-step.ensures.ready.same c.in_ok-step.ensures.config c.ready.ensures.same refl)
+    subst (λ (s : NodeState). (views : Views) → NodeHas s views → NodeHas (node_of c.plan_message.new.self c.ready_with.new.self c.self.inside.waiting) views) c.self.view_is
+    (stands_on c.self.inside.agreement c.plan_message.new.self c.self.inside.tables c.ready_with.new.self c.self.inside.waiting c.self.inside.waiting
+    c.in_ok-step.ensures.ready.same c.in_ok-step.ensures.config c.ready_with.ensures.same refl)
 
 pub invariant_of-self-2 : goal.invariant_of-self-2
 invariant_of-self-2 c =
     let has = c.self.invariant in (
       has.0,
-      stands_on c.self.inside.agreement c.plan_message.new.self c.self.inside.tables c.ready.new.self c.self.inside.waiting c.self.inside.waiting
-          c.in_ok-step.ensures.ready.same c.in_ok-step.ensures.config c.ready.ensures.same refl has.0 has.1,
+      stands_on c.self.inside.agreement c.plan_message.new.self c.self.inside.tables c.ready_with.new.self c.self.inside.waiting c.self.inside.waiting
+          c.in_ok-step.ensures.ready.same c.in_ok-step.ensures.config c.ready_with.ensures.same refl has.0 has.1,
     )
 
 pub returns-clause-gives : goal.returns-clause-gives
@@ -103,12 +103,12 @@ returns-clause-can c =
     let has = c.self.invariant in
     let planned = learning_planned c.texts_hold_one_list_of_uploads.ensures.both (node_of c.self.inside.agreement c.self.inside.tables c.self.inside.waiting) has.0 has.1 c.args.message c.in_ok-step.step
     c.in_ok-ready.ready c.in_ok-step.ensures.gives.0 (c.in_ok-step.ensures.gives.1 has.0 has.1.agrees) (some_items c.as_slice-grown.result.now c.in_ok-step.step.grown.items c.is_empty.result c.as_slice-grown.ensures.value c.is_empty.ensures c.if-is_empty.false) (subst (IsReadyFor c.in_ok-ready.ready) c.as_slice-grown.ensures.value c.in_ok-ready.ensures.ready) in
-    can_commit c.self.inside.agreement c.plan_message.new.self c.self.inside.tables c.ready.new.self c.self.inside.waiting c.self.inside.waiting
-    c.in_ok-step.ensures.ready.same c.in_ok-step.ensures.config c.ready.ensures.same refl has.0 has.1 (Deliver c.args.message) (Learns c.in_ok-step.step c.in_ok-ready.ready) planned
+    can_commit c.self.inside.agreement c.plan_message.new.self c.self.inside.tables c.ready_with.new.self c.self.inside.waiting c.self.inside.waiting
+    c.in_ok-step.ensures.ready.same c.in_ok-step.ensures.config c.ready_with.ensures.same refl has.0 has.1 (Deliver c.args.message) (Learns c.in_ok-step.step c.in_ok-ready.ready) planned
     (record { steps = c.in_ok-step.ensures.ready.can; takes = c.in_ok-ready.ensures.can; is_ready = subst (IsReadyFor c.in_ok-ready.ready) c.as_slice-grown.ensures.value c.in_ok-ready.ensures.ready })
 
 pub returns-clause-same : goal.returns-clause-same
 returns-clause-same c =
-    subst (λ (s : NodeState). (views : Views) → NodeHas s views → NodeHas (node_of c.plan_message.new.self c.ready.new.self c.self.inside.waiting) views) c.self.view_is
-    (stands_on c.self.inside.agreement c.plan_message.new.self c.self.inside.tables c.ready.new.self c.self.inside.waiting c.self.inside.waiting
-    c.in_ok-step.ensures.ready.same c.in_ok-step.ensures.config c.ready.ensures.same refl)
+    subst (λ (s : NodeState). (views : Views) → NodeHas s views → NodeHas (node_of c.plan_message.new.self c.ready_with.new.self c.self.inside.waiting) views) c.self.view_is
+    (stands_on c.self.inside.agreement c.plan_message.new.self c.self.inside.tables c.ready_with.new.self c.self.inside.waiting c.self.inside.waiting
+    c.in_ok-step.ensures.ready.same c.in_ok-step.ensures.config c.ready_with.ensures.same refl)

@@ -7,14 +7,14 @@ invariant_of-self c =
     let values = c.self.invariant.0 in (
       values ++ c.in-Ok.value ∷ [],
       c.apply.ensures.takes values (c.in-Ok.value ∷ [])
-          (c.same_tables_hold_the_same.ensures c.self.inside.tables c.ready.new.self values c.in-Ok-ready.ensures.same c.self.invariant.1)
-          c.in-Ok-ready.ensures.ready,
+          (c.same_tables_hold_the_same.ensures c.self.inside.tables c.ready_with.new.self values c.in-Ok-ready_with.ensures.same c.self.invariant.1)
+          c.in-Ok-ready_with.ensures.ready,
     )
 
-pub returns-in-Ok-ready-clause-takes : goal.returns-in-Ok-ready-clause-takes
-returns-in-Ok-ready-clause-takes c = λ values taken.
+pub returns-in-Ok-ready_with-clause-takes : goal.returns-in-Ok-ready_with-clause-takes
+returns-in-Ok-ready_with-clause-takes c = λ values taken.
     let held = subst (λ b. HasTaken b.tables values) (sym c.self.view_is) taken in
     subst (λ v. HasTaken c.apply.new.self (values ++ v ∷ [])) c.in-Ok.ensures
     (c.apply.ensures.takes values (c.in-Ok.value ∷ [])
-    (c.same_tables_hold_the_same.ensures c.self.inside.tables c.ready.new.self values c.in-Ok-ready.ensures.same held)
-    c.in-Ok-ready.ensures.ready)
+    (c.same_tables_hold_the_same.ensures c.self.inside.tables c.ready_with.new.self values c.in-Ok-ready_with.ensures.same held)
+    c.in-Ok-ready_with.ensures.ready)

@@ -1,7 +1,8 @@
-use Rattle.std.proofs.Common.{sym, subst, refl, ◌∙◌}
+use Rattle.std.proofs.Common.{sym, subst, refl, inr, ◌∙◌}
 use Rattle.table_types.specs.Valid.{FitsFrame}
 use Rattle.call_reading.specs.Requests.{shows}
-use Rattle.flight_calls.specs.Replies.{shown}
+use Rattle.call_words.specs.declared.back_fault.BackFault.TheVariants as faults
+use Rattle.flight_calls.specs.Replies.{shown, failed}
 use Rattle.table_backend.specs.Backing.{MayAnswer}
 use Rattle.table_backend.proofs.Tables.{schema_of_latest}
 use Rattle.table_backend.proofs.backend.TableBackendBackend.schema.Goals as goal
@@ -20,3 +21,10 @@ returns-clause-shown c =
       is,
       subst FitsFrame (sym is) s.4,
     )
+
+pub returns-in-Err-clause-fault : goal.returns-in-Err-clause-fault
+returns-in-Err-clause-fault c =
+    let values = c.self.invariant.0 in
+    let taken = c.self.invariant.1 in
+    subst (λ b. MayAnswer b (shows c.args.table.now) (failed faults.OutOfMemory)) c.self.view_is
+    (values, taken.uploads, taken, taken.are, inr (c.in-Err.ensures.memory values taken.uploads taken taken.are, refl))
