@@ -10,6 +10,8 @@ mod answers;
 #[cfg(test)]
 mod copies;
 #[cfg(test)]
+mod held;
+#[cfg(test)]
 mod limits;
 #[cfg(test)]
 mod refused_memory;
