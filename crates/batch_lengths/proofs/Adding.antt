@@ -1,12 +1,15 @@
 -- What a walk adds to a table, one step after the other.
-use Rattle.std.proofs.Common.{◌≡◌, sym, ap, ap₂, subst, ◌∙◌, ℕ, suc, ◌+◌, ◌*◌, ◌<◌, ◌≤◌, Bool, true, false, List, [], ◌∷◌, ◌++◌, map, length, get_or, take, drop, pos, arith}
+use Rattle.std.proofs.Common.{◌≡◌, refl, sym, ap, ap₂, subst, ◌∙◌, ℕ, zero, suc, ◌+◌, ◌-◌, ◌*◌, ◌<◌, ◌≤◌, ◌==◌, not, if◌then◌else◌, Bool, true, false, List, [], ◌++◌, map, length, get_or, take, drop, pos, arith}
 use Rattle.std.proofs.Math.ListN.{set}
+use Rattle.std.proofs.lemmas.List.Sums.{sum_by-cons}
+use Rattle.std.specs.List.{range_with_len}
 use Rattle.header_types.specs.declared.schema.Field.{Field, out-Field}
 use Rattle.header_types.specs.declared.header.BatchHead.{BatchHead}
 use Rattle.header_types.specs.Fields.{tree, Forest, no_more, more}
 use Rattle.header_types.specs.FieldView.{field_head_of, entries_in, fields_in}
 use Rattle.header_types.proofs.FieldTrees.{forest_next}
-use Rattle.batch_types.specs.Layouts.{layout_of, buffers_in_layout}
+use Rattle.bitmaps.specs.Bits.{zeros}
+use Rattle.batch_types.specs.Layouts.{Layout, layout_of, buffers_in_layout}
 use Rattle.batch_types.specs.Laid.{Range, node_count}
 use Rattle.batch_types.specs.Placed.{buffer_at}
 use Rattle.batch_columns.specs.Held.{layout_named}
@@ -17,16 +20,17 @@ use Rattle.batch_columns.specs.Sources.{nodes_of_tree, buffers_of_tree, columns_
 use Rattle.batch_reading.specs.Planned.{spots_inside}
 use Rattle.batch_reading.specs.Readable.{forest_seen, columns_there}
 use Rattle.batch_reading.specs.Spots.{Spot}
-use Rattle.batch_reading.specs.Taken.{valid_in, seen}
-use Rattle.batch_lengths.specs.declared.counted.Counted.{Counted}
+use Rattle.batch_reading.specs.Taken.{valid_in, is_shown, seen}
 use Rattle.batch_lengths.specs.declared.marks.Marks.{Marks}
-use Rattle.batch_lengths.specs.Along.{run_spots, source_spots, mark_of}
+use Rattle.batch_lengths.specs.declared.counted.Counted.{Counted}
+use Rattle.batch_lengths.specs.Along.{run_spots, source_spots, marked_from, mark_of, AreTaken}
 use Rattle.batch_lengths.specs.Counted.{has_null, span_total, IsCounted}
 use Rattle.batch_lengths.specs.Sizes.{MayWalk}
-use Rattle.batch_lengths.specs.Tally.{counted_of, tally, tally_of, plus, added_from}
+use Rattle.batch_lengths.specs.Tally.{counted_of, tally, tally_of, plus, added_from, counted_with}
 use Rattle.batch_lengths.proofs.Parts.{inside_both, run_both, source_both}
-use Rattle.batch_lengths.proofs.Blanks.{AreBlank, inside_blank}
-use Rattle.batch_lengths.proofs.Marking.{marked_from, one_marked_more}
+use Rattle.batch_lengths.proofs.Blanks.{AreBlank, listed_blank, inside_blank}
+use Rattle.batch_lengths.proofs.Marking.{same_on, moved_from, marked_both}
+use Rattle.batch_lengths.proofs.Whole.{all_seen}
 use Rattle.batch_lengths.proofs.Tallying.{from_long, from_none, from_first, from_parts, from_both, from_blank, tally_of_long, tally_long}
 use Rattle.batch_lengths.proofs.Walking.{rest_same, columns_same}
 
@@ -54,22 +58,72 @@ module _ (fields : Forest) (head : BatchHead) (place : Place) (body : List ℕ) 
       ∙ from_both place.node before body (columns_there fields head place) xs ys
       ∙ ap (λ l. added_from place.node before (tally body (columns_there fields head place) l)) (sym is)
 
--- ---- the places of one value
+-- ---- with blank cells between
 
-pub place_spots : (s : Source) (place : ℕ) → valid_in s.validity.now place ≡ true
-    → spots_inside (layout_named s.layout) s.second.now ((place, true) ∷ []) ≡ source_spots s (run_spots place 1)
-place_spots s place valid = ap (λ m. spots_inside (layout_named s.layout) s.second.now ((place, m) ∷ [])) (sym valid)
+module _ (fields : Forest) (head : BatchHead) (place : Place) (body : List ℕ) (table : List Counted) (room : place.node + node_count fields ≤ length table) where
+  pub with_long : (spots : List Spot) → length (counted_with fields head place body table spots) ≡ length table
+  with_long spots = adds_long fields head place body table (counted_with fields head place body table spots) spots room refl
 
-pub unmarked_blank : (s : Source) (place : ℕ) (mark : Bool) → mark ≡ false → AreBlank (spots_inside (layout_named s.layout) s.second.now ((place, mark) ∷ []))
-unmarked_blank s place mark is = inside_blank (layout_named s.layout) s.second.now ((place, mark) ∷ []) (is, tt)
+  pub with_gap : (xs gap ys zs : List Spot) → AreBlank gap → zs ≡ xs ++ (gap ++ ys)
+      → counted_with fields head place body table zs ≡ counted_with fields head place body (counted_with fields head place body table xs) ys
+  with_gap xs gap ys zs blank is =
+      let made = counted_with fields head place body table xs in
+      let after = counted_with fields head place body made ys in
+      sym (adds_both fields head place body table made after xs (gap ++ ys) zs is refl
+      (adds_both fields head place body made made after gap ys (gap ++ ys) refl
+      (adds_blank fields head place body made gap (omega (arith, room, with_long xs)) blank) refl))
 
-pub inside_more : (s : Source) (marks : Marks) (n : ℕ)
-    → spots_inside (layout_named s.layout) s.second.now (marked_from marks 0 (n + 1))
-    ≡ spots_inside (layout_named s.layout) s.second.now (marked_from marks 0 n)
-    ++ spots_inside (layout_named s.layout) s.second.now ((marks.start + n, mark_of marks n) ∷ [])
-inside_more s marks n =
-    ap (spots_inside (layout_named s.layout) s.second.now) (one_marked_more marks n)
-    ∙ inside_both (layout_named s.layout) s.second.now (marked_from marks 0 n) ((marks.start + n, mark_of marks n) ∷ [])
+  pub with_both : (xs ys zs : List Spot) → zs ≡ xs ++ ys
+      → counted_with fields head place body (counted_with fields head place body table xs) ys ≡ counted_with fields head place body table zs
+  with_both xs ys zs is =
+      adds_both fields head place body table (counted_with fields head place body table xs)
+      (counted_with fields head place body (counted_with fields head place body table xs) ys) xs ys zs is refl refl
+
+-- ---- values that are all wanted, or are all not
+
+marked_alike : (marks : Marks) (number n : ℕ) (mark : Bool) → ((k : ℕ) → k < n → mark_of marks (number + k) ≡ mark)
+    → marked_from marks number n ≡ map (λ place. (place, mark)) (range_with_len (marks.start + number) n)
+marked_alike marks number n mark all =
+    same_on (λ k. (marks.start + k, mark_of marks k)) (λ k. (marks.start + k, mark)) number n
+    (λ k from below. ap (λ m. (marks.start + k, m)) (subst (λ j. mark_of marks j ≡ mark) (omega (arith, from)) (all (k - number) (omega (arith, from, below)))))
+    ∙ moved_from (λ place. (place, mark)) marks.start number (marks.start + number) n (omega arith)
+
+pub unmarked_inside : (layout : Layout) (second : List ℕ) (marks : Marks) (number n : ℕ) → ((k : ℕ) → k < n → mark_of marks (number + k) ≡ false)
+    → AreBlank (spots_inside layout second (marked_from marks number n))
+unmarked_inside layout second marks number n none =
+    inside_blank layout second (marked_from marks number n)
+    (subst AreBlank (sym (marked_alike marks number n false none)) (listed_blank false (range_with_len (marks.start + number) n) refl))
+
+shown_each : (validity : List ℕ) (start n : ℕ) → ((k : ℕ) → k < n → valid_in validity (start + k) ≡ true) → zeros (map (is_shown validity) (run_spots start n)) ≡ 0
+shown_each validity start zero valid = refl
+shown_each validity start (suc n) valid =
+    let first : start + 0 ≡ start = omega arith in
+    sum_by-cons (λ bit. if not bit then 1 else 0) (is_shown validity (start, true)) (map (is_shown validity) (run_spots (start + 1) n))
+    ∙ ap₂ (λ shown m. (if not shown then 1 else 0) + m) (subst (λ s. valid_in validity s ≡ true) first (valid 0 (omega arith)))
+    (shown_each validity (start + 1) n (λ k below. subst (λ s. valid_in validity s ≡ true) (omega arith) (valid (k + 1) (omega (arith, below)))))
+
+pub none_null_taken : (validity : List ℕ) (marks : Marks) (number n : ℕ) → AreTaken validity marks → number + n ≤ marks.count
+    → ((k : ℕ) → k < n → mark_of marks (number + k) ≡ true) → has_null validity (run_spots (marks.start + number) n) ≡ false
+none_null_taken validity marks number n taken there all =
+    ap (λ m. not (m == 0))
+    (shown_each validity (marks.start + number) n
+    (λ k below. subst (λ s. valid_in validity s ≡ true) (omega arith) (taken (number + k) (omega (arith, below, there)) (all k below))))
+
+pub taken_inside : (s : Source) (marks : Marks) (number n : ℕ) → has_null s.validity.now (run_spots (marks.start + number) n) ≡ false
+    → ((k : ℕ) → k < n → mark_of marks (number + k) ≡ true)
+    → source_spots s (run_spots (marks.start + number) n) ≡ spots_inside (layout_named s.layout) s.second.now (marked_from marks number n)
+taken_inside s marks number n whole all =
+    ap (spots_inside (layout_named s.layout) s.second.now)
+    (all_seen s.validity.now (marks.start + number) n whole ∙ sym (marked_alike marks number n true all))
+
+pub inside_more : (layout : Layout) (second : List ℕ) (marks : Marks) (m n : ℕ)
+    → spots_inside layout second (marked_from marks 0 (m + n)) ≡ spots_inside layout second (marked_from marks 0 m) ++ spots_inside layout second (marked_from marks m n)
+inside_more layout second marks m n =
+    let at : 0 + m ≡ m = omega arith in
+    ap (spots_inside layout second) (marked_both marks 0 m n ∙ ap (λ k. marked_from marks 0 m ++ marked_from marks k n) at)
+    ∙ inside_both layout second (marked_from marks 0 m) (marked_from marks m n)
+
+-- ---- one run more
 
 pub source_more : (s : Source) (start m n : ℕ) → source_spots s (run_spots start (m + n)) ≡ source_spots s (run_spots start m) ++ source_spots s (run_spots (start + m) n)
 source_more s start m n = ap (source_spots s) (run_both start m n) ∙ source_both s (run_spots start m) (run_spots (start + m) n)

@@ -20,7 +20,7 @@ both_blank : (xs ys : List Spot) → AreBlank xs → AreBlank ys → AreBlank (x
 both_blank [] ys some more = more
 both_blank (x ∷ xs) ys some more = (some.0, both_blank xs ys some.1 more)
 
-listed_blank : (mark : Bool) (places : List ℕ) → mark ≡ false → AreBlank (map (λ place. (place, mark)) places)
+pub listed_blank : (mark : Bool) (places : List ℕ) → mark ≡ false → AreBlank (map (λ place. (place, mark)) places)
 listed_blank mark [] is = tt
 listed_blank mark (p ∷ ps) is = (is, listed_blank mark ps is)
 

@@ -1,3 +1,4 @@
+pub mod Eights
 pub mod Parts
 pub mod Blanks
 pub mod Whole

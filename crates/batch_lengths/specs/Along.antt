@@ -1,7 +1,8 @@
 -- Which cells of a column are wanted: tools of contracts. Which are wanted inside a column is defined in `Planned` of
 -- `batch_reading`, after Apache Arrow, "Arrow Columnar Format", "Physical memory layout".
-use Rattle.std.specs.Prelude.{◌≡◌, ℕ, ◌+◌, ◌<◌, ◌≤◌, ◌||◌, Bool, true, false, List, map, get_or}
+use Rattle.std.specs.Prelude.{◌≡◌, ℕ, ◌+◌, ◌<◌, ◌≤◌, ◌||◌, Bool, true, false, List, map}
 use Rattle.std.specs.List.{range_with_len}
+use Rattle.bitmaps.specs.Bits.{bit_of}
 use Rattle.batch_columns.specs.Held.{layout_named}
 use Rattle.batch_columns.specs.declared.source.Source.{Source}
 use Rattle.batch_reading.specs.Spots.{Spot}
@@ -13,6 +14,10 @@ use Rattle.batch_lengths.specs.declared.marks.Marks.{Marks}
 abbrev pub run_spots : ℕ → ℕ → List Spot
 run_spots start count = map (λ place. (place, true)) (range_with_len start count)
 
+-- so many following places, whose cells are not wanted
+abbrev pub blank_spots : ℕ → ℕ → List Spot
+blank_spots start count = map (λ place. (place, false)) (range_with_len start count)
+
 -- what is wanted inside a column of which this is
 abbrev pub source_spots : Source → List Spot → List Spot
 source_spots source spots =
@@ -22,14 +27,23 @@ source_spots source spots =
 
 -- whether the cell of this number among the marked ones is wanted
 abbrev pub mark_of : Marks → ℕ → Bool
-mark_of marks number = marks.all || get_or marks.set number false
+mark_of marks number = marks.all || bit_of marks.set number
+
+-- the places of so many from this number on
+abbrev pub marked_from : Marks → ℕ → ℕ → List Spot
+marked_from marks low n = map (λ number. (marks.start + number, mark_of marks number)) (range_with_len low n)
 
 abbrev pub spots_marked : Marks → List Spot
-spots_marked marks = map (λ number. (marks.start + number, mark_of marks number)) (range_with_len 0 marks.count)
+spots_marked marks = marked_from marks 0 marks.count
 
 -- there are marks for all of them
 abbrev pub IsMarked : Marks → Type 0
-IsMarked marks = (0 < marks.count) × (marks.all ≡ false → marks.count ≤ 256)
+IsMarked marks = (0 < marks.count) × (marks.all ≡ false → marks.count ≤ 1024)
+
+-- there are marks for all of them, if there are any, and none are set behind them
+abbrev pub IsGathered : Marks → Type 0
+IsGathered marks =
+    marks.all ≡ false → (marks.count ≤ 1024) × ((number : ℕ) → marks.count ≤ number → bit_of marks.set number ≡ false)
 
 -- those that are wanted are valid by a bitmap
 abbrev pub AreTaken : List ℕ → Marks → Type 0

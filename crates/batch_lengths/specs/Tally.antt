@@ -1,9 +1,13 @@
 -- What is counted of each of some columns: a tool of contracts. Which cells are wanted inside a column is defined in
 -- `Planned` of `batch_reading`, after Apache Arrow, "Arrow Columnar Format", "Physical memory layout".
 use Rattle.std.specs.Prelude.{◌≡◌, ℕ, zero, suc, ◌+◌, ◌-◌, ◌^◌, min, max, ◌||◌, List, [], ◌∷◌, ◌++◌, map}
+use Rattle.header_types.specs.declared.header.BatchHead.{BatchHead}
+use Rattle.header_types.specs.Fields.{Forest}
 use Rattle.batch_types.specs.Laid.{LaidColumn, laid, LaidColumns, no_column, column_then}
 use Rattle.batch_types.specs.Layouts.{Layout}
 use Rattle.batch_types.specs.Placed.{buffer_at}
+use Rattle.batch_columns.specs.declared.place.Place.{Place}
+use Rattle.batch_reading.specs.Readable.{columns_there}
 use Rattle.batch_reading.specs.Spots.{Spot}
 use Rattle.batch_reading.specs.Taken.{seen}
 use Rattle.batch_reading.specs.Planned.{spots_inside}
@@ -48,6 +52,12 @@ abbrev pub added_from : ℕ → List Counted → List Counted → List Counted
 added_from zero table ys = added table ys
 added_from (suc n) [] ys = []
 added_from (suc n) (x ∷ xs) ys = x ∷ added_from n xs ys
+
+-- with what is counted of the columns of these fields, which stand at this place of the header, and of those inside them
+-- where these are wanted
+abbrev pub counted_with : Forest → BatchHead → Place → List ℕ → List Counted → List Spot → List Counted
+counted_with fields head place body table spots =
+    added_from place.node table (tally body (columns_there fields head place) spots)
 
 -- the table begins with what was counted
 abbrev pub BeginsWith : List Counted → List Counted → Type 0

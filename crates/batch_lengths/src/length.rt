@@ -70,8 +70,9 @@ fn counted(schema: &Schema, head: &BatchHead, body: &[u8], rows: usize) -> [Coun
 /// and that the schema is in profile ([`Schema::in_profile`]).
 ///
 /// It takes no memory but a table of one entry for each field that a schema may have. Each column costs its own values: they
-/// are counted a run at a time where nothing around them is null, in blocks inside structures, and else for each value around
-/// them. A column is looked into only where a value of it may be null, or where values have any number of bytes or elements.
+/// are counted a run at a time where nothing around them is null, and else in blocks of up to 1024 places, of which each is
+/// looked at only where values have any number of bytes or elements, and else eight at once. A column is looked into only
+/// where a value of it may be null, or where values have any number of bytes or elements.
 pub fn canonical_length(schema: &Schema, head: &BatchHead, body: &[u8], most: u64) -> Option<u64>
     requires profile { InProfile (schema_of schema.now) }
     requires laid { (rows : Rows) × LaysOut (schema_of schema.now) (head_of head.now) body.now rows }

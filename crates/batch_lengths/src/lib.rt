@@ -8,17 +8,20 @@
 //! The columns are gone over twice, depth first, and each time once. The first time (`walk`) what follows from their values is
 //! added up in a table with an entry for each node: whether one of the cells that are written is null, and how many bytes or
 //! elements these have. Where no value is null a run of following places is counted at once (`run`), and else a block of
-//! places with a mark for each (`marks`). The second time (`fields`) the table says how many cells each column has and how
-//! long its own buffers are (`sizes`).
+//! places with a mark for each (`marks`, `bits`, `marked`); what is wanted inside lists is gathered in runs and in blocks
+//! again. The second time (`fields`) the table says how many cells each column has and how long its own buffers are
+//! (`sizes`).
 //!
 //! In `specs/`, `Along` says which cells of a column are wanted, `Counted` and `Tally` what is counted of one and of several,
 //! `Reach` how far a column is read, and `Sizes` how long buffers are; they are tools of contracts. Which cells are wanted
 //! inside a column is defined in `specs/` of `batch_reading`, and the body that is written in `Canonical` of `batch_types`.
 #![tactic(auto)]
 
+mod bits;
 mod counted;
 mod fields;
 mod length;
+mod marked;
 mod marks;
 mod run;
 mod sizes;

@@ -1,17 +1,16 @@
 //! Following places of a column, of some of which the cells are wanted.
 
-ghost use Rattle.std.specs.Prelude.{◌≡◌, ◌<◌, ◌≤◌, ◌&&◌, map, length, true, false, IsTrue, ◌↔◌, ℕ, ◌+◌, ◌^◌, ◌∷◌, []};
+ghost use Rattle.std.specs.Prelude.{◌≡◌, ◌==◌, ◌<◌, ◌≤◌, ◌-◌, ◌+◌, ◌*◌, ◌^◌, ◌++◌, ◌&&◌, map, true, false, IsTrue, IsFalse, ℕ};
+ghost use Rattle.std.specs.Int.{bit_at};
+ghost use Rattle.bitmaps.specs.Bits.{bit_of};
 ghost use Rattle.batch_reading.specs.Taken.{valid_in, seen};
-ghost use Rattle.batch_lengths.specs.Along.{run_spots, mark_of, spots_marked, IsMarked, AreTaken};
-ghost use Rattle.batch_lengths.specs.Counted.{IsCounted};
-ghost use Rattle.batch_lengths.specs.Reach.{ReadsTo};
+ghost use Rattle.batch_lengths.specs.Along.{run_spots, blank_spots, mark_of, spots_marked, AreTaken, IsGathered};
 
-use crate::counted::Counted;
-use crate::run::{count_one, count_run, has_spans, is_valid};
-use batch_columns::Source;
+use crate::bits::{BYTES, eight_valid, lowest_alike, set_bits};
+use bitmaps::bit;
 
 /// How many places are marked one by one.
-pub(crate) const BLOCK: usize = 256;
+pub(crate) const BLOCK: usize = 8 * BYTES;
 
 /// Following places of a column, and which of their cells are wanted.
 #[derive(Clone, Copy)]
@@ -23,7 +22,7 @@ pub(crate) struct Marks {
     /// Whether all of their cells are wanted.
     pub(crate) all: bool,
     /// Which are wanted, where not all are.
-    pub(crate) set: [bool; BLOCK],
+    pub(crate) set: [u8; BYTES],
 }
 
 impl Marks {
@@ -38,7 +37,7 @@ impl Marks {
             start,
             count,
             all: true,
-            set: [false; BLOCK],
+            set: [0; BYTES],
         }
     }
 
@@ -46,22 +45,32 @@ impl Marks {
     pub(crate) fn is_marked(&self, number: usize) -> bool
         ensures { result ≡ mark_of self.now number }
     {
-        self.all || self.set.get(number).copied().unwrap_or(false)
+        self.all || bit(&self.set, number)
+    }
+
+    /// The marks of the eight cells from eight times this number on.
+    fn eight_marks(&self, number: usize) -> u8
+        requires { number < 128 }
+        ensures { (i : ℕ) → i < 8 → (bit_at result i == 1) ≡ mark_of self.now (8 * number + i) }
+    {
+        if self.all { 0xff } else { self.set[number] }
     }
 
     /// The same places without those whose values are null by a bitmap.
     pub(crate) fn taken(&self, validity: &[u8]) -> Marks
-        requires few { self.now.count ≤ 256 }
-        requires within { self.now.start + self.now.count < 2 ^ 64 }
+        requires few { self.now.count ≤ 1024 }
+        requires within { self.now.start + self.now.count + 8 < 2 ^ 64 }
         ensures start { result.start ≡ self.now.start }
         ensures count { result.count ≡ self.now.count }
         ensures all { result.all ≡ false }
+        ensures marks { (k : ℕ) → k < self.now.count
+            → bit_of result.set k ≡ (mark_of self.now k && valid_in validity.now (self.now.start + k)) }
         ensures spots { spots_marked result ≡ map (seen validity.now) (spots_marked self.now) }
         ensures taken { AreTaken validity.now result }
     {
-        let mut set = [false; BLOCK];
-        for number in 0..self.count {
-            set[number] = self.is_marked(number) && is_valid(validity, self.start + number);
+        let mut set = [0; BYTES];
+        for place in 0..(self.count + 7) / 8 {
+            set[place] = self.eight_marks(place) & eight_valid(validity, self.start + 8 * place);
         }
         Marks {
             start: self.start,
@@ -70,43 +79,62 @@ impl Marks {
             set,
         }
     }
-}
 
-/// What is counted of the value of this number, where it is wanted.
-fn count_marked(source: &Source, marks: &Marks, number: usize) -> Counted
-    requires { ReadsTo source.now (marks.now.start + number + 1) }
-    ensures { IsCounted source.now ((marks.now.start + number, mark_of marks.now number) ∷ []) result }
-{
-    if marks.is_marked(number) {
-        count_one(source, marks.start + number)
-    } else {
-        Counted::NONE
+    /// How many cells from this number on, of those whose marks stand in one byte, are all wanted, or are all not.
+    pub(crate) fn alike(&self, number: usize) -> usize
+        requires some { number < self.now.count }
+        requires few { self.now.count ≤ 1024 }
+        requires one { self.now.all ≡ false }
+        ensures some { 0 < result }
+        ensures within { number + result ≤ self.now.count }
+        ensures alike { (k : ℕ) → k < result → mark_of self.now (number + k) ≡ mark_of self.now number }
+    {
+        let low = number % 8;
+        let alike = lowest_alike(self.set[number / 8] >> low);
+        alike.min(8 - low).min(self.count - number)
     }
-}
 
-/// What is counted of the values that are wanted, one by one.
-fn count_each_marked(source: &Source, marks: &Marks) -> Counted
-    requires { ReadsTo source.now (marks.now.start + marks.now.count) }
-    ensures { IsCounted source.now (spots_marked marks.now) result }
-{
-    let mut counted = Counted::NONE;
-    for number in 0..marks.count {
-        counted = counted.with(count_marked(source, marks, number));
+    /// Marks the places one by one.
+    fn unfold(&mut self)
+        requires few { self.old.count ≤ 1024 }
+        requires gathered { IsGathered self.old }
+        ensures start { self.new.start ≡ self.old.start }
+        ensures count { self.new.count ≡ self.old.count }
+        ensures all { self.new.all ≡ false }
+        ensures marks { (k : ℕ) → k < self.old.count → bit_of self.new.set k ≡ mark_of self.old k }
+        ensures behind { (k : ℕ) → self.old.count ≤ k → bit_of self.new.set k ≡ false }
+    {
+        if self.all {
+            self.set = [0; BYTES];
+            set_bits(&mut self.set, 0, self.count);
+            self.all = false;
+        }
     }
-    counted
-}
 
-/// What is counted of the values that are wanted. They are not looked at where none can be null and all have as many bytes.
-pub(crate) fn count_marks(source: &Source, marks: &Marks) -> Counted
-    requires some { 0 < marks.now.count }
-    requires reads { ReadsTo source.now (marks.now.start + marks.now.count) }
-    ensures { IsCounted source.now (spots_marked marks.now) result }
-{
-    if source.validity.is_empty() && !has_spans(source.layout) {
-        return Counted::NONE;
+    /// Takes in a run of places, all of whose cells are wanted, from one behind these on; says whether it did, which it does
+    /// where it stands right behind them, or where all fit into a block.
+    pub(crate) fn join(&mut self, start: usize, count: usize) -> bool
+        requires gathered { IsGathered self.old }
+        requires behind { self.old.start + self.old.count ≤ start }
+        requires within { start + count < 2 ^ 64 }
+        ensures gathered { IsGathered self.new }
+        ensures spots { IsTrue result → spots_marked self.new ≡ spots_marked self.old
+            ++ (blank_spots (self.old.start + self.old.count) (start - (self.old.start + self.old.count))
+            ++ run_spots start count) }
+        ensures end { IsTrue result → self.new.start + self.new.count ≡ start + count }
+        ensures same { IsFalse result → self.new ≡ self.old }
+    {
+        let past = start - self.start;
+        if self.all && past == self.count {
+            self.count += count;
+            return true;
+        }
+        if past + count > BLOCK {
+            return false;
+        }
+        self.unfold();
+        set_bits(&mut self.set, past, count);
+        self.count = past + count;
+        true
     }
-    if marks.all {
-        return count_run(source, marks.start, marks.count);
-    }
-    count_each_marked(source, marks)
 }

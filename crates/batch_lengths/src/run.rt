@@ -140,6 +140,7 @@ pub(crate) fn run_inside(source: &Source, start: usize, count: usize) -> (usize,
     requires reads { ReadsTo source.now (start + count) }
     requires whole { has_null source.now.validity.now (run_spots start count) ≡ false }
     ensures spots { source_spots source.now (run_spots start count) ≡ run_spots result.0 result.1 }
+    ensures begin { result.0 ≡ end_inside (layout_named source.now.layout) source.now.second.now start }
     ensures end { result.0 + result.1
         ≡ end_inside (layout_named source.now.layout) source.now.second.now (start + count) }
 {

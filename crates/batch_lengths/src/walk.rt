@@ -14,13 +14,14 @@ ghost use Rattle.batch_reading.specs.Planned.{spots_inside};
 ghost use Rattle.batch_reading.specs.Readable.{forest_seen, columns_there};
 ghost use Rattle.batch_reading.specs.Spots.{Spot};
 ghost use Rattle.batch_reading.specs.Taken.{seen};
-ghost use Rattle.batch_lengths.specs.Along.{run_spots, source_spots, mark_of, spots_marked, IsMarked, AreTaken};
+ghost use Rattle.batch_lengths.specs.Along.{run_spots, source_spots, marked_from, mark_of, spots_marked, IsMarked, IsGathered, AreTaken};
 ghost use Rattle.batch_lengths.specs.Reach.{ReadsTo, end_inside};
 ghost use Rattle.batch_lengths.specs.Sizes.{MayWalk};
-ghost use Rattle.batch_lengths.specs.Tally.{tally, tally_of, added_from};
+ghost use Rattle.batch_lengths.specs.Tally.{tally, tally_of, added_from, counted_with};
 
 use crate::counted::Counted;
-use crate::marks::{BLOCK, Marks, count_marks};
+use crate::marked::count_marks;
+use crate::marks::{BLOCK, Marks};
 use crate::run::{is_whole, run_inside};
 use batch_columns::{Layout, Place, Source, layout_of, place_behind, source_at};
 use header_types::{BatchHead, Field};
@@ -68,9 +69,61 @@ fn has_same_places(layout: Layout) -> bool
     }
 }
 
-/// Counts what is inside the value of this number, where it is wanted.
+/// Counts these cells of the columns inside a column, if there are any.
 #[cycle(walking)]
-fn walk_place(
+fn walk_some(
+    field: &Field,
+    head: &BatchHead,
+    first: Place,
+    body: &[u8],
+    marks: &Marks,
+    table: &mut [Counted],
+)
+    requires marked { marks.now.all ≡ false → marks.now.count ≤ 1024 }
+    requires may { MayWalk (fields_in field.now) head.now first body.now (marks.now.start + marks.now.count) }
+    requires room { first.node + node_count (fields_in field.now) ≤ length table.old }
+    ensures long { length table.new ≡ length table.old }
+    ensures adds { table.new ≡ counted_with (fields_in field.now) head.now first body.now table.old (spots_marked marks.now) }
+{
+    if marks.count > 0 {
+        walk(&field.children, head, first, body, marks, table);
+    }
+}
+
+/// Takes in a run of cells of the columns inside a column behind those that are gathered, which are counted before where it
+/// does not fit.
+#[cycle(walking)]
+fn gather(
+    field: &Field,
+    head: &BatchHead,
+    first: Place,
+    body: &[u8],
+    start: usize,
+    count: usize,
+    gathered: &mut Marks,
+    table: &mut [Counted],
+)
+    requires gathered { IsGathered gathered.old }
+    requires behind { gathered.old.start + gathered.old.count ≤ start }
+    requires may { MayWalk (fields_in field.now) head.now first body.now (start + count) }
+    requires room { first.node + node_count (fields_in field.now) ≤ length table.old }
+    ensures gathered { IsGathered gathered.new }
+    ensures end { gathered.new.start + gathered.new.count ≡ start + count }
+    ensures long { length table.new ≡ length table.old }
+    ensures adds { counted_with (fields_in field.now) head.now first body.now table.new (spots_marked gathered.new)
+        ≡ counted_with (fields_in field.now) head.now first body.now
+        (counted_with (fields_in field.now) head.now first body.now table.old (spots_marked gathered.old))
+        (run_spots start count) }
+{
+    if !gathered.join(start, count) {
+        walk_some(field, head, first, body, gathered, table);
+        *gathered = Marks::run(start, count);
+    }
+}
+
+/// Takes in what is inside so many values from this number on, which are all wanted, or are all not.
+#[cycle(walking)]
+fn gather_alike(
     field: &Field,
     source: &Source,
     head: &BatchHead,
@@ -78,35 +131,38 @@ fn walk_place(
     body: &[u8],
     marks: &Marks,
     number: usize,
+    alike: usize,
+    gathered: &mut Marks,
     table: &mut [Counted],
 )
-    requires there { number < marks.now.count }
+    requires some { 0 < alike }
+    requires there { number + alike ≤ marks.now.count }
+    requires alike { (k : ℕ) → k < alike → mark_of marks.now (number + k) ≡ mark_of marks.now number }
     requires taken { AreTaken source.now.validity.now marks.now }
     requires reads { ReadsTo source.now (marks.now.start + marks.now.count) }
     requires may { MayWalk (fields_in field.now) head.now first body.now
         (end_inside (layout_named source.now.layout) source.now.second.now (marks.now.start + marks.now.count)) }
     requires room { first.node + node_count (fields_in field.now) ≤ length table.old }
-    ensures { table.new ≡ added_from first.node table.old (tally body.now (columns_there (fields_in field.now) head.now first)
-        (spots_inside (layout_named source.now.layout) source.now.second.now
-        ((marks.now.start + number, mark_of marks.now number) ∷ []))) }
+    requires gathered { IsGathered gathered.old }
+    requires behind { gathered.old.start + gathered.old.count
+        ≤ end_inside (layout_named source.now.layout) source.now.second.now (marks.now.start + number) }
+    ensures gathered { IsGathered gathered.new }
+    ensures end { gathered.new.start + gathered.new.count
+        ≤ end_inside (layout_named source.now.layout) source.now.second.now (marks.now.start + number + alike) }
+    ensures long { length table.new ≡ length table.old }
+    ensures adds { counted_with (fields_in field.now) head.now first body.now table.new (spots_marked gathered.new)
+        ≡ counted_with (fields_in field.now) head.now first body.now
+        (counted_with (fields_in field.now) head.now first body.now table.old (spots_marked gathered.old))
+        (spots_inside (layout_named source.now.layout) source.now.second.now (marked_from marks.now number alike)) }
 {
-    if !marks.is_marked(number) {
-        return;
-    }
-    let (start, count) = run_inside(source, marks.start + number, 1);
-    if count > 0 {
-        walk(
-            &field.children,
-            head,
-            first,
-            body,
-            &Marks::run(start, count),
-            table,
-        );
+    if marks.is_marked(number) {
+        let (start, count) = run_inside(source, marks.start + number, alike);
+        gather(field, head, first, body, start, count, gathered, table);
     }
 }
 
-/// Counts what is inside the values that are wanted and valid, one by one.
+/// Counts what is inside the values that are wanted and valid. It is gathered in blocks and in runs, so that the columns
+/// inside are gone over once for each of those, and not for each value.
 #[cycle(walking)]
 fn walk_places(
     field: &Field,
@@ -117,17 +173,35 @@ fn walk_places(
     marks: &Marks,
     table: &mut [Counted],
 )
+    requires one { marks.now.all ≡ false }
+    requires few { marks.now.count ≤ 1024 }
     requires taken { AreTaken source.now.validity.now marks.now }
     requires reads { ReadsTo source.now (marks.now.start + marks.now.count) }
     requires may { MayWalk (fields_in field.now) head.now first body.now
         (end_inside (layout_named source.now.layout) source.now.second.now (marks.now.start + marks.now.count)) }
     requires room { first.node + node_count (fields_in field.now) ≤ length table.old }
-    ensures { table.new ≡ added_from first.node table.old (tally body.now (columns_there (fields_in field.now) head.now first)
-        (spots_inside (layout_named source.now.layout) source.now.second.now (spots_marked marks.now))) }
+    ensures { table.new ≡ counted_with (fields_in field.now) head.now first body.now table.old
+        (spots_inside (layout_named source.now.layout) source.now.second.now (spots_marked marks.now)) }
 {
-    for number in 0..marks.count {
-        walk_place(field, source, head, first, body, marks, number, table);
+    let mut gathered = Marks::run(0, 0);
+    let mut done = 0;
+    while done < marks.count {
+        let alike = marks.alike(done);
+        gather_alike(
+            field,
+            source,
+            head,
+            first,
+            body,
+            marks,
+            done,
+            alike,
+            &mut gathered,
+            table,
+        );
+        done += alike;
     }
+    walk_some(field, head, first, body, &gathered, table);
 }
 
 /// Counts what is inside the values that are wanted and valid.
@@ -141,14 +215,15 @@ fn walk_taken(
     marks: &Marks,
     table: &mut [Counted],
 )
+    requires one { marks.now.all ≡ false }
     requires marked { IsMarked marks.now }
     requires taken { AreTaken source.now.validity.now marks.now }
     requires reads { ReadsTo source.now (marks.now.start + marks.now.count) }
     requires may { MayWalk (fields_in field.now) head.now first body.now
         (end_inside (layout_named source.now.layout) source.now.second.now (marks.now.start + marks.now.count)) }
     requires room { first.node + node_count (fields_in field.now) ≤ length table.old }
-    ensures { table.new ≡ added_from first.node table.old (tally body.now (columns_there (fields_in field.now) head.now first)
-        (spots_inside (layout_named source.now.layout) source.now.second.now (spots_marked marks.now))) }
+    ensures { table.new ≡ counted_with (fields_in field.now) head.now first body.now table.old
+        (spots_inside (layout_named source.now.layout) source.now.second.now (spots_marked marks.now)) }
 {
     if has_same_places(source.layout) {
         walk(&field.children, head, first, body, marks, table);
@@ -169,13 +244,13 @@ fn walk_block(
     count: usize,
     table: &mut [Counted],
 )
-    requires some { (0 < count) × (count ≤ 256) }
+    requires some { (0 < count) × (count ≤ 1024) }
     requires reads { ReadsTo source.now (start + count) }
     requires may { MayWalk (fields_in field.now) head.now first body.now
         (end_inside (layout_named source.now.layout) source.now.second.now (start + count)) }
     requires room { first.node + node_count (fields_in field.now) ≤ length table.old }
-    ensures { table.new ≡ added_from first.node table.old (tally body.now (columns_there (fields_in field.now) head.now first)
-        (source_spots source.now (run_spots start count))) }
+    ensures { table.new ≡ counted_with (fields_in field.now) head.now first body.now table.old
+        (source_spots source.now (run_spots start count)) }
 {
     let marks = Marks::run(start, count).taken(source.validity);
     walk_taken(field, source, head, first, body, &marks, table);
@@ -197,8 +272,8 @@ fn walk_blocks(
     requires may { MayWalk (fields_in field.now) head.now first body.now
         (end_inside (layout_named source.now.layout) source.now.second.now (start + count)) }
     requires room { first.node + node_count (fields_in field.now) ≤ length table.old }
-    ensures { table.new ≡ added_from first.node table.old (tally body.now (columns_there (fields_in field.now) head.now first)
-        (source_spots source.now (run_spots start count))) }
+    ensures { table.new ≡ counted_with (fields_in field.now) head.now first body.now table.old
+        (source_spots source.now (run_spots start count)) }
 {
     let mut done = 0;
     while done < count {
@@ -224,8 +299,8 @@ fn walk_inside(
     requires may { MayWalk (fields_in field.now) head.now first body.now
         (end_inside (layout_named source.now.layout) source.now.second.now (marks.now.start + marks.now.count)) }
     requires room { first.node + node_count (fields_in field.now) ≤ length table.old }
-    ensures { table.new ≡ added_from first.node table.old (tally body.now (columns_there (fields_in field.now) head.now first)
-        (source_spots source.now (spots_marked marks.now))) }
+    ensures { table.new ≡ counted_with (fields_in field.now) head.now first body.now table.old
+        (source_spots source.now (spots_marked marks.now)) }
 {
     if !marks.all {
         let marks = marks.taken(source.validity);
@@ -246,16 +321,7 @@ fn walk_inside(
         return;
     }
     let (start, count) = run_inside(source, marks.start, marks.count);
-    if count > 0 {
-        walk(
-            &field.children,
-            head,
-            first,
-            body,
-            &Marks::run(start, count),
-            table,
-        );
-    }
+    walk_some(field, head, first, body, &Marks::run(start, count), table);
 }
 
 /// Counts a column and what is inside it.
@@ -299,8 +365,8 @@ pub(crate) fn walk(
     requires marked { IsMarked marks.now }
     requires may { MayWalk (forest_seen fields.now) head.now place body.now (marks.now.start + marks.now.count) }
     requires room { place.node + node_count (forest_seen fields.now) ≤ length table.old }
-    ensures { table.new ≡ added_from place.node table.old
-        (tally body.now (columns_there (forest_seen fields.now) head.now place) (spots_marked marks.now)) }
+    ensures { table.new ≡ counted_with (forest_seen fields.now) head.now place body.now table.old
+        (spots_marked marks.now) }
 {
     let mut next = place;
     for field in fields {

@@ -1,7 +1,8 @@
-use Rattle.std.proofs.Common.{◌≡◌, ◌⊎◌, inl, inr, ℕ, ◌+◌}
+use Rattle.std.proofs.Common.{◌≡◌, sym, ap, ◌⊎◌, inl, inr, ℕ, ◌+◌}
+use Rattle.batch_columns.specs.Held.{layout_named}
 use Rattle.batch_columns.specs.declared.layout.Layout.TheVariants.{Null, Bits, Bytes, Binary, Utf8}
 use Rattle.batch_columns.specs.declared.source.Source.{Source}
-use Rattle.batch_lengths.specs.Reach.{ReadsTo}
+use Rattle.batch_lengths.specs.Reach.{ReadsTo, end_inside}
 use Rattle.batch_lengths.proofs.Whole.{AreInside, whole_inside, lists_inside, sized_inside, struct_inside, flat_inside}
 use Rattle.batch_lengths.proofs.run.run_inside.Goals as goal
 
@@ -29,9 +30,19 @@ flat s start count reads (inr (inr (inl (size, is)))) = flat_inside s start coun
 flat s start count reads (inr (inr (inr (inl is)))) = flat_inside s start count reads Binary is tt
 flat s start count reads (inr (inr (inr (inr is)))) = flat_inside s start count reads Utf8 is tt
 
+none_before : (s : Source) (start : ℕ)
+    → (s.layout ≡ Null) ⊎ ((s.layout ≡ Bits) ⊎ (((size : ℕ) × (s.layout ≡ Bytes size)) ⊎ ((s.layout ≡ Binary) ⊎ (s.layout ≡ Utf8))))
+    → 0 ≡ end_inside (layout_named s.layout) s.second.now start
+none_before s start (inl is) = ap (λ l. end_inside (layout_named l) s.second.now start) (sym is)
+none_before s start (inr (inl is)) = ap (λ l. end_inside (layout_named l) s.second.now start) (sym is)
+none_before s start (inr (inr (inl (size, is)))) = ap (λ l. end_inside (layout_named l) s.second.now start) (sym is)
+none_before s start (inr (inr (inr (inl is)))) = ap (λ l. end_inside (layout_named l) s.second.now start) (sym is)
+none_before s start (inr (inr (inr (inr is)))) = ap (λ l. end_inside (layout_named l) s.second.now start) (sym is)
+
 pub returns-in-Null : goal.returns-in-Null
 returns-in-Null c =
     let are = flat c.args.source.now c.args.start c.args.count c.requires.reads c.in-Null.is in record {
       spots = whole_inside c.args.source.now c.args.start c.args.count 0 0 c.requires.whole are.0;
+      begin = none_before c.args.source.now c.args.start c.in-Null.is;
       end = are.1;
     }

@@ -1,6 +1,7 @@
-use Rattle.std.proofs.Common.{◌≡◌, refl, sym, ap, ap₂, subst, ◌∙◌, true, true≢false, ◌==◌, vec_len, ℕ, ◌+◌, ◌*◌, ◌<◌, ◌≤◌, List, [], ◌∷◌, drop, slice_index_or, length, arith}
+use Rattle.std.proofs.Common.{◌≡◌, refl, sym, ap, subst, ◌∙◌, true, false, ◌==◌, vec_len, ℕ, ◌+◌, ◌-◌, ◌*◌, ◌<◌, ◌≤◌, List, [], ◌∷◌, drop, slice_index_or, length, arith}
 use Rattle.std.proofs.Math.ListN.{length-set}
 use Rattle.std.proofs.lemmas.Bool.{eqb-true}
+use Rattle.std.specs.List.{range_with_len}
 use Rattle.std.proofs.lemmas.List.{drop_all}
 use Rattle.header_types.specs.declared.header.BatchHead.{BatchHead}
 use Rattle.header_types.specs.declared.schema.Field.{Field, out-Field}
@@ -14,13 +15,14 @@ use Rattle.batch_columns.specs.declared.place.Place.{Place}
 use Rattle.batch_columns.specs.declared.source.Source.{Source}
 use Rattle.batch_reading.specs.Planned.{spots_inside}
 use Rattle.batch_reading.specs.Readable.{forest_seen, columns_there}
-use Rattle.batch_lengths.specs.Along.{run_spots, source_spots, mark_of, spots_marked}
+use Rattle.batch_lengths.specs.Along.{run_spots, blank_spots, source_spots, mark_of, marked_from, spots_marked}
 use Rattle.batch_lengths.specs.Reach.{ReadsTo, end_inside}
 use Rattle.batch_lengths.specs.Sizes.{MayWalk}
-use Rattle.batch_lengths.specs.Tally.{tally, added_from}
-use Rattle.batch_lengths.proofs.Adding.{adds_blank, adds_none, adds_long, adds_both, place_spots, unmarked_blank, inside_more, source_more, adds_next, made_long, column_made, bare_made, no_fields_in}
+use Rattle.batch_lengths.specs.Tally.{tally, added_from, counted_with}
+use Rattle.batch_lengths.proofs.Adding.{adds_blank, adds_none, adds_long, adds_both, with_long, with_gap, with_both, unmarked_inside, none_null_taken, taken_inside, inside_more, source_more, adds_next, made_long, column_made, bare_made, no_fields_in}
 use Rattle.batch_lengths.proofs.Between.{reads_less, end_less}
-use Rattle.batch_lengths.proofs.Marking.{marked_from, run_marked}
+use Rattle.batch_lengths.proofs.Blanks.{listed_blank}
+use Rattle.batch_lengths.proofs.Marking.{run_marked}
 use Rattle.batch_lengths.proofs.Tallying.{from_none}
 use Rattle.batch_lengths.proofs.Walking.{falls_fields, walk_less, one_walk, rest_walk, field_reads, source_walk}
 use Rattle.batch_lengths.proofs.walk.+walking.Goals as goal
@@ -51,7 +53,7 @@ pub walk-walk_column-requires : goal.walk-walk_column-requires
 walk-walk_column-requires t c =
     let m = field_walk c.args.fields.now c.loop-field.field-index c.field-item.result c.loop-field-test.true c.field-item.is c.args.head.now c.loop-field.next c.args.body.now
     (c.args.marks.now.start + c.args.marks.now.count) c.loop-field.invariant.may in (
-      subst (λ n. 8 * node_count (fields_in c.field-item.result) + 7 < n) c.decreases
+      subst (λ n. 16 * node_count (fields_in c.field-item.result) + 9 < n) c.decreases
           (omega (arith, falls_fields c.args.fields.now c.loop-field.field-index c.field-item.result c.loop-field-test.true c.field-item.is)),
       (
         c.requires.marked,
@@ -106,7 +108,7 @@ walk_blocks-loop-done-init t c =
 pub walk_blocks-walk_block-requires : goal.walk_blocks-walk_block-requires
 walk_blocks-walk_block-requires t c =
     let up : c.args.start + c.loop-done.done + c.min-more.result ≤ c.args.start + c.args.count = omega (arith, c.min-more.ensures, c.loop-done.invariant.0) in (
-      subst (λ n. 8 * node_count (fields_in c.args.field.now) + 4 < n) c.decreases (omega arith),
+      subst (λ n. 16 * node_count (fields_in c.args.field.now) + 6 < n) c.decreases (omega arith),
       (
         (omega (arith, c.min-more.ensures, c.loop-done.invariant.0), omega (arith, c.min-more.ensures)),
         (
@@ -142,7 +144,7 @@ walk_column-count_marks-counted-requires-clause-reads t c =
 
 pub walk_column-walk_inside-requires : goal.walk_column-walk_inside-requires
 walk_column-walk_inside-requires t c = (
-  subst (λ n. 8 * node_count (fields_in c.args.field.now) + 6 < n) c.decreases (omega arith),
+  subst (λ n. 16 * node_count (fields_in c.args.field.now) + 8 < n) c.decreases (omega arith),
   (
     c.requires.marked,
     (
@@ -179,62 +181,132 @@ walk_inside-returns-then-not-is_whole t c =
     ∙ ap (λ l. added_from c.args.first.node c.args.table.now (tally c.args.body.now (columns_there (fields_in c.args.field.now) c.args.head.now c.args.first) (source_spots c.args.source.now l)))
     (sym (run_marked c.args.marks.now c.if-not-marks.false))
 
-pub walk_inside-returns-then-count-gt0 : goal.walk_inside-returns-then-count-gt0
-walk_inside-returns-then-count-gt0 t c =
-    c.walk.ensures
-    ∙ ap₂ (λ l sp. added_from c.args.first.node c.args.table.now (tally c.args.body.now (columns_there (forest_seen l) c.args.head.now c.args.first) sp)) c.deref.ensures.value
-    (c.run.ensures.spots ∙ sym c.run_inside-start.ensures.spots ∙ ap (source_spots c.args.source.now) (sym (run_marked c.args.marks.now c.if-not-marks.false)))
+pub walk_some-returns-else-marks-gt0-clause-adds : goal.walk_some-returns-else-marks-gt0-clause-adds
+walk_some-returns-else-marks-gt0-clause-adds t c =
+    let none : c.args.marks.now.count ≡ 0 = omega (arith, c.if-marks-gt0.false) in
+    adds_none (fields_in c.args.field.now) c.args.head.now c.args.first c.args.body.now c.args.table.now (spots_marked c.args.marks.now) c.requires.room
+    (ap (marked_from c.args.marks.now 0) none)
 
-pub walk_inside-returns-else-count-gt0 : goal.walk_inside-returns-else-count-gt0
-walk_inside-returns-else-count-gt0 t c =
-    adds_none (fields_in c.args.field.now) c.args.head.now c.args.first c.args.body.now c.args.table.now (source_spots c.args.source.now (spots_marked c.args.marks.now)) c.requires.room
-    (ap (source_spots c.args.source.now) (run_marked c.args.marks.now c.if-not-marks.false) ∙ c.run_inside-start.ensures.spots ∙ no_run c.run_inside-start.result.0 c.run_inside-start.result.1 (omega (arith, c.if-count-gt0.false)))
-
-pub walk_place-returns-then-not-is_marked : goal.walk_place-returns-then-not-is_marked
-walk_place-returns-then-not-is_marked t c =
-    adds_blank (fields_in c.args.field.now) c.args.head.now c.args.first c.args.body.now c.args.table.now
-    (spots_inside (layout_named c.args.source.now.layout) c.args.source.now.second.now ((c.args.marks.now.start + c.args.number, mark_of c.args.marks.now c.args.number) ∷ [])) c.requires.room
-    (unmarked_blank c.args.source.now (c.args.marks.now.start + c.args.number) (mark_of c.args.marks.now c.args.number) (sym c.is_marked.ensures ∙ c.if-not-is_marked.true))
-
-pub walk_place-run_inside-start-requires-clause-reads : goal.walk_place-run_inside-start-requires-clause-reads
-walk_place-run_inside-start-requires-clause-reads t c =
-    reads_less c.args.source.now (c.args.marks.now.start + c.args.number + 1) (c.args.marks.now.start + c.args.marks.now.count) (omega (arith, c.requires.there)) c.requires.reads
-
-pub walk_place-walk-requires : goal.walk_place-walk-requires
-walk_place-walk-requires t c = (
-  subst (λ n. 8 * node_count (forest_seen c.deref.result.now) < n) c.decreases
-      (omega (arith, ap (λ l. node_count (forest_seen l)) c.deref.ensures.value)),
+pub gather-walk_some-requires : goal.gather-walk_some-requires
+gather-walk_some-requires t c = (
+  subst (λ n. 16 * node_count (fields_in c.args.field.now) + 1 < n) c.decreases (omega arith),
   (
-    (omega (arith, c.run.ensures.count, c.if-count-gt0.true), λ some. absurd (true≢false (sym c.run.ensures.all ∙ some))),
+    (λ one. (c.join.ensures.gathered one).0),
     (
-      subst (λ l. MayWalk (forest_seen l) c.args.head.now c.args.first c.args.body.now (c.run.result.start + c.run.result.count)) (sym c.deref.ensures.value)
-          (subst (MayWalk (fields_in c.args.field.now) c.args.head.now c.args.first c.args.body.now) (ends c.run.result.start c.run.result.count c.run_inside-start.result.0 c.run_inside-start.result.1
-          (end_inside (layout_named c.args.source.now.layout) c.args.source.now.second.now (c.args.marks.now.start + c.args.number + 1)) c.run.ensures.start c.run.ensures.count c.run_inside-start.ensures.end)
-          (less_inside c.args.field.now c.args.source.now c.args.head.now c.args.first c.args.body.now (c.args.marks.now.start + c.args.marks.now.count)
-          (c.args.marks.now.start + c.args.number + 1) (omega (arith, c.requires.there)) c.requires.reads c.requires.may)),
-      omega (arith, c.requires.room, ap (λ l. node_count (forest_seen l)) c.deref.ensures.value),
+      subst (λ g. MayWalk (fields_in c.args.field.now) c.args.head.now c.args.first c.args.body.now (g.start + g.count)) (sym (c.join.ensures.same c.if-not-join.true))
+          (walk_less (fields_in c.args.field.now) c.args.head.now c.args.first c.args.body.now (c.args.start + c.args.count)
+          (c.args.gathered.now.start + c.args.gathered.now.count) (omega (arith, c.requires.behind)) c.requires.may),
+      c.requires.room,
     ),
   ),
 )
 
-pub walk_place-returns-else-count-gt0 : goal.walk_place-returns-else-count-gt0
-walk_place-returns-else-count-gt0 t c =
-    let marked : mark_of c.args.marks.now c.args.number ≡ true = sym c.is_marked.ensures ∙ c.if-not-is_marked.false in
-    adds_none (fields_in c.args.field.now) c.args.head.now c.args.first c.args.body.now c.args.table.now
-    (spots_inside (layout_named c.args.source.now.layout) c.args.source.now.second.now ((c.args.marks.now.start + c.args.number, mark_of c.args.marks.now c.args.number) ∷ [])) c.requires.room
-    (ap (λ m. spots_inside (layout_named c.args.source.now.layout) c.args.source.now.second.now ((c.args.marks.now.start + c.args.number, m) ∷ [])) marked
-    ∙ place_spots c.args.source.now (c.args.marks.now.start + c.args.number) (c.requires.taken c.args.number c.requires.there marked)
-    ∙ c.run_inside-start.ensures.spots
-    ∙ no_run c.run_inside-start.result.0 c.run_inside-start.result.1 (omega (arith, c.if-count-gt0.false)))
+pub gather-returns-else-not-join-clause-adds : goal.gather-returns-else-not-join-clause-adds
+gather-returns-else-not-join-clause-adds t c =
+    with_gap (fields_in c.args.field.now) c.args.head.now c.args.first c.args.body.now c.args.table.now c.requires.room (spots_marked c.args.gathered.now)
+    (blank_spots (c.args.gathered.now.start + c.args.gathered.now.count) (c.args.start - (c.args.gathered.now.start + c.args.gathered.now.count)))
+    (run_spots c.args.start c.args.count) (spots_marked c.join.new.self)
+    (listed_blank false (range_with_len (c.args.gathered.now.start + c.args.gathered.now.count) (c.args.start - (c.args.gathered.now.start + c.args.gathered.now.count))) refl)
+    (c.join.ensures.spots c.if-not-join.false)
 
-pub walk_places-loop-number-init : goal.walk_places-loop-number-init
-walk_places-loop-number-init t c =
-    adds_none (fields_in c.args.field.now) c.args.head.now c.args.first c.args.body.now c.args.table.now [] c.requires.room refl
+pub gather_alike-run_inside-start-requires-clause-reads : goal.gather_alike-run_inside-start-requires-clause-reads
+gather_alike-run_inside-start-requires-clause-reads t c =
+    reads_less c.args.source.now (c.args.marks.now.start + c.args.number + c.args.alike) (c.args.marks.now.start + c.args.marks.now.count)
+    (omega (arith, c.requires.there)) c.requires.reads
 
-pub walk_places-loop-number-preserved : goal.walk_places-loop-number-preserved
-walk_places-loop-number-preserved t c =
-    adds_both (fields_in c.args.field.now) c.args.head.now c.args.first c.args.body.now c.args.table.now c.loop-number.table c.walk_place.new.table
-    (spots_inside (layout_named c.args.source.now.layout) c.args.source.now.second.now (marked_from c.args.marks.now 0 c.loop-number.number))
-    (spots_inside (layout_named c.args.source.now.layout) c.args.source.now.second.now ((c.args.marks.now.start + c.loop-number.number, mark_of c.args.marks.now c.loop-number.number) ∷ []))
-    (spots_inside (layout_named c.args.source.now.layout) c.args.source.now.second.now (marked_from c.args.marks.now 0 (c.loop-number.number + 1)))
-    (inside_more c.args.source.now c.args.marks.now c.loop-number.number) c.loop-number.invariant c.walk_place.ensures
+pub gather_alike-run_inside-start-requires-clause-whole : goal.gather_alike-run_inside-start-requires-clause-whole
+gather_alike-run_inside-start-requires-clause-whole t c =
+    none_null_taken c.args.source.now.validity.now c.args.marks.now c.args.number c.args.alike c.requires.taken c.requires.there
+    (λ k below. c.requires.alike k below ∙ sym c.is_marked.ensures ∙ c.if-is_marked.true)
+
+pub gather_alike-gather-requires : goal.gather_alike-gather-requires
+gather_alike-gather-requires t c = (
+  subst (λ n. 16 * node_count (fields_in c.args.field.now) + 2 < n) c.decreases (omega arith),
+  (
+    c.requires.gathered,
+    (
+      omega (arith, c.requires.behind, c.run_inside-start.ensures.begin),
+      (
+        subst (MayWalk (fields_in c.args.field.now) c.args.head.now c.args.first c.args.body.now) (sym c.run_inside-start.ensures.end)
+            (less_inside c.args.field.now c.args.source.now c.args.head.now c.args.first c.args.body.now (c.args.marks.now.start + c.args.marks.now.count)
+            (c.args.marks.now.start + c.args.number + c.args.alike) (omega (arith, c.requires.there)) c.requires.reads c.requires.may),
+        c.requires.room,
+      ),
+    ),
+  ),
+)
+
+pub gather_alike-returns-then-is_marked-clause-adds : goal.gather_alike-returns-then-is_marked-clause-adds
+gather_alike-returns-then-is_marked-clause-adds t c =
+    let marked : (k : ℕ) → k < c.args.alike → mark_of c.args.marks.now (c.args.number + k) ≡ true =
+    λ k below. c.requires.alike k below ∙ sym c.is_marked.ensures ∙ c.if-is_marked.true in
+    c.gather.ensures.adds
+    ∙ ap (counted_with (fields_in c.args.field.now) c.args.head.now c.args.first c.args.body.now
+    (counted_with (fields_in c.args.field.now) c.args.head.now c.args.first c.args.body.now c.args.table.now (spots_marked c.args.gathered.now)))
+    (sym c.run_inside-start.ensures.spots
+    ∙ taken_inside c.args.source.now c.args.marks.now c.args.number c.args.alike
+    (none_null_taken c.args.source.now.validity.now c.args.marks.now c.args.number c.args.alike c.requires.taken c.requires.there marked) marked)
+
+pub gather_alike-returns-else-is_marked-clause-end : goal.gather_alike-returns-else-is_marked-clause-end
+gather_alike-returns-else-is_marked-clause-end t c =
+    omega (
+      arith,
+      c.requires.behind,
+      end_less (layout_named c.args.source.now.layout) c.args.source.now.second.now (c.args.marks.now.start + c.args.number) (c.args.marks.now.start + c.args.number + c.args.alike)
+          (omega arith)
+          (reads_less c.args.source.now (c.args.marks.now.start + c.args.number + c.args.alike) (c.args.marks.now.start + c.args.marks.now.count)
+          (omega (arith, c.requires.there)) c.requires.reads).reaches,
+    )
+
+pub gather_alike-returns-else-is_marked-clause-adds : goal.gather_alike-returns-else-is_marked-clause-adds
+gather_alike-returns-else-is_marked-clause-adds t c =
+    adds_blank (fields_in c.args.field.now) c.args.head.now c.args.first c.args.body.now
+    (counted_with (fields_in c.args.field.now) c.args.head.now c.args.first c.args.body.now c.args.table.now (spots_marked c.args.gathered.now))
+    (spots_inside (layout_named c.args.source.now.layout) c.args.source.now.second.now (marked_from c.args.marks.now c.args.number c.args.alike))
+    (omega (arith, c.requires.room, with_long (fields_in c.args.field.now) c.args.head.now c.args.first c.args.body.now c.args.table.now c.requires.room (spots_marked c.args.gathered.now)))
+    (unmarked_inside (layout_named c.args.source.now.layout) c.args.source.now.second.now c.args.marks.now c.args.number c.args.alike
+    (λ k below. c.requires.alike k below ∙ sym c.is_marked.ensures ∙ c.if-is_marked.false))
+
+pub walk_places-loop-done-preserved : goal.walk_places-loop-done-preserved
+walk_places-loop-done-preserved t c =
+    let next : c.args.marks.now.start + c.loop-done.done + c.alike-alike.result ≡ c.args.marks.now.start + (c.loop-done.done + c.alike-alike.result) = omega arith in
+    record {
+      few = c.alike-alike.ensures.within;
+      gathered = c.gather_alike.ensures.gathered;
+      behind =
+          subst (λ n. c.gather_alike.new.gathered.start + c.gather_alike.new.gathered.count ≤ end_inside (layout_named c.args.source.now.layout) c.args.source.now.second.now n) next
+          c.gather_alike.ensures.end;
+      long = c.gather_alike.ensures.long ∙ c.loop-done.invariant.long;
+      adds =
+          c.gather_alike.ensures.adds
+          ∙ ap (λ made. counted_with (fields_in c.args.field.now) c.args.head.now c.args.first c.args.body.now made
+          (spots_inside (layout_named c.args.source.now.layout) c.args.source.now.second.now (marked_from c.args.marks.now c.loop-done.done c.alike-alike.result)))
+          c.loop-done.invariant.adds
+          ∙ with_both (fields_in c.args.field.now) c.args.head.now c.args.first c.args.body.now c.args.table.now c.requires.room
+          (spots_inside (layout_named c.args.source.now.layout) c.args.source.now.second.now (marked_from c.args.marks.now 0 c.loop-done.done))
+          (spots_inside (layout_named c.args.source.now.layout) c.args.source.now.second.now (marked_from c.args.marks.now c.loop-done.done c.alike-alike.result))
+          (spots_inside (layout_named c.args.source.now.layout) c.args.source.now.second.now (marked_from c.args.marks.now 0 (c.loop-done.done + c.alike-alike.result)))
+          (inside_more (layout_named c.args.source.now.layout) c.args.source.now.second.now c.args.marks.now c.loop-done.done c.alike-alike.result);
+    }
+
+pub walk_places-walk_some-requires : goal.walk_places-walk_some-requires
+walk_places-walk_some-requires t c = (
+  subst (λ n. 16 * node_count (fields_in c.args.field.now) + 1 < n) c.decreases (omega arith),
+  (
+    (λ one. (c.loop-done.invariant.gathered one).0),
+    (
+      walk_less (fields_in c.args.field.now) c.args.head.now c.args.first c.args.body.now
+          (end_inside (layout_named c.args.source.now.layout) c.args.source.now.second.now (c.args.marks.now.start + c.loop-done.done))
+          (c.loop-done.gathered.start + c.loop-done.gathered.count) c.loop-done.invariant.behind
+          (less_inside c.args.field.now c.args.source.now c.args.head.now c.args.first c.args.body.now (c.args.marks.now.start + c.args.marks.now.count)
+          (c.args.marks.now.start + c.loop-done.done) (omega (arith, c.loop-done.invariant.few)) c.requires.reads c.requires.may),
+      omega (arith, c.requires.room, c.loop-done.invariant.long),
+    ),
+  ),
+)
+
+pub walk_inside-returns : goal.walk_inside-returns
+walk_inside-returns t c =
+    c.walk_some.ensures.adds
+    ∙ ap (counted_with (fields_in c.args.field.now) c.args.head.now c.args.first c.args.body.now c.args.table.now)
+    (c.run.ensures.spots ∙ sym c.run_inside-start.ensures.spots ∙ ap (source_spots c.args.source.now) (sym (run_marked c.args.marks.now c.if-not-marks.false)))

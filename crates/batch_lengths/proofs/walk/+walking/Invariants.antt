@@ -4,41 +4,56 @@ use Rattle.batch_types.specs.Laid.{node_count}
 use Rattle.batch_columns.specs.Held.{layout_named}
 use Rattle.batch_reading.specs.Planned.{spots_inside}
 use Rattle.batch_reading.specs.Readable.{forest_seen, columns_there}
-use Rattle.batch_lengths.specs.Along.{run_spots, source_spots, spots_marked}
+use Rattle.batch_lengths.specs.Along.{run_spots, source_spots, marked_from, spots_marked, IsGathered}
+use Rattle.batch_lengths.specs.Reach.{end_inside}
 use Rattle.batch_lengths.specs.Sizes.{MayWalk}
-use Rattle.batch_lengths.specs.Tally.{tally, added_from}
+use Rattle.batch_lengths.specs.Tally.{tally, added_from, counted_with}
 use Rattle.batch_lengths.proofs.Adding.{Adds}
-use Rattle.batch_lengths.proofs.Marking.{marked_from}
 use Rattle.batch_lengths.proofs.walk.+walking.Given as goal
 
 abbrev pub decreases-walk : goal.decreases-walk
-decreases-walk l = 8 * node_count (forest_seen l.fields.now)
+decreases-walk l = 16 * node_count (forest_seen l.fields.now)
 
 abbrev pub decreases-walk_column : goal.decreases-walk_column
-decreases-walk_column l = 8 * node_count (fields_in l.field.now) + 7
+decreases-walk_column l = 16 * node_count (fields_in l.field.now) + 9
 
 abbrev pub decreases-walk_inside : goal.decreases-walk_inside
-decreases-walk_inside l = 8 * node_count (fields_in l.field.now) + 6
+decreases-walk_inside l = 16 * node_count (fields_in l.field.now) + 8
 
 abbrev pub decreases-walk_blocks : goal.decreases-walk_blocks
-decreases-walk_blocks l = 8 * node_count (fields_in l.field.now) + 5
+decreases-walk_blocks l = 16 * node_count (fields_in l.field.now) + 7
 
 abbrev pub decreases-walk_block : goal.decreases-walk_block
-decreases-walk_block l = 8 * node_count (fields_in l.field.now) + 4
+decreases-walk_block l = 16 * node_count (fields_in l.field.now) + 6
 
 abbrev pub decreases-walk_taken : goal.decreases-walk_taken
-decreases-walk_taken l = 8 * node_count (fields_in l.field.now) + 3
+decreases-walk_taken l = 16 * node_count (fields_in l.field.now) + 5
 
 abbrev pub decreases-walk_places : goal.decreases-walk_places
-decreases-walk_places l = 8 * node_count (fields_in l.field.now) + 2
+decreases-walk_places l = 16 * node_count (fields_in l.field.now) + 4
 
-abbrev pub decreases-walk_place : goal.decreases-walk_place
-decreases-walk_place l = 8 * node_count (fields_in l.field.now) + 1
+abbrev pub decreases-gather_alike : goal.decreases-gather_alike
+decreases-gather_alike l = 16 * node_count (fields_in l.field.now) + 3
 
-abbrev pub invariant-walk_places-loop-number : goal.invariant-walk_places-loop-number
-invariant-walk_places-loop-number l =
-    Adds (fields_in l.field) l.head l.first l.body l.fn.table l.table
-    (spots_inside (layout_named l.source.layout) l.source.second.now (marked_from l.marks 0 l.number))
+abbrev pub decreases-gather : goal.decreases-gather
+decreases-gather l = 16 * node_count (fields_in l.field.now) + 2
+
+abbrev pub decreases-walk_some : goal.decreases-walk_some
+decreases-walk_some l = 16 * node_count (fields_in l.field.now) + 1
+
+abbrev pub invariant-walk_places-loop-done : goal.invariant-walk_places-loop-done
+invariant-walk_places-loop-done l = record {
+  few : l.done ≤ l.marks.count;
+  gathered : IsGathered l.gathered;
+  behind : l.gathered.start + l.gathered.count ≤ end_inside (layout_named l.source.layout) l.source.second.now (l.marks.start + l.done);
+  long : length l.table ≡ length l.fn.table;
+  adds : counted_with (fields_in l.field) l.head l.first l.body l.table (spots_marked l.gathered)
+      ≡ counted_with (fields_in l.field) l.head l.first l.body l.fn.table
+      (spots_inside (layout_named l.source.layout) l.source.second.now (marked_from l.marks 0 l.done));
+}
+
+abbrev pub decreases-walk_places-loop-done : goal.decreases-walk_places-loop-done
+decreases-walk_places-loop-done l = l.marks.count - l.done
 
 abbrev pub invariant-walk_blocks-loop-done : goal.invariant-walk_blocks-loop-done
 invariant-walk_blocks-loop-done l =

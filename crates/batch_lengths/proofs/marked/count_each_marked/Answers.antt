@@ -1,7 +1,7 @@
 use Rattle.std.proofs.Common.{◌+◌, arith}
 use Rattle.batch_lengths.proofs.Between.{reads_less}
 use Rattle.batch_lengths.proofs.Marking.{marked_next, marked_fits}
-use Rattle.batch_lengths.proofs.marks.count_each_marked.Goals as goal
+use Rattle.batch_lengths.proofs.marked.count_each_marked.Goals as goal
 
 pub count_marked-requires : goal.count_marked-requires
 count_marked-requires c =

@@ -2,7 +2,7 @@ use Rattle.std.proofs.Common.{◌+◌, map}
 use Rattle.std.specs.List.{range_with_len}
 use Rattle.batch_lengths.specs.Along.{mark_of}
 use Rattle.batch_lengths.specs.Counted.{IsCounted}
-use Rattle.batch_lengths.proofs.marks.count_each_marked.Given as goal
+use Rattle.batch_lengths.proofs.marked.count_each_marked.Given as goal
 
 abbrev pub invariant-loop-number : goal.invariant-loop-number
 invariant-loop-number l =
