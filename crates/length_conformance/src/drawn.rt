@@ -12,16 +12,29 @@ const VALUES: u64 = 26_000;
 /// How many offsets stand behind them.
 const OFFSETS: u64 = 3300;
 
+/// Among how many of them those of a column begin.
+const FIRST: u64 = 800;
+
 /// The highest offset, and so how many values a column inside a list has.
 const HIGHEST: u64 = 400;
+
+/// Below how many rows a batch has.
+const ROWS: u64 = 150;
 
 /// Numbers that look drawn (Marsaglia, "Xorshift RNGs").
 #[derive(Drop)]
 struct Draw {
     state: u64,
+    /// How many times as large a batch is as the numbers above say.
+    scale: u64,
 }
 
 impl Draw {
+    /// A number that grows with the batch.
+    fn scaled(&self, number: u64) -> u64 {
+        number.wrapping_mul(self.scale)
+    }
+
     /// The next number below a limit.
     fn below(&mut self, limit: u64) -> u64 {
         self.state ^= self.state << 13;
@@ -34,13 +47,16 @@ impl Draw {
 /// The bytes that all columns share: bytes of ASCII, and offsets that begin above 0 and rise.
 fn body_of(alloc: Global, draw: &mut Draw) -> Result<Vec<u8>, AllocError> {
     let mut body = Vec::new(alloc);
-    for _ in 0..VALUES {
+    for _ in 0..draw.scaled(VALUES) {
         body.push((draw.below(128) & 0x7f) as u8)?;
     }
     let mut offset = draw.below(3);
-    for _ in 0..OFFSETS {
+    for _ in 0..draw.scaled(OFFSETS) {
         body.extend_from_slice(&offset.to_le_bytes()[..4])?;
-        offset = (offset.wrapping_add(draw.below(2) & draw.below(2))).min(HIGHEST);
+        let most = draw.scale.wrapping_add(1);
+        offset = offset
+            .wrapping_add(draw.below(most) & draw.below(most))
+            .min(draw.scaled(HIGHEST));
     }
     Ok(body)
 }
@@ -90,8 +106,8 @@ fn field_of(alloc: Global, draw: &mut Draw, depth: u32) -> Result<Field, AllocEr
 
 /// A range of so many bytes, anywhere among the values.
 fn range(draw: &mut Draw, count: u64) -> (i64, i64) {
-    let start = draw.below(VALUES.saturating_sub(count));
-    ((start & 0xffff) as i64, (count & 0xffff) as i64)
+    let start = draw.below(draw.scaled(VALUES).saturating_sub(count));
+    ((start & 0xff_ffff) as i64, (count & 0xff_ffff) as i64)
 }
 
 /// The validity of so many values, and how many of them are null.
@@ -100,29 +116,29 @@ fn validity(draw: &mut Draw, body: &[u8], count: u64) -> ((i64, i64), i64) {
         return ((0, 0), 0);
     }
     let bitmap = range(draw, count.wrapping_add(7) / 8);
-    let start = (bitmap.0.unsigned_abs() & 0xffff) as usize * 8;
-    let nulls = count_zeros(body, start, (count & 0xffff) as usize);
-    (bitmap, (nulls & 0xffff) as i64)
+    let start = (bitmap.0.unsigned_abs() & 0xff_ffff) as usize * 8;
+    let nulls = count_zeros(body, start, (count & 0xff_ffff) as usize);
+    (bitmap, (nulls & 0xff_ffff) as i64)
 }
 
 /// The offsets of so many values.
 fn offsets(draw: &mut Draw, count: u64) -> (i64, i64) {
     let long = count.wrapping_add(1);
-    let first = draw.below(OFFSETS.saturating_sub(long));
-    let start = VALUES.wrapping_add(first.wrapping_mul(4));
+    let first = draw.below(draw.scaled(OFFSETS).saturating_sub(long).min(FIRST));
+    let start = draw.scaled(VALUES).wrapping_add(first.wrapping_mul(4));
     (
-        (start & 0xffff) as i64,
-        (long.wrapping_mul(4) & 0xffff) as i64,
+        (start & 0xff_ffff) as i64,
+        (long.wrapping_mul(4) & 0xff_ffff) as i64,
     )
 }
 
 /// How many bytes the values of a column of so many need.
-fn bytes_of(ty: &Ty, count: u64) -> Option<u64> {
+fn bytes_of(draw: &Draw, ty: &Ty, count: u64) -> Option<u64> {
     match ty {
         Ty::Bool => Some(count.wrapping_add(7) / 8),
         Ty::Int { .. } => Some(count.wrapping_mul(8)),
         Ty::FixedSizeBinary { .. } => Some(count.wrapping_mul(3)),
-        Ty::Utf8 | Ty::Binary => Some(HIGHEST),
+        Ty::Utf8 | Ty::Binary => Some(draw.scaled(HIGHEST)),
         _ => None,
     }
 }
@@ -137,7 +153,7 @@ fn put_values(
     if matches!(ty, Ty::Utf8 | Ty::Binary | Ty::List) {
         buffers.push(offsets(draw, count))?;
     }
-    if let Some(count) = bytes_of(ty, count) {
+    if let Some(count) = bytes_of(draw, ty, count) {
         buffers.push(range(draw, count))?;
     }
     Ok(())
@@ -146,7 +162,7 @@ fn put_values(
 /// How many values the columns inside a column of so many have.
 fn count_inside(draw: &mut Draw, ty: &Ty, count: u64) -> u64 {
     match ty {
-        Ty::List => HIGHEST,
+        Ty::List => draw.scaled(HIGHEST),
         Ty::FixedSizeList { list_size } => count
             .wrapping_mul(u64::from(list_size.unsigned_abs()))
             .wrapping_add(draw.below(5)),
@@ -164,7 +180,7 @@ fn put_columns(
 ) -> Result<(), AllocError> {
     for field in fields {
         let (bitmap, nulls) = validity(draw, body, count);
-        head.nodes.push(((count & 0xffff) as i64, nulls))?;
+        head.nodes.push(((count & 0xff_ffff) as i64, nulls))?;
         if !matches!(field.ty, Ty::Null) {
             head.buffers.push(bitmap)?;
         }
@@ -185,30 +201,42 @@ fn schema_of(alloc: Global, draw: &mut Draw) -> Result<Schema, AllocError> {
 }
 
 /// Whether what is told of a drawn batch is what is written of it.
-fn is_drawn_told(alloc: Global, state: u64) -> Result<bool, AllocError> {
-    let mut draw = Draw { state };
+fn is_drawn_told(alloc: Global, state: u64, scale: u64) -> Result<bool, AllocError> {
+    let mut draw = Draw { state, scale };
     let body = body_of(alloc, &mut draw)?;
     let schema = schema_of(alloc, &mut draw)?;
-    let rows = draw.below(150);
+    let rows = draw.below(ROWS.wrapping_mul(scale));
     let mut head = BatchHead {
-        length: (rows & 0xffff) as i64,
+        length: (rows & 0xff_ffff) as i64,
         nodes: Vec::new(alloc),
         buffers: Vec::new(alloc),
         compressed: false,
-        body_length: (body.len() & 0xffff) as i64,
+        body_length: (body.len() & 0xff_ffff) as i64,
     };
     put_columns(&mut draw, &schema.fields, rows, &body, &mut head)?;
     is_told(alloc, &schema, &head, &body)
 }
 
-#[test]
-fn drawn_batches_are_as_long_as_they_are_written(rt: HostRuntime) -> Result<(), Fail> {
+/// Of how many of so many drawn batches what is told is what is written.
+fn count_told(alloc: Global, batches: u64, scale: u64) -> Result<u64, AllocError> {
     let mut told = 0_u64;
-    for number in 1..401_u64 {
-        if is_drawn_told(rt.alloc(), number.wrapping_mul(0x9e37_79b9_7f4a_7c15))? {
+    for number in 0..batches {
+        let state = number.wrapping_add(1).wrapping_mul(0x9e37_79b9_7f4a_7c15);
+        if is_drawn_told(alloc, state, scale)? {
             told = told.wrapping_add(1);
         }
     }
-    assert!(rt; told == 400, "each of them");
+    Ok(told)
+}
+
+#[test]
+fn drawn_batches_are_as_long_as_they_are_written(rt: HostRuntime) -> Result<(), Fail> {
+    assert!(rt; count_told(rt.alloc(), 400, 1)? == 400, "each of them");
+    Ok(())
+}
+
+#[test]
+fn large_drawn_batches_are_too(rt: HostRuntime) -> Result<(), Fail> {
+    assert!(rt; count_told(rt.alloc(), 60, 6)? == 60, "each of them");
     Ok(())
 }

@@ -7,6 +7,8 @@
 #[cfg(test)]
 mod drawn;
 #[cfg(test)]
+mod shared;
+#[cfg(test)]
 mod told;
 #[cfg(test)]
 mod worked;
