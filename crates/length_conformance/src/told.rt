@@ -3,7 +3,7 @@
 use batch_checking::check_batch;
 use batch_lengths::canonical_length;
 use header_types::{BatchHead, Field, Schema, Ty};
-use record_batches::{body_length, read_batch, write_body};
+use record_batches::{body_length, read_batch, read_batch_within, write_body};
 use std::alloc::{AllocError, Global};
 
 /// A field of this type with these inside it.
@@ -71,8 +71,24 @@ pub(crate) fn written(
     }
 }
 
+/// Whether the batch is built where its body may have so many bytes, which it has, and not where it may have one less.
+fn is_built_within(
+    alloc: Global,
+    schema: &Schema,
+    head: &BatchHead,
+    body: &[u8],
+    length: u64,
+) -> bool {
+    if !schema.in_profile() {
+        return false;
+    }
+    let built = read_batch_within(alloc, schema, head, body, length);
+    let less = read_batch_within(alloc, schema, head, body, length.saturating_sub(1));
+    matches!(built, Ok(Some(_))) && (length == 0 || matches!(less, Ok(None)))
+}
+
 /// Whether a batch is laid out, and just as many bytes are told as are written: where there may be any number, as many, and
-/// one less.
+/// one less; and it is built where there may be as many.
 pub(crate) fn is_told(
     alloc: Global,
     schema: &Schema,
@@ -86,6 +102,7 @@ pub(crate) fn is_told(
     Ok(
         told(schema, head, body, u64::MAX) == Some(length)
             && told(schema, head, body, length) == Some(length)
-            && !is_less_told,
+            && !is_less_told
+            && is_built_within(alloc, schema, head, body, length),
     )
 }
