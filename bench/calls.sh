@@ -6,18 +6,20 @@
 # of the same events by `flight_bench`. Each line gives the processor time of one call, the least of five runs of each
 # program in turn, less that of a run without these calls; and how many bytes the server held at most.
 #
-# Seen on four processors that one or two other tasks shared:
+# Seen on four processors that several other tasks shared:
 #
 #                              ours   plain Rust  ratio
-#   DoGet of 64 MiB         68.3 ms      22.7 ms   3.00   938 MiB/s, 0.92 of a raw copy's speed (62.7 ms); 199 MiB held, 134 MiB
-#   DoPut of 15 MiB         64.9 ms      54.4 ms   1.19   231 MiB/s; 248 MiB held for 120 MiB in plain Rust and here
-#   GetFlightInfo            4.7 us       4.3 us   1.08
-#   replay of 10,000 events 34.1 ms, and 18.3 ms `run` itself: 1.86
+#   DoGet of 64 MiB         12.5 ms      13.6 ms   0.92   5,105 MiB/s, 1.41 of a raw copy's speed (17.7 ms); 132 MiB held, 134 MiB
+#   DoPut of 15 MiB         44.0 ms      41.0 ms   1.07   341 MiB/s; 246 MiB held for 120 MiB, and 249 MiB in plain Rust
+#   GetFlightInfo            2.8 us       2.8 us   0.99
+#   replay of 10,000 events 20.3 ms, and 11.5 ms `run` itself: 1.76
 #
-# An earlier run had the raw copy at 20.9 ms and DoGet, at 78.5 ms, at 0.27 of its speed: what the copy takes swings. What costs in
-# DoGet: an answer is made whole, one copy of all its frames, where plain Rust writes the frames where they stand. Of the 110
-# million instructions of the replay (valgrind) 64 are those of `run`; 16 read the file as one value of JSON and 5 let go of
-# it, which alone makes 1.33; some 10 make the 500 uploads, and the others the events, and a line for each.
+# An answer shares the frames that the tables keep, and each is written where it stands. Before that an answer was made whole, one
+# copy of all its frames, and a DoGet took three times as long as in plain Rust. A body is copied five times on its way into the
+# tables: out of the message, into a column, into the body that is written, into the upload's encoding, and into its frame. It
+# was nine times while an upload was decoded again when it was taken. Of the 110 million instructions of the replay (valgrind,
+# an earlier run) 64 are those of `run`; 16 read the file as one value of JSON and 5 let go of it, which alone makes 1.33; some
+# 10 make the 500 uploads, and the others the events, and a line for each.
 set -euo pipefail
 cd "$(dirname "${BASH_SOURCE[0]}")/.."
 work=$(mktemp -d)
