@@ -67,6 +67,19 @@ impl Answer {
     }
 }
 
+impl Clone for Answer {
+    ghost is_clone = { λ old new. new ≡ old };
+
+    /// The same answer: its frames are shared. [`AllocError`] says that memory for the list of them was refused.
+    fn clone(&self) -> Result<Answer, AllocError>
+        ensures { IfOk result (λ new. new ≡ self.now) }
+    {
+        Ok(Answer {
+            frames: self.frames.clone()?,
+        })
+    }
+}
+
 impl PartialEq for Answer {
     ghost eq = { pointwise ◌==◌ };
 
