@@ -1,6 +1,6 @@
 //! Events of nodes.
 
-ghost use Rattle.std.specs.Prelude.{◌≡◌};
+ghost use Rattle.std.specs.Prelude.{◌≡◌, ◌↔◌, IsTrue};
 ghost use Rattle.histories.specs.Event.{node_of};
 
 use crate::table_text::TableText;
@@ -54,4 +54,29 @@ impl Event {
             | Event::Outcome(node, _) => *node,
         }
     }
+
+    /// Whether the two are one event: of one node, of one kind, and with the same upload, number or text.
+    pub fn same_as(&self, other: &Event) -> bool
+        ensures { IsTrue result ↔ (self.now ≡ other.now) }
+    {
+        match (self, other) {
+            (Event::Put(a, x), Event::Put(b, y)) => a == b && x == y,
+            (Event::Tick(a, x), Event::Tick(b, y)) => a == b && x == y,
+            (Event::Deliver(a, x), Event::Deliver(b, y)) => a == b && x == y,
+            (Event::TickCut(a, x), Event::TickCut(b, y)) => a == b && x == y,
+            (Event::DeliverCut(a, x), Event::DeliverCut(b, y)) => a == b && x == y,
+            (Event::Restart(a), Event::Restart(b)) => a == b,
+            (Event::Get(a, x), Event::Get(b, y)) => a == b && same_ticket(x, y),
+            (Event::Info(a, x), Event::Info(b, y)) => a == b && x.as_str() == y.as_str(),
+            (Event::Outcome(a, x), Event::Outcome(b, y)) => a == b && x == y,
+            _ => false,
+        }
+    }
+}
+
+// Whether the two ask for one version of one table.
+fn same_ticket(a: &Ticket, b: &Ticket) -> bool
+    ensures { IsTrue result ↔ (a.now ≡ b.now) }
+{
+    a.version() == b.version() && a.table() == b.table()
 }

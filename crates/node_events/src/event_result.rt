@@ -4,7 +4,7 @@ use table_versions::{Answer, Outcome};
 use thiserror::Error;
 
 /// What an event gave.
-#[derive(Debug, Drop)]
+#[derive(Clone, Debug, PartialEq, Eq, Drop)]
 pub enum EventResult {
     /// A tick or a delivery sent so many messages.
     Sent {
