@@ -1,5 +1,5 @@
 -- Events that are applied one after the other.
-use Rattle.std.proofs.Common.{◌≡◌, ℕ, Bool, List, [], ◌∷◌, ◌++◌, length, refl, sym, ap, subst, ◌∙◌}
+use Rattle.std.proofs.Common.{◌≡◌, ℕ, Bool, List, [], ◌∷◌, ◌++◌, length, map, refl, sym, ap, subst, ◌∙◌}
 use Rattle.std.proofs.lemmas.List.{map_push}
 use Rattle.ballots.specs.declared.message.Message.{Message}
 use Rattle.lawful_histories.specs.Lawful.{IsLawful}
@@ -12,7 +12,7 @@ use Rattle.node_events.specs.declared.event.Event.{Event}
 use Rattle.schedule_runner.specs.declared.config.Config.{Config}
 use Rattle.schedule_runner.specs.declared.step.Step.{Step}
 use Rattle.schedule_runner.specs.Told.{config_of, step_of, steps_of}
-use Rattle.schedule_runner.specs.Traced.{Traced, history_of, with_step, TraceReaches, StepFollowsBehind}
+use Rattle.schedule_runner.specs.Traced.{Traced, Tells, TellsMore, history_of, TraceReaches, StepFollowsBehind}
 use Rattle.schedule_runner.specs.Applying.{AppliesTo, HasCome}
 use Rattle.schedule_runner.specs.Runs.{IsRunOf}
 
@@ -28,21 +28,36 @@ GoesOn = (config : HistoryConfig) (sent more : List Message) (steps : List Histo
 
 -- ---- the start, a step more, the end
 
-pub at_start : Starts → (Have : (ℕ → Seat) → Type 0) (config : Config) → Have at_first → HasCome Have (record { config = config; sent = []; steps = [] }) []
-at_start starts Have config have = record { recovered = []; seats = at_first; reached = starts (config_of config); have = have; one_for_one = refl }
+-- what it tells reaches this, and so the trace does
+reached_as : (trace : Traced) (config : Config) (sent : List Message) (steps : List Step) (recovered : List Bool) (seats : ℕ → Seat) → Tells trace config sent steps
+    → Reaches (config_of config) sent (steps_of steps) recovered seats → TraceReaches trace recovered seats
+reached_as trace config sent steps recovered seats tells reached =
+    subst (λ (c : Config). Reaches (config_of c) trace.sent (steps_of trace.steps) recovered seats) (sym tells.config_is)
+    (subst (λ (l : List Message). Reaches (config_of config) l (steps_of trace.steps) recovered seats) (sym tells.sent_is)
+    (subst (λ (l : List Step). Reaches (config_of config) sent (steps_of l) recovered seats) (sym tells.steps_are) reached))
+
+pub at_start : Starts → (Have : (ℕ → Seat) → Type 0) (config : Config) (trace : Traced) → Tells trace config [] [] → Have at_first → HasCome Have trace []
+at_start starts Have config trace tells have = record {
+  recovered = [];
+  seats = at_first;
+  reached = reached_as trace config [] [] [] at_first tells (starts (config_of config));
+  have = have;
+  one_for_one = ap (λ (l : List Step). map (λ (s : Step). s.event) l) tells.steps_are;
+}
 
 -- a step more behind a trace
-pub reaches_more : GoesOn → (trace : Traced) (step : Step) (more : List Message) (recovered : List Bool) (seats new : ℕ → Seat) (was : Bool)
-    → TraceReaches trace recovered seats → StepFollowsBehind trace seats step more was new → TraceReaches (with_step trace step more) (recovered ++ was ∷ []) new
-reaches_more goes_on trace step more recovered seats new was reached behind =
+pub reaches_more : GoesOn → (trace next : Traced) (step : Step) (more : List Message) (recovered : List Bool) (seats new : ℕ → Seat) (was : Bool) → TellsMore trace step more next
+    → TraceReaches trace recovered seats → StepFollowsBehind trace seats step more was new → TraceReaches next (recovered ++ was ∷ []) new
+reaches_more goes_on trace next step more recovered seats new was tells reached behind =
     let config = config_of trace.config in
-    subst (λ (l : List HistoryStep). Reaches config (trace.sent ++ more) l (recovered ++ was ∷ []) new) (sym (map_push step_of trace.steps step))
-    (goes_on config trace.sent more (steps_of trace.steps) recovered seats new (step_of step) was reached behind.follows behind.asked behind.counted)
+    reached_as next trace.config (trace.sent ++ more) (trace.steps ++ step ∷ []) (recovered ++ was ∷ []) new tells
+    (subst (λ (l : List HistoryStep). Reaches config (trace.sent ++ more) l (recovered ++ was ∷ []) new) (sym (map_push step_of trace.steps step))
+    (goes_on config trace.sent more (steps_of trace.steps) recovered seats new (step_of step) was reached behind.follows behind.asked behind.counted))
 
-pub come_more : GoesOn → (Old New : (ℕ → Seat) → Type 0) (trace : Traced) (after : List Message) (events : List Event) (step : Step)
+pub come_more : GoesOn → (Old New : (ℕ → Seat) → Type 0) (trace next : Traced) (after : List Message) (events : List Event) (step : Step)
     → ((seats : ℕ → Seat) → Old seats → AppliesTo New (config_of trace.config) seats trace.sent after step.event step.result) → HasCome Old trace events
-    → HasCome New (record { config = trace.config; sent = after; steps = trace.steps ++ step ∷ [] }) (events ++ step.event ∷ [])
-come_more goes_on Old New trace after events step applies come =
+    → Tells next trace.config after (trace.steps ++ step ∷ []) → HasCome New next (events ++ step.event ∷ [])
+come_more goes_on Old New trace next after events step applies come tells =
     let now = applies come.seats come.have in
     let config = config_of trace.config in
     let behind : StepFollowsBehind trace come.seats step now.more now.recovered now.left = record {
@@ -50,13 +65,13 @@ come_more goes_on Old New trace after events step applies come =
       asked = now.asked;
       counted = now.counted;
     } in
-    let reached = reaches_more goes_on trace step now.more come.recovered come.seats now.left now.recovered come.reached behind in
+    let tells_more : TellsMore trace step now.more next = record { config_is = tells.config_is; sent_is = tells.sent_is ∙ now.behind; steps_are = tells.steps_are } in
     record {
       recovered = come.recovered ++ now.recovered ∷ [];
       seats = now.left;
-      reached = subst (λ (l : List Message). Reaches config l (steps_of (trace.steps ++ step ∷ [])) (come.recovered ++ now.recovered ∷ []) now.left) (sym now.behind) reached;
+      reached = reaches_more goes_on trace next step now.more come.recovered come.seats now.left now.recovered tells_more come.reached behind;
       have = now.have;
-      one_for_one = map_push (λ (s : Step). s.event) trace.steps step ∙ ap (λ (l : List Event). l ++ step.event ∷ []) come.one_for_one;
+      one_for_one = ap (λ (l : List Step). map (λ (s : Step). s.event) l) tells.steps_are ∙ (map_push (λ (s : Step). s.event) trace.steps step ∙ ap (λ (l : List Event). l ++ step.event ∷ []) come.one_for_one);
     }
 
 pub come_to_end : ((history : History) → Follows history → IsLawful history.config.members history.sent) → ((history : History) → Follows history → IsSafe history)

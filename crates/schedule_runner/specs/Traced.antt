@@ -1,5 +1,5 @@
 -- What contracts see of a trace, the history that it tells, and what its steps reach.
-use Rattle.std.specs.Prelude.{◌≡◌, ℕ, Bool, List, [], ◌∷◌, ◌++◌, length}
+use Rattle.std.specs.Prelude.{◌≡◌, ℕ, ◌≤◌, ◌<◌, Bool, List, [], ◌∷◌, ◌++◌, length}
 use Rattle.ballots.specs.declared.message.Message.{Message}
 use Rattle.histories.specs.EventResult.{count_of}
 use Rattle.histories.specs.Following.{Seat, StepFollows, IsAsked, Reaches}
@@ -13,14 +13,30 @@ pub record Traced : Type 0 where
   -- in the order of sending
   pub sent : List Message
   pub steps : List Step
+  -- how many more of each it takes without memory
+  pub message_room : ℕ
+  pub step_room : ℕ
+
+-- this is what it tells, whatever room it has
+pub record Tells (trace : Traced) (config : Config) (sent : List Message) (steps : List Step) : Type 0 where
+  pub config_is : trace.config ≡ config
+  pub sent_is : trace.sent ≡ sent
+  pub steps_are : trace.steps ≡ steps
+
+-- it tells what it told before
+abbrev pub TellsAsBefore : Traced → Traced → Type 0
+TellsAsBefore old new = Tells new old.config old.sent old.steps
+
+-- there is room for one step more, and for so many messages
+abbrev pub HasRoomFor : Traced → ℕ → Type 0
+HasRoomFor trace count = (0 < trace.step_room) × (count ≤ trace.message_room)
 
 abbrev pub history_of : Traced → History
 history_of trace = record { config = config_of trace.config; sent = trace.sent; steps = steps_of trace.steps }
 
 -- one step more, and behind the messages that were sent those that it sent
-abbrev pub with_step : Traced → Step → List Message → Traced
-with_step trace step more =
-    record { config = trace.config; sent = trace.sent ++ more; steps = trace.steps ++ step ∷ [] }
+abbrev pub TellsMore : Traced → Step → List Message → Traced → Type 0
+TellsMore old step more new = Tells new old.config (old.sent ++ more) (old.steps ++ step ∷ [])
 
 -- Its steps follow one another from the first on, send its messages and no others, and leave the nodes so. For each restart
 -- `recovered` says whether the record that was due where its node went down was recovered.

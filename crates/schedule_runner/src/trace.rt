@@ -3,7 +3,7 @@
 ghost use Rattle.std.specs.Prelude.{◌≡◌, ◌↔◌, ℕ, ◌+◌, ◌<◌, ◌≤◌, Bool, IsTrue, List, [], ◌∷◌, ◌++◌, OnOk, OnErr, vec_len, vec_capacity};
 ghost use Rattle.lawful_histories.specs.Lawful.{IsLawful};
 ghost use Rattle.histories.specs.Following.{Seat};
-ghost use Rattle.schedule_runner.specs.Traced.{with_step, TraceReaches, StepFollowsBehind};
+ghost use Rattle.schedule_runner.specs.Traced.{Tells, TellsAsBefore, TellsMore, HasRoomFor, TraceReaches, StepFollowsBehind};
 
 use crate::config::Config;
 use crate::step::Step;
@@ -28,7 +28,15 @@ impl Model for Trace {
 
     ghost Value = { Traced };
 
-    ghost view = { λ t. record { config = t.config; sent = t.sent.items; steps = t.steps.items } };
+    ghost use Rattle.std.specs.Prelude.{◌-◌, vec_len, vec_capacity};
+
+    ghost view = { λ t. record {
+      config = t.config;
+      sent = t.sent.items;
+      steps = t.steps.items;
+      message_room = vec_capacity t.sent - vec_len t.sent;
+      step_room = vec_capacity t.steps - vec_len t.steps;
+    } };
 }
 
 // Room for one step more, and for so many messages more.
@@ -67,7 +75,7 @@ fn put_messages(sent: &mut Vec<Message>, mut more: Vec<Message>)
 impl Trace {
     /// A trace without a step, in which nothing was sent. It takes memory from this allocator as it grows.
     pub fn new(alloc: Global, config: Config) -> Trace
-        ensures { result ≡ record { config = config; sent = []; steps = [] } }
+        ensures { Tells result config [] [] }
     {
         Trace {
             config,
@@ -76,34 +84,32 @@ impl Trace {
         }
     }
 
-    /// Puts a step behind the others: an event that was applied, what it gave, and the messages that it sent, which are
-    /// numbered on from those that were sent before. [`AllocError`] says that memory was refused; the trace is then as
-    /// before.
+    /// Makes room for one step more, and for so many messages more. What the trace tells stays, whatever the answer;
+    /// [`AllocError`] says that memory was refused.
+    pub fn reserve(&mut self, count: usize) -> Result<(), AllocError>
+        ensures room { OnOk result (HasRoomFor self.new count) }
+        ensures same { TellsAsBefore self.old self.new }
+    {
+        make_room(&mut self.steps, &mut self.sent, count)
+    }
+
+    /// Puts a step behind the others, where there is room for it ([`Trace::reserve`]): an event that was applied, what
+    /// it gave, and the messages that it sent, which are numbered on from those that were sent before. It takes no memory.
     ///
     /// Where the trace reaches some state of the nodes, and the step follows there by their rules and tells as many
     /// messages as it sent, the trace reaches with it the state in which the step leaves them
     /// (`one_step_more_reaches` in the laws of `histories`). So whoever carries on a trace shows of each step alone
     /// that it follows.
-    pub fn push(&mut self, step: Step, more: Vec<Message>) -> Result<(), AllocError>
-        ensures ok { OnOk result (self.new ≡ with_step self.old step more.items) }
-        ensures err { OnErr result (self.new ≡ self.old) }
-        ensures reaches { OnOk result ((recovered : List Bool) (seats new : ℕ → Seat) (was : Bool)
+    pub fn push(&mut self, step: Step, more: Vec<Message>)
+        requires { HasRoomFor self.old (vec_len more) }
+        ensures more { TellsMore self.old step more.items self.new }
+        ensures reaches { (recovered : List Bool) (seats new : ℕ → Seat) (was : Bool)
             → TraceReaches self.old recovered seats → StepFollowsBehind self.old seats step more.items was new
-            → TraceReaches self.new (recovered ++ was ∷ []) new) }
+            → TraceReaches self.new (recovered ++ was ∷ []) new }
     {
         one_step_more_reaches();
-        match make_room(&mut self.steps, &mut self.sent, more.len()) {
-            Ok(()) => {
-                put_messages(&mut self.sent, more);
-                put_step(&mut self.steps, step);
-                Ok(())
-            }
-            Err(_) => {
-                drop(step);
-                drop(more);
-                Err(AllocError)
-            }
-        }
+        put_messages(&mut self.sent, more);
+        put_step(&mut self.steps, step);
     }
 
     /// What the nodes have in common.

@@ -11,8 +11,8 @@ use Rattle.schedule_runner.proofs.running.run_on.Goals as goal
 pub loop-event-init : goal.loop-event-init
 loop-event-init g c =
     let Have = g.N.Nodes.have c.args.nodes.now (config_of c.args.config) in (
-      ap (λ (t : Traced). t.config) c.new-trace.ensures,
-      subst (λ (t : Traced). HasCome Have t []) (sym c.new-trace.ensures) (at_start c.nothing_reaches_the_start.ensures Have c.args.config c.requires),
+      c.new-trace.ensures.config_is,
+      at_start c.nothing_reaches_the_start.ensures Have c.args.config c.new-trace.result c.new-trace.ensures c.requires,
     )
 
 pub loop-event-preserved : goal.loop-event-preserved
