@@ -1,6 +1,5 @@
 -- What is done to a seat that is up, as a step of a history.
 use Rattle.std.proofs.Common.{◌≡◌, ◌⊎◌, refl, sym, ap, subst, ◌∙◌, inl, inr, ℕ, ◌<◌, ◌≤◌, zero, suc, true, false, Bool, Option, None, Some, Result, Ok, Err, List, [], ◌∷◌, ◌++◌, length, slice_get}
-use Rattle.std.specs.List.{AllByRecursion}
 use Rattle.std.specs.Result.{IsErr}
 use Rattle.std.proofs.lemmas.Option.{slice_get_within, slice_get_cases}
 use Rattle.ballots.specs.declared.record.Record.{Record}
@@ -26,16 +25,16 @@ use Rattle.stable_records.specs.declared.fault.StoreFault.TheVariants as store
 use Rattle.agreement.specs.declared.refusal.Refusal.{Refusal}
 use Rattle.node_core.specs.Inputs.{refusal_of}
 use Rattle.node_core.specs.Plans.{IsRefused}
-use Rattle.node_core.specs.State.{NodeState, NodeHas, IsRecordOf}
+use Rattle.node_core.specs.State.{NodeState, NodeHas}
 use Rattle.node_seats.specs.declared.fault.SeatFault.{SeatFault}
 use Rattle.node_seats.specs.declared.fault.SeatFault.TheVariants as fault
-use Rattle.node_seats.specs.Kept.{KeepsDue, HasKept}
+use Rattle.node_seats.specs.Kept.{HasKept}
 use Rattle.node_seats.specs.State.{SeatState, IsPlaced, StandsUp, Stands, Leaves, SendsFor, IsAsBefore, BreaksFor, UpBreaks, IsBroken}
 use Rattle.node_seats.specs.Steps.{HandsMessage, KeepsAlone, StepAnswers, StepBreaks, UpAnswers, IsCut, HasNode, RestartApplies}
-use Rattle.node_seats.proofs.Placing.{doubted_are_of}
+use Rattle.node_seats.specs.Parts.{IsRecovered, IsUnchanged}
 use Rattle.node_seats.proofs.Keeping.{Taken as TakenKeepSome}
 use Rattle.node_seats.proofs.Allowing.{Allows, message_allowed}
-use Rattle.node_seats.proofs.Leaving.{quiet, placed_too, same_records, none_doubted, same_node, refusal_gives, keeps_there, has_kept, cut_has_kept, doubted_down}
+use Rattle.node_seats.proofs.Leaving.{quiet, same_records, same_node, refusal_gives, keeps_there, has_kept, cut_has_kept, doubted_down}
 
 none_is_some : {X : Type 0} (x : X) → None ≡ Some x → ⊥
 none_is_some x same = cc
@@ -243,19 +242,23 @@ cut_behind old new before views input result placed up cut =
     quiet old new before results.Done (CutGives old.config old.me views input results.Done) (IsDown views.records cut.due) refl
     (refl, (cut.due, cut.keeps, refl)) left.0 left.1 cut.me_is cut.config_is
 
--- the record was kept alone, or not, and then the node is gone
-pub kept_and_down : {S T : Type 0} (old mid new : SeatState S) (views : Views) (input : Input) (result : Result T StoreFault) → (up : StandsUp old views)
-    → KeepsAlone up.node views input old.records mid.records mid.doubted result → mid.me ≡ old.me → mid.config ≡ old.config
-    → HasNode mid new None → IsCut old new views input result
-kept_and_down old mid new views input result up (due, keeps, kept) mid-me mid-config has = record {
-  due = due;
-  keeps = keeps_there old views up input due keeps;
-  down = has.node_is;
-  kept = subst (λ (rs : List Record). KeepsDue due result old.records rs new.doubted) (sym has.records_are)
-      (subst (λ (d : Option Record). KeepsDue due result old.records mid.records d) (sym has.doubted_is) kept);
-  me_is = has.me_is ∙ mid-me;
-  config_is = has.config_is ∙ mid-config;
-}
+-- the record was kept alone, or not, and the node is gone
+pub kept_and_down : {S T : Type 0} (old new : SeatState S) (views : Views) (input : Input) (result : Result T StoreFault) (node : NodeState) → (up : StandsUp old views) → old.node ≡ Some node
+    → (NodeHas node views → KeepsAlone node views input old.records new.records new.doubted result) → new.node ≡ None → new.me ≡ old.me → new.config ≡ old.config
+    → IsCut old new views input result
+kept_and_down old new views input result node up here gives down me config =
+    let same = same_node old views up node here in
+    let did : KeepsAlone up.node views input old.records new.records new.doubted result =
+    subst (λ (n : NodeState). KeepsAlone n views input old.records new.records new.doubted result) same
+    (gives (subst (λ (n : NodeState). NodeHas n views) (sym same) up.has)) in
+    record {
+      due = did.0;
+      keeps = keeps_there old views up input did.0 did.1;
+      down = down;
+      kept = did.2;
+      me_is = me;
+      config_is = config;
+    }
 
 -- a delivery that is cut off
 abbrev pub CutDelivery : {S : Type 0} → SeatState S → List Message → ℕ → Views → EventResult → Seat → Type 0
@@ -350,24 +353,29 @@ module _ {S : Type 0} (state : SeatState S) (before : List Message) (views : Vie
 
 -- ---- a restart
 
--- the node is opened with the records that were kept
-pub started : {S : Type 0} (old new : SeatState S) (before : List Message) (given : EventResult) → IsPlaced old → old.doubted ≡ None → (node : NodeState) → HasNode old new (Some node)
-    → node.agreement.me ≡ old.me → node.agreement.config ≡ old.config → NodeHas node (started_with old.records)
-    → given ≡ results.Done → (seat : Seat) → Stands old seat → (recovered : Bool) × Leaves old new before before given (RestartGives recovered seat given)
-started old new before given placed certain node there node-me node-config has is seat stands =
-    let starts : (recovered : Bool) → old.records ≡ recovered_in recovered seat → Leaves old new before before given (RestartGives recovered seat given) =
-    λ recovered in_it. quiet old new before given (RestartGives recovered seat given) (IsUp (started_with old.records)) (ap count_of is)
-    (inl (is, ap (λ rs. IsUp (started_with rs)) in_it))
-    (record { node = node; up = there.node_is; me_is = node-me ∙ sym there.me_is; config_is = node-config ∙ sym there.config_is; has = has; kept = there.records_are; certain = there.doubted_is ∙ certain })
-    (same_records old new placed there.me_is there.config_is there.records_are there.doubted_is) there.me_is there.config_is in
-    elim seat as (λ (s : Seat). Stands old s → ((recovered : Bool) → old.records ≡ recovered_in recovered s → Leaves old new before before given (RestartGives recovered s given)) → (recovered : Bool) × Leaves old new before before given (RestartGives recovered s given)) [
-      | IsUp views ↦ λ up leaves. (true, leaves true up.kept)
-      | IsDown records due ↦ λ was leaves.
-          (let kept : HasKept old.records None records due = subst (λ (d : Option Record). HasKept old.records d records due) certain was.kept in (kept.0, leaves kept.0 kept.1))
-    ] stands starts
+-- what is recalled of a node that went down, with the record in doubt or without it
+recalled_of : (doubted : Option Record) (kept records : List Record) (due : Option Record) (recovered : Bool) → HasKept kept doubted records due
+    → (found : Bool) × (with_due recovered kept doubted ≡ with_due found records due)
+recalled_of None kept records due recovered has = has
+recalled_of (Some last) kept records due recovered (same, is) =
+    (recovered, ap (λ (rs : List Record). with_due recovered rs (Some last)) same ∙ ap (λ (d : Option Record). with_due recovered records d) (sym is))
+
+opened_in : {S : Type 0} (old : SeatState S) (seat : Seat) (recovered : Bool) → Stands old seat
+    → (found : Bool) × (with_due recovered old.records old.doubted ≡ recovered_in found seat)
+opened_in old (IsUp views) recovered up = (true, ap (λ (d : Option Record). with_due recovered old.records d) up.certain ∙ up.kept)
+opened_in old (IsDown records due) recovered was = recalled_of old.doubted old.records records due recovered was.kept
+
+-- the node is opened with the records that its store has
+pub restarted : {S : Type 0} (old new : SeatState S) (recovered : Bool) → IsRecovered old new recovered → RestartApplies old new results.Done
+restarted old new recovered is seat before placed stands =
+    let opened = opened_in old seat recovered stands in (
+      opened.0,
+      quiet old new before results.Done (RestartGives opened.0 seat results.Done) (IsUp (started_with (with_due recovered old.records old.doubted))) refl
+          (inl (refl, ap (λ (rs : List Record). IsUp (started_with rs)) opened.1)) is.stands is.placed is.me_is is.config_is,
+    )
 
 -- it is not, and is down
-pub start_refused : {S : Type 0} (old new : SeatState S) (before : List Message) (given : EventResult) → IsPlaced old → HasNode old new None
+start_refused : {S : Type 0} (old new : SeatState S) (before : List Message) (given : EventResult) → IsPlaced old → HasNode old new None
     → given ≡ results.Refused results.OutOfMemory → (seat : Seat) → Stands old seat
     → (recovered : Bool) × Leaves old new before before given (RestartGives recovered seat given)
 start_refused old new before given placed has is (IsUp views) up = (
@@ -386,104 +394,10 @@ start_refused old new before given placed has is (IsDown records due) was = (
       }) (same_records old new placed has.me_is has.config_is has.records_are has.doubted_is) has.me_is has.config_is,
 )
 
--- ---- what was recalled
-
--- the store gave back what was kept, and none is in doubt; the node is as it was
-pub record IsRecalled {S : Type 0} (old mid : SeatState S) : Type 0 where
-  pub recovered : Bool
-  pub records_are : mid.records ≡ with_due recovered old.records old.doubted
-  pub certain : mid.doubted ≡ None
-  pub node_is : mid.node ≡ old.node
-  pub me_is : mid.me ≡ old.me
-  pub config_is : mid.config ≡ old.config
-
-recovered_doubt : (doubted : Option Record) (kept now records : List Record) (due : Option Record) (recovered : Bool) → now ≡ with_due recovered kept doubted
-    → HasKept kept doubted records due → HasKept now None records due
-recovered_doubt None kept now records due recovered is (was, has) = (was, is ∙ has)
-recovered_doubt (Some last) kept now records due recovered is (same, due_is) =
-    (recovered, is ∙ (ap (λ (rs : List Record). with_due recovered rs (Some last)) same ∙ ap (λ (d : Option Record). with_due recovered records d) (sym due_is)))
-
--- it stands as before
-pub recalled_stands : {S : Type 0} (old mid : SeatState S) (seat : Seat) → IsRecalled old mid → Stands old seat → Stands mid seat
-recalled_stands old mid (IsUp views) is up = record {
-  node = up.node;
-  up = is.node_is ∙ up.up;
-  me_is = up.me_is ∙ sym is.me_is;
-  config_is = up.config_is ∙ sym is.config_is;
-  has = up.has;
-  kept = is.records_are ∙ (ap (λ (d : Option Record). with_due is.recovered old.records d) up.certain ∙ up.kept);
-  certain = is.certain;
-}
-recalled_stands old mid (IsDown records due) is was = record {
-  down = is.node_is ∙ was.down;
-  kept = subst (λ (d : Option Record). HasKept mid.records d records due) (sym is.certain)
-      (recovered_doubt old.doubted old.records mid.records records due is.recovered is.records_are was.kept);
-}
-
-pub recalled_placed : {S : Type 0} (old mid : SeatState S) → IsRecalled old mid → IsPlaced old → IsPlaced mid
-recalled_placed old mid is placed =
-    placed_too old mid placed is.me_is is.config_is
-    (subst (λ (rs : List Record). AllByRecursion (IsRecordOf old.config) rs) (sym is.records_are) (doubted_are_of old.config is.recovered old.records old.doubted placed.records_are placed.doubted_is))
-    (none_doubted old.config mid.doubted is.certain)
-
--- and what it gives is what the restart gives
-pub recalled_gives : {S : Type 0} (old mid new : SeatState S) (given : EventResult) → IsRecalled old mid → RestartApplies mid new given → RestartApplies old new given
-recalled_gives old mid new given is applies seat before placed stands =
-    let gives = applies seat before (recalled_placed old mid is placed) (recalled_stands old mid seat is stands) in (
-      gives.0,
-      record {
-        more = gives.1.more;
-        behind = gives.1.behind;
-        counted = gives.1.counted;
-        left = gives.1.left;
-        gives = gives.1.gives;
-        stands = gives.1.stands;
-        placed = gives.1.placed;
-        me_is = gives.1.me_is ∙ is.me_is;
-        config_is = gives.1.config_is ∙ is.config_is;
-      },
-    )
-
--- ---- what was not recalled
-
--- the store failed in a recall, and all else is as it was
-pub record IsUnrecalled {S : Type 0} (old mid : SeatState S) : Type 0 where
-  pub records_are : mid.records ≡ old.records
-  pub doubted_is : mid.doubted ≡ old.doubted
-  pub node_is : mid.node ≡ old.node
-  pub me_is : mid.me ≡ old.me
-  pub config_is : mid.config ≡ old.config
-
-unrecalled_stands : {S : Type 0} (old mid : SeatState S) (seat : Seat) → IsUnrecalled old mid → Stands old seat → Stands mid seat
-unrecalled_stands old mid (IsUp views) is up = record {
-  node = up.node;
-  up = is.node_is ∙ up.up;
-  me_is = up.me_is ∙ sym is.me_is;
-  config_is = up.config_is ∙ sym is.config_is;
-  has = up.has;
-  kept = is.records_are ∙ up.kept;
-  certain = is.doubted_is ∙ up.certain;
-}
-unrecalled_stands old mid (IsDown records due) is was = record {
-  down = is.node_is ∙ was.down;
-  kept = subst (λ (rs : List Record). HasKept rs mid.doubted records due) (sym is.records_are)
-      (subst (λ (d : Option Record). HasKept old.records d records due) (sym is.doubted_is) was.kept);
-}
-
-pub unrecalled : {S : Type 0} (old mid : SeatState S) (seat : Seat) (before : List Message) → IsUnrecalled old mid → IsPlaced old → Stands old seat → IsAsBefore old mid seat before before
-unrecalled old mid seat before is placed stands = record {
-  stands = unrecalled_stands old mid seat is stands;
-  records_are = is.records_are;
-  placed = same_records old mid placed is.me_is is.config_is is.records_are is.doubted_is;
-  me_is = is.me_is;
-  config_is = is.config_is;
-  unsent = refl;
-}
-
--- memory was refused in it, and the node is down
-pub unrecalled_gives : {S : Type 0} (old mid new : SeatState S) (given : EventResult) → IsUnrecalled old mid → HasNode mid new None → given ≡ results.Refused results.OutOfMemory
+-- memory was refused for it, and the node is let go
+pub restart_refused : {S : Type 0} (old mid new : SeatState S) (given : EventResult) → IsUnchanged old mid → HasNode mid new None → given ≡ results.Refused results.OutOfMemory
     → RestartApplies old new given
-unrecalled_gives old mid new given is has is_refused seat before placed stands =
+restart_refused old mid new given is has is_refused seat before placed stands =
     start_refused old new before given placed
     (record {
       node_is = has.node_is;
@@ -492,6 +406,18 @@ unrecalled_gives old mid new given is has is_refused seat before placed stands =
       records_are = has.records_are ∙ is.records_are;
       doubted_is = has.doubted_is ∙ is.doubted_is;
     }) is_refused seat stands
+
+-- the store failed, and all else is as it was
+pub unchanged : {S : Type 0} (old new : SeatState S) → IsUnchanged old new → (seat : Seat) (before : List Message) → IsPlaced old → Stands old seat
+    → IsAsBefore old new seat before before
+unchanged old new is seat before placed stands = record {
+  stands = is.stands seat stands;
+  records_are = is.records_are;
+  placed = is.placed placed;
+  me_is = is.me_is;
+  config_is = is.config_is;
+  unsent = refl;
+}
 
 -- what is none of the messages that went out is told as none of them
 pub sent_tells : (result : Told) → ((first count : ℕ) → result ≡ told.Sent first count → ⊥) → (first count : ℕ) → result_of result ≡ results.Sent first count → ⊥

@@ -28,6 +28,10 @@ pub none_by : {X : Type 0} (found : Option X) → is_some found ≡ false → fo
 none_by None is = refl
 none_by (Some x) is = absurd (true_is_false is)
 
+pub not_none : {X : Type 0} (found : Option X) → is_some found ≡ true → found ≡ None → ⊥
+not_none None is none = true_is_false (sym is)
+not_none (Some x) is none = none_is_some x (sym none)
+
 -- the event is one of this node
 pub as_mine : {S : Type 0} (old new : SeatState S) (before after : List Message) (given : EventResult) (event mine : events.Event) → event ≡ mine → UpApplies old new before after mine given → UpApplies old new before after event given
 as_mine old new before after given event mine is applies = subst (λ (e : events.Event). UpApplies old new before after e given) (sym is) applies

@@ -27,7 +27,7 @@ use Rattle.node_events.specs.Told.{result_of}
 use Rattle.node_seats.specs.State.{SeatState, IsPlaced, StandsUp, StandsDown, Stands, Leaves, SendsFor, IsAsBefore}
 use Rattle.node_seats.specs.declared.fault.SeatFault.{SeatFault}
 use Rattle.node_seats.specs.Kept.{DueLeaves, KeepsDue, HasKept}
-use Rattle.node_seats.specs.Steps.{IsDone, IsLeft, IsDoubted, TakeGives, IsNotKept, KeepsAlone, StepBreaks, HasNode}
+use Rattle.node_seats.specs.Steps.{IsDone, IsLeft, IsDoubted, TakeGives, DoubtsNone, IsNotKept, KeepsAlone, StepBreaks}
 use Rattle.node_seats.proofs.Dues.{due_keeps}
 use Rattle.node_seats.proofs.Placing.{IsOf, due_is_of, kept_is_of, recovered_are_of}
 use Rattle.node_seats.proofs.Keeping.{Planned as PlansAreKept, Refused as RefusedKeepNone, Taken as TakenKeepSome}
@@ -38,15 +38,6 @@ use Rattle.node_seats.proofs.Allowing.{Allows}
 -- two views that are one
 pub viewed_node : {S : Type 0} {a b : SeatState S} → a ≡ b → a.node ≡ b.node
 viewed_node {S = S} is = ap (λ (s : SeatState S). s.node) is
-
-pub viewed_me : {S : Type 0} {a b : SeatState S} → a ≡ b → a.me ≡ b.me
-viewed_me {S = S} is = ap (λ (s : SeatState S). s.me) is
-
-pub viewed_config : {S : Type 0} {a b : SeatState S} → a ≡ b → a.config ≡ b.config
-viewed_config {S = S} is = ap (λ (s : SeatState S). s.config) is
-
-pub viewed_records : {S : Type 0} {a b : SeatState S} → a ≡ b → a.records ≡ b.records
-viewed_records {S = S} is = ap (λ (s : SeatState S). s.records) is
 
 -- the record that is due is not recovered
 pub without_due : (records : List Record) (due : Option Record) → with_due false records due ≡ records
@@ -293,7 +284,7 @@ due_unkept (Some last) (Err store.Broken) records kept doubted is leaves = absur
 due_unkept (Some last) (Err store.OutOfMemory) records kept doubted is leaves = leaves
 
 -- the store failed, so that a record was due, and was not kept, or is in doubt
-failed_due : {T : Type 0} (due : Option Record) (why : StoreFault) (records kept : List Record) (doubted : Option Record) (result : Result T StoreFault) → result ≡ Err why
+pub failed_due : {T : Type 0} (due : Option Record) (why : StoreFault) (records kept : List Record) (doubted : Option Record) (result : Result T StoreFault) → result ≡ Err why
     → DueLeaves due result records kept doubted → (last : Record) × (due ≡ Some last) × (kept ≡ records) × ((doubted ≡ None) ⊎ (doubted ≡ Some last))
 failed_due None why records kept doubted (Ok done) is leaves = absurd (let no : Ok done ≡ Err why = is in cc)
 failed_due None why records kept doubted (Err other) is leaves = absurd (not_ok leaves.0)
@@ -404,27 +395,24 @@ doubted_down old new views input records due placed up keeps down me config kept
     )
 
 -- what it was up for is broken off
-pub step_breaks : {S : Type 0} (old mid new : SeatState S) (views : Views) (input : Input) (before after : List Message) (node : NodeState) → IsPlaced old → (up : StandsUp old views) → old.node ≡ Some node
-    → (NodeHas node views → IsDoubted node views input old.records mid.records mid.doubted before after) → mid.me ≡ old.me → mid.config ≡ old.config → HasNode mid new None
+pub step_breaks : {S : Type 0} (old new : SeatState S) (views : Views) (input : Input) (before after : List Message) (node : NodeState) → IsPlaced old → (up : StandsUp old views) → old.node ≡ Some node
+    → (NodeHas node views → IsDoubted node views input old.records new.records new.doubted before after) → new.node ≡ None → new.me ≡ old.me → new.config ≡ old.config
     → StepBreaks old new views input before after
-step_breaks old mid new views input before after node placed up here gives me config has =
+step_breaks old new views input before after node placed up here gives down me config =
     let same = same_node old views up node here in
-    let did : IsDoubted up.node views input old.records mid.records mid.doubted before after =
-    subst (λ (n : NodeState). IsDoubted n views input old.records mid.records mid.doubted before after) same
+    let did : IsDoubted up.node views input old.records new.records new.doubted before after =
+    subst (λ (n : NodeState). IsDoubted n views input old.records new.records new.doubted before after) same
     (gives (subst (λ (n : NodeState). NodeHas n views) (sym same) up.has)) in
     let keeps = keeps_there old views up input (Some did.last) did.keeps in
-    let kept : HasKept new.records new.doubted old.records (Some did.last) =
-    subst (λ (rs : List Record). HasKept rs new.doubted old.records (Some did.last)) (sym has.records_are)
-    (subst (λ (d : Option Record). HasKept mid.records d old.records (Some did.last)) (sym has.doubted_is)
-    (has_kept mid.doubted old.records mid.records (Some did.last) did.unrecorded did.in_doubt)) in
-    let left = doubted_down old new views input old.records (Some did.last) placed up keeps has.node_is (has.me_is ∙ me) (has.config_is ∙ config) kept in
+    let left = doubted_down old new views input old.records (Some did.last) placed up keeps down me config
+    (has_kept new.doubted old.records new.records (Some did.last) did.unrecorded did.in_doubt) in
     record {
       left = IsDown views.records (Some did.last);
       breaks = (did.last, keeps, refl);
       stands = left.0;
       placed = left.1;
-      me_is = has.me_is ∙ me;
-      config_is = has.config_is ∙ config;
+      me_is = me;
+      config_is = config;
       unsent = did.unsent;
     }
 
@@ -445,3 +433,12 @@ unkept_gives keep old mid views input planned records kept doubted due before af
     let left = due_unkept due result records kept doubted failed leaves in
     subst (λ (r : Result (Result ℕ Refusal) SeatFault). TakeGives old mid views input records kept doubted before after r) (sym is)
     (may_want_memory old views input planned plan, record { has = has; unrecorded = left.0; certain = left.1; unsent = unsent })
+
+-- and then no record is in doubt, where it wants memory
+pub unkept_doubts : {T : Type 0} (records kept : List Record) (doubted due : Option Record) (why : StoreFault) (result : Result T StoreFault) (given : Result (Result ℕ Refusal) SeatFault)
+    → result ≡ Err why → IsNotKept why given → DueLeaves due result records kept doubted → DoubtsNone given doubted
+unkept_doubts records kept doubted due store.Device result given failed is leaves = subst (λ (r : Result (Result ℕ Refusal) SeatFault). DoubtsNone r doubted) (sym is) tt
+unkept_doubts records kept doubted due store.Damaged result given failed is leaves = subst (λ (r : Result (Result ℕ Refusal) SeatFault). DoubtsNone r doubted) (sym is) tt
+unkept_doubts records kept doubted due store.Broken result given failed is leaves = subst (λ (r : Result (Result ℕ Refusal) SeatFault). DoubtsNone r doubted) (sym is) tt
+unkept_doubts records kept doubted due store.OutOfMemory result given failed is leaves =
+    subst (λ (r : Result (Result ℕ Refusal) SeatFault). DoubtsNone r doubted) (sym is) (due_unkept due result records kept doubted failed leaves).1

@@ -7,3 +7,5 @@ mod Leaving
 mod Applying
 mod Arms
 mod Answering
+mod Planning
+mod Reopening

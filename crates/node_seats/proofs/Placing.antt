@@ -1,7 +1,6 @@
 -- The record that is due is of the configuration, so that a node can start with it.
 use Rattle.std.proofs.Common.{◌≡◌, sym, subst, inl, inr, ℕ, ◌<◌, true, false, Bool, Option, None, Some, List, [], ◌∷◌, ◌++◌}
 use Rattle.std.specs.List.{AllByRecursion}
-use Rattle.std.specs.Option.{IfSome}
 use Rattle.ballots.specs.Ballot.{Ballot}
 use Rattle.ballots.specs.declared.acceptance.Acceptance.{Acceptance}
 use Rattle.ballots.specs.declared.record.Record.{Record}
@@ -99,9 +98,3 @@ recovered_are_of config true records None all of = all
 recovered_are_of config false records None all of = all
 recovered_are_of config true records (Some kept) all of = records_and config records kept all of
 recovered_are_of config false records (Some kept) all of = all
-
--- likewise of the record in doubt
-pub doubted_are_of : (config : Config) (recovered : Bool) (records : List Record) (doubted : Option Record)
-    → AllByRecursion (IsRecordOf config) records → IfSome doubted (IsRecordOf config) → AllByRecursion (IsRecordOf config) (with_due recovered records doubted)
-doubted_are_of config recovered records None all of = recovered_are_of config recovered records None all tt
-doubted_are_of config recovered records (Some last) all of = recovered_are_of config recovered records (Some last) all of

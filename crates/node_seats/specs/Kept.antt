@@ -5,6 +5,7 @@ use Rattle.ballots.specs.declared.record.Record.{Record}
 use Rattle.stable_records.specs.declared.fault.StoreFault.{StoreFault}
 use Rattle.stable_records.specs.declared.fault.StoreFault.TheVariants as store
 use Rattle.stable_records.specs.Found.{Found}
+use Rattle.stable_records.specs.Calls.{RaisesCount}
 use Rattle.histories.specs.Following.{with_due}
 use Rattle.node_seats.specs.declared.fault.SeatFault.{SeatFault}
 use Rattle.node_seats.specs.declared.fault.SeatFault.TheVariants.{OutOfMemory, Store, Lost}
@@ -41,6 +42,14 @@ abbrev pub CountsSeatFault : (tells : Bool) → SeatFault → (old new : ℕ) �
 CountsSeatFault tells OutOfMemory old new = new ≡ old
 CountsSeatFault tells (Store fault) old new = old < new
 CountsSeatFault tells Lost old new = (IsTrue tells → ⊥) × (new ≡ old)
+
+-- By its answer, a recall leaves the count or raises it: the store's own fault raises it, but not its want of memory; records are
+-- lost only where the store does not tell what it has; and want of memory for the node leaves it.
+abbrev pub CountsRecall : {T : Type 0} → (tells : Bool) → Result T SeatFault → (old new : ℕ) → Type 0
+CountsRecall tells (Ok _) old new = new ≡ old
+CountsRecall tells (Err OutOfMemory) old new = new ≡ old
+CountsRecall tells (Err (Store fault)) old new = RaisesCount fault old new
+CountsRecall tells (Err Lost) old new = (IsTrue tells → ⊥) × (new ≡ old)
 
 -- Likewise of the record that is due, if one is.
 abbrev pub DueLeaves : {T : Type 0} → Option Record → Result T StoreFault → (old new : List Record) → (doubted : Option Record) → Type 0

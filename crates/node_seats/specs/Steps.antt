@@ -79,6 +79,13 @@ TakeGives old new views input records kept doubted before after (Err (fault.Stor
     IsDoubted old views input records kept doubted before after
 TakeGives old new views input records kept doubted before after (Err fault.Lost) = ⊥
 
+-- no record is in doubt, but where the store failed
+abbrev pub DoubtsNone : {T : Type 0} → Result T SeatFault → Option Record → Type 0
+DoubtsNone (Ok _) doubted = doubted ≡ None
+DoubtsNone (Err fault.OutOfMemory) doubted = doubted ≡ None
+DoubtsNone (Err (fault.Store why)) doubted = Unit {0}
+DoubtsNone (Err fault.Lost) doubted = doubted ≡ None
+
 -- what a fault of the store is to the input: want of memory refuses it
 abbrev pub IsNotKept : StoreFault → Result (Result ℕ Refusal) SeatFault → Type 0
 IsNotKept store.Device result = result ≡ Err (fault.Store store.Device)

@@ -1,13 +1,13 @@
 //! A store with the records that it kept.
 
 ghost use Rattle.std.specs.Prelude.{◌≡◌, ◌≢◌, ◌↔◌, ◌+◌, ◌≤◌, [], ◌∷◌, ◌++◌, true, false, List, None, Some, Ok, IsTrue};
-ghost use Rattle.std.specs.Prelude.{IfOk, IfErr, OnOk, OnErr, vec_len, vec_capacity};
+ghost use Rattle.std.specs.Prelude.{IfOk, IfErr, vec_len, vec_capacity};
 ghost use Rattle.std.specs.Option.{IfSome};
 ghost use Rattle.ballots.specs.declared.record.Record.{Record as Held};
-ghost use Rattle.stable_records.specs.Found.{Found};
+ghost use Rattle.stable_records.specs.Found.{Found, FindsOnly};
 ghost use Rattle.stable_records.specs.Calls.{CountsFault, RaisesCount};
 ghost use Rattle.histories.specs.Following.{with_due};
-ghost use Rattle.node_seats.specs.Kept.{FindsKept, RecoversAs, KeepLeaves, CountsSeatFault};
+ghost use Rattle.node_seats.specs.Kept.{FindsKept, RecoversAs, KeepLeaves, CountsRecall};
 
 use crate::fault::SeatFault;
 use ballots::Record;
@@ -22,7 +22,6 @@ pub(crate) struct KeptRecords<S: Stable> {
     /// The record of a keep that failed: the store has it, or not.
     pub(crate) doubted: Option<Record>,
     ghost found: { IsTrue S.tells → FindsKept (S.finds store) records.items doubted },
-    ghost ready: { IsTrue S.tells → doubted ≢ None → S.is_ready store ≡ false },
 }
 
 // Records are equal where they are one.
@@ -32,7 +31,8 @@ fn equal_records_are_one()
 
 /// Whether the record in doubt was recalled behind the others, `None` where other records were recalled.
 fn recovered_in(kept: &[Record], doubted: &Option<Record>, recalled: &[Record]) -> Option<bool>
-    ensures { RecoversAs kept.now doubted.now recalled.now result }
+    ensures recovers { RecoversAs kept.now doubted.now recalled.now result }
+    ensures certain { doubted.now ≡ None → result ≢ Some true }
 {
     equal_records_are_one();
     let behind = recalled.strip_prefix(kept)?;
@@ -65,13 +65,13 @@ impl<S: Stable + Drop> KeptRecords<S> {
         }))
     }
 
-    /// Keeps a record behind the others.
+    /// Keeps a record behind the others, where none is in doubt.
     ///
     /// After [`StoreFault::Device`] the record is in doubt; any other fault changes nothing.
     pub(crate) fn keep(&mut self, last: &Record) -> Result<(), StoreFault>
+        requires certain { self.old.doubted ≡ None }
         ensures counted { CountsFault result (S.faults self.old.store) (S.faults self.new.store) }
-        ensures kept { self.old.doubted ≡ None
-            → KeepLeaves last.now result self.old.records.items self.new.records.items self.new.doubted }
+        ensures kept { KeepLeaves last.now result self.old.records.items self.new.records.items self.new.doubted }
     {
         let copy = last.clone()?;
         self.records.reserve(1)?;
@@ -89,32 +89,39 @@ impl<S: Stable + Drop> KeptRecords<S> {
         }
     }
 
-    /// Recalls the records, and says whether the one in doubt is among them. No record is in doubt then.
-    ///
-    /// [`SeatFault::Lost`] where other records are recalled than those that were kept. After a fault the records are as
+    /// Recalls the records, and says whether the one in doubt is among them. What was kept and what is in doubt is as
     /// before.
-    pub(crate) fn recall(&mut self, alloc: Global) -> Result<bool, SeatFault>
-        ensures recovered { IfOk result
-            (λ recovered. self.new.records.items ≡ with_due recovered self.old.records.items self.old.doubted) }
-        ensures certain { IfOk result (λ _. self.new.doubted ≡ None) }
-        ensures same { OnErr result (self.new.records.items ≡ self.old.records.items) }
-        ensures doubted { OnErr result (self.new.doubted ≡ self.old.doubted) }
-        ensures fault { IfErr result (λ fault. CountsSeatFault S.tells fault
-            (S.faults self.old.store) (S.faults self.new.store)) }
+    ///
+    /// [`SeatFault::Lost`] where other records are recalled than those that were kept. The other faults are the
+    /// store's.
+    pub(crate) fn recalled(&mut self, alloc: Global) -> Result<(Vec<Record>, bool), SeatFault>
+        ensures recalled { IfOk result
+            (λ found. found.0.items ≡ with_due found.1 self.old.records.items self.old.doubted) }
+        ensures certain { IfOk result (λ found. self.old.doubted ≡ None → found.1 ≡ false) }
+        ensures finds { IfOk result (λ found. IsTrue S.tells → FindsOnly (S.finds self.new.store) found.0.items) }
+        ensures records { self.new.records ≡ self.old.records }
+        ensures doubted { self.new.doubted ≡ self.old.doubted }
+        ensures counted { CountsRecall S.tells result (S.faults self.old.store) (S.faults self.new.store) }
     {
         let recalled = match self.store.recall(alloc) {
             Ok(recalled) => recalled,
-            Err(StoreFault::OutOfMemory) => return Err(SeatFault::OutOfMemory),
             Err(fault) => return Err(SeatFault::Store(fault)),
         };
         match recovered_in(self.records.as_slice(), &self.doubted, recalled.as_slice()) {
-            Some(recovered) => {
-                self.records = recalled;
-                self.doubted = None;
-                Ok(recovered)
-            }
+            Some(recovered) => Ok((recalled, recovered)),
             None => Err(SeatFault::Lost),
         }
+    }
+
+    /// Puts the records that were recalled in the place of those that were kept. No record is in doubt then.
+    pub(crate) fn recover(&mut self, recalled: Vec<Record>)
+        requires finds { IsTrue S.tells → FindsOnly (S.finds self.old.store) recalled.items }
+        ensures records { self.new.records.items ≡ recalled.items }
+        ensures certain { self.new.doubted ≡ None }
+        ensures store { self.new.store ≡ self.old.store }
+    {
+        self.records = recalled;
+        self.doubted = None;
     }
 }
 

@@ -10,6 +10,10 @@
 //! let result = seat.apply(&mut sent, &event)?;  // what the event gives; its messages go behind those in `sent`
 //! ```
 //!
+//! The parts of an event are calls of their own: [`Seat::plan`] tells what is due to an input, [`Seat::take`] keeps the
+//! record of a plan and then does what was planned, and [`Seat::recover`] opens the node with all records that its store
+//! has.
+//!
 //! It stands on any store ([`stable_records::Stable`]), which it asks to keep and to recall and nothing else. The records
 //! that it kept it knows itself too: a restart that is given others back is refused ([`SeatFault::Lost`]), so that what a
 //! node answers after a restart never rests on a store that forgot.

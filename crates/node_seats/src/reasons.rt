@@ -4,13 +4,15 @@ ghost use Rattle.std.specs.Prelude.{◌≡◌};
 ghost use Rattle.histories.specs.Following.{reason_of as reason_due};
 ghost use Rattle.node_core.specs.Inputs.{refusal_of};
 ghost use Rattle.node_events.specs.Told.{reason_of};
+ghost use Rattle.node_seats.specs.Parts.{reason_telling};
 
 use node_core::Refusal;
 use node_events::Reason;
 
 /// A node's refusal as what an event gives.
 pub(crate) fn reason_for(refusal: Refusal) -> Reason
-    ensures { reason_of result ≡ reason_due (refusal_of refusal) }
+    ensures told { result ≡ reason_telling refusal }
+    ensures due { reason_of result ≡ reason_due (refusal_of refusal) }
 {
     match refusal {
         Refusal::OutOfRange => Reason::OutOfRange,

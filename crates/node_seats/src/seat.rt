@@ -1,22 +1,25 @@
 //! A seat.
 
 ghost use Rattle.std.specs.Prelude.{◌≡◌, ◌≢◌, ◌⊎◌, ℕ, ◌<◌, List, [], None, Some, Ok, Err, IsTrue, IfOk, IfErr};
-ghost use Rattle.std.specs.Option.{IfSome};
+ghost use Rattle.std.specs.Option.{IfSome, option_map};
 ghost use Rattle.ballots.specs.declared.record.Record.{Record as Held};
 ghost use Rattle.ballots.specs.declared.message.Message.{Message as Sent};
 ghost use Rattle.agreement_rules.specs.Views.{started_with, Views};
+ghost use Rattle.histories.specs.Due.{Input as Owed};
 ghost use Rattle.histories.specs.Event.{node_of};
 ghost use Rattle.histories.specs.Event as events;
+ghost use Rattle.histories.specs.EventResult as results;
 ghost use Rattle.histories.specs.Following.{Seat as HistorySeat, IsUp};
 ghost use Rattle.node_core.specs.Inputs.{input_of};
 ghost use Rattle.node_core.specs.State.{NodeState};
 ghost use Rattle.node_events.specs.Told.{event_of, result_of};
-ghost use Rattle.node_seats.specs.State.{IsPlaced, StandsUp, Stands, SeatAnswers};
-ghost use Rattle.node_seats.specs.Steps.{HandsMessage, KeepsAlone, StepAnswers, UpAnswers, UpApplies, CutApplies};
-ghost use Rattle.node_seats.specs.Steps.{QuietApplies, DownAnswers, RestartApplies, RestartAnswers, HasNode};
+ghost use Rattle.node_seats.specs.State.{IsPlaced, Stands, SeatAnswers};
+ghost use Rattle.node_seats.specs.Steps.{HandsMessage, StepAnswers, UpAnswers, UpApplies, CutApplies};
+ghost use Rattle.node_seats.specs.Steps.{QuietApplies, DownAnswers, RestartAnswers, HasNode};
+ghost use Rattle.node_seats.specs.Parts.{IsPlannedFor, PlanAnswers, StandsStill, IsUpFor, PlanTaken, RecoverGives};
 ghost use Rattle.stable_records.specs.declared.fault.StoreFault.TheVariants.{OutOfMemory};
-ghost use Rattle.stable_records.specs.Calls.{RaisesCount};
-ghost use Rattle.node_seats.specs.Kept.{CountsSeatFault};
+ghost use Rattle.stable_records.specs.Calls.{CountsFault, RaisesCount};
+ghost use Rattle.node_seats.specs.Kept.{CountsSeatFault, CountsRecall};
 
 use crate::due::{records_are_due, what_is_taken_is_allowed};
 use crate::fault::SeatFault;
@@ -24,9 +27,9 @@ use crate::handing::{message_for, upload_for};
 use crate::kept::KeptRecords;
 use crate::questions::{latest_asked, version_asked};
 use crate::reasons::reason_for;
-use crate::steps::{keep_alone, take};
+use crate::steps::{keep_alone, keep_and_commit, take};
 use ballots::{Message, NodeId};
-use node_core::{Config, Input, Node};
+use node_core::{Config, Input, Node, Plan};
 use node_events::{Event, EventResult, Reason};
 use stable_records::{Stable, StoreFault};
 use std::alloc::Global;
@@ -56,6 +59,8 @@ impl<S: Stable> Model for Seat<S> {
 
     ghost coded = { Prim.hlevel (codes, node_part.the_row.coded, S.code) };
 
+    ghost use Rattle.std.specs.Prelude.{◌≡◌, ◌≢◌, None};
+
     ghost view = { λ s. record {
       me = s.me;
       config = s.config;
@@ -64,6 +69,8 @@ impl<S: Stable> Model for Seat<S> {
       doubted = s.kept.doubted;
       node = s.node;
     } };
+
+    ghost invariant = { λ s. s.node ≢ None → s.kept.doubted ≡ None };
 }
 
 // Written out, so that a crate above lets go of a seat by one call, and does not prove again what is inside it.
@@ -118,6 +125,81 @@ impl<S: Stable + Drop> Seat<S> {
                 node: Some(node),
             })),
             Err(_) => Err(StoreFault::OutOfMemory),
+        }
+    }
+
+    /// The node, where it is up.
+    pub fn node(&self) -> Option<&Node>
+        ensures { option_map (λ node. node.now) result ≡ self.now.node }
+    {
+        self.node.as_ref()
+    }
+
+    /// What is due to an input: a plan, which [`Seat::take`] makes true, or why the node refuses it, as [`Node::plan`]
+    /// tells it. It is [`Reason::Down`] exactly where the node is down, and never [`Reason::NotSent`]. Whatever the
+    /// answer, all stands as it stood.
+    pub fn plan(&mut self, input: Input) -> Result<Plan, Reason>
+        ensures gives { PlanAnswers self.old self.new (input_of input) result }
+        ensures can { IfOk result (IsUpFor self.new) }
+        ensures same { StandsStill self.old self.new }
+    {
+        let Some(node) = &mut self.node else {
+            drop(input);
+            return Err(Reason::Down);
+        };
+        match node.plan(input) {
+            Ok(plan) => Ok(plan),
+            Err(refusal) => Err(reason_for(refusal)),
+        }
+    }
+
+    /// Keeps the plan's record, if it has one, and then does what was planned. Memory is taken for the record alone. The
+    /// node is as [`Seat::plan`] left it when it made this plan.
+    ///
+    /// After any fault the node is down, and the record is not kept, or in doubt. A plan that has no record meets none.
+    pub fn take(&mut self, plan: Plan) -> Result<(), StoreFault>
+        requires { IsUpFor self.old plan }
+        ensures counted { CountsFault result (S.faults self.old.store) (S.faults self.new.store) }
+        ensures gives { (views : Views) (input : Owed) → IsPlaced self.old
+            → IsPlannedFor self.old views input plan → PlanTaken self.old self.new views input plan result }
+    {
+        records_are_due();
+        let Some(node) = &mut self.node else {
+            unreachable!();
+        };
+        match keep_and_commit(node, &mut self.kept, plan) {
+            Ok(()) => Ok(()),
+            Err(fault) => {
+                drop(mem::replace(&mut self.node, None));
+                Err(fault)
+            }
+        }
+    }
+
+    /// Opens the node with all records that its store has, and tells whether the one in doubt was among them. The node
+    /// that there was is let go, up or down. After a fault nothing is changed but the store.
+    ///
+    /// [`SeatFault::Store`] is the store's fault in recalling the records, its want of memory too;
+    /// [`SeatFault::OutOfMemory`] says that memory for the node was refused.
+    pub fn recover(&mut self) -> Result<bool, SeatFault>
+        ensures counted { CountsRecall S.tells result (S.faults self.old.store) (S.faults self.new.store) }
+        ensures gives { RecoverGives self.old self.new result }
+    {
+        let (records, recovered) = match self.kept.recalled(self.alloc) {
+            Ok(found) => found,
+            Err(fault) => return Err(fault),
+        };
+        let found = records.as_slice();
+        match Node::open(self.alloc, self.hashing, self.me, self.config, found) {
+            Ok(node) => {
+                self.kept.recover(records);
+                drop(mem::replace(&mut self.node, Some(node)));
+                Ok(recovered)
+            }
+            Err(_) => {
+                drop(records);
+                Err(SeatFault::OutOfMemory)
+            }
         }
     }
 
@@ -176,46 +258,35 @@ impl<S: Stable + Drop> Seat<S> {
         }
     }
 
-    // The node is opened with all records that it kept. They are recalled before the node that there is is let go.
+    // The node is opened with all records that it kept; where memory is refused, it is down.
     fn restart(&mut self) -> Result<EventResult, SeatFault>
         ensures counted { IfErr result (λ fault. CountsSeatFault S.tells fault
             (S.faults self.old.store) (S.faults self.new.store)) }
         ensures gives { RestartAnswers self.old self.new result }
     {
-        match self.kept.recall(self.alloc) {
-            Ok(_) => Ok(self.reopen()),
-            Err(SeatFault::OutOfMemory) => {
-                self.set_node(None);
-                Ok(EventResult::Refused(Reason::OutOfMemory))
-            }
+        match self.recover() {
+            Ok(_) => Ok(EventResult::Done),
+            Err(SeatFault::OutOfMemory) => Ok(self.refuse_restart()),
+            Err(SeatFault::Store(StoreFault::OutOfMemory)) => Ok(self.refuse_restart()),
             Err(SeatFault::Store(fault)) => Err(SeatFault::Store(fault)),
             Err(SeatFault::Lost) => Err(SeatFault::Lost),
         }
     }
 
-    // The node is opened with the records that were recalled; where memory is refused, it is down.
-    fn reopen(&mut self) -> EventResult
-        ensures { self.old.doubted ≡ None → RestartApplies self.old self.new (result_of result) }
+    // Goes down, where memory for a restart is refused.
+    fn refuse_restart(&mut self) -> EventResult
+        ensures has { HasNode self.old self.new None }
+        ensures told { result_of result ≡ results.Refused results.OutOfMemory }
     {
-        let records = self.kept.records.as_slice();
-        match Node::open(self.alloc, self.hashing, self.me, self.config, records) {
-            Ok(node) => {
-                self.set_node(Some(node));
-                EventResult::Done
-            }
-            Err(_) => {
-                self.set_node(None);
-                EventResult::Refused(Reason::OutOfMemory)
-            }
-        }
+        self.go_down();
+        EventResult::Refused(Reason::OutOfMemory)
     }
 
-    // Puts this node in the place of the one that there is, or none.
-    fn set_node(&mut self, node: Option<Node>)
-        ensures has { HasNode self.old self.new node }
-        ensures store { self.new.store ≡ self.old.store }
+    // Lets the node go.
+    fn go_down(&mut self)
+        ensures { HasNode self.old self.new None }
     {
-        drop(mem::replace(&mut self.node, node));
+        drop(mem::replace(&mut self.node, None));
     }
 
     // A client hands in an upload.
@@ -276,7 +347,7 @@ impl<S: Stable + Drop> Seat<S> {
             Ok(Err(refusal)) => Ok(EventResult::Refused(reason_for(refusal))),
             Err(SeatFault::OutOfMemory) => Err(SeatFault::OutOfMemory),
             Err(SeatFault::Store(fault)) => {
-                self.set_node(None);
+                drop(mem::replace(&mut self.node, None));
                 Err(SeatFault::Store(fault))
             }
             Err(SeatFault::Lost) => unreachable!(),
@@ -303,23 +374,13 @@ impl<S: Stable + Drop> Seat<S> {
     fn cut(&mut self, input: Input) -> Result<(), StoreFault>
         ensures { CutApplies self.old self.new (input_of input) result }
     {
-        let answer = self.keep_due(input);
-        self.set_node(None);
-        answer
-    }
-
-    // Keeps the record that is due to the input, if one is.
-    fn keep_due(&mut self, input: Input) -> Result<(), StoreFault>
-        ensures kept { (views : Views) (up : StandsUp self.old views) → KeepsAlone up.node views (input_of input)
-            self.old.records self.new.records self.new.doubted result }
-        ensures me { self.new.me ≡ self.old.me }
-        ensures config { self.new.config ≡ self.old.config }
-    {
-        let Some(node) = &mut self.node else {
+        let Some(mut node) = self.node.take() else {
             drop(input);
             return Ok(());
         };
-        keep_alone(node, &mut self.kept, input)
+        let answer = keep_alone(&mut node, &mut self.kept, input);
+        drop(node);
+        answer
     }
 
     // Goes down behind the record that is due to a tick.
@@ -358,7 +419,7 @@ impl<S: Stable + Drop> Seat<S> {
         match reason {
             Reason::NotSent => EventResult::Refused(Reason::NotSent),
             _ => {
-                self.set_node(None);
+                self.go_down();
                 EventResult::Done
             }
         }

@@ -6,16 +6,17 @@ ghost use Rattle.agreement.specs.declared.refusal.Refusal.TheVariants as refusal
 ghost use Rattle.agreement_rules.specs.Views.{Views};
 ghost use Rattle.node_core.specs.State.{NodeHas};
 ghost use Rattle.node_core.specs.Inputs.{input_of};
+ghost use Rattle.node_core.specs.Plans.{CanCommit, LeadsTo, kept_by};
 ghost use Rattle.stable_records.specs.Calls.{CountsFault};
 ghost use Rattle.node_seats.specs.declared.fault.SeatFault.TheVariants.{Lost};
 ghost use Rattle.node_seats.specs.Kept.{DueLeaves, CountsSeatFault};
-ghost use Rattle.node_seats.specs.Steps.{TakeGives, IsNotKept, KeepsAlone};
+ghost use Rattle.node_seats.specs.Steps.{TakeGives, DoubtsNone, IsNotKept, KeepsAlone};
 
 use crate::due::records_are_due;
 use crate::fault::SeatFault;
 use crate::kept::KeptRecords;
 use ballots::{Message, OutOfMemory, Record};
-use node_core::{Input, Node, Refusal};
+use node_core::{Input, Node, Plan, Refusal};
 use stable_records::{Stable, StoreFault};
 use std::alloc::Global;
 
@@ -24,13 +25,45 @@ fn keep_due<S: Stable + Drop>(
     kept: &mut KeptRecords<S>,
     due: Option<&Record>,
 ) -> Result<(), StoreFault>
+    requires certain { kept.old.doubted ≡ None }
     ensures counted { CountsFault result (S.faults kept.old.store) (S.faults kept.new.store) }
-    ensures kept { kept.old.doubted ≡ None → DueLeaves (option_map (λ due. due.now) due.entry) result
+    ensures kept { DueLeaves (option_map (λ due. due.now) due.entry) result
         kept.old.records.items kept.new.records.items kept.new.doubted }
 {
     match due {
         Some(record) => kept.keep(record),
         None => Ok(()),
+    }
+}
+
+/// Keeps the plan's record, if it has one, and then commits the plan.
+///
+/// The fault says that the record was not kept, or is in doubt, and the node is as it was.
+pub(crate) fn keep_and_commit<S: Stable + Drop>(
+    node: &mut Node,
+    kept: &mut KeptRecords<S>,
+    plan: Plan,
+) -> Result<(), StoreFault>
+    requires can { CanCommit node.old plan }
+    requires certain { kept.old.doubted ≡ None }
+    ensures counted { CountsFault result (S.faults kept.old.store) (S.faults kept.new.store) }
+    ensures kept { DueLeaves (kept_by plan) result
+        kept.old.records.items kept.new.records.items kept.new.doubted }
+    ensures stands { OnOk result ((views after : Views) → NodeHas node.old views
+        → LeadsTo node.old.agreement.config views plan after → NodeHas node.new after) }
+    ensures same { OnErr result (node.new ≡ node.old) }
+    ensures me { node.new.agreement.me ≡ node.old.agreement.me }
+    ensures config { node.new.agreement.config ≡ node.old.agreement.config }
+{
+    match keep_due(kept, plan.record()) {
+        Ok(()) => {
+            node.commit(plan);
+            Ok(())
+        }
+        Err(fault) => {
+            drop(plan);
+            Err(fault)
+        }
     }
 }
 
@@ -79,9 +112,10 @@ pub(crate) fn take<S: Stable + Drop>(
     sent: &mut Vec<Message>,
     input: Input,
 ) -> Result<Result<usize, Refusal>, SeatFault>
-    ensures gives { (views : Views) → NodeHas node.old views → kept.old.doubted ≡ None
-        → TakeGives node.old node.new views (input_of input)
+    requires certain { kept.old.doubted ≡ None }
+    ensures gives { (views : Views) → NodeHas node.old views → TakeGives node.old node.new views (input_of input)
         kept.old.records.items kept.new.records.items kept.new.doubted sent.old.items sent.new.items result }
+    ensures certain { DoubtsNone result kept.new.doubted }
     ensures counted { IfErr result (λ fault. fault ≢ Lost
         × CountsSeatFault S.tells fault (S.faults kept.old.store) (S.faults kept.new.store)) }
     ensures me { node.new.agreement.me ≡ node.old.agreement.me }
@@ -99,13 +133,9 @@ pub(crate) fn take<S: Stable + Drop>(
             return Err(SeatFault::OutOfMemory);
         }
     };
-    match keep_due(kept, plan.record()) {
-        Ok(()) => {
-            node.commit(plan);
-            Ok(Ok(send(sent, copies)))
-        }
+    match keep_and_commit(node, kept, plan) {
+        Ok(()) => Ok(Ok(send(sent, copies))),
         Err(fault) => {
-            drop(plan);
             drop(copies);
             not_kept(fault)
         }
@@ -130,8 +160,8 @@ pub(crate) fn keep_alone<S: Stable + Drop>(
     kept: &mut KeptRecords<S>,
     input: Input,
 ) -> Result<(), StoreFault>
-    ensures { (views : Views) → NodeHas node.old views → kept.old.doubted ≡ None
-        → KeepsAlone node.old views (input_of input)
+    requires { kept.old.doubted ≡ None }
+    ensures { (views : Views) → NodeHas node.old views → KeepsAlone node.old views (input_of input)
         kept.old.records.items kept.new.records.items kept.new.doubted result }
 {
     records_are_due();

@@ -10,5 +10,5 @@ returns-in-NotSent g c = λ node sent number here not views placed up.
 
 pub returns-in_default : goal.returns-in_default
 returns-in_default g c = λ node sent number here not views placed up.
-    not_handed_cut c.records_are_due.ensures.taken c.args.self.now c.set_node.new.self sent views number placed up node here c.set_node.ensures.has
+    not_handed_cut c.records_are_due.ensures.taken c.args.self.now c.go_down.new.self sent views number placed up node here c.go_down.ensures
     c.args.reason c.in_default.not-NotSent not

@@ -16,4 +16,4 @@ pub returns-in-Err-clause-gives : goal.returns-in-Err-clause-gives
 returns-in-Err-clause-gives g c = λ views placed up.
     put_not_handed c.what_is_taken_is_allowed.ensures c.args.self.now c.args.sent.now.items views c.args.upload.now c.in-Err.refusal (results.Refused (reason_of c.reason_for.result)) placed up
     c.in-Some.node (sym (viewed_node c.self.view_is) ∙ c.in-Some.is) (λ has. c.in-Err.ensures.refused views has)
-    (ap (λ r. results.Refused r) c.reason_for.ensures)
+    (ap (λ r. results.Refused r) c.reason_for.ensures.due)

@@ -1,12 +1,8 @@
-use Rattle.std.proofs.Common.{◌≡◌, ◌≢◌, refl, subst, Err}
+use Rattle.std.proofs.Common.{◌≢◌}
 use Rattle.stable_records.specs.declared.fault.StoreFault.{StoreFault}
-use Rattle.histories.specs.EventResult as results
 use Rattle.node_events.specs.Told.{result_of}
 use Rattle.node_seats.specs.declared.fault.SeatFault.TheVariants.{OutOfMemory, Store, Lost}
-use Rattle.node_seats.specs.State.{SeatState}
-use Rattle.node_seats.specs.Steps.{RestartApplies, RestartAnswers}
-use Rattle.node_seats.proofs.Applying.{recalled_gives, unrecalled, unrecalled_gives}
-use Rattle.node_seats.specs.contracts.seat.Seat.{the_view}
+use Rattle.node_seats.proofs.Applying.{restarted, restart_refused, unchanged}
 use Rattle.node_seats.proofs.seat.Seat.restart.Goals as goal
 
 store_is_not : (why : StoreFault) → Store why ≢ OutOfMemory
@@ -16,64 +12,21 @@ lost_is_not : Lost ≢ OutOfMemory
 lost_is_not is = cc
 
 pub returns-in-Ok-clause-gives : goal.returns-in-Ok-clause-gives
-returns-in-Ok-clause-gives g c =
-    let mid : SeatState g.row.S.Denot = the_view g.row.S g.S.Stable (record {
-      alloc = c.self.inside.alloc;
-      hashing = c.self.inside.hashing;
-      me = c.self.inside.me;
-      config = c.self.inside.config;
-      kept = c.recall.new.self;
-      node = c.self.inside.node;
-    }) in
-    subst (λ (s : SeatState g.row.S.Denot). RestartApplies s c.reopen.new.self (result_of c.reopen.result)) c.self.view_is
-    (recalled_gives (the_view g.row.S g.S.Stable c.self.inside) mid c.reopen.new.self (result_of c.reopen.result)
-    (record { recovered = c.in-Ok.field-0; records_are = c.in-Ok.ensures.recovered; certain = c.in-Ok.ensures.certain; node_is = refl; me_is = refl; config_is = refl })
-    (c.reopen.ensures c.in-Ok.ensures.certain))
+returns-in-Ok-clause-gives g c = restarted c.args.self.now c.recover.new.self c.in-Ok.field-0 c.in-Ok.ensures.gives
 
 pub returns-in-Err-OutOfMemory-clause-gives : goal.returns-in-Err-OutOfMemory-clause-gives
 returns-in-Err-OutOfMemory-clause-gives g c =
-    let mid : SeatState g.row.S.Denot = the_view g.row.S g.S.Stable (record {
-      alloc = c.self.inside.alloc;
-      hashing = c.self.inside.hashing;
-      me = c.self.inside.me;
-      config = c.self.inside.config;
-      kept = c.recall.new.self;
-      node = c.self.inside.node;
-    }) in
-    subst (λ (s : SeatState g.row.S.Denot). RestartApplies s c.set_node.new.self (results.Refused results.OutOfMemory)) c.self.view_is
-    (unrecalled_gives (the_view g.row.S g.S.Stable c.self.inside) mid c.set_node.new.self (results.Refused results.OutOfMemory)
-    (record { records_are = c.in-Err-OutOfMemory.ensures.same; doubted_is = c.in-Err-OutOfMemory.ensures.doubted; node_is = refl; me_is = refl; config_is = refl }) c.set_node.ensures.has refl)
+    restart_refused c.args.self.now c.recover.new.self c.refuse_restart.new.self (result_of c.refuse_restart.result) c.in-Err-OutOfMemory.ensures.gives c.refuse_restart.ensures.has c.refuse_restart.ensures.told
+
+pub returns-in-Err-Store-OutOfMemory-clause-gives : goal.returns-in-Err-Store-OutOfMemory-clause-gives
+returns-in-Err-Store-OutOfMemory-clause-gives g c =
+    restart_refused c.args.self.now c.recover.new.self c.refuse_restart-in-Err-Store-OutOfMemory.new.self (result_of c.refuse_restart-in-Err-Store-OutOfMemory.result)
+    c.in-Err-Store-OutOfMemory.ensures.gives c.refuse_restart-in-Err-Store-OutOfMemory.ensures.has c.refuse_restart-in-Err-Store-OutOfMemory.ensures.told
 
 pub returns-in-Err-Store-clause-gives : goal.returns-in-Err-Store-clause-gives
 returns-in-Err-Store-clause-gives g c =
-    let mid : SeatState g.row.S.Denot = the_view g.row.S g.S.Stable (record {
-      alloc = c.self.inside.alloc;
-      hashing = c.self.inside.hashing;
-      me = c.self.inside.me;
-      config = c.self.inside.config;
-      kept = c.recall.new.self;
-      node = c.self.inside.node;
-    }) in
-    subst (λ (s : SeatState g.row.S.Denot). RestartAnswers s mid (Err (Store c.in-Err-Store.fault))) c.self.view_is (
-      store_is_not c.in-Err-Store.fault,
-      λ seat before placed stands.
-          unrecalled (the_view g.row.S g.S.Stable c.self.inside) mid seat before
-          (record { records_are = c.in-Err-Store.ensures.same; doubted_is = c.in-Err-Store.ensures.doubted; node_is = refl; me_is = refl; config_is = refl }) placed stands,
-    )
+    (store_is_not c.in-Err-Store.fault, λ seat before placed stands. unchanged c.args.self.now c.recover.new.self c.in-Err-Store.ensures.gives seat before placed stands)
 
 pub returns-in-Err-Lost-clause-gives : goal.returns-in-Err-Lost-clause-gives
 returns-in-Err-Lost-clause-gives g c =
-    let mid : SeatState g.row.S.Denot = the_view g.row.S g.S.Stable (record {
-      alloc = c.self.inside.alloc;
-      hashing = c.self.inside.hashing;
-      me = c.self.inside.me;
-      config = c.self.inside.config;
-      kept = c.recall.new.self;
-      node = c.self.inside.node;
-    }) in
-    subst (λ (s : SeatState g.row.S.Denot). RestartAnswers s mid (Err Lost)) c.self.view_is (
-      lost_is_not,
-      λ seat before placed stands.
-          unrecalled (the_view g.row.S g.S.Stable c.self.inside) mid seat before
-          (record { records_are = c.in-Err-Lost.ensures.same; doubted_is = c.in-Err-Lost.ensures.doubted; node_is = refl; me_is = refl; config_is = refl }) placed stands,
-    )
+    (lost_is_not, λ seat before placed stands. unchanged c.args.self.now c.recover.new.self c.in-Err-Lost.ensures.gives seat before placed stands)
