@@ -1,0 +1,2 @@
+mod Worth
+mod Entering

@@ -1,0 +1,5 @@
+use Rattle.journal.proofs.Worth.{is_fresh}
+use Rattle.journal.proofs.laws.fresh_receipts_answer.Goals as goal
+
+pub returns : goal.returns
+returns c = is_fresh c.fresh_answers.ensures c.telling_loses_nothing.ensures.given

@@ -1,0 +1,63 @@
+-- What contracts see of a journal of running nodes: a trace, and of each restart whether the node had back the record that
+-- was due where it went down (Lamport, "Paxos Made Simple", section 2.5). That nodes share a journal is this service's own.
+use Rattle.std.specs.Prelude.{◌≡◌, ℕ, ◌<◌, Bool, List, [], ◌∷◌, ◌++◌, length}
+use Rattle.ballots.specs.declared.message.Message.{Message}
+use Rattle.histories.specs.Event.{node_of}
+use Rattle.histories.specs.EventResult.{count_of}
+use Rattle.histories.specs.Following.{Seat, SeatGives, IsAsked, at_first}
+use Rattle.histories.specs.Owning.{Entry, own, entries_of, OwnReaches}
+use Rattle.schedule_runner.specs.declared.step.Step.{Step}
+use Rattle.schedule_runner.specs.Told.{config_of, event_of, result_of, step_of, steps_of}
+use Rattle.schedule_runner.specs.Traced.{Traced, TellsAsBefore, TellsMore, HasRoomFor, TraceReaches}
+
+pub record Journaled : Type 0 where
+  pub trace : Traced
+  -- of each step, whether it restarted a node that had back the record that was due where it went down
+  pub recovered : List Bool
+  -- how many more of these it takes without memory
+  pub room : ℕ
+
+-- each step followed by the nodes' rules from those before, and they left the nodes so or so
+abbrev pub HasFollowed : Journaled → Type 0
+HasFollowed journal = (seats : ℕ → Seat) × TraceReaches journal.trace journal.recovered seats
+
+-- it tells what it told before
+pub record TellsSame (old new : Journaled) : Type 0 where
+  pub trace : TellsAsBefore old.trace new.trace
+  pub recovered_is : new.recovered ≡ old.recovered
+
+-- there is room for one step more, and for so many messages
+abbrev pub HasRoom : Journaled → ℕ → Type 0
+HasRoom journal count = HasRoomFor journal.trace count × (0 < journal.room)
+
+-- one step more, and behind the messages that were sent those that it sent
+pub record HasEntry (old : Journaled) (step : Step) (more : List Message) (recovered : Bool) (new : Journaled) : Type 0 where
+  pub trace : TellsMore old.trace step more new.trace
+  pub recovered_is : new.recovered ≡ old.recovered ++ recovered ∷ []
+
+-- what one node did, by its own entries
+abbrev pub own_in : ℕ → Journaled → List Entry
+own_in node journal = own node journal.trace.sent (steps_of journal.trace.steps) journal.recovered
+
+-- By what its own entries leave it, the node of the step gives this by its rules, and is left so; and as many messages go out as
+-- it tells.
+pub record IsNext (journal : Journaled) (step : Step) (more : List Message) (recovered : Bool) (old new : Seat) : Type 0 where
+  pub member : node_of (event_of step.event) < journal.trace.config.members
+  pub led : OwnReaches (config_of journal.trace.config) (at_first (node_of (event_of step.event)))
+      (own_in (node_of (event_of step.event)) journal) old
+  pub gives : SeatGives (config_of journal.trace.config) (journal.trace.sent ++ more) (length journal.trace.sent) recovered old
+      (event_of step.event) (result_of step.result) new
+  pub asked : IsAsked (event_of step.event) recovered
+  pub counted : length more ≡ count_of (result_of step.result)
+
+-- it may be entered
+abbrev pub MayEnter : Journaled → Step → List Message → Bool → Type 0
+MayEnter journal step more recovered = (old : Seat) × (new : Seat) × IsNext journal step more recovered old new
+
+-- The own entries of each node grow by those of the step, and with these they leave the node of the step as its rules do.
+pub record EntersOwn (old : Journaled) (step : Step) (more : List Message) (recovered : Bool) (new : Journaled) : Type 0 where
+  pub grows : (node : ℕ) → node < old.trace.config.members
+      → own_in node new ≡ own_in node old ++ entries_of node new.trace.sent (step_of step) recovered
+  pub leaves : (was left : Seat) → IsNext old step more recovered was left
+      → OwnReaches (config_of old.trace.config) (at_first (node_of (event_of step.event)))
+      (own_in (node_of (event_of step.event)) new) left

@@ -1,0 +1,2 @@
+pub mod Journaled
+pub mod Receipts

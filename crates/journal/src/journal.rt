@@ -1,0 +1,175 @@
+//! A journal.
+
+ghost use Rattle.std.specs.Prelude.{◌≡◌, ◌↔◌, ℕ, ◌+◌, ◌<◌, ◌≤◌, IsTrue, List, [], ◌∷◌, ◌++◌, length, slice_get, OnOk, vec_len, vec_capacity};
+ghost use Rattle.std.specs.Option.{option_map};
+ghost use Rattle.lawful_histories.specs.Lawful.{IsLawful};
+ghost use Rattle.histories.specs.Following.{Follows};
+ghost use Rattle.safe_histories.specs.Safe.{IsSafe};
+ghost use Rattle.schedule_runner.specs.Limits.{IsWithinLimits};
+ghost use Rattle.schedule_runner.specs.Traced.{Tells, history_of};
+ghost use Rattle.journal.specs.Journaled.{HasFollowed, HasRoom, TellsSame, HasEntry, MayEnter, EntersOwn};
+ghost use Rattle.journal.specs.Receipts.{IsReceiptOf, AreWorth};
+
+use crate::receipt::{Receipt, tells_step};
+use ballots::Message;
+use histories::laws::{
+    a_member_steps_alone, nothing_reaches_the_start, own_entries_decide_the_node, own_entries_grow,
+    own_entries_leave_the_node,
+};
+use safe_histories::laws::replicas_agree;
+use schedule_runner::{Config, Step, Trace};
+use std::alloc::{AllocError, Global};
+use std::marker::Model;
+
+/// All steps that the nodes of one configuration took, each behind those before, with the messages that they sent.
+/// Contracts see its trace, and of each step whether it restarted a node that had back the record that was due where it
+/// went down. The type keeps that each step followed by the rules of the nodes.
+#[derive(Drop)]
+pub struct Journal {
+    trace: Trace,
+    recovered: Vec<bool>,
+}
+
+impl Model for Journal {
+    ghost use Rattle.std.specs.Prelude.{◌-◌, vec_len, vec_capacity};
+    ghost use Rattle.journal.specs.Journaled.{Journaled, HasFollowed};
+
+    ghost Value = { Journaled };
+
+    ghost view = { λ j. record {
+      trace = j.trace;
+      recovered = j.recovered.items;
+      room = vec_capacity j.recovered - vec_len j.recovered;
+    } };
+
+    ghost invariant = { λ j. HasFollowed (record {
+      trace = j.trace;
+      recovered = j.recovered.items;
+      room = vec_capacity j.recovered - vec_len j.recovered;
+    }) };
+}
+
+impl Journal {
+    /// A journal without a step, of nodes of this configuration, which is within its limits. It takes memory from this
+    /// allocator as it grows.
+    pub fn new(alloc: Global, config: Config) -> Journal
+        requires { IsWithinLimits config }
+        ensures trace { Tells result.trace config [] [] }
+        ensures recovered { result.recovered ≡ [] }
+    {
+        nothing_reaches_the_start();
+        Journal {
+            trace: Trace::new(alloc, config),
+            recovered: Vec::new(alloc),
+        }
+    }
+
+    /// What the nodes have in common.
+    pub fn config(&self) -> Config
+        ensures { result ≡ self.now.trace.config }
+    {
+        self.trace.config()
+    }
+
+    /// Its steps with what each gave, and all messages that were sent. What was sent is lawful, and clients may rely on
+    /// what was answered.
+    pub fn trace(&self) -> &Trace
+        ensures trace { result.now ≡ self.now.trace }
+        ensures followed { HasFollowed self.now }
+        ensures follows { Follows (history_of self.now.trace) }
+        ensures lawful { IsLawful self.now.trace.config.members self.now.trace.sent }
+        ensures safe { IsSafe (history_of self.now.trace) }
+    {
+        replicas_agree();
+        &self.trace
+    }
+
+    /// Of each step, whether it restarted a node that had back the record that was due where it went down.
+    pub fn recovered(&self) -> &[bool]
+        ensures { result.now ≡ self.now.recovered }
+    {
+        self.recovered.as_slice()
+    }
+
+    /// Whether it has as many steps as its configuration allows.
+    pub fn is_full(&self) -> bool
+        ensures { IsTrue result ↔ (self.now.trace.config.journal_limit ≤ length self.now.trace.steps) }
+    {
+        self.trace.steps().len() >= self.trace.config().journal_limit as usize
+    }
+
+    /// The message of this number, in the order of sending from 0 on; `None` exactly where none of this number was sent.
+    pub fn message(&self, number: u64) -> Option<&Message>
+        ensures { option_map (λ message. message.now) result ≡ slice_get self.now.trace.sent number }
+    {
+        self.trace.sent().get(number as usize)
+    }
+
+    /// Makes room for one step more that sends so many messages. What the journal tells stays, whatever the answer;
+    /// [`AllocError`] says that memory was refused.
+    pub fn reserve(&mut self, count: usize) -> Result<(), AllocError>
+        ensures room { OnOk result (HasRoom self.new count) }
+        ensures same { TellsSame self.old self.new }
+    {
+        self.recovered.reserve(1)?;
+        self.trace.reserve(count)
+    }
+
+    /// Enters a step behind the others, where there is room for it ([`Journal::reserve`]): an event that was applied, what
+    /// it gave, and the messages that it sent, which are numbered on from those that were sent before. By what its own
+    /// entries leave it, the node of the event gives that by its rules; with this entry they leave it as it is then. Of a
+    /// restart `recovered` says whether the node had back the record that was due where it went down. It takes no memory.
+    pub fn enter(&mut self, step: Step, more: Vec<Message>, recovered: bool)
+        requires room { HasRoom self.old (vec_len more) }
+        requires follows { MayEnter self.old step more.items recovered }
+        ensures entry { HasEntry self.old step more.items recovered self.new }
+        ensures own { EntersOwn self.old step more.items recovered self.new }
+    {
+        a_member_steps_alone();
+        own_entries_decide_the_node();
+        own_entries_leave_the_node();
+        own_entries_grow();
+        self.trace.push(step, more);
+        put_flag(&mut self.recovered, recovered);
+    }
+
+    /// Whether the step of this number has this event and this answer. Two are compared by what they hold.
+    pub fn confirm(&self, receipt: &Receipt) -> bool
+        ensures { IsTrue result ↔ IsReceiptOf self.now.trace receipt.now }
+    {
+        is_told(&self.trace, receipt)
+    }
+
+    /// Whether both receipts are of steps of this journal. Then, whoever got them: two answers to one ticket have equal
+    /// bytes; and an upload that one tells to be applied as a version stands once, at that version's place, in the
+    /// other's answer to a ticket of its table for that version or a later one.
+    pub fn meet(&self, one: &Receipt, other: &Receipt) -> bool
+        ensures confirmed { IsTrue result
+            ↔ (IsReceiptOf self.now.trace one.now × IsReceiptOf self.now.trace other.now) }
+        ensures worth { IsTrue result → AreWorth one.now other.now }
+    {
+        let trace = self.trace();
+        is_told(trace, one) && is_told(trace, other)
+    }
+}
+
+// Whether the receipt is of a step of this trace.
+fn is_told(trace: &Trace, receipt: &Receipt) -> bool
+    ensures { IsTrue result ↔ IsReceiptOf trace.now receipt.now }
+{
+    match trace.steps().get(receipt.number as usize) {
+        Some(step) => tells_step(receipt, step),
+        None => false,
+    }
+}
+
+// Puts a flag behind the others, where there is room for it.
+fn put_flag(flags: &mut Vec<bool>, flag: bool)
+    requires { vec_len flags.old < vec_capacity flags.old }
+    ensures { flags.new.items ≡ flags.old.items ++ flag ∷ [] }
+{
+    match flags.push(flag) {
+        Ok(()) => {}
+        Err(_) => unreachable!(),
+    }
+}

@@ -1,0 +1,24 @@
+//! The journal of nodes that run at once, and the receipts of what stands there.
+//!
+//! Nodes in one process enter what they do into one [`Journal`], each step behind those before: an event, what it gave,
+//! and the messages that it sent. Its type keeps that every step followed by the rules of a node (`Following` of
+//! `histories`), whichever node took it. So what it tells is a history that clients may rely on: answers to one ticket have
+//! equal bytes, and an upload that was told to be applied stands once in every later version (`Safe` of
+//! `safe_histories`).
+//!
+//! ```text
+//! journal.reserve(count)?;                    // room for a step that sends so many messages
+//! journal.enter(step, messages, recovered);   // takes no memory
+//! journal.confirm(&receipt)                   // whether the step of this number has this event and this answer
+//! ```
+//!
+//! A [`Receipt`] is what whoever took a step has of it: its number, its event and what it gave. [`Journal::meet`] says of
+//! two receipts whether both stand there, whichever threads got them, and what they are worth to each other.
+#![tactic(auto)]
+
+mod journal;
+pub mod laws;
+mod receipt;
+
+pub use journal::Journal;
+pub use receipt::Receipt;
