@@ -1,0 +1,90 @@
+-- What the calls with the journal give, from what they entered.
+use Rattle.std.proofs.Common.{◌≡◌, ◌⊎◌, ℕ, Bool, false, None, Some, Ok, Err, List, [], length, sym, ap, subst, ◌∙◌}
+use Rattle.ballots.specs.declared.message.Message.{Message}
+use Rattle.stable_records.specs.declared.fault.StoreFault.{StoreFault}
+use Rattle.agreement_rules.specs.Views.{started_with}
+use Rattle.histories.specs.Following.{Seat, with_due}
+use Rattle.node_events.specs.declared.event.Event.{Event}
+use Rattle.node_events.specs.declared.event.Event.TheVariants as event
+use Rattle.node_events.specs.declared.event_result.EventResult.{EventResult}
+use Rattle.node_events.specs.declared.event_result.EventResult.TheVariants as results
+use Rattle.node_seats.specs.State.{SeatState, IsPlaced, StandsUp}
+use Rattle.journal.specs.declared.receipt.Receipt.{Receipt}
+use Rattle.journal.specs.Journaled.{Journaled, HasEntry, EntersOwn}
+use Rattle.seats.specs.declared.input.Prepared.{Prepared}
+use Rattle.seats.specs.declared.fault.SeatFault.TheVariants as fault
+use Rattle.seats.specs.Inputs.{event_at, given_for, IsCutAt, IsSentIn}
+use Rattle.seats.specs.Entries.{done_step, done_entry, cut_step, cut_entry, restart_step, restart_entry}
+use Rattle.seats.specs.State.{RunningSeat, IsLedTo}
+use Rattle.seats.specs.Steps.{IsOpen, TellsEntry, TakeGives, RestartGives}
+use Rattle.seats.proofs.Leading.{HasMore, Done, Broken, leaves_done, leaves_cut, leaves_restart}
+
+answered : (receipt : Receipt) (number : ℕ) (e : Event) (given : EventResult) → receipt ≡ record { number = number; event = e; answer = given } → receipt.answer ≡ given
+answered receipt number e given is = ap (λ (r : Receipt). r.answer) is
+
+pub take_gives : {S : Type 0} (old new : RunningSeat S) (node : SeatState S) (before after : Journaled) (prepared : Prepared) (sends : List Message) (receipt : Receipt) → IsOpen old before
+    → IsSentIn before.trace.sent prepared.input → (done : Done old node prepared.input sends) → HasMore old new node (done_entry old.node.me prepared.input (length before.trace.sent) sends)
+    → HasEntry before (done_step old.node.me prepared.input (length before.trace.sent) (length sends)) sends false after
+    → EntersOwn before (done_step old.node.me prepared.input (length before.trace.sent) (length sends)) sends false after
+    → TellsEntry before (event_at old.node.me prepared.input) (given_for prepared.input (length before.trace.sent) (length sends)) receipt
+    → TakeGives old new before after prepared (Ok receipt)
+take_gives {S = S} old new node before after prepared sends receipt may sent done has entered enters told =
+    let me = old.node.me in
+    let given = given_for prepared.input (length before.trace.sent) (length sends) in
+    let answer : receipt.answer ≡ given = answered receipt (length before.trace.steps) (event_at me prepared.input) given told in
+    let left = leaves_done old new node before after prepared.input sends may.0 sent done has entered enters in (
+      may,
+      sent,
+      record {
+        views = done.views;
+        led = done.led;
+        plan = done.plan;
+        due = done.due;
+        stands = subst (λ (s : SeatState S). StandsUp s done.plan.after) (sym has.node_is) done.stands;
+        entry =
+            subst (λ (g : EventResult). HasEntry before (record { event = event_at me prepared.input; result = g }) done.plan.sends false after) (sym answer)
+            (subst (λ (ms : List Message). HasEntry before (record { event = event_at me prepared.input; result = given }) ms false after) (sym done.sends_are) entered);
+        answer_is = answer ∙ ap (λ (ms : List Message). given_for prepared.input (length before.trace.sent) (length ms)) (sym done.sends_are);
+        told = told ∙ ap (λ (g : EventResult). record { number = length before.trace.steps; event = event_at me prepared.input; answer = g }) (sym answer);
+        agrees = left.agrees;
+      },
+    )
+
+pub cut_gives : {S : Type 0} (old new : RunningSeat S) (node : SeatState S) (before after : Journaled) (prepared : Prepared) (cut : Event) (why : StoreFault) → IsOpen old before
+    → IsSentIn before.trace.sent prepared.input → IsCutAt old.node.me prepared.input cut → (broken : Broken old node prepared.input) → HasMore old new node (cut_entry cut prepared.input)
+    → HasEntry before (cut_step cut) [] false after → EntersOwn before (cut_step cut) [] false after → TakeGives old new before after prepared (Err (fault.Store why))
+cut_gives {S = S} old new node before after prepared cut why may sent is broken has entered enters =
+    let left = leaves_cut old new node before after prepared.input cut may.0 sent is broken has entered enters in (
+      may,
+      sent,
+      record {
+        views = broken.views;
+        led = broken.led;
+        last = broken.last;
+        keeps = broken.keeps;
+        down = ap (λ (s : SeatState S). s.node) has.node_is ∙ broken.down;
+        unkept = ap (λ (s : SeatState S). s.records) has.node_is ∙ (broken.kept ∙ sym broken.led.stands.kept);
+        doubt = subst (λ (s : SeatState S). (s.doubted ≡ None) ⊎ (s.doubted ≡ Some broken.last)) (sym has.node_is) broken.doubt;
+        cut = cut;
+        is_cut = is;
+        entry = entered;
+        agrees = left.agrees;
+      },
+    )
+
+pub restart_gives : {S : Type 0} (old new : RunningSeat S) (node : SeatState S) (before after : Journaled) (was : Bool) (stood : Seat) (receipt : Receipt) → IsOpen old before → IsLedTo old stood
+    → StandsUp node (started_with (with_due was old.node.records old.node.doubted)) → (old.node.doubted ≡ None → was ≡ false) → IsPlaced node → node.me ≡ old.node.me → node.config ≡ old.node.config
+    → HasMore old new node (restart_entry old.node.me was) → HasEntry before (restart_step old.node.me) [] was after → EntersOwn before (restart_step old.node.me) [] was after
+    → TellsEntry before (event.Restart old.node.me) results.Done receipt → RestartGives old new before after (Ok receipt)
+restart_gives {S = S} old new node before after was stood receipt may led stands none placed me_is config_is has entered enters told =
+    let left = leaves_restart old new node before after was stood may.0 led stands none placed me_is config_is has entered enters in (
+      may,
+      record {
+        recovered = was;
+        none = none;
+        stands = subst (λ (s : SeatState S). StandsUp s (started_with (with_due was old.node.records old.node.doubted))) (sym has.node_is) stands;
+        entry = entered;
+        told = told;
+        agrees = left.agrees;
+      },
+    )

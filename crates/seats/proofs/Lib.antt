@@ -1,0 +1,9 @@
+mod Walking
+mod Joining
+mod Leading
+mod Giving
+mod Shown
+mod Told
+mod Ready
+mod Moving
+mod Preparing

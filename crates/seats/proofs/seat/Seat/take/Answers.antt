@@ -1,0 +1,193 @@
+use Rattle.std.proofs.Common.{◌≡◌, ℕ, arith, length, vec_len, List, [], ◌∷◌, ◌++◌, ap, false, Some, Ok, Err, refl, sym, subst, ◌∙◌}
+use Rattle.histories.specs.Owning.{Entry}
+use Rattle.journal.specs.Journaled.{Journaled}
+use Rattle.histories.specs.Following as following
+use Rattle.seats.specs.declared.fault.SeatFault.TheVariants as fault
+use Rattle.seats.specs.State.{RunningSeat}
+use Rattle.seats.specs.Entries.{done_step, done_entry, cut_step, cut_entry}
+use Rattle.seats.specs.Steps.{IsOpen, IsPreparedFor, TakeGives, OthersAgree}
+use Rattle.seats.proofs.Joining.{node_at, cut_node}
+use Rattle.seats.proofs.Leading.{HasMore, Done, Broken, leaves_done, leaves_cut, others_agree}
+use Rattle.seats.proofs.Giving.{take_gives, cut_gives}
+use Rattle.seats.proofs.Ready.{ready_done, ready_broken, may_enter_done, may_enter_cut, entered_done, EnteredCut}
+use Rattle.seats.proofs.Moving.{open_as, sent_as, taken_before, cut_before, others_before}
+use Rattle.seats.specs.contracts.seat.Seat.{the_view}
+use Rattle.seats.proofs.seat.Seat.take.Goals as goal
+
+pub enter_done-requires-clause-follows : goal.enter_done-requires-clause-follows
+enter_done-requires-clause-follows g c =
+    let view : RunningSeat g.row.S.Denot = the_view g.row.S g.S.Stable c.self.inside in
+    let mid : Journaled = c.made_ready.new.journal in
+    let may : IsOpen view c.args.journal.now = subst (λ (s : RunningSeat g.row.S.Denot). IsOpen s c.args.journal.now) (sym c.self.view_is) c.in_ok-admits.ensures.0 in
+    let open_mid = open_as view c.args.journal.now mid c.made_ready.ensures.journal may in
+    let sent = sent_as c.args.journal.now mid c.args.prepared.input c.made_ready.ensures.journal c.in_ok-admits.ensures.1 in
+    let prepared : IsPreparedFor view (record { input = c.args.prepared.input; plan = c.args.prepared.plan }) =
+    subst (λ (s : RunningSeat g.row.S.Denot). IsPreparedFor s c.args.prepared) (sym c.self.view_is) c.requires in
+    let sends = c.in-Ok.copies.sends.items in
+    let node = c.take.new.self in
+    let done : Done view node c.args.prepared.input sends =
+    ready_done view node c.args.prepared.input c.args.prepared.plan sends prepared c.in-Ok-take.ensures.gives (c.in-Ok.ensures.copies.sends_are ∙ c.sends.ensures) in
+    let counted : vec_len c.in-Ok.copies.sends ≡ length sends = omega (arith, c.in-Ok.copies.sends.ok.0) in
+    may_enter_done view node mid c.args.prepared.input sends c.self.inside.me (vec_len c.in-Ok.copies.sends) c.self.invariant.0 counted open_mid.0 sent done
+
+pub invariant_of-self-in-Ok-take : goal.invariant_of-self-in-Ok-take
+invariant_of-self-in-Ok-take g c =
+    let view : RunningSeat g.row.S.Denot = the_view g.row.S g.S.Stable c.self.inside in
+    let mid : Journaled = c.made_ready.new.journal in
+    let may : IsOpen view c.args.journal.now = subst (λ (s : RunningSeat g.row.S.Denot). IsOpen s c.args.journal.now) (sym c.self.view_is) c.in_ok-admits.ensures.0 in
+    let open_mid = open_as view c.args.journal.now mid c.made_ready.ensures.journal may in
+    let sent = sent_as c.args.journal.now mid c.args.prepared.input c.made_ready.ensures.journal c.in_ok-admits.ensures.1 in
+    let prepared : IsPreparedFor view (record { input = c.args.prepared.input; plan = c.args.prepared.plan }) =
+    subst (λ (s : RunningSeat g.row.S.Denot). IsPreparedFor s c.args.prepared) (sym c.self.view_is) c.requires in
+    let sends = c.in-Ok.copies.sends.items in
+    let node = c.take.new.self in
+    let done : Done view node c.args.prepared.input sends =
+    ready_done view node c.args.prepared.input c.args.prepared.plan sends prepared c.in-Ok-take.ensures.gives (c.in-Ok.ensures.copies.sends_are ∙ c.sends.ensures) in
+    let counted : vec_len c.in-Ok.copies.sends ≡ length sends = omega (arith, c.in-Ok.copies.sends.ok.0) in
+    let entered = entered_done mid c.enter_done.new.journal c.args.prepared.input sends c.enter_done.result c.made_ready.new.own.items c.enter_done.new.own.items c.self.inside.me view.node.me (vec_len c.in-Ok.copies.sends)
+    c.self.invariant.0 counted (c.enter_done.ensures.entry, c.enter_done.ensures.others, c.enter_done.ensures.told, c.enter_done.ensures.own) in
+    let new : RunningSeat g.row.S.Denot = record { config = c.self.inside.config; node = node; own = c.enter_done.new.own.items } in
+    let more : HasMore view new node (done_entry view.node.me c.args.prepared.input (length mid.trace.sent) sends) = record {
+      config_is = refl;
+      node_is = refl;
+      own_is = entered.3 ∙ ap (λ (es : List Entry). es ++ done_entry view.node.me c.args.prepared.input (length mid.trace.sent) sends ∷ []) c.made_ready.ensures.own;
+    } in
+    let left = leaves_done view new node mid c.enter_done.new.journal c.args.prepared.input sends open_mid.0 sent done more entered.0 entered.1 in
+    (c.self.invariant.0 ∙ sym done.me_is, (following.IsUp done.plan.after, left.led))
+
+pub returns-in-Ok-take-clause-gives : goal.returns-in-Ok-take-clause-gives
+returns-in-Ok-take-clause-gives g c =
+    let view : RunningSeat g.row.S.Denot = the_view g.row.S g.S.Stable c.self.inside in
+    let mid : Journaled = c.made_ready.new.journal in
+    let may : IsOpen view c.args.journal.now = subst (λ (s : RunningSeat g.row.S.Denot). IsOpen s c.args.journal.now) (sym c.self.view_is) c.in_ok-admits.ensures.0 in
+    let open_mid = open_as view c.args.journal.now mid c.made_ready.ensures.journal may in
+    let sent = sent_as c.args.journal.now mid c.args.prepared.input c.made_ready.ensures.journal c.in_ok-admits.ensures.1 in
+    let prepared : IsPreparedFor view (record { input = c.args.prepared.input; plan = c.args.prepared.plan }) =
+    subst (λ (s : RunningSeat g.row.S.Denot). IsPreparedFor s c.args.prepared) (sym c.self.view_is) c.requires in
+    let sends = c.in-Ok.copies.sends.items in
+    let node = c.take.new.self in
+    let done : Done view node c.args.prepared.input sends =
+    ready_done view node c.args.prepared.input c.args.prepared.plan sends prepared c.in-Ok-take.ensures.gives (c.in-Ok.ensures.copies.sends_are ∙ c.sends.ensures) in
+    let counted : vec_len c.in-Ok.copies.sends ≡ length sends = omega (arith, c.in-Ok.copies.sends.ok.0) in
+    let entered = entered_done mid c.enter_done.new.journal c.args.prepared.input sends c.enter_done.result c.made_ready.new.own.items c.enter_done.new.own.items c.self.inside.me view.node.me (vec_len c.in-Ok.copies.sends)
+    c.self.invariant.0 counted (c.enter_done.ensures.entry, c.enter_done.ensures.others, c.enter_done.ensures.told, c.enter_done.ensures.own) in
+    let new : RunningSeat g.row.S.Denot = record { config = c.self.inside.config; node = node; own = c.enter_done.new.own.items } in
+    let more : HasMore view new node (done_entry view.node.me c.args.prepared.input (length mid.trace.sent) sends) = record {
+      config_is = refl;
+      node_is = refl;
+      own_is = entered.3 ∙ ap (λ (es : List Entry). es ++ done_entry view.node.me c.args.prepared.input (length mid.trace.sent) sends ∷ []) c.made_ready.ensures.own;
+    } in
+    let given = take_gives view new node mid c.enter_done.new.journal c.args.prepared sends c.enter_done.result open_mid sent done more entered.0 entered.1 entered.2 in
+    subst (λ (s : RunningSeat g.row.S.Denot). TakeGives s new c.args.journal.now c.enter_done.new.journal c.args.prepared (Ok c.enter_done.result)) c.self.view_is
+    (may, c.in_ok-admits.ensures.1, taken_before view new c.args.journal.now mid c.enter_done.new.journal c.args.prepared c.enter_done.result c.made_ready.ensures.journal given.2)
+
+pub returns-in-Ok-take-clause-others : goal.returns-in-Ok-take-clause-others
+returns-in-Ok-take-clause-others g c =
+    let view : RunningSeat g.row.S.Denot = the_view g.row.S g.S.Stable c.self.inside in
+    let mid : Journaled = c.made_ready.new.journal in
+    let may : IsOpen view c.args.journal.now = subst (λ (s : RunningSeat g.row.S.Denot). IsOpen s c.args.journal.now) (sym c.self.view_is) c.in_ok-admits.ensures.0 in
+    let open_mid = open_as view c.args.journal.now mid c.made_ready.ensures.journal may in
+    let sent = sent_as c.args.journal.now mid c.args.prepared.input c.made_ready.ensures.journal c.in_ok-admits.ensures.1 in
+    let prepared : IsPreparedFor view (record { input = c.args.prepared.input; plan = c.args.prepared.plan }) =
+    subst (λ (s : RunningSeat g.row.S.Denot). IsPreparedFor s c.args.prepared) (sym c.self.view_is) c.requires in
+    let sends = c.in-Ok.copies.sends.items in
+    let node = c.take.new.self in
+    let done : Done view node c.args.prepared.input sends =
+    ready_done view node c.args.prepared.input c.args.prepared.plan sends prepared c.in-Ok-take.ensures.gives (c.in-Ok.ensures.copies.sends_are ∙ c.sends.ensures) in
+    let counted : vec_len c.in-Ok.copies.sends ≡ length sends = omega (arith, c.in-Ok.copies.sends.ok.0) in
+    let entered = entered_done mid c.enter_done.new.journal c.args.prepared.input sends c.enter_done.result c.made_ready.new.own.items c.enter_done.new.own.items c.self.inside.me view.node.me (vec_len c.in-Ok.copies.sends)
+    c.self.invariant.0 counted (c.enter_done.ensures.entry, c.enter_done.ensures.others, c.enter_done.ensures.told, c.enter_done.ensures.own) in
+    let new : RunningSeat g.row.S.Denot = record { config = c.self.inside.config; node = node; own = c.enter_done.new.own.items } in
+    let more : HasMore view new node (done_entry view.node.me c.args.prepared.input (length mid.trace.sent) sends) = record {
+      config_is = refl;
+      node_is = refl;
+      own_is = entered.3 ∙ ap (λ (es : List Entry). es ++ done_entry view.node.me c.args.prepared.input (length mid.trace.sent) sends ∷ []) c.made_ready.ensures.own;
+    } in
+    subst (λ (s : RunningSeat g.row.S.Denot). OthersAgree s.node.me c.args.journal.now c.enter_done.new.journal) c.self.view_is
+    (others_before c.args.journal.now mid c.enter_done.new.journal view.node.me c.made_ready.ensures.journal
+    (others_agree mid c.enter_done.new.journal view.node.me (done_step view.node.me c.args.prepared.input (length mid.trace.sent) (length sends)) sends false
+    (node_at view.node.me c.args.prepared.input) entered.1 entered.0))
+
+pub enter_cut-requires-clause-follows : goal.enter_cut-requires-clause-follows
+enter_cut-requires-clause-follows g c =
+    let view : RunningSeat g.row.S.Denot = the_view g.row.S g.S.Stable c.self.inside in
+    let mid : Journaled = c.made_ready.new.journal in
+    let may : IsOpen view c.args.journal.now = subst (λ (s : RunningSeat g.row.S.Denot). IsOpen s c.args.journal.now) (sym c.self.view_is) c.in_ok-admits.ensures.0 in
+    let open_mid = open_as view c.args.journal.now mid c.made_ready.ensures.journal may in
+    let sent = sent_as c.args.journal.now mid c.args.prepared.input c.made_ready.ensures.journal c.in_ok-admits.ensures.1 in
+    let prepared : IsPreparedFor view (record { input = c.args.prepared.input; plan = c.args.prepared.plan }) =
+    subst (λ (s : RunningSeat g.row.S.Denot). IsPreparedFor s c.args.prepared) (sym c.self.view_is) c.requires in
+    let node = c.take.new.self in
+    let broken : Broken view node c.args.prepared.input = ready_broken view node c.args.prepared.input c.args.prepared.plan prepared c.in-Err-take.ensures.gives in
+    may_enter_cut view node mid c.args.prepared.input c.self.inside.me c.self.invariant.0 open_mid.0 sent broken
+
+pub invariant_of-self-in-Err-take : goal.invariant_of-self-in-Err-take
+invariant_of-self-in-Err-take g c =
+    let view : RunningSeat g.row.S.Denot = the_view g.row.S g.S.Stable c.self.inside in
+    let mid : Journaled = c.made_ready.new.journal in
+    let may : IsOpen view c.args.journal.now = subst (λ (s : RunningSeat g.row.S.Denot). IsOpen s c.args.journal.now) (sym c.self.view_is) c.in_ok-admits.ensures.0 in
+    let open_mid = open_as view c.args.journal.now mid c.made_ready.ensures.journal may in
+    let sent = sent_as c.args.journal.now mid c.args.prepared.input c.made_ready.ensures.journal c.in_ok-admits.ensures.1 in
+    let prepared : IsPreparedFor view (record { input = c.args.prepared.input; plan = c.args.prepared.plan }) =
+    subst (λ (s : RunningSeat g.row.S.Denot). IsPreparedFor s c.args.prepared) (sym c.self.view_is) c.requires in
+    let node = c.take.new.self in
+    let broken : Broken view node c.args.prepared.input = ready_broken view node c.args.prepared.input c.args.prepared.plan prepared c.in-Err-take.ensures.gives in
+    let entered : EnteredCut mid c.enter_cut.new.journal c.args.prepared.input c.made_ready.new.own.items c.enter_cut.new.own.items view.node.me =
+    subst (λ (m : ℕ). EnteredCut mid c.enter_cut.new.journal c.args.prepared.input c.made_ready.new.own.items c.enter_cut.new.own.items m) c.self.invariant.0 c.enter_cut.ensures in
+    let cut = entered.0 in
+    let new : RunningSeat g.row.S.Denot = record { config = c.self.inside.config; node = node; own = c.enter_cut.new.own.items } in
+    let more : HasMore view new node (cut_entry cut c.args.prepared.input) = record {
+      config_is = refl;
+      node_is = refl;
+      own_is = entered.2 ∙ ap (λ (es : List Entry). es ++ cut_entry cut c.args.prepared.input ∷ []) c.made_ready.ensures.own;
+    } in
+    let left = leaves_cut view new node mid c.enter_cut.new.journal c.args.prepared.input cut open_mid.0 sent entered.1 broken more entered.3 entered.4 in
+    (c.self.invariant.0 ∙ sym broken.me_is, (following.IsDown broken.views.records (Some broken.last), left.led))
+
+pub returns-in-Err-take-clause-gives : goal.returns-in-Err-take-clause-gives
+returns-in-Err-take-clause-gives g c =
+    let view : RunningSeat g.row.S.Denot = the_view g.row.S g.S.Stable c.self.inside in
+    let mid : Journaled = c.made_ready.new.journal in
+    let may : IsOpen view c.args.journal.now = subst (λ (s : RunningSeat g.row.S.Denot). IsOpen s c.args.journal.now) (sym c.self.view_is) c.in_ok-admits.ensures.0 in
+    let open_mid = open_as view c.args.journal.now mid c.made_ready.ensures.journal may in
+    let sent = sent_as c.args.journal.now mid c.args.prepared.input c.made_ready.ensures.journal c.in_ok-admits.ensures.1 in
+    let prepared : IsPreparedFor view (record { input = c.args.prepared.input; plan = c.args.prepared.plan }) =
+    subst (λ (s : RunningSeat g.row.S.Denot). IsPreparedFor s c.args.prepared) (sym c.self.view_is) c.requires in
+    let node = c.take.new.self in
+    let broken : Broken view node c.args.prepared.input = ready_broken view node c.args.prepared.input c.args.prepared.plan prepared c.in-Err-take.ensures.gives in
+    let entered : EnteredCut mid c.enter_cut.new.journal c.args.prepared.input c.made_ready.new.own.items c.enter_cut.new.own.items view.node.me =
+    subst (λ (m : ℕ). EnteredCut mid c.enter_cut.new.journal c.args.prepared.input c.made_ready.new.own.items c.enter_cut.new.own.items m) c.self.invariant.0 c.enter_cut.ensures in
+    let cut = entered.0 in
+    let new : RunningSeat g.row.S.Denot = record { config = c.self.inside.config; node = node; own = c.enter_cut.new.own.items } in
+    let more : HasMore view new node (cut_entry cut c.args.prepared.input) = record {
+      config_is = refl;
+      node_is = refl;
+      own_is = entered.2 ∙ ap (λ (es : List Entry). es ++ cut_entry cut c.args.prepared.input ∷ []) c.made_ready.ensures.own;
+    } in
+    let given = cut_gives view new node mid c.enter_cut.new.journal c.args.prepared cut c.in-Err-take.fault open_mid sent entered.1 broken more entered.3 entered.4 in
+    subst (λ (s : RunningSeat g.row.S.Denot). TakeGives s new c.args.journal.now c.enter_cut.new.journal c.args.prepared (Err (fault.Store c.in-Err-take.fault))) c.self.view_is
+    (may, c.in_ok-admits.ensures.1, cut_before view new c.args.journal.now mid c.enter_cut.new.journal c.args.prepared c.made_ready.ensures.journal given.2)
+
+pub returns-in-Err-take-clause-others : goal.returns-in-Err-take-clause-others
+returns-in-Err-take-clause-others g c =
+    let view : RunningSeat g.row.S.Denot = the_view g.row.S g.S.Stable c.self.inside in
+    let mid : Journaled = c.made_ready.new.journal in
+    let may : IsOpen view c.args.journal.now = subst (λ (s : RunningSeat g.row.S.Denot). IsOpen s c.args.journal.now) (sym c.self.view_is) c.in_ok-admits.ensures.0 in
+    let open_mid = open_as view c.args.journal.now mid c.made_ready.ensures.journal may in
+    let sent = sent_as c.args.journal.now mid c.args.prepared.input c.made_ready.ensures.journal c.in_ok-admits.ensures.1 in
+    let prepared : IsPreparedFor view (record { input = c.args.prepared.input; plan = c.args.prepared.plan }) =
+    subst (λ (s : RunningSeat g.row.S.Denot). IsPreparedFor s c.args.prepared) (sym c.self.view_is) c.requires in
+    let node = c.take.new.self in
+    let broken : Broken view node c.args.prepared.input = ready_broken view node c.args.prepared.input c.args.prepared.plan prepared c.in-Err-take.ensures.gives in
+    let entered : EnteredCut mid c.enter_cut.new.journal c.args.prepared.input c.made_ready.new.own.items c.enter_cut.new.own.items view.node.me =
+    subst (λ (m : ℕ). EnteredCut mid c.enter_cut.new.journal c.args.prepared.input c.made_ready.new.own.items c.enter_cut.new.own.items m) c.self.invariant.0 c.enter_cut.ensures in
+    let cut = entered.0 in
+    let new : RunningSeat g.row.S.Denot = record { config = c.self.inside.config; node = node; own = c.enter_cut.new.own.items } in
+    let more : HasMore view new node (cut_entry cut c.args.prepared.input) = record {
+      config_is = refl;
+      node_is = refl;
+      own_is = entered.2 ∙ ap (λ (es : List Entry). es ++ cut_entry cut c.args.prepared.input ∷ []) c.made_ready.ensures.own;
+    } in
+    subst (λ (s : RunningSeat g.row.S.Denot). OthersAgree s.node.me c.args.journal.now c.enter_cut.new.journal) c.self.view_is
+    (others_before c.args.journal.now mid c.enter_cut.new.journal view.node.me c.made_ready.ensures.journal
+    (others_agree mid c.enter_cut.new.journal view.node.me (cut_step cut) [] false (cut_node view.node.me c.args.prepared.input cut entered.1) entered.4 entered.3))

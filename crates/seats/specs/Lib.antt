@@ -1,0 +1,5 @@
+pub mod Inputs
+pub mod State
+pub mod Entries
+pub mod Steps
+pub mod Walking

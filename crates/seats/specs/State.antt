@@ -1,0 +1,45 @@
+-- A node that runs beside others: its store, what it did itself, and how that agrees with the journal of all (Lamport, "Paxos
+-- Made Simple", section 2.5, for what a node keeps). That nodes share a journal is this service's own.
+use Rattle.std.specs.Prelude.{◌≡◌, ◌⊎◌, ℕ, Option, None, List}
+use Rattle.ballots.specs.declared.record.Record.{Record}
+use Rattle.histories.specs.Following.{Seat, IsUp, IsDown, at_first}
+use Rattle.histories.specs.Owning.{Entry, OwnReaches}
+use Rattle.node_seats.specs.State.{SeatState, IsPlaced, StandsUp}
+use Rattle.schedule_runner.specs.declared.config.Config.{Config}
+use Rattle.schedule_runner.specs.Told.{config_of}
+use Rattle.journal.specs.Journaled.{Journaled, own_in}
+
+pub record RunningSeat (S : Type 0) : Type 0 where
+  pub config : Config
+  -- the node with its store
+  pub node : SeatState S
+  -- what it did, by its own entries
+  pub own : List Entry
+
+-- It is down with these records, without the one that was due where it went down; of this one nobody knows whether its
+-- store has it, or the store has it not.
+pub record StandsDownWith {S : Type 0} (state : SeatState S) (records : List Record) (due : Option Record) : Type 0 where
+  pub down : state.node ≡ None
+  pub kept : state.records ≡ records
+  pub doubt : (state.doubted ≡ None) ⊎ (state.doubted ≡ due)
+
+abbrev pub StandsSo : {S : Type 0} → SeatState S → Seat → Type 0
+StandsSo state (IsUp views) = StandsUp state views
+StandsSo state (IsDown records due) = StandsDownWith state records due
+
+-- its own entries leave it so, and so it stands
+pub record IsLedTo {S : Type 0} (seat : RunningSeat S) (stood : Seat) : Type 0 where
+  pub config_is : seat.node.config ≡ config_of seat.config
+  pub placed : IsPlaced seat.node
+  pub led : OwnReaches (config_of seat.config) (at_first seat.node.me) seat.own stood
+  pub stands : StandsSo seat.node stood
+
+abbrev pub IsLed : {S : Type 0} → RunningSeat S → Type 0
+IsLed seat = (stood : Seat) × IsLedTo seat stood
+
+-- both have one configuration, and the journal has just these own entries of the node
+abbrev pub HasOwn : Config → ℕ → List Entry → Journaled → Type 0
+HasOwn config me own journal = (journal.trace.config ≡ config) × (own_in me journal ≡ own)
+
+abbrev pub Agrees : {S : Type 0} → RunningSeat S → Journaled → Type 0
+Agrees seat journal = HasOwn seat.config seat.node.me seat.own journal

@@ -1,0 +1,105 @@
+//! A restart.
+
+ghost use Rattle.std.specs.Prelude.{◌≡◌, ◌<◌, ◌∷◌, ◌++◌, [], length, vec_len, vec_capacity};
+ghost use Rattle.node_events.specs.declared.event.Event.TheVariants.{Restart};
+ghost use Rattle.node_events.specs.declared.event_result.EventResult.TheVariants.{Done};
+ghost use Rattle.journal.specs.Journaled.{HasRoom, MayEnter, HasEntry, EntersOwn};
+ghost use Rattle.seats.specs.Entries.{restart_step, restart_entry};
+ghost use Rattle.seats.specs.Steps.{TellsEntry, Counts, RestartGives, OthersAgree, IsFaultOf};
+
+use crate::entering::push_own;
+use crate::fault::SeatFault;
+use crate::own::OwnEntry;
+use crate::seat::Seat;
+use crate::taking::make_room;
+use ballots::NodeId;
+use journal::{Journal, Receipt};
+use node_core::Refusal;
+use node_events::{Event, EventResult};
+use node_seats::SeatFault as NodeFault;
+use schedule_runner::Step;
+use stable_records::Stable;
+use std::alloc::Global;
+
+impl<S: Stable + Drop> Seat<S> {
+    /// Starts the node again, up or down, with the records that it kept and nothing else, and enters that.
+    ///
+    /// The first of these faults is told that stands, memory apart: [`SeatFault::Strange`] exactly where the seat does not
+    /// agree with the journal; [`SeatFault::JournalFull`]; [`SeatFault::Store`], the store's fault in recalling its
+    /// records, or its want of memory; [`SeatFault::Lost`] where other records were recalled than were kept so far;
+    /// [`SeatFault::Refused`] where memory was refused. None of them changes the node or the journal.
+    ///
+    /// It takes time with the number of the journal's entries.
+    pub fn restart(&mut self, journal: &mut Journal) -> Result<Receipt, SeatFault>
+        ensures gives { RestartGives self.old self.new journal.old journal.new result }
+        ensures counted { Counts S.tells result (S.faults self.old.node.store) (S.faults self.new.node.store) }
+        ensures others { OthersAgree self.old.node.me journal.old journal.new }
+    {
+        self.is_open(journal)?;
+        let (alloc, me) = (self.alloc, self.me);
+        if make_room(&mut self.own, journal, 0).is_err() {
+            return Err(SeatFault::Refused(Refusal::OutOfMemory));
+        }
+        let recovered = match self.node.recover() {
+            Ok(recovered) => recovered,
+            Err(fault) => return Err(fault_for(fault)),
+        };
+        Ok(enter_restart(alloc, me, &mut self.own, journal, recovered))
+    }
+}
+
+// Why the node was not started again.
+fn fault_for(fault: NodeFault) -> SeatFault
+    ensures { IsFaultOf fault result }
+{
+    match fault {
+        NodeFault::OutOfMemory => SeatFault::Refused(Refusal::OutOfMemory),
+        NodeFault::Store(fault) => SeatFault::Store(fault),
+        NodeFault::Lost => SeatFault::Lost,
+    }
+}
+
+// Enters a restart: one entry of the journal, and one of the node's own. There is room for both.
+fn enter_restart(
+    alloc: Global,
+    me: NodeId,
+    own: &mut Vec<OwnEntry>,
+    journal: &mut Journal,
+    recovered: bool,
+) -> Receipt
+    requires own_room { vec_len own.old < vec_capacity own.old }
+    requires room { HasRoom journal.old 0 }
+    requires follows { MayEnter journal.old (restart_step me) [] recovered }
+    ensures own { own.new.items ≡ own.old.items ++ restart_entry me recovered ∷ [] }
+    ensures entry { HasEntry journal.old (restart_step me) [] recovered journal.new }
+    ensures told { TellsEntry journal.old (Restart me) Done result }
+    ensures others { EntersOwn journal.old (restart_step me) [] recovered journal.new }
+{
+    let node = u64::from(me.number());
+    let number = journal.trace().steps().len() as u64;
+    push_own(
+        own,
+        OwnEntry {
+            step: done(node),
+            recovered,
+            handed: None,
+            sends: Vec::new(alloc),
+        },
+    );
+    journal.enter(done(node), Vec::new(alloc), recovered);
+    Receipt {
+        number,
+        event: Event::Restart(node),
+        answer: EventResult::Done,
+    }
+}
+
+// The step of a node that started again.
+fn done(node: u64) -> Step
+    ensures { result ≡ restart_step node }
+{
+    Step {
+        event: Event::Restart(node),
+        result: EventResult::Done,
+    }
+}

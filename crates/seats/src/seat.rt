@@ -1,0 +1,211 @@
+//! A seat.
+
+ghost use Rattle.std.specs.Prelude.{◌≡◌, ◌≢◌, ◌⊎◌, ◌↔◌, ℕ, ◌<◌, List, [], None, Some, Ok, Err, IsTrue, IfOk, IfErr, OnOk};
+ghost use Rattle.std.specs.Option.{IfSome};
+ghost use Rattle.ballots.specs.declared.record.Record.{Record as Held};
+ghost use Rattle.ballots.specs.declared.value.Value.{Value as Decided};
+ghost use Rattle.agreement_rules.specs.Views.{started_with, Views, HasPrefix};
+ghost use Rattle.histories.specs.Following.{Seat as HistorySeat, IsUp};
+ghost use Rattle.safe_histories.specs.Learning.{Runs, HasLearnedPrefix};
+ghost use Rattle.stable_records.specs.declared.fault.StoreFault.TheVariants.{OutOfMemory};
+ghost use Rattle.stable_records.specs.Calls.{RaisesCount};
+ghost use Rattle.node_seats.specs.State.{StandsUp};
+ghost use Rattle.schedule_runner.specs.Limits.{IsWithinLimits};
+ghost use Rattle.schedule_runner.specs.Told.{steps_of};
+ghost use Rattle.seats.specs.declared.fault.SeatFault.TheVariants.{Down};
+ghost use Rattle.seats.specs.State.{Agrees, IsLedTo};
+ghost use Rattle.seats.specs.Steps.{IsDown, StandsSame, PrepareGives, IsFaultFor};
+
+use crate::agreeing::are_own;
+use crate::fault::SeatFault;
+use crate::handing::handed_over;
+use crate::input::{Prepared, SeatInput};
+use crate::own::OwnEntry;
+use agreement::Config as Agreed;
+use ballots::NodeId;
+use histories::laws::own_entries_decide_the_node;
+use journal::Journal;
+use node_core::{Node, Refusal};
+use node_events::Reason;
+use node_seats::Seat as NodeSeat;
+use safe_histories::laws::{prefix_is_shown, up_is_shown};
+use schedule_runner::Config;
+use stable_records::{Stable, StoreFault};
+use std::alloc::Global;
+use std::hash::RandomState;
+use std::marker::Model;
+
+/// A node with the store of its records, up or down, and what it did itself. The type keeps that its own entries leave the
+/// node as it is: up or down, with what it has, and its records those that it kept by them.
+pub struct Seat<S: Stable> {
+    pub(crate) alloc: Global,
+    pub(crate) me: NodeId,
+    pub(crate) config: Config,
+    pub(crate) node: NodeSeat<S>,
+    pub(crate) own: Vec<OwnEntry>,
+}
+
+impl<S: Stable> Model for Seat<S> {
+    ghost use Rattle.std.specs.Prelude.{◌≡◌};
+    ghost use Rattle.seats.specs.State.{RunningSeat, IsLed};
+
+    ghost Value = { RunningSeat S };
+
+    ghost use Rattle.node_core.specs.contracts.node.Node as node_part;
+    ghost use Rattle.std.specs.Coded.{codes};
+
+    ghost coded = { Prim.hlevel (codes, node_part.the_row.coded, S.code) };
+
+    ghost view = { λ s. record { config = s.config; node = s.node; own = s.own.items } };
+
+    ghost invariant = { λ s. (s.me ≡ s.node.me)
+        × IsLed (record { config = s.config; node = s.node; own = s.own.items }) };
+}
+
+// Written out, so that a crate above lets go of a seat by one call, and does not prove again what is inside it.
+impl<S: Stable + Drop> Drop for Seat<S> {
+    fn drop(self) {
+        let Seat {
+            alloc: _,
+            me: _,
+            config: _,
+            node,
+            own,
+        } = self;
+        drop(node);
+        drop(own);
+    }
+}
+
+impl<S: Stable + Drop> Seat<S> {
+    /// The node `me` of this configuration with this store, up and with nothing; `None` where the store has a record
+    /// already. Memory is taken from this allocator; `hashing` has the random keys that keep look-ups fast whatever
+    /// names clients choose.
+    ///
+    /// The fault is the store's, in recalling its records, or [`StoreFault::OutOfMemory`].
+    pub fn open(
+        alloc: Global,
+        hashing: RandomState,
+        me: NodeId,
+        config: Config,
+        store: S,
+    ) -> Result<Option<Seat<S>>, StoreFault>
+        requires within { IsWithinLimits config }
+        requires member { me < config.members }
+        ensures me { IfOk result (λ opened. IfSome opened (λ seat. seat.node.me ≡ me)) }
+        ensures config { IfOk result (λ opened. IfSome opened (λ seat. seat.config ≡ config)) }
+        ensures own { IfOk result (λ opened. IfSome opened (λ seat. seat.own ≡ [])) }
+        ensures stands { IfOk result (λ opened. IfSome opened (λ seat. StandsUp seat.node (started_with []))) }
+        ensures some { result ≡ Ok None → IsTrue S.tells
+            → (records : List Held) × S.finds store (Some records) × (records ≢ []) }
+        ensures fault { IfErr result (λ fault. (fault ≡ OutOfMemory)
+            ⊎ ((left : S) × RaisesCount fault (S.faults store) (S.faults left))) }
+    {
+        let Some(agreed) = Agreed::new(config.members, config.slot_limit) else {
+            unreachable!();
+        };
+        let Some(node) = NodeSeat::open(alloc, hashing, me, agreed, store)? else {
+            return Ok(None);
+        };
+        Ok(Some(Seat {
+            alloc,
+            me,
+            config,
+            node,
+            own: Vec::new(alloc),
+        }))
+    }
+
+    /// The node, or [`SeatFault::Down`] exactly where there is none.
+    pub fn node(&self) -> Result<&Node, SeatFault>
+        ensures up { IfOk result (λ node. self.now.node.node ≡ Some node.now) }
+        ensures down { IfErr result (λ why. (why ≡ Down) × IsDown self.now) }
+    {
+        match self.node.node() {
+            Some(node) => Ok(node),
+            None => Err(SeatFault::Down),
+        }
+    }
+
+    /// Whether the journal is of the same configuration and has just the entries of this node that the seat has, each by
+    /// what it holds. Then the node is up exactly where the journal shows that it runs, and its prefix is what the
+    /// journal shows that it has learned. It takes time with the number of the journal's entries.
+    pub fn agrees(&self, journal: &Journal) -> bool
+        ensures agrees { IsTrue result ↔ Agrees self.now journal.now }
+        ensures runs { IsTrue result
+            → (IsDown self.now → ⊥) ↔ Runs self.now.node.me (steps_of journal.now.trace.steps) }
+        ensures prefix { IsTrue result → (views : Views) (values : List Decided)
+            → IsLedTo self.now (IsUp views)
+            → HasPrefix self.now.node.config.members views.learner_calls values
+            ↔ HasLearnedPrefix self.now.node.config.members journal.now.trace.sent (steps_of journal.now.trace.steps)
+            self.now.node.me values }
+    {
+        up_is_shown();
+        prefix_is_shown();
+        own_entries_decide_the_node();
+        let _ = &self.own;
+        let _ = journal.trace();
+        self.has_own(journal)
+    }
+
+    // Whether the journal is of the same configuration and has just the entries of this node that the seat has.
+    fn has_own(&self, journal: &Journal) -> bool
+        ensures { IsTrue result ↔ Agrees self.now journal.now }
+    {
+        let trace = journal.trace();
+        let recovered = journal.recovered();
+        self.config == journal.config()
+            && are_own(
+                self.own.as_slice(),
+                self.me,
+                trace.sent(),
+                trace.steps(),
+                recovered,
+            )
+    }
+
+    /// What is due to an input, which [`Seat::take`] does: exactly the plan that is due, or the refusal, memory apart
+    /// ([`SeatFault::Refused`]); or [`SeatFault::Down`], exactly where the node is down. Nothing changes that decides what
+    /// the node does, whatever the answer.
+    pub fn prepare(&mut self, input: SeatInput) -> Result<Prepared, SeatFault>
+        ensures gives { PrepareGives self.old self.new input result }
+        ensures same { StandsSame self.old self.new }
+        ensures store { self.new.node.store ≡ self.old.node.store }
+    {
+        let copy = match self.node.node() {
+            Some(node) => match handed_over(node, &input) {
+                Ok(copy) => copy,
+                Err(refusal) => {
+                    drop(input);
+                    return Err(SeatFault::Refused(refusal));
+                }
+            },
+            None => {
+                drop(input);
+                return Err(SeatFault::Down);
+            }
+        };
+        let plan = match self.node.plan(copy) {
+            Ok(plan) => plan,
+            Err(reason) => {
+                drop(input);
+                return Err(fault_for(reason));
+            }
+        };
+        Ok(Prepared { input, plan })
+    }
+}
+
+// Why nothing is due.
+fn fault_for(reason: Reason) -> SeatFault
+    ensures { IsFaultFor reason result }
+{
+    match reason {
+        Reason::OutOfRange => SeatFault::Refused(Refusal::OutOfRange),
+        Reason::SlotsSpent => SeatFault::Refused(Refusal::SlotsSpent),
+        Reason::RoundsSpent => SeatFault::Refused(Refusal::RoundsSpent),
+        Reason::OutOfMemory => SeatFault::Refused(Refusal::OutOfMemory),
+        Reason::Down => SeatFault::Down,
+        Reason::NotSent => SeatFault::NotSent,
+    }
+}

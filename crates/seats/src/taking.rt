@@ -1,0 +1,129 @@
+//! An input that is taken.
+
+ghost use Rattle.std.specs.Prelude.{◌≡◌, ◌↔◌, ◌<◌, IfOk, OnOk, IsTrue, length, vec_len, vec_capacity};
+ghost use Rattle.journal.specs.Journaled.{HasRoom, TellsSame};
+ghost use Rattle.seats.specs.Entries.{AreCopies};
+ghost use Rattle.seats.specs.Inputs.{IsSentIn};
+ghost use Rattle.seats.specs.Steps.{Admits, OpensFor, IsPreparedFor, Counts, TakeGives, OthersAgree};
+
+use crate::entering::{Copies, enter_cut, enter_done};
+use crate::fault::SeatFault;
+use crate::input::{Prepared, SeatInput};
+use crate::messages::same_message;
+use crate::own::OwnEntry;
+use crate::seat::Seat;
+use ballots::{Message, NodeId};
+use journal::{Journal, Receipt};
+use node_core::Refusal;
+use stable_records::Stable;
+use std::alloc::{AllocError, Global};
+
+// Whether the message that is delivered, if one is, is the one of its number in the journal.
+fn is_sent(journal: &Journal, input: &SeatInput) -> bool
+    ensures { IsTrue result ↔ IsSentIn journal.now.trace.sent input.now }
+{
+    match input {
+        SeatInput::Deliver(number, message) => match journal.message(*number) {
+            Some(sent) => same_message(sent, message),
+            None => false,
+        },
+        _ => true,
+    }
+}
+
+impl<S: Stable + Drop> Seat<S> {
+    /// Why no entry of this node may stand next in the journal, if something speaks against it.
+    pub(crate) fn is_open(&self, journal: &Journal) -> Result<(), SeatFault>
+        ensures { OpensFor self.now journal.now result }
+    {
+        if !self.agrees(journal) {
+            return Err(SeatFault::Strange);
+        }
+        if journal.is_full() {
+            return Err(SeatFault::JournalFull);
+        }
+        Ok(())
+    }
+
+    // Why the input may not be entered next, if something speaks against it.
+    fn admits(&self, journal: &Journal, input: &SeatInput) -> Result<(), SeatFault>
+        ensures { Admits self.now journal.now input.now result }
+    {
+        self.is_open(journal)?;
+        if !is_sent(journal, input) {
+            return Err(SeatFault::NotSent);
+        }
+        Ok(())
+    }
+
+    /// Does what was prepared: its record is kept, the node commits, and its event is entered with the messages that go
+    /// out. The seat is as [`Seat::prepare`] left it when it made this.
+    ///
+    /// The first of these faults is told that stands, memory apart: [`SeatFault::Strange`] exactly where the seat does not
+    /// agree with the journal ([`Seat::agrees`]); [`SeatFault::JournalFull`]; [`SeatFault::NotSent`] exactly where the
+    /// delivered message is not the one of its number there, by what it holds. These, and [`SeatFault::Refused`] where
+    /// memory was refused, change nothing. [`SeatFault::Store`] is the store's fault in keeping the record, or its want of
+    /// memory: the node is down then, and one entry says that it went down in the midst.
+    ///
+    /// It takes time with the number of the journal's entries.
+    pub fn take(&mut self, journal: &mut Journal, prepared: Prepared) -> Result<Receipt, SeatFault>
+        requires { IsPreparedFor self.old prepared }
+        ensures gives { TakeGives self.old self.new journal.old journal.new prepared result }
+        ensures counted { Counts S.tells result (S.faults self.old.node.store) (S.faults self.new.node.store) }
+        ensures others { OthersAgree self.old.node.me journal.old journal.new }
+    {
+        self.admits(journal, &prepared.input)?;
+        let Prepared { input, plan } = prepared;
+        let (alloc, me) = (self.alloc, self.me);
+        let copies = match made_ready(alloc, me, &mut self.own, journal, &input, plan.sends()) {
+            Ok(copies) => copies,
+            Err(_) => {
+                drop(input);
+                drop(plan);
+                return Err(SeatFault::Refused(Refusal::OutOfMemory));
+            }
+        };
+        match self.node.take(plan) {
+            Ok(()) => Ok(enter_done(me, &mut self.own, journal, input, copies)),
+            Err(fault) => {
+                drop(copies);
+                enter_cut(alloc, me, &mut self.own, journal, input);
+                Err(SeatFault::Store(fault))
+            }
+        }
+    }
+}
+
+/// Room for an entry, in the journal and among the node's own, where so many messages go out.
+pub(crate) fn make_room(
+    own: &mut Vec<OwnEntry>,
+    journal: &mut Journal,
+    count: usize,
+) -> Result<(), AllocError>
+    ensures room { OnOk result (HasRoom journal.new count) }
+    ensures own_room { OnOk result (vec_len own.new < vec_capacity own.new) }
+    ensures own { own.new.items ≡ own.old.items }
+    ensures journal { TellsSame journal.old journal.new }
+{
+    own.reserve(1)?;
+    journal.reserve(count)
+}
+
+// All that an input takes memory for, made before anything is done.
+fn made_ready(
+    alloc: Global,
+    me: NodeId,
+    own: &mut Vec<OwnEntry>,
+    journal: &mut Journal,
+    input: &SeatInput,
+    sends: &[Message],
+) -> Result<Copies, AllocError>
+    ensures copies { IfOk result (AreCopies me input.now sends.now) }
+    ensures room { OnOk result (HasRoom journal.new (length sends.now)) }
+    ensures own_room { OnOk result (vec_len own.new < vec_capacity own.new) }
+    ensures own { own.new.items ≡ own.old.items }
+    ensures journal { TellsSame journal.old journal.new }
+{
+    make_room(own, journal, sends.len())?;
+    Copies::of(alloc, me, input, sends)
+}
