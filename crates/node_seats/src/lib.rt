@@ -20,6 +20,7 @@
 #![tactic(auto)]
 
 mod due;
+mod events;
 mod fault;
 mod handing;
 mod kept;
