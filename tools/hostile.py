@@ -12,7 +12,9 @@ import os
 import struct
 import sys
 
-from peer import PROGRAM, Server, Structs, Table, Wrong, descriptor, field, message, name_of, schema_text, want, whole
+from peer import PROGRAM, Server, Wrong, name_of, opening, want
+
+from felzoren import DataType, Field, Schema, batch_header, data_message, schema_header
 
 # What a server may hold at most: a frame as it came, the message in it, the batch, the upload's encoding and its frames, each
 # once, and itself.
@@ -46,15 +48,22 @@ class Laid:
         self.buffers += buffers
 
     def parts(self, rows):
-        header = message(3, Table(("q", rows), Structs(self.nodes), Structs(self.buffers)), len(self.body))
-        return header, bytes(self.body)
+        return batch_header(rows, self.nodes, self.buffers, len(self.body)), bytes(self.body)
 
 
 NONE = (0, 0)
 
 
-def numbers(count, kind, parameter=None):
-    return [(f"c{it}", kind, parameter) for it in range(count)]
+def columns(count, type):
+    return [Field(f"c{it}", type) for it in range(count)]
+
+
+def struct_of(fields):
+    return DataType("Struct", (), fields)
+
+
+def list_of(type):
+    return DataType("List", (), [Field("item", type)])
 
 
 def plain():
@@ -62,7 +71,7 @@ def plain():
     laid, rows = Laid(), BODY // 64
     for count in range(8):
         laid.column(rows, 0, NONE, laid.bytes(count, os.urandom(8 * rows)))
-    return numbers(8, "Int", 64), laid.parts(rows), TAKEN
+    return columns(8, "int64"), laid.parts(rows), TAKEN
 
 
 def shared_numbers():
@@ -70,7 +79,7 @@ def shared_numbers():
     place = laid.bytes("numbers", bytes(8 * rows))
     for _ in range(FIELDS):
         laid.column(rows, 0, NONE, place)
-    return numbers(FIELDS, "Int", 64), laid.parts(rows), TOO_LARGE
+    return columns(FIELDS, "int64"), laid.parts(rows), TOO_LARGE
 
 
 def half_null(count):
@@ -90,7 +99,7 @@ def shared_bits_in_a_struct():
     laid.column(rows, rows // 2, place)
     for _ in range(FIELDS - 1):
         laid.column(rows, rows // 2, place, place)
-    return [("s", "Struct", None, numbers(FIELDS - 1, "Bool"))], laid.parts(rows), TOO_LARGE
+    return [Field("s", struct_of(columns(FIELDS - 1, "bool")))], laid.parts(rows), TOO_LARGE
 
 
 def shared_structs():
@@ -99,26 +108,25 @@ def shared_structs():
     place = laid.bytes("bits", half_null(rows))
     for _ in range(FIELDS):
         laid.column(rows, rows // 2, place)
-    return numbers(FIELDS, "Struct"), laid.parts(rows), TOO_LARGE
+    return columns(FIELDS, "struct<>"), laid.parts(rows), TOO_LARGE
 
 
 def one_element_each(count):
     return struct.pack(f"<{count + 1}i", *range(count + 1))
 
 
-def lists_half_null(kind, parameter=None):
+def lists_half_null(type):
     """Lists of one element each, of which half are null, around a structure of many columns that share their bytes."""
     laid, rows = Laid(), LISTS
     validity = laid.bytes("validity", half_null(rows))
     laid.column(rows, rows // 2, validity, laid.bytes("offsets", one_element_each(rows)))
     laid.column(rows, 0, NONE)
     inside = laid.bytes("inside", null_by_twos(rows))
-    values = {"Null": (), "Struct": (inside,), "Bool": (inside, inside), "Int": (inside, laid.bytes("offsets"))}[kind]
+    values = {"null": (), "struct<>": (inside,), "bool": (inside, inside), "int8": (inside, laid.bytes("offsets"))}[type]
     for _ in range(FIELDS - 2):
-        laid.column(rows, rows if kind == "Null" else rows // 2, *values)
-    item = ("item", "Struct", None, numbers(FIELDS - 2, kind, parameter))
-    wanted = TAKEN if kind == "Null" else TOO_LARGE
-    return [("l", "List", None, [item])], laid.parts(rows), wanted
+        laid.column(rows, rows if type == "null" else rows // 2, *values)
+    wanted = TAKEN if type == "null" else TOO_LARGE
+    return [Field("l", list_of(struct_of(columns(FIELDS - 2, type))))], laid.parts(rows), wanted
 
 
 def many_lists():
@@ -129,8 +137,7 @@ def many_lists():
     for _ in range(FIELDS // 2):
         laid.column(rows, rows // 2, validity, ends)
         laid.column(rows, rows // 2, validity, validity)
-    columns = [(f"l{it}", "List", None, [("item", "Bool")]) for it in range(FIELDS // 2)]
-    return columns, laid.parts(rows), TOO_LARGE
+    return columns(FIELDS // 2, "list<bool>"), laid.parts(rows), TOO_LARGE
 
 
 def lists_of_lists():
@@ -138,14 +145,14 @@ def lists_of_lists():
     laid, rows, deep = Laid(), LISTS, 14
     validity = laid.bytes("validity", half_null(rows))
     ends = laid.bytes("offsets", one_element_each(rows))
-    column, count = ("x", "Int", 8), FIELDS // (deep + 1)
+    type, count = "int8", FIELDS // (deep + 1)
     for _ in range(deep):
-        column = ("item", "List", None, [column])
+        type = list_of(type)
     for _ in range(count):
         for _ in range(deep):
             laid.column(rows, rows // 2, validity, ends)
         laid.column(rows, 0, NONE, ends)
-    return [(f"l{it}", *column[1:]) for it in range(count)], laid.parts(rows), TOO_LARGE
+    return columns(count, type), laid.parts(rows), TOO_LARGE
 
 
 def shared_texts():
@@ -155,7 +162,7 @@ def shared_texts():
     count = FIELDS
     for _ in range(count):
         laid.column(rows, 0, NONE, ends, place)
-    return numbers(count, "Utf8"), laid.parts(rows), TOO_LARGE
+    return columns(count, "utf8"), laid.parts(rows), TOO_LARGE
 
 
 def long_list_of_bits():
@@ -166,8 +173,7 @@ def long_list_of_bits():
     laid.column(VALUES, VALUES // 2, place)
     for _ in range(FIELDS - 2):
         laid.column(VALUES, VALUES // 2, place, place)
-    inside = ("item", "Struct", None, numbers(FIELDS - 2, "Bool"))
-    return [("l", "List", None, [inside])], laid.parts(1), TOO_LARGE
+    return [Field("l", list_of(struct_of(columns(FIELDS - 2, "bool"))))], laid.parts(1), TOO_LARGE
 
 
 def long_list_of_nulls(size, wanted):
@@ -175,7 +181,7 @@ def long_list_of_nulls(size, wanted):
     laid = Laid()
     laid.column(1, 0, NONE)
     laid.column(size, size)
-    return [("f", "FixedSizeList", size, [("item", "Null")])], laid.parts(1), wanted
+    return [Field("f", f"fixed_size_list<null>[{size}]")], laid.parts(1), wanted
 
 
 def lists_in_lists_of_nulls():
@@ -184,8 +190,7 @@ def lists_in_lists_of_nulls():
     laid.column(ROWS, ROWS // 2, laid.bytes("validity", half_null(ROWS)))
     laid.column(4 * ROWS, 0, NONE)
     laid.column(16 * ROWS, 16 * ROWS)
-    inside = ("item", "FixedSizeList", 4, [("item", "Null")])
-    return [("f", "FixedSizeList", 4, [inside])], laid.parts(ROWS), TAKEN
+    return [Field("f", "fixed_size_list<fixed_size_list<null>[4]>[4]")], laid.parts(ROWS), TAKEN
 
 
 def pairs_of_bits():
@@ -195,8 +200,7 @@ def pairs_of_bits():
     for _ in range(count):
         laid.column(rows, rows // 2, outer)
         laid.column(2 * rows, rows, outer, outer)
-    columns = [(f"f{it}", "FixedSizeList", 2, [("item", "Bool")]) for it in range(count)]
-    return columns, laid.parts(rows), TOO_LARGE
+    return columns(count, "fixed_size_list<bool>[2]"), laid.parts(rows), TOO_LARGE
 
 
 CASES = {
@@ -204,10 +208,10 @@ CASES = {
     "512 columns of the same numbers": shared_numbers,
     "511 columns of the same bits in structures": shared_bits_in_a_struct,
     "512 structures with one bitmap": shared_structs,
-    "510 columns of nulls in lists": lambda: lists_half_null("Null"),
-    "510 structures with one bitmap in lists": lambda: lists_half_null("Struct"),
-    "510 columns of the same bits in lists": lambda: lists_half_null("Bool"),
-    "510 columns of the same numbers in lists": lambda: lists_half_null("Int", 8),
+    "510 columns of nulls in lists": lambda: lists_half_null("null"),
+    "510 structures with one bitmap in lists": lambda: lists_half_null("struct<>"),
+    "510 columns of the same bits in lists": lambda: lists_half_null("bool"),
+    "510 columns of the same numbers in lists": lambda: lists_half_null("int8"),
     "256 lists with the same offsets": many_lists,
     "34 lists of lists with the same offsets": lists_of_lists,
     "512 columns of the same texts": shared_texts,
@@ -233,11 +237,10 @@ def spent(process):
 
 
 def try_case(program, name, case):
-    columns, (header, body), wanted = case()
-    parts = [field(1, descriptor("t", name_of("t", 0).hex())) + field(2, schema_text(whole(columns)))]
-    parts.append(field(2, header) + (field(1000, body) if body else b""))
+    fields, (header, body), wanted = case()
+    parts = [opening("t", name_of("t", 0), schema_header(Schema(fields))), data_message(header, b"", body)]
     server = Server(program)
-    _, *told = server.call(b"DoPut", *parts)
+    _, *told = server.call("DoPut", *parts)
     memory, time = held(server.process), spent(server.process)
     print(f"{name:<45} {len(parts[1]):>9,} bytes  {memory / 2**20:6.1f} MiB  {time:6.2f} s  {told[1] or 'taken'}")
     server.process.communicate()
