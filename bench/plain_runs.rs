@@ -1,8 +1,8 @@
 //! Whole Paxos nodes in plain Rust, over the maps of std, with nothing proved: what `flight_bench` is timed against. A
 //! run is a list of events, each of which happens to one node, with what it gives, and all messages that were sent.
 //! `generate MEMBERS UPLOADS BATCHES ROWS` writes a file of a run: how many members there are, a slot for each upload,
-//! and the uploads, each behind its length, of one column of Int8 to one table. `run-events COUNT FILE` does what
-//! `flight_bench` does at these words. `play FILE` plays events that are told a line each, and prints the lines that
+//! and the uploads, each behind its length, of one column of Int8 to one table. `run-events COUNT FILE` and `seat-events
+//! COUNT FILE` do what `flight_bench` does at these words, the second without asking whether a node agrees with the journal. `play FILE` plays events that are told a line each, and prints the lines that
 //! tools/runs_model.py prints.
 use plain_tables::plain_batches::bytes_weight;
 use plain_tables::{checked, generated, take_bytes, values, Outcome, Tables};
@@ -534,6 +534,7 @@ enum Event {
     Outcome(u64, Upload),
 }
 
+#[derive(Clone)]
 enum Gave {
     Sent { first: u64, count: u64 },
     Done,
@@ -629,6 +630,62 @@ fn run(config: Config, events: &[Event]) -> Trace {
         steps.push(Step { event: event.clone(), gave });
     }
     Trace { sent, steps }
+}
+
+// ---- nodes that share a journal
+
+/// What a node did itself: the event, what it gave, the message that it was handed and those that it sent.
+#[allow(dead_code)]
+struct OwnEntry {
+    event: Event,
+    gave: Gave,
+    handed: Option<Message>,
+    sends: Vec<Message>,
+}
+
+/// What whoever took a step has of it.
+#[allow(dead_code)]
+struct Receipt {
+    number: u64,
+    event: Event,
+    gave: Gave,
+}
+
+/// A node with what it did itself, which agrees with a journal unasked.
+struct Sharing {
+    seat: Seat,
+    own: Vec<OwnEntry>,
+}
+
+impl Sharing {
+    /// The event at this node: an entry of the journal, and one of its own where it is no question.
+    fn take(&mut self, event: &Event, journal: &mut Trace) -> Result<Receipt, Reason> {
+        let handed = match event {
+            Event::Deliver(_, number) => journal.sent.get(*number as usize).cloned(),
+            _ => None,
+        };
+        let first = journal.sent.len();
+        let gave = self.seat.happen(event, &mut journal.sent)?;
+        if !matches!(event, Event::Outcome(..)) {
+            let sends = journal.sent[first..].to_vec();
+            self.own.push(OwnEntry { event: event.clone(), gave: gave.clone(), handed, sends });
+        }
+        let number = journal.steps.len() as u64;
+        journal.steps.push(Step { event: event.clone(), gave: gave.clone() });
+        Ok(Receipt { number, event: event.clone(), gave })
+    }
+}
+
+/// The events, each taken by its node.
+fn share(config: Config, events: &[Event]) -> Option<Trace> {
+    let seat = |me| Sharing { seat: Seat::open(me, config), own: Vec::new() };
+    let mut seats: Vec<Sharing> = (0..config.members).map(seat).collect();
+    let mut journal = Trace { sent: Vec::new(), steps: Vec::new() };
+    for event in events {
+        black_box(seats.get_mut(event.node() as usize)?.take(event, &mut journal).ok()?);
+    }
+    black_box(&seats);
+    Some(journal)
 }
 
 // ---- events that are told a line each, and what each gives
@@ -838,6 +895,16 @@ fn run_often(count: u64, bytes: &[u8]) -> Option<u64> {
     Some(sum)
 }
 
+fn share_often(count: u64, bytes: &[u8]) -> Option<u64> {
+    let plan = plan_in(bytes)?;
+    let events = events_of(&plan);
+    let mut sum = 0u64;
+    for _ in 0..count {
+        sum = sum.wrapping_add(trace_weight(&share(plan.config, black_box(&events))?));
+    }
+    Some(sum)
+}
+
 fn main() -> io::Result<()> {
     let words: Vec<String> = std::env::args().skip(1).collect();
     let wrong = || io::Error::from(io::ErrorKind::InvalidInput);
@@ -850,6 +917,11 @@ fn main() -> io::Result<()> {
         }
         ["run-events", count, file] => {
             let sum = run_often(number(count)?.into(), &std::fs::read(file)?).ok_or_else(wrong)?;
+            println!("{count} {sum}");
+            Ok(())
+        }
+        ["seat-events", count, file] => {
+            let sum = share_often(number(count)?.into(), &std::fs::read(file)?).ok_or_else(wrong)?;
             println!("{count} {sum}");
             Ok(())
         }

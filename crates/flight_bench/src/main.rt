@@ -20,7 +20,9 @@ use std::fs;
 use std::hash::RandomState;
 use std::io::Write;
 use std::process::ExitCode;
-use upload_tasks::{answer_often, decode_uploads, hold_all, run_often, take_often};
+use upload_tasks::{
+    answer_often, compare_often, decode_uploads, hold_all, run_often, seat_often, take_often,
+};
 
 /// The status of a run that met no fault.
 const SUCCESS: u8 = 0;
@@ -108,6 +110,8 @@ fn repeat(
         "decode-uploads" => decode_uploads(alloc, count, bytes),
         "answer-tickets" => answer_often(alloc, hashing, count, bytes),
         "run-events" => run_often(alloc, hashing, count, bytes),
+        "seat-events" => seat_often(alloc, hashing, count, bytes),
+        "compare-events" => compare_often(alloc, hashing, count, bytes),
         _ => return None,
     };
     Some(sum)

@@ -1,2 +1,4 @@
 mod Worth
 mod Entering
+mod Logging
+mod Counting

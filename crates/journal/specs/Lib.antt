@@ -1,2 +1,3 @@
 pub mod Journaled
+pub mod Logged
 pub mod Receipts

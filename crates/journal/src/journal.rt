@@ -1,17 +1,21 @@
 //! A journal.
 
 ghost use Rattle.std.specs.Prelude.{◌≡◌, ◌↔◌, ℕ, ◌+◌, ◌<◌, ◌≤◌, IsTrue, List, [], ◌∷◌, ◌++◌, length, slice_get, OnOk, vec_len, vec_capacity};
-ghost use Rattle.std.specs.Option.{option_map};
+ghost use Rattle.std.specs.Option.{IfSome, option_map};
 ghost use Rattle.lawful_histories.specs.Lawful.{IsLawful};
 ghost use Rattle.histories.specs.Following.{Follows};
 ghost use Rattle.safe_histories.specs.Safe.{IsSafe};
 ghost use Rattle.schedule_runner.specs.Limits.{IsWithinLimits};
 ghost use Rattle.schedule_runner.specs.Traced.{Tells, history_of};
-ghost use Rattle.journal.specs.Journaled.{HasFollowed, HasRoom, TellsSame, HasEntry, MayEnter, EntersOwn};
+ghost use Rattle.journal.specs.Journaled.{own_in, HasFollowed, HasRoom, TellsSame, HasEntry, MayEnter, EntersOwn};
+ghost use Rattle.journal.specs.Logged.{HasLogged, IsLonger, own_entry};
 ghost use Rattle.journal.specs.Receipts.{IsReceiptOf, AreWorth};
 
+use crate::own::OwnEntry;
+use crate::progress::Progress;
 use crate::receipt::{Receipt, tells_step};
-use ballots::Message;
+use ballots::{Message, NodeId};
+use growing_log::{Naming, Opened, Reached};
 use histories::laws::{
     a_member_steps_alone, nothing_reaches_the_start, own_entries_decide_the_node, own_entries_grow,
     own_entries_leave_the_node,
@@ -19,20 +23,26 @@ use histories::laws::{
 use safe_histories::laws::replicas_agree;
 use schedule_runner::{Config, Step, Trace};
 use std::alloc::{AllocError, Global};
-use std::marker::Model;
+use std::marker::{Brand, Model};
 
 /// All steps that the nodes of one configuration took, each behind those before, with the messages that they sent.
 /// Contracts see its trace, and of each step whether it restarted a node that had back the record that was due where it
 /// went down. The type keeps that each step followed by the rules of the nodes.
+///
+/// A journal that was made with a log ([`Journal::with_log`]) knows how far it has come, under the log's name: a node that
+/// knows it too can tell by a count alone that the journal has just its own entries.
 #[derive(Drop)]
-pub struct Journal {
+pub struct Journal<J: Naming = Brand> {
     trace: Trace,
     recovered: Vec<bool>,
+    progress: Option<Progress<J>>,
 }
 
-impl Model for Journal {
+impl<J: Naming> Model for Journal<J> {
     ghost use Rattle.std.specs.Prelude.{◌-◌, vec_len, vec_capacity};
+    ghost use Rattle.std.specs.Option.{IfSome};
     ghost use Rattle.journal.specs.Journaled.{Journaled, HasFollowed};
+    ghost use Rattle.journal.specs.Logged.{HasLogged};
 
     ghost Value = { Journaled };
 
@@ -46,13 +56,17 @@ impl Model for Journal {
       trace = j.trace;
       recovered = j.recovered.items;
       room = vec_capacity j.recovered - vec_len j.recovered;
-    }) };
+    }) × IfSome j.progress (λ log. HasLogged log (record {
+      trace = j.trace;
+      recovered = j.recovered.items;
+      room = vec_capacity j.recovered - vec_len j.recovered;
+    })) };
 }
 
-impl Journal {
+impl<J: Naming> Journal<J> {
     /// A journal without a step, of nodes of this configuration, which is within its limits. It takes memory from this
     /// allocator as it grows.
-    pub fn new(alloc: Global, config: Config) -> Journal
+    pub fn new(alloc: Global, config: Config) -> Journal<J>
         requires { IsWithinLimits config }
         ensures trace { Tells result.trace config [] [] }
         ensures recovered { result.recovered ≡ [] }
@@ -61,6 +75,43 @@ impl Journal {
         Journal {
             trace: Trace::new(alloc, config),
             recovered: Vec::new(alloc),
+            progress: None,
+        }
+    }
+
+    /// A journal without a step, with a log of all nodes' own entries, which has none so far, under the log's name.
+    pub fn with_log(alloc: Global, config: Config, log: Opened<OwnEntry>) -> Journal<J>
+        requires within { IsWithinLimits config }
+        requires named { log ≡ J.book }
+        ensures trace { Tells result.trace config [] [] }
+        ensures recovered { result.recovered ≡ [] }
+    {
+        nothing_reaches_the_start();
+        let (head, reached) = log.named::<J>();
+        Journal {
+            trace: Trace::new(alloc, config),
+            recovered: Vec::new(alloc),
+            progress: Some(Progress::new(head, reached)),
+        }
+    }
+
+    /// How far the log of the nodes' own entries has come, where the journal has one that stands where it does.
+    pub fn log(&self) -> Option<Reached<OwnEntry, J>>
+        ensures { IfSome result (λ entries. HasLogged entries self.now) }
+    {
+        match &self.progress {
+            Some(progress) => Some(progress.reached()),
+            None => None,
+        }
+    }
+
+    /// How many entries of its own this node has here, where the journal has a log and the node is one of its nodes.
+    pub fn own_count(&self, node: NodeId) -> Option<u64>
+        ensures { IfSome result (λ count. count ≡ length (own_in node self.now)) }
+    {
+        match &self.progress {
+            Some(progress) if self.trace.config().members.have(node) => Some(progress.count(node)),
+            _ => None,
         }
     }
 
@@ -118,10 +169,12 @@ impl Journal {
     /// Enters a step behind the others, where there is room for it ([`Journal::reserve`]): an event that was applied, what
     /// it gave, and the messages that it sent, which are numbered on from those that were sent before. By what its own
     /// entries leave it, the node of the event gives that by its rules; with this entry they leave it as it is then. Of a
-    /// restart `recovered` says whether the node had back the record that was due where it went down. It takes no memory.
-    pub fn enter(&mut self, step: Step, more: Vec<Message>, recovered: bool)
+    /// restart `recovered` says whether the node had back the record that was due where it went down. `own` is what the
+    /// node has as its own entry of it; a question has none. It takes no memory.
+    pub fn enter(&mut self, step: Step, more: Vec<Message>, recovered: bool, own: Option<&OwnEntry>)
         requires room { HasRoom self.old (vec_len more) }
         requires follows { MayEnter self.old step more.items recovered }
+        requires own { option_map (λ entry. entry.now) own ≡ own_entry self.old step more.items recovered }
         ensures entry { HasEntry self.old step more.items recovered self.new }
         ensures own { EntersOwn self.old step more.items recovered self.new }
     {
@@ -131,6 +184,7 @@ impl Journal {
         own_entries_grow();
         self.trace.push(step, more);
         put_flag(&mut self.recovered, recovered);
+        self.progress = with_own(self.progress.take(), own);
     }
 
     /// Whether the step of this number has this event and this answer. Two are compared by what they hold.
@@ -160,6 +214,16 @@ fn is_told(trace: &Trace, receipt: &Receipt) -> bool
     match trace.steps().get(receipt.number as usize) {
         Some(step) => tells_step(receipt, step),
         None => false,
+    }
+}
+
+// The log with an entry more, if there is one to add; none where it had come further.
+fn with_own<J: Naming>(progress: Option<Progress<J>>, own: Option<&OwnEntry>) -> Option<Progress<J>>
+    ensures { IfSome result (IsLonger progress (option_map (λ entry. entry.now) own.entry)) }
+{
+    match own {
+        Some(entry) => progress?.with(entry),
+        None => progress,
     }
 }
 

@@ -14,11 +14,17 @@
 //!
 //! A [`Receipt`] is what whoever took a step has of it: its number, its event and what it gave. [`Journal::meet`] says of
 //! two receipts whether both stand there, whichever threads got them, and what they are worth to each other.
+//!
+//! A journal can have a log of the nodes' own entries beside it ([`Journal::with_log`]), which exists in proofs alone. A
+//! node that knows the same log has just the journal's own entries of it where it has as many.
 #![tactic(auto)]
 
 mod journal;
 pub mod laws;
+mod own;
+mod progress;
 mod receipt;
 
 pub use journal::Journal;
+pub use own::OwnEntry;
 pub use receipt::Receipt;

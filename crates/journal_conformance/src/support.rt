@@ -1,12 +1,14 @@
 //! Seats with their journal, and what is asked of them.
 
 use ballots::{Members, NodeId};
+use growing_log::Naming;
 use header_types::Schema;
 use schedule_runner::Config;
 use seats::{Journal, Query, Receipt, Seat, SeatFault, SeatInput};
 use stable_records::{MemoryStable, Stable};
 use std::alloc::Global;
 use std::hash::RandomState;
+use std::marker::Brand;
 use std::test::Fail;
 use table_types::Ticket;
 use uploads::{Upload, UploadFault};
@@ -40,13 +42,13 @@ pub(crate) fn ticket(alloc: Global, version: u64) -> Result<Ticket, Fail> {
 }
 
 /// The member of this number, with this store.
-pub(crate) fn seat<S: Stable + Drop>(
+pub(crate) fn seat<S: Stable + Drop, J: Naming>(
     alloc: Global,
     hashing: RandomState,
     number: u8,
     config: Config,
     store: S,
-) -> Result<Box<Seat<S>>, Fail> {
+) -> Result<Box<Seat<S, J>>, Fail> {
     let me = NodeId::new(number).ok_or("no node")?;
     if !config.is_within_limits() || number >= config.members.count() {
         return Err(Fail::from("no member of a configuration"));
@@ -62,7 +64,7 @@ pub(crate) fn journal(alloc: Global, config: Config) -> Result<Box<Journal>, Fai
     if !config.is_within_limits() {
         return Err(Fail::from("no configuration"));
     }
-    Ok(Box::new(alloc, Journal::new(alloc, config))?)
+    Ok(Box::new(alloc, Journal::<Brand>::new(alloc, config))?)
 }
 
 /// What a call gave, in short.
@@ -81,9 +83,9 @@ fn told(given: Result<Receipt, SeatFault>) -> Gave {
 }
 
 /// Prepares an input, and takes it.
-pub(crate) fn take_in<S: Stable + Drop>(
-    seat: &mut Seat<S>,
-    journal: &mut Journal,
+pub(crate) fn take_in<S: Stable + Drop, J: Naming>(
+    seat: &mut Seat<S, J>,
+    journal: &mut Journal<J>,
     input: SeatInput,
 ) -> Result<Receipt, SeatFault> {
     let prepared = seat.prepare(input)?;
@@ -91,9 +93,9 @@ pub(crate) fn take_in<S: Stable + Drop>(
 }
 
 /// Reads an answer, and serves it.
-pub(crate) fn serve_in<S: Stable + Drop>(
-    seat: &mut Seat<S>,
-    journal: &mut Journal,
+pub(crate) fn serve_in<S: Stable + Drop, J: Naming>(
+    seat: &mut Seat<S, J>,
+    journal: &mut Journal<J>,
     query: Query,
 ) -> Result<Receipt, SeatFault> {
     let found = seat.read(query)?;
@@ -101,18 +103,18 @@ pub(crate) fn serve_in<S: Stable + Drop>(
 }
 
 /// Takes an input.
-pub(crate) fn take<S: Stable + Drop>(
-    seat: &mut Seat<S>,
-    journal: &mut Journal,
+pub(crate) fn take<S: Stable + Drop, J: Naming>(
+    seat: &mut Seat<S, J>,
+    journal: &mut Journal<J>,
     input: SeatInput,
 ) -> Gave {
     told(take_in(seat, journal, input))
 }
 
 /// Takes the message of this number.
-pub(crate) fn deliver<S: Stable + Drop>(
-    seat: &mut Seat<S>,
-    journal: &mut Journal,
+pub(crate) fn deliver<S: Stable + Drop, J: Naming>(
+    seat: &mut Seat<S, J>,
+    journal: &mut Journal<J>,
     number: u64,
 ) -> Result<Gave, Fail> {
     let message = journal.message(number).ok_or("no message")?.clone()?;
@@ -120,16 +122,19 @@ pub(crate) fn deliver<S: Stable + Drop>(
 }
 
 /// Serves an answer.
-pub(crate) fn serve<S: Stable + Drop>(
-    seat: &mut Seat<S>,
-    journal: &mut Journal,
+pub(crate) fn serve<S: Stable + Drop, J: Naming>(
+    seat: &mut Seat<S, J>,
+    journal: &mut Journal<J>,
     query: Query,
 ) -> Gave {
     told(serve_in(seat, journal, query))
 }
 
 /// Starts a node again.
-pub(crate) fn restart<S: Stable + Drop>(seat: &mut Seat<S>, journal: &mut Journal) -> Gave {
+pub(crate) fn restart<S: Stable + Drop, J: Naming>(
+    seat: &mut Seat<S, J>,
+    journal: &mut Journal<J>,
+) -> Gave {
     told(seat.restart(journal))
 }
 

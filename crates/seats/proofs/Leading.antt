@@ -155,7 +155,7 @@ next_of_done old node before input sends agrees sent done =
     (next_done before me input done.views done.plan (member_in old before (IsUp done.views) done.led agrees) (led_in old before (IsUp done.views) done.led agrees)
     (due_in old before (IsUp done.views) done.views input done.plan done.led agrees done.due) sent)
 
-put_none : {S : Type 0} (old : RunningSeat S) (node : SeatState S) (input : SeatInput) (sends : List Message) → Done old node input sends → (text : List ℕ) → input ≡ Put text → sends ≡ []
+pub put_none : {S : Type 0} (old : RunningSeat S) (node : SeatState S) (input : SeatInput) (sends : List Message) → Done old node input sends → (text : List ℕ) → input ≡ Put text → sends ≡ []
 put_none old node input sends done text is =
     sym done.sends_are
     ∙ put_sends_none old.node.config old.node.me done.views text done.plan

@@ -7,3 +7,4 @@ mod Told
 mod Ready
 mod Moving
 mod Preparing
+mod Owned

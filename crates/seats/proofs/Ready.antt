@@ -169,3 +169,10 @@ next_served seat before asked answer led agrees found =
     let was = was_up seat led found.up in
     let has = uploads_of seat.node was.views was.led.stands in
     served_at seat before asked answer was agrees has.0 has.1 (found.answers was.views has.0 was.led.stands has.1)
+
+-- and some tables answer so
+pub found_in : {S : Type 0} (seat : RunningSeat S) (asked : Query) (answer : EventResult) → IsLed seat → IsFoundBy seat (record { query = asked; answer = answer })
+    → (uploads : List Upload) × AnswersQuery uploads asked answer
+found_in seat asked answer led found =
+    let was = was_up seat led found.up in
+    let has = uploads_of seat.node was.views was.led.stands in (has.0, found.answers was.views has.0 was.led.stands has.1)

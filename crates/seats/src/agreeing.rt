@@ -9,8 +9,8 @@ ghost use Rattle.schedule_runner.specs.Told.{step_of, steps_of};
 ghost use Rattle.seats.specs.Walking.{LeavesOwn};
 
 use crate::messages::{same_handed, same_messages};
-use crate::own::OwnEntry;
 use ballots::{Message, NodeId};
+use journal::OwnEntry;
 use node_events::laws::telling_loses_nothing;
 use node_events::{Event, EventResult, Reason};
 use schedule_runner::Step;

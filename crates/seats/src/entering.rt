@@ -1,17 +1,18 @@
 //! What is entered of an input: a step of the journal, the node's own entry of it, and the receipt.
 
-ghost use Rattle.std.specs.Prelude.{◌≡◌, ℕ, ◌+◌, ◌≤◌, ◌<◌, ◌∷◌, ◌++◌, [], false, IfOk, IsSome, length, vec_len, vec_capacity};
+ghost use Rattle.std.specs.Prelude.{◌≡◌, ℕ, ◌+◌, ◌≤◌, ◌<◌, ◌∷◌, ◌++◌, [], false, Some, IfOk, IsSome, length, vec_len, vec_capacity};
 ghost use Rattle.std.specs.Option.{IfSome};
 ghost use Rattle.node_events.specs.declared.event.Event.{Event as EventSpec};
 ghost use Rattle.journal.specs.Journaled.{HasRoom, MayEnter, HasEntry, EntersOwn};
+ghost use Rattle.journal.specs.Logged.{own_entry};
 ghost use Rattle.seats.specs.Inputs.{event_at, given_for, handed_by, IsCutAt};
 ghost use Rattle.seats.specs.Entries.{AreCopies, done_step, done_entry, cut_step, cut_entry};
 ghost use Rattle.seats.specs.Steps.{TellsEntry};
 
 use crate::input::SeatInput;
-use crate::own::OwnEntry;
 use ballots::{Message, NodeId};
-use journal::{Journal, Receipt};
+use growing_log::Naming;
+use journal::{Journal, OwnEntry, Receipt};
 use node_events::{Event, EventResult};
 use schedule_runner::Step;
 use std::alloc::{AllocError, Global};
@@ -117,10 +118,10 @@ pub(crate) fn push_own(own: &mut Vec<OwnEntry>, entry: OwnEntry)
 
 /// Enters an input that was done, with the messages that go out, which are numbered from those of the journal on: one entry
 /// of the journal, and one of the node's own. There is room for both.
-pub(crate) fn enter_done(
+pub(crate) fn enter_done<J: Naming>(
     me: NodeId,
     own: &mut Vec<OwnEntry>,
-    journal: &mut Journal,
+    journal: &mut Journal<J>,
     input: SeatInput,
     copies: Copies,
 ) -> Receipt
@@ -129,6 +130,9 @@ pub(crate) fn enter_done(
     requires copies { AreCopies me input copies.sends.items copies }
     requires follows { MayEnter journal.old
         (done_step me input (length journal.old.trace.sent) (vec_len copies.sends)) copies.sends.items false }
+    requires entry { own_entry journal.old
+        (done_step me input (length journal.old.trace.sent) (vec_len copies.sends)) copies.sends.items false
+        ≡ Some (done_entry me input (length journal.old.trace.sent) copies.sends.items) }
     ensures own { own.new.items ≡ own.old.items
         ++ done_entry me input (length journal.old.trace.sent) copies.sends.items ∷ [] }
     ensures entry { HasEntry journal.old
@@ -161,31 +165,31 @@ pub(crate) fn enter_done(
         event: entered,
         result: given_by(&input, first, count),
     };
-    push_own(
-        own,
-        OwnEntry {
-            step: own_step,
-            recovered: false,
-            handed: message_of(input),
-            sends: own_sends,
-        },
-    );
-    journal.enter(step, sends, false);
+    let entry = OwnEntry {
+        step: own_step,
+        recovered: false,
+        handed: message_of(input),
+        sends: own_sends,
+    };
+    journal.enter(step, sends, false, Some(&entry));
+    push_own(own, entry);
     receipt
 }
 
 /// Enters that a node went down in the midst of an input that is no put: one entry of the journal, and one of the node's
 /// own. There is room for both.
-pub(crate) fn enter_cut(
+pub(crate) fn enter_cut<J: Naming>(
     alloc: Global,
     me: NodeId,
     own: &mut Vec<OwnEntry>,
-    journal: &mut Journal,
+    journal: &mut Journal<J>,
     input: SeatInput,
 )
     requires own_room { vec_len own.old < vec_capacity own.old }
     requires room { HasRoom journal.old 0 }
     requires follows { (cut : EventSpec) × IsCutAt me input cut × MayEnter journal.old (cut_step cut) [] false }
+    requires entry { (cut : EventSpec) → IsCutAt me input cut
+        → own_entry journal.old (cut_step cut) [] false ≡ Some (cut_entry cut input) }
     ensures { (cut : EventSpec) × IsCutAt me input cut
         × (own.new.items ≡ own.old.items ++ cut_entry cut input ∷ [])
         × HasEntry journal.old (cut_step cut) [] false journal.new
@@ -197,21 +201,19 @@ pub(crate) fn enter_cut(
     let Some(own_cut) = cut_for(me, &input) else {
         unreachable!();
     };
-    push_own(
-        own,
-        OwnEntry {
-            step: Step {
-                event: own_cut,
-                result: EventResult::Done,
-            },
-            recovered: false,
-            handed: message_of(input),
-            sends: Vec::new(alloc),
+    let entry = OwnEntry {
+        step: Step {
+            event: own_cut,
+            result: EventResult::Done,
         },
-    );
+        recovered: false,
+        handed: message_of(input),
+        sends: Vec::new(alloc),
+    };
     let step = Step {
         event: cut,
         result: EventResult::Done,
     };
-    journal.enter(step, Vec::new(alloc), false);
+    journal.enter(step, Vec::new(alloc), false, Some(&entry));
+    push_own(own, entry);
 }

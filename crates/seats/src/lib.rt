@@ -21,8 +21,8 @@ mod entering;
 mod fault;
 mod handing;
 mod input;
+pub mod laws;
 mod messages;
-mod own;
 mod query;
 mod reading;
 mod restarting;
@@ -32,6 +32,6 @@ mod taking;
 
 pub use fault::SeatFault;
 pub use input::{Prepared, SeatInput};
-pub use journal::{Journal, Receipt};
+pub use journal::{Journal, OwnEntry, Receipt};
 pub use query::{Found, Query};
 pub use seat::Seat;

@@ -9,11 +9,11 @@ ghost use Rattle.seats.specs.Steps.{TellsEntry, Counts, RestartGives, OthersAgre
 
 use crate::entering::push_own;
 use crate::fault::SeatFault;
-use crate::own::OwnEntry;
 use crate::seat::Seat;
 use crate::taking::make_room;
 use ballots::NodeId;
-use journal::{Journal, Receipt};
+use growing_log::Naming;
+use journal::{Journal, OwnEntry, Receipt};
 use node_core::Refusal;
 use node_events::{Event, EventResult};
 use node_seats::SeatFault as NodeFault;
@@ -21,7 +21,7 @@ use schedule_runner::Step;
 use stable_records::Stable;
 use std::alloc::Global;
 
-impl<S: Stable + Drop> Seat<S> {
+impl<S: Stable + Drop, J: Naming> Seat<S, J> {
     /// Starts the node again, up or down, with the records that it kept and nothing else, and enters that.
     ///
     /// The first of these faults is told that stands, memory apart: [`SeatFault::Strange`] exactly where the seat does not
@@ -30,7 +30,7 @@ impl<S: Stable + Drop> Seat<S> {
     /// [`SeatFault::Refused`] where memory was refused. None of them changes the node or the journal.
     ///
     /// It takes time with the number of the journal's entries.
-    pub fn restart(&mut self, journal: &mut Journal) -> Result<Receipt, SeatFault>
+    pub fn restart(&mut self, journal: &mut Journal<J>) -> Result<Receipt, SeatFault>
         ensures gives { RestartGives self.old self.new journal.old journal.new result }
         ensures counted { Counts S.tells result (S.faults self.old.node.store) (S.faults self.new.node.store) }
         ensures others { OthersAgree self.old.node.me journal.old journal.new }
@@ -44,7 +44,9 @@ impl<S: Stable + Drop> Seat<S> {
             Ok(recovered) => recovered,
             Err(fault) => return Err(fault_for(fault)),
         };
-        Ok(enter_restart(alloc, me, &mut self.own, journal, recovered))
+        let receipt = enter_restart(alloc, me, &mut self.own, journal, recovered);
+        self.known = journal.log();
+        Ok(receipt)
     }
 }
 
@@ -60,11 +62,11 @@ fn fault_for(fault: NodeFault) -> SeatFault
 }
 
 // Enters a restart: one entry of the journal, and one of the node's own. There is room for both.
-fn enter_restart(
+fn enter_restart<J: Naming>(
     alloc: Global,
     me: NodeId,
     own: &mut Vec<OwnEntry>,
-    journal: &mut Journal,
+    journal: &mut Journal<J>,
     recovered: bool,
 ) -> Receipt
     requires own_room { vec_len own.old < vec_capacity own.old }
@@ -77,16 +79,14 @@ fn enter_restart(
 {
     let node = u64::from(me.number());
     let number = journal.trace().steps().len() as u64;
-    push_own(
-        own,
-        OwnEntry {
-            step: done(node),
-            recovered,
-            handed: None,
-            sends: Vec::new(alloc),
-        },
-    );
-    journal.enter(done(node), Vec::new(alloc), recovered);
+    let entry = OwnEntry {
+        step: done(node),
+        recovered,
+        handed: None,
+        sends: Vec::new(alloc),
+    };
+    journal.enter(done(node), Vec::new(alloc), recovered, Some(&entry));
+    push_own(own, entry);
     Receipt {
         number,
         event: Event::Restart(node),

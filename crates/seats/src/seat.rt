@@ -12,6 +12,7 @@ ghost use Rattle.stable_records.specs.Calls.{RaisesCount};
 ghost use Rattle.node_seats.specs.State.{StandsUp};
 ghost use Rattle.schedule_runner.specs.Limits.{IsWithinLimits};
 ghost use Rattle.schedule_runner.specs.Told.{steps_of};
+ghost use Rattle.journal.specs.Journaled.{own_in};
 ghost use Rattle.seats.specs.declared.fault.SeatFault.TheVariants.{Down};
 ghost use Rattle.seats.specs.State.{Agrees, IsLedTo};
 ghost use Rattle.seats.specs.Steps.{IsDown, StandsSame, PrepareGives, IsFaultFor};
@@ -20,11 +21,11 @@ use crate::agreeing::are_own;
 use crate::fault::SeatFault;
 use crate::handing::handed_over;
 use crate::input::{Prepared, SeatInput};
-use crate::own::OwnEntry;
 use agreement::Config as Agreed;
 use ballots::NodeId;
+use growing_log::{Naming, Reached};
 use histories::laws::own_entries_decide_the_node;
-use journal::Journal;
+use journal::{Journal, OwnEntry};
 use node_core::{Node, Refusal};
 use node_events::Reason;
 use node_seats::Seat as NodeSeat;
@@ -33,20 +34,26 @@ use schedule_runner::Config;
 use stable_records::{Stable, StoreFault};
 use std::alloc::Global;
 use std::hash::RandomState;
-use std::marker::Model;
+use std::marker::{Brand, Model};
 
 /// A node with the store of its records, up or down, and what it did itself. The type keeps that its own entries leave the
 /// node as it is: up or down, with what it has, and its records those that it kept by them.
-pub struct Seat<S: Stable> {
+///
+/// Seats and journals that know one log have its name ([`Journal::with_log`]).
+pub struct Seat<S: Stable, J: Naming = Brand> {
     pub(crate) alloc: Global,
     pub(crate) me: NodeId,
     pub(crate) config: Config,
     pub(crate) node: NodeSeat<S>,
     pub(crate) own: Vec<OwnEntry>,
+    /// What is known of the log of all nodes' own entries.
+    pub(crate) known: Option<Reached<OwnEntry, J>>,
 }
 
-impl<S: Stable> Model for Seat<S> {
+impl<S: Stable, J: Naming> Model for Seat<S, J> {
     ghost use Rattle.std.specs.Prelude.{◌≡◌};
+    ghost use Rattle.std.specs.Option.{IfSome};
+    ghost use Rattle.journal.specs.Logged.{own_of};
     ghost use Rattle.seats.specs.State.{RunningSeat, IsLed};
 
     ghost Value = { RunningSeat S };
@@ -59,11 +66,12 @@ impl<S: Stable> Model for Seat<S> {
     ghost view = { λ s. record { config = s.config; node = s.node; own = s.own.items } };
 
     ghost invariant = { λ s. (s.me ≡ s.node.me)
-        × IsLed (record { config = s.config; node = s.node; own = s.own.items }) };
+        × IsLed (record { config = s.config; node = s.node; own = s.own.items })
+        × IfSome s.known (λ log. s.own.items ≡ own_of s.me log) };
 }
 
 // Written out, so that a crate above lets go of a seat by one call, and does not prove again what is inside it.
-impl<S: Stable + Drop> Drop for Seat<S> {
+impl<S: Stable + Drop, J: Naming> Drop for Seat<S, J> {
     fn drop(self) {
         let Seat {
             alloc: _,
@@ -71,13 +79,15 @@ impl<S: Stable + Drop> Drop for Seat<S> {
             config: _,
             node,
             own,
+            known,
         } = self;
         drop(node);
         drop(own);
+        drop(known);
     }
 }
 
-impl<S: Stable + Drop> Seat<S> {
+impl<S: Stable + Drop, J: Naming> Seat<S, J> {
     /// The node `me` of this configuration with this store, up and with nothing; `None` where the store has a record
     /// already. Memory is taken from this allocator; `hashing` has the random keys that keep look-ups fast whatever
     /// names clients choose.
@@ -89,7 +99,7 @@ impl<S: Stable + Drop> Seat<S> {
         me: NodeId,
         config: Config,
         store: S,
-    ) -> Result<Option<Seat<S>>, StoreFault>
+    ) -> Result<Option<Seat<S, J>>, StoreFault>
         requires within { IsWithinLimits config }
         requires member { me < config.members }
         ensures me { IfOk result (λ opened. IfSome opened (λ seat. seat.node.me ≡ me)) }
@@ -113,7 +123,22 @@ impl<S: Stable + Drop> Seat<S> {
             config,
             node,
             own: Vec::new(alloc),
+            known: None,
         }))
+    }
+
+    /// Which node it is.
+    pub fn me(&self) -> NodeId
+        ensures { result ≡ self.now.node.me }
+    {
+        self.node.me()
+    }
+
+    /// What the nodes have in common.
+    pub fn config(&self) -> Config
+        ensures { result ≡ self.now.config }
+    {
+        self.config
     }
 
     /// The node, or [`SeatFault::Down`] exactly where there is none.
@@ -129,8 +154,11 @@ impl<S: Stable + Drop> Seat<S> {
 
     /// Whether the journal is of the same configuration and has just the entries of this node that the seat has, each by
     /// what it holds. Then the node is up exactly where the journal shows that it runs, and its prefix is what the
-    /// journal shows that it has learned. It takes time with the number of the journal's entries.
-    pub fn agrees(&self, journal: &Journal) -> bool
+    /// journal shows that it has learned.
+    ///
+    /// Where both know the log of their name, it compares two counts. Else it compares all of the journal's entries with
+    /// those of the seat.
+    pub fn agrees(&self, journal: &Journal<J>) -> bool
         ensures agrees { IsTrue result ↔ Agrees self.now journal.now }
         ensures runs { IsTrue result
             → (IsDown self.now → ⊥) ↔ Runs self.now.node.me (steps_of journal.now.trace.steps) }
@@ -149,19 +177,33 @@ impl<S: Stable + Drop> Seat<S> {
     }
 
     // Whether the journal is of the same configuration and has just the entries of this node that the seat has.
-    fn has_own(&self, journal: &Journal) -> bool
+    fn has_own(&self, journal: &Journal<J>) -> bool
         ensures { IsTrue result ↔ Agrees self.now journal.now }
     {
+        if self.config != journal.config() {
+            return false;
+        }
+        match (&self.known, journal.log(), journal.own_count(self.me)) {
+            (Some(known), Some(log), Some(count)) => {
+                known.beside(&log);
+                self.own.len() as u64 == count
+            }
+            _ => self.has_each(journal),
+        }
+    }
+
+    // Whether the journal has just the entries of this node that the seat has, each compared.
+    fn has_each(&self, journal: &Journal<J>) -> bool
+        ensures { IsTrue result ↔ (own_in self.now.node.me journal.now ≡ self.now.own) }
+    {
         let trace = journal.trace();
-        let recovered = journal.recovered();
-        self.config == journal.config()
-            && are_own(
-                self.own.as_slice(),
-                self.me,
-                trace.sent(),
-                trace.steps(),
-                recovered,
-            )
+        are_own(
+            self.own.as_slice(),
+            self.me,
+            trace.sent(),
+            trace.steps(),
+            journal.recovered(),
+        )
     }
 
     /// What is due to an input, which [`Seat::take`] does: exactly the plan that is due, or the refusal, memory apart

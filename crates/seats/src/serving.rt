@@ -1,13 +1,15 @@
 //! An answer that is served.
 
-ghost use Rattle.std.specs.Prelude.{◌≡◌, IfOk, OnOk, length};
+ghost use Rattle.std.specs.Prelude.{◌≡◌, List, IfOk, OnOk, length};
+ghost use Rattle.table_types.specs.Uploads.{Upload as Uploaded};
 ghost use Rattle.journal.specs.Journaled.{HasRoom, TellsSame};
-ghost use Rattle.seats.specs.Steps.{asked_at, IsFoundBy, ServeGives, OthersAgree};
+ghost use Rattle.seats.specs.Steps.{asked_at, AnswersQuery, IsFoundBy, ServeGives, OthersAgree};
 
 use crate::fault::SeatFault;
 use crate::query::{Found, Query};
 use crate::seat::Seat;
 use ballots::NodeId;
+use growing_log::Naming;
 use journal::{Journal, Receipt};
 use node_core::Refusal;
 use node_events::{Event, EventResult, copy_of};
@@ -26,17 +28,20 @@ fn event_for(me: NodeId, query: Query) -> Event
     }
 }
 
-impl<S: Stable + Drop> Seat<S> {
-    /// Enters what was read: the question at this node, with the answer. The seat is as [`Seat::read`] found it.
+impl<S: Stable + Drop, J: Naming> Seat<S, J> {
+    /// Enters what was read: the question at this node, with the answer, which is that of some tables. The seat is as
+    /// [`Seat::read`] found it.
     ///
     /// The first of these faults is told that stands, memory apart: [`SeatFault::Strange`] exactly where the seat does not
     /// agree with the journal; [`SeatFault::JournalFull`]. These, and [`SeatFault::Refused`] where memory was refused,
     /// change nothing.
     ///
     /// It takes time with the number of the journal's entries.
-    pub fn serve(&self, journal: &mut Journal, found: Found) -> Result<Receipt, SeatFault>
+    pub fn serve(&self, journal: &mut Journal<J>, found: Found) -> Result<Receipt, SeatFault>
         requires { IsFoundBy self.now found }
         ensures gives { ServeGives self.now journal.old journal.new found result }
+        ensures answers { IfOk result (λ receipt. (uploads : List Uploaded)
+            × AnswersQuery uploads found.query receipt.answer) }
         ensures others { OthersAgree self.now.node.me journal.old journal.new }
     {
         self.is_open(journal)?;
@@ -44,7 +49,7 @@ impl<S: Stable + Drop> Seat<S> {
         let event = event_for(self.me, query);
         match made_ready(self.alloc, journal, event, answer) {
             Ok((step, receipt)) => {
-                journal.enter(step, Vec::new(self.alloc), false);
+                journal.enter(step, Vec::new(self.alloc), false, None);
                 Ok(receipt)
             }
             Err(_) => Err(SeatFault::Refused(Refusal::OutOfMemory)),
@@ -53,9 +58,9 @@ impl<S: Stable + Drop> Seat<S> {
 }
 
 // All that an answer takes memory for, made before anything is entered.
-fn made_ready(
+fn made_ready<J: Naming>(
     alloc: Global,
-    journal: &mut Journal,
+    journal: &mut Journal<J>,
     event: Event,
     answer: EventResult,
 ) -> Result<(Step, Receipt), AllocError>

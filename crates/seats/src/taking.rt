@@ -10,16 +10,16 @@ use crate::entering::{Copies, enter_cut, enter_done};
 use crate::fault::SeatFault;
 use crate::input::{Prepared, SeatInput};
 use crate::messages::same_message;
-use crate::own::OwnEntry;
 use crate::seat::Seat;
 use ballots::{Message, NodeId};
-use journal::{Journal, Receipt};
+use growing_log::Naming;
+use journal::{Journal, OwnEntry, Receipt};
 use node_core::Refusal;
 use stable_records::Stable;
 use std::alloc::{AllocError, Global};
 
 // Whether the message that is delivered, if one is, is the one of its number in the journal.
-fn is_sent(journal: &Journal, input: &SeatInput) -> bool
+fn is_sent<J: Naming>(journal: &Journal<J>, input: &SeatInput) -> bool
     ensures { IsTrue result ↔ IsSentIn journal.now.trace.sent input.now }
 {
     match input {
@@ -31,9 +31,9 @@ fn is_sent(journal: &Journal, input: &SeatInput) -> bool
     }
 }
 
-impl<S: Stable + Drop> Seat<S> {
+impl<S: Stable + Drop, J: Naming> Seat<S, J> {
     /// Why no entry of this node may stand next in the journal, if something speaks against it.
-    pub(crate) fn is_open(&self, journal: &Journal) -> Result<(), SeatFault>
+    pub(crate) fn is_open(&self, journal: &Journal<J>) -> Result<(), SeatFault>
         ensures { OpensFor self.now journal.now result }
     {
         if !self.agrees(journal) {
@@ -46,7 +46,7 @@ impl<S: Stable + Drop> Seat<S> {
     }
 
     // Why the input may not be entered next, if something speaks against it.
-    fn admits(&self, journal: &Journal, input: &SeatInput) -> Result<(), SeatFault>
+    fn admits(&self, journal: &Journal<J>, input: &SeatInput) -> Result<(), SeatFault>
         ensures { Admits self.now journal.now input.now result }
     {
         self.is_open(journal)?;
@@ -66,7 +66,11 @@ impl<S: Stable + Drop> Seat<S> {
     /// memory: the node is down then, and one entry says that it went down in the midst.
     ///
     /// It takes time with the number of the journal's entries.
-    pub fn take(&mut self, journal: &mut Journal, prepared: Prepared) -> Result<Receipt, SeatFault>
+    pub fn take(
+        &mut self,
+        journal: &mut Journal<J>,
+        prepared: Prepared,
+    ) -> Result<Receipt, SeatFault>
         requires { IsPreparedFor self.old prepared }
         ensures gives { TakeGives self.old self.new journal.old journal.new prepared result }
         ensures counted { Counts S.tells result (S.faults self.old.node.store) (S.faults self.new.node.store) }
@@ -84,10 +88,15 @@ impl<S: Stable + Drop> Seat<S> {
             }
         };
         match self.node.take(plan) {
-            Ok(()) => Ok(enter_done(me, &mut self.own, journal, input, copies)),
+            Ok(()) => {
+                let receipt = enter_done(me, &mut self.own, journal, input, copies);
+                self.known = journal.log();
+                Ok(receipt)
+            }
             Err(fault) => {
                 drop(copies);
                 enter_cut(alloc, me, &mut self.own, journal, input);
+                self.known = journal.log();
                 Err(SeatFault::Store(fault))
             }
         }
@@ -95,9 +104,9 @@ impl<S: Stable + Drop> Seat<S> {
 }
 
 /// Room for an entry, in the journal and among the node's own, where so many messages go out.
-pub(crate) fn make_room(
+pub(crate) fn make_room<J: Naming>(
     own: &mut Vec<OwnEntry>,
-    journal: &mut Journal,
+    journal: &mut Journal<J>,
     count: usize,
 ) -> Result<(), AllocError>
     ensures room { OnOk result (HasRoom journal.new count) }
@@ -110,11 +119,11 @@ pub(crate) fn make_room(
 }
 
 // All that an input takes memory for, made before anything is done.
-fn made_ready(
+fn made_ready<J: Naming>(
     alloc: Global,
     me: NodeId,
     own: &mut Vec<OwnEntry>,
-    journal: &mut Journal,
+    journal: &mut Journal<J>,
     input: &SeatInput,
     sends: &[Message],
 ) -> Result<Copies, AllocError>

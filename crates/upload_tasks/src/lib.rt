@@ -9,10 +9,12 @@
 
 mod events;
 mod plan;
+mod running;
 mod runs;
 mod tables;
 mod values;
 mod weights;
 
+pub use running::{compare_often, seat_often};
 pub use runs::run_often;
 pub use tables::{answer_often, decode_uploads, hold_all, take_often};

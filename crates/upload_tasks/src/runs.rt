@@ -20,7 +20,7 @@ fn is_one_refused(steps: &[Step]) -> bool {
 }
 
 /// What a run weighs in which no event is refused.
-fn weight(trace: &Trace) -> Result<u64, TaskFault> {
+pub(crate) fn weight(trace: &Trace) -> Result<u64, TaskFault> {
     if is_one_refused(trace.steps()) {
         return Err(TaskFault::Refused);
     }

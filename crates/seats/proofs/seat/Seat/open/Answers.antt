@@ -21,4 +21,5 @@ invariant_of-result g c =
           stands = subst (λ o. IfSome o (λ (s : SeatState g.row.S.Denot). Stands s (IsUp (started_with [])))) c.in-Some-2.is c.in_ok-node.ensures.stands;
         },
       ),
+      tt,
     )

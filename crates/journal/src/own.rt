@@ -1,8 +1,5 @@
 //! What a node did itself.
 
-ghost use Rattle.std.specs.Prelude.{◌≡◌, ◌↔◌, IsTrue};
-ghost use Rattle.schedule_runner.specs.Told.{step_of};
-
 use ballots::Message;
 use schedule_runner::Step;
 use std::marker::Model;
@@ -10,13 +7,15 @@ use std::marker::Model;
 /// An entry of a node's own list: a step with the messages themselves in the place of their numbers. Contracts see it as
 /// an entry of `histories`.
 #[derive(Drop)]
-pub(crate) struct OwnEntry {
-    pub(crate) step: Step,
-    pub(crate) recovered: bool,
+pub struct OwnEntry {
+    /// The step.
+    pub step: Step,
+    /// Of a restart, whether the node had back the record that was due where it went down.
+    pub recovered: bool,
     /// The message that the node was handed.
-    pub(crate) handed: Option<Message>,
+    pub handed: Option<Message>,
     /// The messages that it sent.
-    pub(crate) sends: Vec<Message>,
+    pub sends: Vec<Message>,
 }
 
 impl Model for OwnEntry {

@@ -1,0 +1,68 @@
+#!/usr/bin/env bash
+# Times three nodes that share a journal by `flight_bench`, beside the same nodes, own lists and journal in plain Rust
+# (bench/plain_runs.rs, rustc -O), which ask nobody whether they agree. A leader that loses no message has 50, 5,000 and 49,500
+# uploads of one batch of three numbers decided, one after the other: twenty entries of the journal each. Each line gives the
+# processor time of an entry, the least of some short runs of each program in turn without the time that an empty run takes, its
+# instructions where valgrind is there, and the ratios; then how an entry's time grows with the journal, and what an entry costs
+# where the journal has no log, so that each call compares all entries. Last it measures memory: the peak resident size of a run of
+# seats without that of the same run of nodes alone, for each entry. First it shows that both programs, with a log and without, add
+# up to the same sums over all messages and steps as a run of the same events.
+#
+# Seen on four processors that three other tasks shared, in microseconds for an entry:
+#
+#                                    ours  plain Rust  ratio  instructions, ratio
+#   1,000 entries                    1.57        0.66   2.38          9,464  2.20
+#   100,000                          2.06        0.97   2.13          8,938  2.18
+#   990,000                          2.15        1.11   1.94          8,768  2.16
+#   1,000 without a log              7.72        0.66   11.7         65,476  15.3
+#   2,000 without a log              13.8        0.66   20.9        121,566  27.9
+#
+# The instructions of an entry do not grow with the journal; its time does by 1.38 times up to 990,000 entries (plain Rust 1.69), since
+# no cache holds the journal. What is more than in plain Rust is the node itself, whose run alone has 1.9 times plain Rust's
+# instructions (bench/runs.sh). Seats, their own lists and the journal take 255 bytes an entry beside a run of the same events, plain
+# Rust's 162.
+cd "$(dirname "${BASH_SOURCE[0]}")/.."
+source bench/programs.sh plain_runs
+
+"$plain" generate 3 0 1 3 >"$work/empty"
+for uploads in 50 100 5000 49500; do "$plain" generate 3 "$uploads" 1 3 >"$work/$uploads"; done
+for uploads in 50 5000; do
+  agree seat-events 2 "$work/$uploads"
+  cmp "$work/plain.printed" <("$plain" run-events 2 "$work/$uploads")
+done
+cmp <("$proved" compare-events 2 "$work/50") <("$plain" run-events 2 "$work/50")
+echo "all tallies agree"
+
+PYTHONPATH=bench python3 -B - "$proved" "$plain" "$work" <<'P'
+import subprocess
+import sys
+from timing import Cost, compared, in_turn, less
+
+proved, plain, work = sys.argv[1:]
+ENTRIES = 20  # for each upload, of three members; three questions at the end
+
+def timed(uploads, words=("seat-events", "seat-events"), most=None):  # what one entry costs both
+    runs = in_turn([(proved, words[0]), (plain, words[1])], f"{work}/{uploads}", runs=5, most=most)
+    return [less(run, Cost(0, 0), ENTRIES * uploads + 3) for run in runs]
+
+took = {uploads: timed(uploads, most=1 if uploads > 5000 else None) for uploads in (50, 5000, 49500)}
+for uploads, costs in took.items():
+    print(compared(f"an entry, {ENTRIES * uploads:,} entries", *costs))
+for name, program in ((0, "flight_bench"), (1, "plain Rust")):
+    first, second, last = (took[uploads][name].seconds for uploads in took)
+    print(f"{program}: an entry takes {second / first:.2f} times as long at 100,000 as at 1,000, {last / first:.2f} times at 990,000")
+for uploads in (50, 100):
+    costs = timed(uploads, ("compare-events", "seat-events"))
+    print(compared(f"an entry without a log, {ENTRIES * uploads:,} entries", *costs))
+
+def peak(program, task, uploads):  # bytes; a child that Python starts would count the memory of Python as its own
+    words = ["/usr/bin/time", "-f", "%M", program, task, "1", f"{work}/{uploads}"]
+    told = subprocess.run(words, stdout=subprocess.DEVNULL, stderr=subprocess.PIPE, check=True).stderr
+    return int(told.split()[-1]) * 1024
+
+for uploads in (5000, 49500):
+    entries = ENTRIES * uploads
+    for program, name in ((proved, "flight_bench"), (plain, "plain Rust")):
+        alone, shared = peak(program, "run-events", uploads), peak(program, "seat-events", uploads)
+        print(f"{entries:,} entries: {name} peaks at {shared / 2**20:.0f} MiB, {(shared - alone) / entries:.0f} bytes an entry beside a run")
+P

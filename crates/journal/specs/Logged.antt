@@ -1,0 +1,32 @@
+-- The own entries of all nodes in one log, in the order in which they were entered. Logs are this service's own.
+use Rattle.std.specs.Prelude.{◌≡◌, ℕ, ◌<◌, ◌==◌, if◌then◌else◌, Bool, Option, None, Some, List, [], ◌∷◌, ◌++◌, length, slice_index_or}
+use Rattle.std.specs.List.{filter}
+use Rattle.ballots.specs.Limits.{max_members}
+use Rattle.ballots.specs.declared.message.Message.{Message}
+use Rattle.histories.specs.Event.{node_of}
+use Rattle.histories.specs.Owning.{Entry, is_question, entry_of}
+use Rattle.schedule_runner.specs.declared.step.Step.{Step}
+use Rattle.schedule_runner.specs.Told.{event_of, step_of}
+use Rattle.journal.specs.Journaled.{Journaled, own_in}
+
+-- the entries of one node
+abbrev pub own_of : ℕ → List Entry → List Entry
+own_of node log = filter (λ entry. node_of entry.step.event == node) log
+
+-- each node has so many entries
+abbrev pub AreCounted : List ℕ → List Entry → Type 0
+AreCounted counts log = (node : ℕ) → node < max_members → slice_index_or counts node 0 ≡ length (own_of node log)
+
+-- the journal has just these own entries of each node
+abbrev pub HasLogged : List Entry → Journaled → Type 0
+HasLogged log journal = (node : ℕ) → node < journal.trace.config.members → own_in node journal ≡ own_of node log
+
+-- what the node of the step has as its own entry of it; a question has none
+abbrev pub own_entry : Journaled → Step → List Message → Bool → Option Entry
+own_entry journal step more recovered =
+    if is_question (event_of step.event) then None else Some (entry_of (journal.trace.sent ++ more) (step_of step) recovered)
+
+-- a log with this entry more, if there is one
+abbrev pub IsLonger : Option (List Entry) → Option Entry → List Entry → Type 0
+IsLonger was None now = was ≡ Some now
+IsLonger was (Some entry) now = (log : List Entry) × (was ≡ Some log) × (now ≡ log ++ entry ∷ [])

@@ -1,0 +1,79 @@
+//! How far the log of all nodes' own entries has come.
+
+ghost use Rattle.std.specs.Prelude.{◌≡◌, [], ◌∷◌, ◌++◌, length};
+ghost use Rattle.std.specs.Option.{IfSome};
+ghost use Rattle.journal.specs.Logged.{own_of};
+
+use crate::own::OwnEntry;
+use ballots::{MAX_MEMBERS, NodeId};
+use growing_log::{Head, Naming, Reached};
+use std::marker::Model;
+
+/// The log of all nodes' own entries, and how many of them each node has. Contracts see the entries.
+#[derive(Drop)]
+pub(crate) struct Progress<J: Naming> {
+    head: Head<OwnEntry, J>,
+    reached: Reached<OwnEntry, J>,
+    counts: [u64; MAX_MEMBERS as usize],
+}
+
+impl<J: Naming> Model for Progress<J> {
+    ghost use Rattle.std.specs.Prelude.{List};
+    ghost use Rattle.histories.specs.Owning.{Entry};
+    ghost use Rattle.journal.specs.Logged.{AreCounted};
+
+    ghost Value = { List Entry };
+
+    ghost view = { λ p. p.reached };
+
+    ghost invariant = { λ p. AreCounted p.counts p.reached };
+}
+
+impl<J: Naming> Progress<J> {
+    /// A log without an entry.
+    pub(crate) fn new(head: Head<OwnEntry, J>, reached: Reached<OwnEntry, J>) -> Progress<J>
+        requires { reached ≡ [] }
+        ensures { result ≡ [] }
+    {
+        Progress {
+            head,
+            reached,
+            counts: [0; MAX_MEMBERS as usize],
+        }
+    }
+
+    /// What the log has reached.
+    pub(crate) fn reached(&self) -> Reached<OwnEntry, J>
+        ensures { result ≡ self.now }
+    {
+        self.reached.again()
+    }
+
+    /// How many entries this node has.
+    pub(crate) fn count(&self, node: NodeId) -> u64
+        ensures { result ≡ length (own_of node self.now) }
+    {
+        self.counts[usize::from(node.number())]
+    }
+
+    /// The log with an entry more, if it stood where this knows it to stand.
+    pub(crate) fn with(self, entry: &OwnEntry) -> Option<Progress<J>>
+        ensures { IfSome result (λ more. more ≡ self ++ entry.now ∷ []) }
+    {
+        let Progress {
+            head,
+            reached,
+            mut counts,
+        } = self;
+        let more = head.append(&reached, entry)?;
+        let node = entry.step.event.node();
+        if node < u64::from(MAX_MEMBERS) {
+            counts[node as usize] += 1;
+        }
+        Some(Progress {
+            head,
+            reached: more,
+            counts,
+        })
+    }
+}

@@ -1,0 +1,25 @@
+use Rattle.std.proofs.Common.{◌≡◌, List, sym, subst}
+use Rattle.ballots.specs.declared.record.Record.{Record}
+use Rattle.histories.specs.Following.{Seat, IsUp, at_first}
+use Rattle.histories.specs.Following as following
+use Rattle.histories.specs.Keeping.{AreKept, records_in}
+use Rattle.histories.proofs.Keeping.{TicksKeep, PartsKeep, kept_from_nothing}
+use Rattle.node_seats.specs.State.{SeatState}
+use Rattle.schedule_runner.specs.Told.{config_of}
+use Rattle.seats.specs.State.{StandsSo}
+use Rattle.seats.proofs.laws.own_records_are_kept.Goals as goal
+
+stand_by : {S : Type 0} (state : SeatState S) (stood : Seat) → StandsSo state stood → records_in stood ≡ state.records
+stand_by state (IsUp views) stands = sym stands.kept
+stand_by state (following.IsDown records due) stands = sym stands.kept
+
+pub returns : goal.returns
+returns g c = λ seat stood led.
+    let ticks : TicksKeep = λ config me views left plan is_due.
+    let keeps = c.plans_keep_what_they_send.ensures.tick config me views left plan is_due in
+    record { sends = keeps.0; records = keeps.1 } in
+    let parts : PartsKeep = λ config me views sender slot b plan is_due.
+    let keeps = c.plans_keep_what_they_send.ensures.body config me views sender slot b plan is_due in
+    record { sends = keeps.0; records = keeps.1 } in
+    subst (λ (rs : List Record). AreKept (config_of seat.config) (at_first seat.node.me) seat.own rs) (stand_by seat.node stood led.stands)
+    (kept_from_nothing ticks parts (config_of seat.config) seat.own stood led.led)

@@ -1,0 +1,19 @@
+//! Laws of running nodes.
+
+ghost use Rattle.histories.specs.Following.{Seat as HistorySeat, at_first};
+ghost use Rattle.histories.specs.Keeping.{AreKept};
+ghost use Rattle.schedule_runner.specs.Told.{config_of};
+ghost use Rattle.seats.specs.State.{RunningSeat, IsLedTo};
+
+use agreement_rules::laws::plans_keep_what_they_send;
+use stable_records::Stable;
+
+/// The records of a running node are those that its own entries made it keep (Lamport, *Paxos Made Simple*, section 2.5):
+/// of each message that it sent the one behind the message, and of each cut the one that was due there, where the restart
+/// behind the cut recovered it.
+pub fn own_records_are_kept<S: Stable>()
+    ensures { (seat : RunningSeat S) (stood : HistorySeat) → IsLedTo seat stood
+        → AreKept (config_of seat.config) (at_first seat.node.me) seat.own seat.node.records }
+{
+    plans_keep_what_they_send();
+}
