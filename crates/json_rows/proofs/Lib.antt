@@ -1,0 +1,10 @@
+pub mod Zipped
+pub mod Told
+pub mod Bits
+pub mod Rounding
+pub mod One
+pub mod Texts
+pub mod Put
+pub mod Cut
+pub mod Columns
+pub mod OneRow

@@ -1,0 +1,5 @@
+pub mod Forms
+pub mod Numbers
+pub mod Cells
+pub mod Written
+pub mod Lines

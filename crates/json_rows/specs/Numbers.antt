@@ -1,0 +1,63 @@
+-- Whole numbers and floats by their bytes: Apache Arrow, "Arrow Columnar Format", "Physical memory layout" (the lowest
+-- byte first, two's complement, IEEE 754), and RFC 8259, section 6.
+use Rattle.std.specs.Prelude.{◌≡◌, ◌⊎◌, ◌≤◌, ◌<◌, ◌*◌, ◌^◌, ℕ, ℤ, pos, ◌-ℤ◌, Bool, true, false, List, Float, from_bits, Option, Some, option_map, option_and_then}
+use Rattle.std.specs.Float.{Format, binary32, binary64, float_is_finite, round_to_format}
+use Rattle.byteorder.specs.Endian.{little_bytes}
+use Rattle.serde_json.specs.Data.{Data}
+use Rattle.serde_json.specs.Find.{as_number, as_integer, to_float}
+use Rattle.header_types.specs.declared.field_type.BitWidth.{BitWidth}
+use Rattle.header_types.specs.declared.field_type.BitWidth.TheVariants.{Eight, Sixteen, ThirtyTwo, SixtyFour}
+use Rattle.batch_types.specs.Layouts.{int_size}
+
+-- ---- whole numbers
+
+-- half as many numbers as there are of so many bits
+abbrev pub half_of : BitWidth → ℕ
+half_of Eight = 2 ^ 7
+half_of Sixteen = 2 ^ 15
+half_of ThirtyTwo = 2 ^ 31
+half_of SixtyFour = 2 ^ 63
+
+-- the whole number stands in bits as this number: of two's complement, or without a sign
+abbrev pub StandsAs : ℕ → Bool → ℤ → ℕ → Type 0
+StandsAs half true z n = ((z ≡ pos n) × (n < half)) ⊎ ((z ≡ pos n -ℤ pos (2 * half)) × (half ≤ n) × (n < 2 * half))
+StandsAs half false z n = (z ≡ pos n) × (n < 2 * half)
+
+-- the whole number that a value is: digits with no point and no exponent, of 64 bits with or without a sign
+abbrev pub whole_told : Data → Option ℤ
+whole_told d = option_and_then as_integer (as_number d)
+
+-- the value is a whole number, which has these bytes
+pub record TellsWhole (width : BitWidth) (signed : Bool) (d : Data) (bytes : List ℕ) : Type 0 where
+  pub whole : ℤ
+  pub told : whole_told d ≡ Some whole
+  pub stands : ℕ
+  pub within : StandsAs (half_of width) signed whole stands
+  pub bytes_are : bytes ≡ little_bytes (int_size width) stands
+
+-- ---- floats
+
+-- the float that is nearest to the number that a value is
+abbrev pub float_told : Data → Option Float
+float_told d = option_map to_float (as_number d)
+
+-- the bytes are those of a float of this format that is finite
+pub record AreBytesOf (format : Format) (size : ℕ) (value : Float) (bytes : List ℕ) : Type 0 where
+  pub stands : ℕ
+  pub within : stands < 256 ^ size
+  pub value_is : from_bits format stands ≡ value
+  pub finite : float_is_finite value ≡ true
+  pub bytes_are : bytes ≡ little_bytes size stands
+
+-- the value is a number, of which these are the bytes of the nearest float of eight bytes
+pub record TellsDouble (d : Data) (bytes : List ℕ) : Type 0 where
+  pub double : Float
+  pub told : float_told d ≡ Some double
+  pub stands : AreBytesOf binary64 8 double bytes
+
+-- and of that one rounded to four bytes
+pub record TellsSingle (d : Data) (bytes : List ℕ) : Type 0 where
+  pub double : Float
+  pub told : float_told d ≡ Some double
+  pub finite : float_is_finite double ≡ true
+  pub stands : AreBytesOf binary32 4 (round_to_format binary32 double) bytes

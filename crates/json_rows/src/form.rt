@@ -1,0 +1,104 @@
+//! How the cells of each type stand in JSON.
+
+ghost use Rattle.std.specs.Prelude.{◌≡◌};
+ghost use Rattle.header_types.specs.Views.{data_type_of};
+ghost use Rattle.json_rows.specs.Forms.{form_of as form_of_type};
+
+use header_types::{BitWidth, DateUnit, Precision, TimeUnit, Ty};
+
+/// How the cells of a type that are not null stand in JSON (RFC 8259).
+#[derive(Clone, Copy, Debug, PartialEq, Eq)]
+pub enum Form {
+    /// There is none but the null.
+    Null,
+    /// `true` or `false`.
+    Bool,
+    /// A whole number.
+    Whole {
+        /// How many bits it has.
+        width: BitWidth,
+        /// Whether it is one of two's complement.
+        is_signed: bool,
+    },
+    /// A number, in four bytes of a float.
+    Single,
+    /// A number, in eight bytes of a float.
+    Double,
+    /// A text.
+    Text,
+    /// A text of hexadecimal digits, two a byte.
+    Bytes,
+    /// The same, of so many bytes.
+    SizedBytes {
+        /// How many bytes.
+        size: u32,
+    },
+    /// An array.
+    List,
+    /// An array of so many elements.
+    SizedList {
+        /// How many elements.
+        size: u32,
+    },
+    /// An object with a member for each field.
+    Struct,
+    /// None: the type is not carried in JSON here.
+    Unsupported,
+}
+
+/// The form of the type's cells.
+pub fn form_of(ty: &Ty) -> Form
+    ensures { result ≡ form_of_type (data_type_of ty.now) }
+{
+    match ty {
+        Ty::Null => Form::Null,
+        Ty::Bool => Form::Bool,
+        Ty::Int {
+            bit_width,
+            is_signed,
+        } => Form::Whole {
+            width: *bit_width,
+            is_signed: *is_signed,
+        },
+        Ty::Date {
+            unit: DateUnit::Day,
+        }
+        | Ty::Time {
+            unit: TimeUnit::Second | TimeUnit::Millisecond,
+        } => Form::Whole {
+            width: BitWidth::ThirtyTwo,
+            is_signed: true,
+        },
+        Ty::Date {
+            unit: DateUnit::Millisecond,
+        }
+        | Ty::Time {
+            unit: TimeUnit::Microsecond | TimeUnit::Nanosecond,
+        }
+        | Ty::Timestamp { .. }
+        | Ty::Duration { .. } => Form::Whole {
+            width: BitWidth::SixtyFour,
+            is_signed: true,
+        },
+        Ty::FloatingPoint {
+            precision: Precision::Single,
+        } => Form::Single,
+        Ty::FloatingPoint {
+            precision: Precision::Double,
+        } => Form::Double,
+        Ty::Utf8 => Form::Text,
+        Ty::Binary => Form::Bytes,
+        Ty::FixedSizeBinary { byte_width } => Form::SizedBytes {
+            size: byte_width.unsigned_abs(),
+        },
+        Ty::List => Form::List,
+        Ty::FixedSizeList { list_size } => Form::SizedList {
+            size: list_size.unsigned_abs(),
+        },
+        Ty::Struct => Form::Struct,
+        Ty::FloatingPoint {
+            precision: Precision::Half,
+        }
+        | Ty::Decimal { .. } => Form::Unsupported,
+    }
+}
