@@ -1,0 +1,44 @@
+-- What a node's step tells.
+use Rattle.std.proofs.Common.{◌≡◌, ℕ, ◌-◌, inl, inr, List, ◌++◌, length, length-append, arith, sym, ap, ◌∙◌}
+use Rattle.ballots.specs.declared.message.Message.{Message}
+use Rattle.table_types.specs.Uploads.{Upload}
+use Rattle.table_types.specs.Tables.{Version}
+use Rattle.table_types.specs.Answers.{answer_of}
+use Rattle.histories.specs.EventResult as results
+use Rattle.histories.specs.Following.{GetGives}
+use Rattle.node_events.specs.declared.event_result.EventResult.{EventResult}
+use Rattle.node_events.specs.declared.event_result.EventResult.TheVariants.{Answer}
+use Rattle.node_events.specs.Told.{result_of}
+use Rattle.journal.specs.declared.receipt.Receipt.{Receipt}
+use Rattle.journal.specs.Journaled.{Journaled}
+use Rattle.seats.specs.declared.input.Prepared.{Prepared}
+use Rattle.seats.specs.Inputs.{given_for}
+use Rattle.seats.specs.State.{RunningSeat}
+use Rattle.seats.specs.Steps.{IsTaken}
+use Rattle.node_threads.specs.Told.{IsTold}
+
+-- an answer is the text of a version
+same_bytes : (x y : List ℕ) → results.Answer x ≡ results.Answer y → x ≡ y
+same_bytes x y is = cc
+
+answer_is_none : (x : List ℕ) → results.Answer x ≡ results.Unavailable → ⊥
+answer_is_none x is = cc
+
+pub got_version : (uploads : List Upload) (table : List ℕ) (version : ℕ) (given : EventResult) (x : List ℕ) → GetGives uploads table version (result_of given) → given ≡ Answer x
+    → (found : Version) × (x ≡ answer_of found)
+got_version uploads table version given x (inl (found, of, is)) same = (found, same_bytes x (answer_of found) (sym (ap result_of same) ∙ is))
+got_version uploads table version given x (inr (none, is)) same = absurd (answer_is_none x (sym (ap result_of same) ∙ is))
+
+-- a step that was taken tells its messages
+pub told_so : {S : Type 0} (old new : RunningSeat S) (before after : Journaled) (prepared : Prepared) (receipt : Receipt) (first next : ℕ) → IsTaken old new before after prepared receipt
+    → first ≡ length before.trace.sent → next ≡ length after.trace.sent → IsTold prepared.input (record { receipt = receipt; sent = record { start = first; end = next } })
+told_so old new before after prepared receipt first next taken begins ends =
+    let grown : length after.trace.sent ≡ length (before.trace.sent ++ taken.plan.sends) = ap (λ (ms : List Message). length ms) taken.entry.trace.sent_is in
+    let added = length-append before.trace.sent taken.plan.sends in
+    let count : next - first ≡ length taken.plan.sends = omega (arith, begins, ends, grown, added) in
+    record {
+      me = old.node.me;
+      event_is = ap (λ (r : Receipt). r.event) taken.told;
+      forth = omega (arith, begins, ends, grown, added);
+      answer_is = taken.answer_is ∙ (ap (λ (k : ℕ). given_for prepared.input k (length taken.plan.sends)) (sym begins) ∙ ap (λ (k : ℕ). given_for prepared.input first k) (sym count));
+    }

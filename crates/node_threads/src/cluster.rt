@@ -1,0 +1,62 @@
+//! A cluster.
+
+use growing_log::Naming;
+use seats::{Journal, Seat};
+use stable_records::Stable;
+use std::marker::Brand;
+use std::sync::{Mutex, Wait};
+
+/// The seats of the nodes of one configuration, and their journal, each behind a lock.
+#[derive(Drop)]
+pub struct Cluster<const N: usize, S: Stable + Drop, J: Naming = Brand> {
+    seats: [Mutex<Seat<S, J>>; N],
+    journal: Mutex<Journal<J>>,
+}
+
+impl<const N: usize, S: Stable + Drop, J: Naming> Cluster<N, S, J> {
+    /// The cluster of these nodes, each at the place of its number and behind its lock, which nobody holds; `None` where one
+    /// stands elsewhere, is down, or does not agree with the journal, or where the configuration has another number of members
+    /// than there are seats.
+    pub fn new<R: Wait>(
+        rt: &R,
+        seats: [Mutex<Seat<S, J>>; N],
+        journal: Journal<J>,
+    ) -> Option<Cluster<N, S, J>> {
+        if usize::from(journal.config().members.count()) != N || !are_placed(rt, &seats, &journal) {
+            return None;
+        }
+        Some(Cluster {
+            seats,
+            journal: Mutex::new(journal),
+        })
+    }
+
+    /// The seat of the node of this number, `None` where there is no such node. Whoever holds its lock may take the
+    /// journal's, and no other seat's.
+    pub fn seat(&self, node: usize) -> Option<&Mutex<Seat<S, J>>> {
+        self.seats.get(node)
+    }
+
+    /// The journal. Whoever holds its lock takes no other.
+    pub fn journal(&self) -> &Mutex<Journal<J>> {
+        &self.journal
+    }
+}
+
+// Whether each seat is that of the node of its place, is up, and agrees with the journal.
+fn are_placed<R: Wait, S: Stable + Drop, J: Naming>(
+    rt: &R,
+    seats: &[Mutex<Seat<S, J>>],
+    journal: &Journal<J>,
+) -> bool {
+    for (place, seat) in seats.iter().enumerate() {
+        let seat = seat.lock(rt);
+        if usize::from(seat.me().number()) != place || seat.node().is_err() {
+            return false;
+        }
+        if !seat.agrees(journal) {
+            return false;
+        }
+    }
+    true
+}

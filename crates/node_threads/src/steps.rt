@@ -1,0 +1,219 @@
+//! The steps of a cluster's nodes.
+
+ghost use Rattle.std.specs.Prelude.{◌≡◌, List, IfOk};
+ghost use Rattle.std.specs.Option.{IfSome};
+ghost use Rattle.table_types.specs.Uploads.{Upload as Uploaded};
+ghost use Rattle.table_types.specs.Tables.{Version};
+ghost use Rattle.table_types.specs.Answers.{answer_of};
+ghost use Rattle.ballots.specs.declared.message.Message.{Message as Sent};
+ghost use Rattle.node_events.specs.declared.event_result.EventResult.TheVariants.{Outcome as Told};
+ghost use Rattle.seats.specs.declared.input.SeatInput.TheVariants.{Deliver};
+ghost use Rattle.seats.specs.Steps.{AnswersQuery, IsPreparedFor};
+ghost use Rattle.node_threads.specs.Told.{IsTold};
+
+use crate::cluster::Cluster;
+use crate::gate::Gate;
+use ballots::Message;
+use growing_log::Naming;
+use node_core::Refusal;
+use node_events::EventResult;
+use seats::{Journal, Prepared, Query, Receipt, Seat, SeatFault, SeatInput};
+use stable_records::Stable;
+use std::alloc::AllocError;
+use std::ops::Range;
+use std::sync::Wait;
+use table_types::Ticket;
+use table_versions::{Answer, Outcome};
+use uploads::Upload;
+
+/// What came of an input that a node took.
+#[derive(Debug, Drop)]
+pub struct Taken {
+    /// Its entry.
+    pub receipt: Receipt,
+    /// The numbers of the messages that went out.
+    pub sent: Range<u64>,
+}
+
+/// What has become of an upload that is known.
+#[derive(Debug, Drop)]
+pub struct Settled {
+    /// What became of it.
+    pub outcome: Outcome,
+    /// Its entry.
+    pub receipt: Receipt,
+}
+
+impl<const N: usize, S: Stable + Drop, J: Naming> Cluster<N, S, J> {
+    /// Hands an input to the node: its record is kept, the node does what is due, and that is entered.
+    ///
+    /// The faults are those of `Seat::prepare` and `Seat::take`; [`SeatFault::Down`] also where there is no such node.
+    pub fn take<R: Wait, G: Gate>(
+        &self,
+        rt: &R,
+        gate: &G,
+        node: usize,
+        input: SeatInput,
+    ) -> Result<Taken, SeatFault>
+        ensures { IfOk result (IsTold input) }
+    {
+        let Some(seat) = self.seat(node) else {
+            drop(input);
+            return Err(SeatFault::Down);
+        };
+        let mut seat = seat.lock(rt);
+        let prepared = seat.prepare(input)?;
+        gate.pass(node);
+        let mut journal = self.journal().lock(rt);
+        take_prepared(&mut seat, &mut journal, prepared)
+    }
+
+    /// Hands the message of this number to the node.
+    ///
+    /// [`SeatFault::NotSent`] where the journal has no such message; else as [`Cluster::take`].
+    pub fn deliver<R: Wait, G: Gate>(
+        &self,
+        rt: &R,
+        gate: &G,
+        node: usize,
+        number: u64,
+    ) -> Result<Taken, SeatFault>
+        ensures { IfOk result (λ taken. (message : Sent) × IsTold (Deliver number message) taken) }
+    {
+        let message = self.message(rt, number)?;
+        self.take(rt, gate, node, SeatInput::Deliver(number, message))
+    }
+
+    /// A copy of the message of this number; [`SeatFault::NotSent`] where none was sent.
+    pub fn message<R: Wait>(&self, rt: &R, number: u64) -> Result<Message, SeatFault> {
+        let journal = self.journal().lock(rt);
+        let Some(message) = journal.message(number) else {
+            return Err(SeatFault::NotSent);
+        };
+        let copy: Result<Message, AllocError> = message.clone();
+        match copy {
+            Ok(copy) => Ok(copy),
+            Err(_) => Err(SeatFault::Refused(Refusal::OutOfMemory)),
+        }
+    }
+
+    /// Asks the node, and enters the question with its answer, which stands in the receipt and is that of some tables.
+    ///
+    /// The faults are those of `Seat::read` and `Seat::serve`; [`SeatFault::Down`] also where there is no such node.
+    pub fn ask<R: Wait, G: Gate>(
+        &self,
+        rt: &R,
+        gate: &G,
+        node: usize,
+        query: Query,
+    ) -> Result<Receipt, SeatFault>
+        ensures { IfOk result (λ receipt. (uploads : List Uploaded) × AnswersQuery uploads query receipt.answer) }
+    {
+        let Some(seat) = self.seat(node) else {
+            drop(query);
+            return Err(SeatFault::Down);
+        };
+        let seat = seat.lock(rt);
+        let found = seat.read(query)?;
+        gate.pass(node);
+        let mut journal = self.journal().lock(rt);
+        seat.serve(&mut journal, found)
+    }
+
+    /// What the node answers to a ticket, entered: the frames of a version, or `None` where it has none.
+    ///
+    /// The faults are those of [`Cluster::ask`].
+    pub fn get<R: Wait, G: Gate>(
+        &self,
+        rt: &R,
+        gate: &G,
+        node: usize,
+        ticket: Ticket,
+    ) -> Result<Option<(Answer, Receipt)>, SeatFault>
+        ensures { IfOk result (λ got. IfSome got (λ found. (version : Version) × (found.0 ≡ answer_of version))) }
+    {
+        let receipt = self.ask(rt, gate, node, Query::Get(ticket))?;
+        match &receipt.answer {
+            EventResult::Answer(answer) => {
+                let copy: Result<Answer, AllocError> = answer.clone();
+                match copy {
+                    Ok(copy) => Ok(Some((copy, receipt))),
+                    Err(_) => Err(SeatFault::Refused(Refusal::OutOfMemory)),
+                }
+            }
+            _ => Ok(None),
+        }
+    }
+
+    /// What has become of an upload, by the node's tables, entered: or `None`, and nothing is entered, where nothing is known
+    /// of it there.
+    ///
+    /// The faults are those of [`Cluster::ask`].
+    pub fn settle<R: Wait, G: Gate>(
+        &self,
+        rt: &R,
+        gate: &G,
+        node: usize,
+        upload: &Upload,
+    ) -> Result<Option<Settled>, SeatFault>
+        ensures { IfOk result (λ found. IfSome found (λ settled. settled.receipt.answer ≡ Told settled.outcome)) }
+    {
+        if self.is_unknown(rt, node, upload)? {
+            return Ok(None);
+        }
+        let copy: Result<Upload, AllocError> = upload.clone();
+        let Ok(copy) = copy else {
+            return Err(SeatFault::Refused(Refusal::OutOfMemory));
+        };
+        let receipt = self.ask(rt, gate, node, Query::Outcome(copy))?;
+        match receipt.answer {
+            EventResult::Outcome(outcome) => Ok(Some(Settled { outcome, receipt })),
+            _ => Ok(None),
+        }
+    }
+
+    // Whether nothing is known of the upload at the node.
+    fn is_unknown<R: Wait>(&self, rt: &R, node: usize, upload: &Upload) -> Result<bool, SeatFault> {
+        let Some(seat) = self.seat(node) else {
+            return Err(SeatFault::Down);
+        };
+        let seat = seat.lock(rt);
+        Ok(seat.node()?.outcome(upload) == Outcome::Unknown)
+    }
+
+    /// Starts the node again, up or down, with the records that it kept, and enters that.
+    ///
+    /// The faults are those of `Seat::restart`; [`SeatFault::Down`] where there is no such node.
+    pub fn restart<R: Wait, G: Gate>(
+        &self,
+        rt: &R,
+        gate: &G,
+        node: usize,
+    ) -> Result<Receipt, SeatFault> {
+        let Some(seat) = self.seat(node) else {
+            return Err(SeatFault::Down);
+        };
+        let mut seat = seat.lock(rt);
+        gate.pass(node);
+        let mut journal = self.journal().lock(rt);
+        seat.restart(&mut journal)
+    }
+}
+
+// Does what was prepared, and tells the numbers of the messages that went out.
+fn take_prepared<S: Stable + Drop, J: Naming>(
+    seat: &mut Seat<S, J>,
+    journal: &mut Journal<J>,
+    prepared: Prepared,
+) -> Result<Taken, SeatFault>
+    requires { IsPreparedFor seat.old prepared }
+    ensures { IfOk result (IsTold prepared.input) }
+{
+    let first = journal.trace().sent().len() as u64;
+    let receipt = seat.take(journal, prepared)?;
+    let next = journal.trace().sent().len() as u64;
+    Ok(Taken {
+        receipt,
+        sent: first..next,
+    })
+}

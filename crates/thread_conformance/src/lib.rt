@@ -1,0 +1,10 @@
+//! Conformance tests of nodes behind locks, over the public calls of `node_threads`: three nodes, one step after the other, and when
+//! ticks are due.
+#![tactic(auto)]
+
+#[cfg(test)]
+mod paces;
+#[cfg(test)]
+mod steps;
+#[cfg(test)]
+mod support;

@@ -1,0 +1,147 @@
+//! Three nodes, one step after the other: an upload that is put at one is served at each.
+
+ghost use Rattle.std.specs.Prelude.{◌≡◌};
+
+use crate::support::{Nodes, Why, check, three, ticket, told, upload};
+use growing_log::{Naming, Opened};
+use node_threads::{OpenGate, OwnEntry, Pending, Receipt, SeatFault, SeatInput};
+use schedule_runner::audit;
+use std::alloc::Global;
+use std::hash::RandomState;
+use std::marker::Brand;
+use std::sync::Wait;
+use std::test::Fail;
+use table_versions::{Answer, Outcome};
+
+/// More messages than an upload takes.
+const MANY: u64 = 100;
+
+// Hands an upload of this number to the node.
+fn put<R: Wait, J: Naming>(
+    rt: &R,
+    alloc: Global,
+    nodes: &Nodes<J, OpenGate>,
+    node: usize,
+    number: u64,
+) -> Result<Pending, Why> {
+    let upload = upload(alloc, number)?;
+    match nodes.put(rt, node, &upload) {
+        Ok(pending) => Ok(pending),
+        Err(_) => Err("a put fails"),
+    }
+}
+
+// Hands each message from this number on to each node, until no more are sent.
+fn deliver_from<R: Wait, J: Naming>(
+    rt: &R,
+    nodes: &Nodes<J, OpenGate>,
+    first: u64,
+) -> Result<(), Why> {
+    for number in first..MANY {
+        for node in 0..3 {
+            match nodes.cluster().deliver(rt, &OpenGate, node, number) {
+                Ok(taken) => drop(taken),
+                Err(SeatFault::NotSent) => return Ok(()),
+                Err(_) => return Err("a message is not taken"),
+            }
+        }
+    }
+    Err("messages without end")
+}
+
+// The first version at this node.
+fn first_version<R: Wait, J: Naming>(
+    rt: &R,
+    alloc: Global,
+    nodes: &Nodes<J, OpenGate>,
+    node: usize,
+) -> Result<(Answer, Receipt), Why> {
+    match nodes.get(rt, node, ticket(alloc, 1)?) {
+        Ok(Some(found)) => Ok(found),
+        _ => Err("no answer"),
+    }
+}
+
+// An upload is put, decided and served; every receipt stands in the journal, which is lawful.
+fn decides<R: Wait, J: Naming>(
+    rt: &R,
+    alloc: Global,
+    nodes: &Nodes<J, OpenGate>,
+) -> Result<(), Why> {
+    let pending = put(rt, alloc, nodes, 0, 1)?;
+    check(nodes.waits(rt, 0) && !nodes.waits(rt, 1), "what waits")?;
+    nodes.settle_all(rt, 0);
+    check(nodes.waits(rt, 0), "it is settled before it is known")?;
+    match nodes.take_input(rt, 0, SeatInput::Tick(0)) {
+        Ok(taken) => drop(taken),
+        Err(_) => return Err("a tick is not taken"),
+    }
+    deliver_from(rt, nodes, 0)?;
+    nodes.settle_all(rt, 0);
+    check(!nodes.waits(rt, 0), "it waits still")?;
+    let Ok(settled) = pending.wait(rt) else {
+        return Err("the put ends with a fault");
+    };
+    check(settled.outcome == Outcome::Applied(1), "another outcome")?;
+    let (first, got) = first_version(rt, alloc, nodes, 0)?;
+    let (second, got_too) = first_version(rt, alloc, nodes, 1)?;
+    let (third, _) = first_version(rt, alloc, nodes, 2)?;
+    check(first == second && second == third, "answers differ")?;
+    let journal = nodes.cluster().journal().lock(rt);
+    check(
+        journal.meet(&settled.receipt, &got),
+        "a receipt is not confirmed",
+    )?;
+    check(
+        journal.meet(&settled.receipt, &got_too),
+        "another is not confirmed",
+    )?;
+    check(audit(journal.trace()), "what was sent is not lawful")
+}
+
+// A node that starts again ends its puts, and has what it learned once it is handed it again.
+fn starts_again<R: Wait, J: Naming>(
+    rt: &R,
+    alloc: Global,
+    nodes: &Nodes<J, OpenGate>,
+) -> Result<(), Why> {
+    let pending = put(rt, alloc, nodes, 2, 2)?;
+    check(nodes.restart(rt, 2).is_ok(), "no restart")?;
+    check(!nodes.waits(rt, 2), "it waits behind a restart")?;
+    check(
+        matches!(pending.wait(rt), Err(SeatFault::Down)),
+        "another end",
+    )?;
+    check(
+        first_version(rt, alloc, nodes, 2).is_err(),
+        "it has a version",
+    )?;
+    deliver_from(rt, nodes, 0)?;
+    check(
+        first_version(rt, alloc, nodes, 2).is_ok(),
+        "it has no version",
+    )?;
+    check(nodes.restart(rt, 3).is_err(), "a fourth node")
+}
+
+fn plays<R: Wait, J: Naming>(
+    rt: &R,
+    alloc: Global,
+    hashing: RandomState,
+    log: Opened<OwnEntry>,
+) -> Result<(), Why>
+    requires { log ≡ J.book }
+{
+    let (nodes, notes) = three::<R, J, OpenGate>(rt, alloc, hashing, log, OpenGate)?;
+    drop(notes);
+    let decided = decides(rt, alloc, &nodes);
+    let started = starts_again(rt, alloc, &nodes);
+    drop(nodes);
+    decided?;
+    started
+}
+
+#[test]
+fn an_upload_is_decided_and_served(rt: HostRuntime) -> Result<(), Fail> {
+    told(plays::<_, Brand>(&rt, rt.alloc(), RandomState::new(&rt)?, Opened::new()))
+}
