@@ -15,7 +15,7 @@ use Rattle.batch_types.specs.Rules.{places_of, places_inside, asked_inside}
 use Rattle.batch_types.specs.LaysOut.{IsSound, AreSound, HaveFault}
 use Rattle.batch_columns.specs.Held.{layout_named}
 use Rattle.batch_columns.specs.declared.place.Place.{Place}
-use Rattle.batch_columns.specs.declared.source.Source.{Source}
+use Rattle.batch_columns.specs.declared.encoded_column.EncodedColumn.{EncodedColumn}
 use Rattle.batch_columns.specs.Sources.{nodes_of_tree, buffers_of_tree, columns_from}
 use Rattle.batch_columns.specs.Read.{IsSourceOf, column_at}
 use Rattle.batch_checking.specs.declared.around.Around.{Around}
@@ -42,7 +42,7 @@ module _ (body : List ℕ) (head : BatchHead) (asked : ℕ) (around : Around) wh
 
   -- ---- the columns inside a column
 
-  module _ (x : Field) (place inside : Place) (s : Source) (next : Around) (n : ℕ) (of : IsSourceOf body (column_at x head place) s)
+  module _ (x : Field) (place inside : Place) (s : EncodedColumn) (next : Around) (n : ℕ) (of : IsSourceOf body (column_at x head place) s)
       (node : inside.node ≡ place.node + 1) (buffer : inside.buffer ≡ place.buffer + buffers_in_layout (layout_named s.layout))
       (rows : next.rows ≡ around.rows) (depth : next.depth ≡ around.depth + 1) (room : length next.levels ≡ 16) (sources : sources_around next ≡ sources_around around ++ s ∷ [])
       (few : n ≡ asked_inside (layout_named s.layout) s.length) where

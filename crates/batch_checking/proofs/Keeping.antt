@@ -12,7 +12,7 @@ use Rattle.batch_types.specs.Placed.{buffer_at, is_valid, value_bytes}
 use Rattle.batch_types.specs.Rules.{IsInside, HasNullCount, HasOffsets, AreUtf8, first_length}
 use Rattle.batch_types.specs.LaysOut.{KeepsRule}
 use Rattle.batch_columns.specs.Held.{layout_named}
-use Rattle.batch_columns.specs.declared.source.Source.{Source}
+use Rattle.batch_columns.specs.declared.encoded_column.EncodedColumn.{EncodedColumn}
 use Rattle.batch_columns.specs.Read.{IsSource, IsSourceOf, LiesInside}
 use Rattle.batch_checking.specs.SourceRules.{OffsetsHold}
 use Rattle.batch_checking.specs.Around.{Holds, TextsHold}
@@ -106,7 +106,7 @@ module _ (P Q : BatchFault → Type 0) (both : (told : BatchFault) → Both (P t
 
 -- ---- what is read of a column
 
-module _ (P : Layout → ℕ → ℤ → List ℕ → List ℕ → List ℕ → Type 0) (body : List ℕ) (layout : Layout) (node : Node) (ranges : List Range) (s : Source) where
+module _ (P : Layout → ℕ → ℤ → List ℕ → List ℕ → List ℕ → Type 0) (body : List ℕ) (layout : Layout) (node : Node) (ranges : List Range) (s : EncodedColumn) where
   moved : IsSource body layout node ranges s → P (layout_named s.layout) s.length s.nulls s.validity.now s.second.now s.third.now
       → P layout (nat_abs node.0) node.1 (buffer_at body ranges 0) (buffer_at body ranges 1) (buffer_at body ranges 2)
   moved is h =
@@ -116,7 +116,7 @@ module _ (P : Layout → ℕ → ℤ → List ℕ → List ℕ → List ℕ → 
       (subst (λ (n : Node). P layout (nat_abs n.0) n.1 s.validity.now s.second.now s.third.now) (sym is.node_is)
       (subst (λ l. P l s.length s.nulls s.validity.now s.second.now s.third.now) is.layout_is h))))
 
-module _ (body : List ℕ) (asked : ℕ) (places : List ℕ) (s : Source) (first : ℕ) where
+module _ (body : List ℕ) (asked : ℕ) (places : List ℕ) (s : EncodedColumn) (first : ℕ) where
   pub source_kept : (column : LaidColumn) (inner : LaidColumns) → IsSourceOf body column s → LiesInside body column
       → (layout : Layout) (node : Node) (ranges : List Range) → column ≡ laid layout node ranges inner → first ≡ first_length inner
       → AreKept (SourceKeeps s first asked places) column_order → KeepsOwn body (laid layout node ranges inner) asked places

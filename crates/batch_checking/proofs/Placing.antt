@@ -13,7 +13,7 @@ use Rattle.batch_types.specs.Laid.{Node, Range, LaidColumns, column_then}
 use Rattle.batch_types.specs.Rules.{first_length}
 use Rattle.batch_types.specs.LaysOut.{values_limit}
 use Rattle.batch_columns.specs.declared.place.Place.{Place}
-use Rattle.batch_columns.specs.declared.source.Source.{Source}
+use Rattle.batch_columns.specs.declared.encoded_column.EncodedColumn.{EncodedColumn}
 use Rattle.batch_columns.specs.Sources.{nodes_of_tree, buffers_of_tree, column_from, columns_from}
 use Rattle.batch_columns.specs.Read.{IsSourceOf, column_at}
 use Rattle.batch_checking.specs.declared.around.Around.{Around}
@@ -102,12 +102,12 @@ module _ (body : List ℕ) (field : Field) (head : BatchHead) (place : Place) (a
   pub not_below : pos 0 ≤ℤ (get_or head.nodes.items place.node (pos 0, pos 0)).0
   not_below = (may.counted place.node node_there).0
 
-  pub few_values : (s : Source) → IsSourceOf body (column_at field head place) s → s.length ≤ values_limit
+  pub few_values : (s : EncodedColumn) → IsSourceOf body (column_at field head place) s → s.length ≤ values_limit
   few_values s of =
       counted_few (get_or head.nodes.items place.node (pos 0, pos 0)) s.length s.nulls (sym (get_dropped head.nodes.items place.node) ∙ of.node_is)
       (may.counted place.node node_there).1
 
-  pub reaches : (s : Source) → IsSourceOf body (column_at field head place) s → ReachesIf asked s.length (places_in around)
+  pub reaches : (s : EncodedColumn) → IsSourceOf body (column_at field head place) s → ReachesIf asked s.length (places_in around)
   reaches s of = subst (λ (n : Node). ReachesIf asked (nat_abs n.0) (places_in around)) of.node_is may.reach.0
 
 -- ---- lists with and without an element

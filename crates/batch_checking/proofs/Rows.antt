@@ -7,7 +7,7 @@ use Rattle.batch_types.specs.Rules.{places_of}
 use Rattle.batch_columns.specs.Held.{layout_named}
 use Rattle.batch_columns.specs.declared.layout.Layout.{Layout as Declared}
 use Rattle.batch_columns.specs.declared.layout.Layout.TheVariants.{List as Lists, FixedSizeList, Utf8}
-use Rattle.batch_columns.specs.declared.source.Source.{Source}
+use Rattle.batch_columns.specs.declared.encoded_column.EncodedColumn.{EncodedColumn}
 use Rattle.batch_checking.specs.SourceRules.{AreSpread, StandsIn}
 use Rattle.batch_checking.specs.Around.{Holds, StandsInside, IsSteady, IsSteadySource, TextsHold}
 use Rattle.batch_checking.proofs.Held.{held_range, range_held, below_held}
@@ -20,12 +20,12 @@ block_stands : (o : Option ℕ) (size place : ℕ) → IfSome o (λ row. (size *
 block_stands None size place h = h
 block_stands (Some row) size place h = held_range (size * row) size place h.0 h.1
 
-pub fixed_stands : (s : Source) (size place : ℕ) (o : Option ℕ) → s.layout ≡ FixedSizeList size
+pub fixed_stands : (s : EncodedColumn) (size place : ℕ) (o : Option ℕ) → s.layout ≡ FixedSizeList size
     → IfSome o (λ row. (size * row ≤ place) × (place < size * row + size)) → IfSome o (λ row. StandsInside s row place)
 fixed_stands s size place o is h =
     subst (λ (l : Declared). IfSome o (λ row. Holds (places_of (layout_named l) s.second.now row) place)) (sym is) (block_stands o size place h)
 
-pub fixed_found : (s : Source) (size place : ℕ) (o : Option ℕ) → s.layout ≡ FixedSizeList size
+pub fixed_found : (s : EncodedColumn) (size place : ℕ) (o : Option ℕ) → s.layout ≡ FixedSizeList size
     → ((row : ℕ) → size * row ≤ place → place < size * row + size → o ≡ Some row)
     → (row : ℕ) → row < s.length → StandsInside s row place → o ≡ Some row
 fixed_found s size place o is found row below stands =
@@ -40,7 +40,7 @@ span_stands : (offsets : List ℕ) (o : Option ℕ) (count place : ℕ) → IfSo
 span_stands offsets None count place h = h
 span_stands offsets (Some row) count place h = held_range (start_of 4 offsets row) (length_of 4 offsets row) place h.1.0 (omega (arith, h.1.0, h.1.1))
 
-pub list_stands : (s : Source) (place : ℕ) (o : Option ℕ) → s.layout ≡ Lists
+pub list_stands : (s : EncodedColumn) (place : ℕ) (o : Option ℕ) → s.layout ≡ Lists
     → IfSome o (λ row. (row < s.length) × StandsIn s.second.now row place) → IfSome o (λ row. StandsInside s row place)
 list_stands s place o is h =
     subst (λ (l : Declared). IfSome o (λ row. Holds (places_of (layout_named l) s.second.now row) place)) (sym is) (span_stands s.second.now o s.length place h)
@@ -57,10 +57,10 @@ span_found offsets count place None (inr spread) some none row below stands = ab
 span_found offsets count place (Some r) (inr spread) some none row below stands =
     ap Some (one_row offsets count spread.1 r row place some.0 below some.1 stands)
 
-pub list_spread : (s : Source) → s.layout ≡ Lists → IsSteadySource s → AreSpread s.second.now s.length
+pub list_spread : (s : EncodedColumn) → s.layout ≡ Lists → IsSteadySource s → AreSpread s.second.now s.length
 list_spread s is steady = subst (λ (l : Declared). IsSteady (layout_named l) s.length s.second.now) is steady.steady
 
-pub list_found : (s : Source) (place : ℕ) (o : Option ℕ) → s.layout ≡ Lists → IsSteadySource s
+pub list_found : (s : EncodedColumn) (place : ℕ) (o : Option ℕ) → s.layout ≡ Lists → IsSteadySource s
     → IfSome o (λ row. (row < s.length) × StandsIn s.second.now row place) → IfNone o ((row : ℕ) → row < s.length → ¬ (StandsIn s.second.now row place))
     → (row : ℕ) → row < s.length → StandsInside s row place → o ≡ Some row
 list_found s place o is steady some none row below stands =

@@ -15,7 +15,7 @@ use Rattle.batch_types.specs.Laid.{LaidColumns, node_count, buffer_count}
 use Rattle.batch_types.specs.Order.{head_order, AreKept}
 use Rattle.batch_types.specs.LaysOut.{HasRowsWithin, KeepsHeadRule, HasColumns, LaysOut, IsFaultOf, body_of, columns_at as cells_of_columns}
 use Rattle.batch_columns.specs.declared.place.Place.{Place}
-use Rattle.batch_columns.specs.declared.source.Source.{Source}
+use Rattle.batch_columns.specs.declared.encoded_column.EncodedColumn.{EncodedColumn}
 use Rattle.batch_columns.specs.Sources.{columns_from}
 use Rattle.batch_checking.specs.declared.around.Around.{Around}
 use Rattle.batch_checking.specs.Around.{places_around, AreSteady}
@@ -28,7 +28,7 @@ use Rattle.batch_checking.proofs.Going.{all_reach}
 abbrev pub top : Place
 top = record { node = 0; buffer = 0 }
 
-take_zero : (xs : List Source) → take 0 xs ≡ []
+take_zero : (xs : List EncodedColumn) → take 0 xs ≡ []
 take_zero [] = refl
 take_zero (x ∷ xs) = refl
 

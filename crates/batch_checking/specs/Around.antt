@@ -10,7 +10,7 @@ use Rattle.batch_types.specs.Placed.{is_valid, value_bytes}
 use Rattle.batch_types.specs.Rules.{places_of}
 use Rattle.batch_types.specs.LaysOut.{values_limit}
 use Rattle.batch_columns.specs.Held.{layout_named}
-use Rattle.batch_columns.specs.declared.source.Source.{Source}
+use Rattle.batch_columns.specs.declared.encoded_column.EncodedColumn.{EncodedColumn}
 use Rattle.batch_checking.specs.SourceRules.{AreSpread}
 
 -- the number is in the list
@@ -19,21 +19,21 @@ Holds [] x = ⊥
 Holds (y ∷ ys) x = (y ≡ x) ⊎ Holds ys x
 
 -- the value at this row is valid
-abbrev pub IsValidAt : Source → ℕ → Type 0
+abbrev pub IsValidAt : EncodedColumn → ℕ → Type 0
 IsValidAt source row = is_valid (layout_named source.layout) source.validity.now row ≡ true
 
 -- the place inside belongs to the value at this row
-abbrev pub StandsInside : Source → ℕ → ℕ → Type 0
+abbrev pub StandsInside : EncodedColumn → ℕ → ℕ → Type 0
 StandsInside source row place = Holds (places_of (layout_named source.layout) source.second.now row) place
 
 -- the places inside the column that belong to those of the values at these places that are valid
-abbrev pub source_places : Source → List ℕ → List ℕ
+abbrev pub source_places : EncodedColumn → List ℕ → List ℕ
 source_places source places =
     flat_map (places_of (layout_named source.layout) source.second.now)
     (filter (is_valid (layout_named source.layout) source.validity.now) places)
 
 -- the same of columns each around the next
-abbrev pub places_around : List ℕ → List Source → List ℕ
+abbrev pub places_around : List ℕ → List EncodedColumn → List ℕ
 places_around places [] = places
 places_around places (source ∷ rest) = places_around (source_places source places) rest
 
@@ -49,12 +49,12 @@ IsSteady (fixed_size_list_layout size) count second = Unit {0}
 IsSteady struct_layout count second = Unit {0}
 
 -- such a column has no more values than one may have
-pub record IsSteadySource (source : Source) : Type 0 where
+pub record IsSteadySource (source : EncodedColumn) : Type 0 where
   pub few : source.length ≤ values_limit
   pub steady : IsSteady (layout_named source.layout) source.length source.second.now
 
 -- each column is one, and has the places that belong to it
-abbrev pub AreSteady : List ℕ → List Source → Type 0
+abbrev pub AreSteady : List ℕ → List EncodedColumn → Type 0
 AreSteady places [] = Unit {0}
 AreSteady places (source ∷ rest) =
     AllByRecursion (λ row. row < source.length) places × IsSteadySource source

@@ -9,7 +9,7 @@ use Rattle.batch_types.specs.Order.{column_order, AreKept, IsFirstBroken}
 use Rattle.batch_types.specs.Rules.{AreLong, HasNullCount, asked_inside, places_inside}
 use Rattle.batch_types.specs.LaysOut.{KeepsRule, AreSound, HaveFault}
 use Rattle.batch_columns.specs.Held.{layout_named}
-use Rattle.batch_columns.specs.declared.source.Source.{Source}
+use Rattle.batch_columns.specs.declared.encoded_column.EncodedColumn.{EncodedColumn}
 use Rattle.batch_checking.specs.SourceRules.{OffsetsHold}
 use Rattle.batch_checking.specs.Around.{TextsHold}
 
@@ -30,7 +30,7 @@ PartsKeep layout count nulls validity second third first asked places fault.NotU
     TextsHold layout validity second third places
 PartsKeep layout count nulls validity second third first asked places fault.OutOfMemory = Unit {0}
 
-abbrev pub SourceKeeps : Source → ℕ → ℕ → List ℕ → BatchFault → Type 0
+abbrev pub SourceKeeps : EncodedColumn → ℕ → ℕ → List ℕ → BatchFault → Type 0
 SourceKeeps source first asked places told =
     PartsKeep (layout_named source.layout) source.length source.nulls source.validity.now source.second.now
     source.third.now first asked places told

@@ -15,7 +15,7 @@ use Rattle.batch_types.specs.Rules.{first_length}
 use Rattle.batch_types.specs.LaysOut.{values_limit}
 use Rattle.batch_columns.specs.Held.{layout_named}
 use Rattle.batch_columns.specs.declared.place.Place.{Place}
-use Rattle.batch_columns.specs.declared.source.Source.{Source}
+use Rattle.batch_columns.specs.declared.encoded_column.EncodedColumn.{EncodedColumn}
 use Rattle.batch_columns.specs.Sources.{columns_from}
 use Rattle.batch_checking.specs.declared.around.Around.{Around}
 use Rattle.batch_checking.specs.SourceRules.{AreSpreadWithin}
@@ -24,7 +24,7 @@ use Rattle.batch_checking.specs.Checked.{ReachesIf}
 
 -- ---- the columns around others
 
-abbrev pub sources_around : Around → List Source
+abbrev pub sources_around : Around → List EncodedColumn
 sources_around around = take around.depth around.levels
 
 abbrev pub first_places : Around → List ℕ
@@ -100,7 +100,7 @@ LeadsInto (fixed_size_list_layout size) count second first = Unit {0}
 LeadsInto struct_layout count second first = Unit {0}
 
 -- what is read of a column whose places these are
-pub record IsOpen (source : Source) (column : LaidColumn) (places : List ℕ) : Type 0 where
+pub record IsOpen (source : EncodedColumn) (column : LaidColumn) (places : List ℕ) : Type 0 where
   pub steady : IsSteadySource source
   pub below : AllByRecursion (λ row. row < source.length) places
   pub leads : LeadsInto (layout_named source.layout) source.length source.second.now (first_length (inside_of column))

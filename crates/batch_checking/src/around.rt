@@ -7,7 +7,7 @@ ghost use Rattle.batch_checking.specs.Columns.{sources_around};
 
 use crate::offsets::row_around;
 use crate::validity::is_valid;
-use batch_columns::{Layout, Source};
+use batch_columns::{EncodedColumn, Layout};
 use header_types::MAX_DEPTH;
 
 /// The columns around a column, the outermost first, and how many rows the batch has.
@@ -18,7 +18,7 @@ pub(crate) struct Around<'a> {
     /// How many columns there are.
     pub(crate) depth: usize,
     /// They come first of these.
-    pub(crate) levels: [Source<'a>; MAX_DEPTH],
+    pub(crate) levels: [EncodedColumn<'a>; MAX_DEPTH],
 }
 
 impl<'a> Around<'a> {
@@ -28,7 +28,7 @@ impl<'a> Around<'a> {
         ensures depth { result.depth ≡ 0 }
         ensures room { length result.levels ≡ 16 }
     {
-        let source = Source {
+        let source = EncodedColumn {
             layout: Layout::Null,
             length: 0,
             nulls: 0,
@@ -44,7 +44,7 @@ impl<'a> Around<'a> {
     }
 
     /// The columns.
-    pub(crate) fn sources(&self) -> &[Source<'a>]
+    pub(crate) fn sources(&self) -> &[EncodedColumn<'a>]
         requires { self.now.depth ≤ 16 }
         ensures sources { result.now ≡ sources_around self.now }
         ensures few { length result.now ≤ 16 }
@@ -53,7 +53,7 @@ impl<'a> Around<'a> {
     }
 
     /// The columns around those inside one of which these are around.
-    pub(crate) fn with(&self, source: &Source<'a>) -> Around<'a>
+    pub(crate) fn with(&self, source: &EncodedColumn<'a>) -> Around<'a>
         requires free { self.now.depth < 16 }
         requires room { length self.now.levels ≡ 16 }
         ensures room { length result.levels ≡ 16 }
@@ -80,7 +80,7 @@ fn block_around(size: usize, place: usize) -> Option<usize>
 }
 
 /// The row whose value has the element or the field at a place inside a column. A row near it may be guessed.
-fn row_of(source: &Source, place: usize, guess: usize) -> Option<usize>
+fn row_of(source: &EncodedColumn, place: usize, guess: usize) -> Option<usize>
     requires { IsSteadySource source.now }
     ensures stands { IfSome result (λ row. StandsInside source.now row place) }
     ensures found { (row : ℕ) → row < source.now.length → StandsInside source.now row place → result ≡ Some row }
@@ -94,7 +94,7 @@ fn row_of(source: &Source, place: usize, guess: usize) -> Option<usize>
 }
 
 /// That row, where its value is valid. It is the next guess.
-fn valid_row_of(source: &Source, place: usize, guess: &mut usize) -> Option<usize>
+fn valid_row_of(source: &EncodedColumn, place: usize, guess: &mut usize) -> Option<usize>
     requires { IsSteadySource source.now }
     ensures stands { IfSome result (λ row. IsValidAt source.now row × StandsInside source.now row place) }
     ensures found { (row : ℕ) → row < source.now.length → IsValidAt source.now row → StandsInside source.now row place
@@ -121,7 +121,7 @@ fn is_row(row: usize, rows: usize) -> bool
 /// column the row that was found last is the next guess: places that are asked for in order are found in a few steps.
 pub(crate) fn belongs(
     rows: usize,
-    around: &[Source],
+    around: &[EncodedColumn],
     place: usize,
     guesses: &mut [usize; MAX_DEPTH],
 ) -> bool

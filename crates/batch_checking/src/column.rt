@@ -14,13 +14,13 @@ use crate::lengths::is_long;
 use crate::offsets::have_risen;
 use crate::texts::has_texts;
 use crate::validity::has_null_count;
-use batch_columns::{Layout, Source};
+use batch_columns::{EncodedColumn, Layout};
 use batch_types::BatchFault;
 
 /// Whether the offsets of a column, where it has some, lead into its bytes or into the first column inside it, which
 /// has so many values (Apache Arrow, "Arrow Columnar Format", "Variable-size Binary Layout" and "Variable-size List
 /// Layout").
-fn has_offsets(source: &Source, first: usize) -> bool
+fn has_offsets(source: &EncodedColumn, first: usize) -> bool
     requires few { source.now.length ≤ values_limit }
     requires long { AreLong (layout_named source.now.layout) source.now.length source.now.nulls
         (length source.now.validity.now) (length source.now.second.now) }
@@ -44,11 +44,11 @@ fn has_offsets(source: &Source, first: usize) -> bool
 /// many values the first column inside it has, `asked` how many it has to have, and `rows` and `around` say which of
 /// its places belong to the batch.
 pub(crate) fn check_source(
-    source: &Source,
+    source: &EncodedColumn,
     first: usize,
     asked: usize,
     rows: usize,
-    around: &[Source],
+    around: &[EncodedColumn],
 ) -> Result<(), BatchFault>
     requires few { source.now.length ≤ values_limit }
     requires steady { AreSteady (range_with_len 0 rows) around.now }

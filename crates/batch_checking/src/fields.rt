@@ -11,7 +11,7 @@ ghost use Rattle.batch_checking.specs.Columns.{places_in, forest_seen, columns_a
 
 use crate::around::Around;
 use crate::column::check_source;
-use batch_columns::{Layout, Place, Source, source_at};
+use batch_columns::{EncodedColumn, Layout, Place, encoded_column_at};
 use batch_types::BatchFault;
 use header_types::{BatchHead, Field};
 
@@ -39,7 +39,7 @@ fn first_inside(field: &Field, head: &BatchHead, place: Place) -> usize
 
 /// How many values a column asks of each of those inside it (Apache Arrow, "Arrow Columnar Format", "Fixed-Size List
 /// Layout" and "Struct Layout").
-fn asked_inside(source: &Source) -> usize
+fn asked_inside(source: &EncodedColumn) -> usize
     requires { source.now.length ≤ values_limit }
     ensures { result ≡ asked_of (layout_named source.now.layout) source.now.length }
 {
@@ -63,7 +63,7 @@ fn check_column<'a>(
     body: &'a [u8],
     asked: usize,
     around: &Around<'a>,
-) -> Result<Source<'a>, BatchFault>
+) -> Result<EncodedColumn<'a>, BatchFault>
     requires { MayCheckOne field.now head.now place asked around.now }
     ensures source { IfOk result (λ source. IsSourceOf body.now (column_at field.now head.now place) source) }
     ensures kept { IfOk result (λ source. KeepsOwn body.now (column_at field.now head.now place) asked
@@ -73,7 +73,7 @@ fn check_column<'a>(
         (places_in around.now) told) }
 {
     let first = first_inside(field, head, place);
-    let Some(source) = source_at(field, head, place, body) else {
+    let Some(source) = encoded_column_at(field, head, place, body) else {
         return Err(BatchFault::BufferRange);
     };
     match check_source(&source, first, asked, around.rows, around.sources()) {
@@ -90,7 +90,7 @@ fn check_inside<'a>(
     head: &BatchHead,
     place: Place,
     body: &'a [u8],
-    source: &Source<'a>,
+    source: &EncodedColumn<'a>,
     around: &Around<'a>,
 ) -> Result<Place, BatchFault>
     requires may { (asked : ℕ) × MayCheckOne field.now head.now place asked around.now }

@@ -5,7 +5,7 @@ ghost use Rattle.batch_types.specs.Rules.{IsValidityLong, AreOffsetsLong, AreLon
 ghost use Rattle.batch_types.specs.LaysOut.{values_limit};
 ghost use Rattle.batch_columns.specs.Held.{layout_named};
 
-use batch_columns::{Layout, Source};
+use batch_columns::{EncodedColumn, Layout};
 
 /// Whether a bitmap of so many bytes is long enough for so many values; it may be empty where none is null (Apache
 /// Arrow, "Arrow Columnar Format", "Validity bitmaps").
@@ -34,7 +34,7 @@ fn are_values_long(size: u32, count: usize, bytes: usize) -> bool
 }
 
 /// Whether the buffers of a column are long enough for its values ("Physical memory layout").
-pub(crate) fn is_long(source: &Source) -> bool
+pub(crate) fn is_long(source: &EncodedColumn) -> bool
     requires { source.now.length ≤ values_limit }
     ensures { IsTrue result ↔ AreLong (layout_named source.now.layout) source.now.length source.now.nulls
         (length source.now.validity.now) (length source.now.second.now) }

@@ -11,7 +11,7 @@ ghost use Rattle.batch_checking.specs.Around.{Holds, IsValidAt, places_around, A
 use crate::around::belongs;
 use crate::offsets::start_at;
 use crate::validity::is_valid;
-use batch_columns::{Layout, Source};
+use batch_columns::{EncodedColumn, Layout};
 use header_types::MAX_DEPTH;
 use simdutf8::basic::from_utf8;
 
@@ -34,7 +34,7 @@ fn is_utf8(bytes: &[u8]) -> bool
 }
 
 /// Whether the text of a row that is there is UTF-8, by itself.
-fn is_text(source: &Source, row: usize) -> bool
+fn is_text(source: &EncodedColumn, row: usize) -> bool
     requires within { row < source.now.length }
     requires spread { AreSpreadWithin source.now.second.now source.now.length (length source.now.third.now) }
     ensures { IsTrue result ↔ IsUtf8 (value_bytes 4 source.now.second.now source.now.third.now row) }
@@ -46,9 +46,9 @@ fn is_text(source: &Source, row: usize) -> bool
 
 /// Whether a row that is there has no text, or one in UTF-8, or none that belongs to the batch.
 fn is_fine(
-    source: &Source,
+    source: &EncodedColumn,
     rows: usize,
-    around: &[Source],
+    around: &[EncodedColumn],
     row: usize,
     guesses: &mut [usize; MAX_DEPTH],
 ) -> bool
@@ -65,7 +65,7 @@ fn is_fine(
 }
 
 /// Whether each text that belongs to the batch and is valid is UTF-8, one by one.
-fn are_fine(source: &Source, rows: usize, around: &[Source]) -> bool
+fn are_fine(source: &EncodedColumn, rows: usize, around: &[EncodedColumn]) -> bool
     requires spread { AreSpreadWithin source.now.second.now source.now.length (length source.now.third.now) }
     requires steady { AreSteady (range_with_len 0 rows) around.now }
     requires few { length around.now ≤ 16 }
@@ -96,7 +96,7 @@ fn are_boundaries(text: &str, offsets: &[u8], count: usize) -> bool
 }
 
 /// Whether the bytes of all texts are one text in UTF-8, of which each is a part that begins and ends between characters.
-fn are_parts(source: &Source) -> bool
+fn are_parts(source: &EncodedColumn) -> bool
     requires some { 0 < source.now.length }
     requires spread { AreSpreadWithin source.now.second.now source.now.length (length source.now.third.now) }
     ensures { IsTrue result → (row : ℕ) → row < source.now.length
@@ -110,7 +110,7 @@ fn are_parts(source: &Source) -> bool
 
 /// Whether each text that belongs to the batch and is valid is UTF-8. Most often all of them are, and are looked at
 /// together; where they are not, each is looked at by itself.
-fn are_texts(source: &Source, rows: usize, around: &[Source]) -> bool
+fn are_texts(source: &EncodedColumn, rows: usize, around: &[EncodedColumn]) -> bool
     requires spread { AreSpreadWithin source.now.second.now source.now.length (length source.now.third.now) }
     requires steady { AreSteady (range_with_len 0 rows) around.now }
     requires few { length around.now ≤ 16 }
@@ -125,7 +125,7 @@ fn are_texts(source: &Source, rows: usize, around: &[Source]) -> bool
 }
 
 /// The same of a column of any layout: only one of texts has texts.
-pub(crate) fn has_texts(source: &Source, rows: usize, around: &[Source]) -> bool
+pub(crate) fn has_texts(source: &EncodedColumn, rows: usize, around: &[EncodedColumn]) -> bool
     requires spread { TextsSpread (layout_named source.now.layout) source.now.length source.now.second.now
         source.now.third.now }
     requires steady { AreSteady (range_with_len 0 rows) around.now }

@@ -7,7 +7,7 @@ ghost use Rattle.batch_types.specs.LaysOut.{values_limit};
 ghost use Rattle.batch_columns.specs.Held.{layout_named};
 ghost use Rattle.batch_checking.specs.SourceRules.{has_values as has_values_seen, nulls_counted};
 
-use batch_columns::{Layout, Source};
+use batch_columns::{EncodedColumn, Layout};
 use bitmaps::{bit, count_zeros};
 
 /// Whether a column of this layout may have values that are not null.
@@ -27,7 +27,7 @@ pub(crate) fn has_values(layout: Layout) -> bool
 }
 
 /// Whether the value at a place is valid (Apache Arrow, "Arrow Columnar Format", "Validity bitmaps").
-pub(crate) fn is_valid(source: &Source, place: usize) -> bool
+pub(crate) fn is_valid(source: &EncodedColumn, place: usize) -> bool
     ensures { result ≡ is_valid_seen (layout_named source.now.layout) source.now.validity.now place }
 {
     has_values(source.layout) && (source.validity.is_empty() || bit(source.validity, place))
@@ -53,7 +53,7 @@ fn is_count(number: i64, count: usize) -> bool
 }
 
 /// Whether as many values are null as the node says ("Null count"). Of a column of the type Null it is not looked at.
-pub(crate) fn has_null_count(source: &Source) -> bool
+pub(crate) fn has_null_count(source: &EncodedColumn) -> bool
     requires { source.now.length ≤ values_limit }
     ensures { IsTrue result ↔ HasNullCount (layout_named source.now.layout) source.now.validity.now
         (pos source.now.length, source.now.nulls) }

@@ -11,7 +11,7 @@ use Rattle.batch_types.specs.Placed.{buffer_at}
 use Rattle.batch_types.specs.Rules.{IsInside}
 use Rattle.batch_columns.specs.Held.{layout_named}
 use Rattle.batch_columns.specs.declared.place.Place.{Place}
-use Rattle.batch_columns.specs.declared.source.Source.{Source}
+use Rattle.batch_columns.specs.declared.encoded_column.EncodedColumn.{EncodedColumn}
 use Rattle.batch_columns.specs.Sources.{column_from}
 
 -- the column of a field at a place of a header
@@ -27,12 +27,12 @@ LiesInside body (laid layout node ranges inner) =
 
 -- a column of this layout, with this node and these ranges of a body
 pub record IsSource (body : List ℕ) (layout : Layout) (node : Node) (ranges : List Range)
-    (source : Source) : Type 0 where
+    (source : EncodedColumn) : Type 0 where
   pub layout_is : layout_named source.layout ≡ layout
   pub node_is : node ≡ (pos source.length, source.nulls)
   pub validity_is : source.validity.now ≡ buffer_at body ranges 0
   pub second_is : source.second.now ≡ buffer_at body ranges 1
   pub third_is : source.third.now ≡ buffer_at body ranges 2
 
-abbrev pub IsSourceOf : List ℕ → LaidColumn → Source → Type 0
+abbrev pub IsSourceOf : List ℕ → LaidColumn → EncodedColumn → Type 0
 IsSourceOf body (laid layout node ranges inner) source = IsSource body layout node ranges source

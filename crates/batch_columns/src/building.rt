@@ -90,7 +90,11 @@ fn put_offset(offsets: &mut Vec<u8>, number: usize) -> Result<(), AllocError>
 }
 
 /// Appends the bytes of a cell, and the offset where they end.
-fn put_span(offsets: &mut Vec<u8>, bytes: &mut Vec<u8>, more: &[u8]) -> Result<(), AllocError>
+fn append_variable(
+    offsets: &mut Vec<u8>,
+    bytes: &mut Vec<u8>,
+    more: &[u8],
+) -> Result<(), AllocError>
     ensures bytes { OnOk result (bytes.new.items ≡ bytes.old.items ++ more.now) }
     ensures offsets { OnOk result
         (offsets.new.items ≡ offsets.old.items ++ little_bytes 4 (length (bytes.old.items ++ more.now))) }
@@ -109,7 +113,7 @@ fn spans(alloc: Global, cells: &[Option<&[u8]>]) -> Result<(Vec<u8>, Vec<u8>), A
     let mut bytes = Vec::new(alloc);
     put_offset(&mut offsets, 0)?;
     for cell in cells {
-        put_span(&mut offsets, &mut bytes, bytes_there(cell))?;
+        append_variable(&mut offsets, &mut bytes, bytes_there(cell))?;
     }
     Ok((offsets, bytes))
 }
@@ -151,7 +155,7 @@ fn text_spans(alloc: Global, cells: &[Option<&str>]) -> Result<(Vec<u8>, Vec<u8>
     let mut bytes = Vec::new(alloc);
     put_offset(&mut offsets, 0)?;
     for cell in cells {
-        put_span(&mut offsets, &mut bytes, text_there(cell))?;
+        append_variable(&mut offsets, &mut bytes, text_there(cell))?;
     }
     Ok((offsets, bytes))
 }

@@ -15,13 +15,13 @@ use Rattle.batch_types.specs.Placed.{buffer_at}
 use Rattle.batch_columns.specs.Held.{layout_named}
 use Rattle.batch_columns.specs.Read.{column_at, IsSource}
 use Rattle.batch_columns.specs.declared.place.Place.{Place}
-use Rattle.batch_columns.specs.declared.source.Source.{Source}
+use Rattle.batch_columns.specs.declared.encoded_column.EncodedColumn.{EncodedColumn}
 use Rattle.batch_columns.specs.Sources.{nodes_of_tree, buffers_of_tree, columns_from}
 use Rattle.batch_reading.specs.Planned.{spots_inside}
 use Rattle.batch_reading.specs.Readable.{forest_seen, columns_there}
 use Rattle.batch_reading.specs.Spots.{Spot}
 use Rattle.batch_reading.specs.Taken.{valid_in, is_shown, seen}
-use Rattle.batch_lengths.specs.declared.marks.Marks.{Marks}
+use Rattle.batch_lengths.specs.declared.validity_mask.ValidityMask.{ValidityMask}
 use Rattle.batch_lengths.specs.declared.counted.Counted.{Counted}
 use Rattle.batch_lengths.specs.Along.{run_spots, source_spots, marked_from, mark_of, AreTaken}
 use Rattle.batch_lengths.specs.Counted.{has_null, span_total, IsCounted}
@@ -81,14 +81,14 @@ module _ (fields : Forest) (head : BatchHead) (place : Place) (body : List ℕ) 
 
 -- ---- values that are all wanted, or are all not
 
-marked_alike : (marks : Marks) (number n : ℕ) (mark : Bool) → ((k : ℕ) → k < n → mark_of marks (number + k) ≡ mark)
+marked_alike : (marks : ValidityMask) (number n : ℕ) (mark : Bool) → ((k : ℕ) → k < n → mark_of marks (number + k) ≡ mark)
     → marked_from marks number n ≡ map (λ place. (place, mark)) (range_with_len (marks.start + number) n)
 marked_alike marks number n mark all =
     same_on (λ k. (marks.start + k, mark_of marks k)) (λ k. (marks.start + k, mark)) number n
     (λ k from below. ap (λ m. (marks.start + k, m)) (subst (λ j. mark_of marks j ≡ mark) (omega (arith, from)) (all (k - number) (omega (arith, from, below)))))
     ∙ moved_from (λ place. (place, mark)) marks.start number (marks.start + number) n (omega arith)
 
-pub unmarked_inside : (layout : Layout) (second : List ℕ) (marks : Marks) (number n : ℕ) → ((k : ℕ) → k < n → mark_of marks (number + k) ≡ false)
+pub unmarked_inside : (layout : Layout) (second : List ℕ) (marks : ValidityMask) (number n : ℕ) → ((k : ℕ) → k < n → mark_of marks (number + k) ≡ false)
     → AreBlank (spots_inside layout second (marked_from marks number n))
 unmarked_inside layout second marks number n none =
     inside_blank layout second (marked_from marks number n)
@@ -102,21 +102,21 @@ shown_each validity start (suc n) valid =
     ∙ ap₂ (λ shown m. (if not shown then 1 else 0) + m) (subst (λ s. valid_in validity s ≡ true) first (valid 0 (omega arith)))
     (shown_each validity (start + 1) n (λ k below. subst (λ s. valid_in validity s ≡ true) (omega arith) (valid (k + 1) (omega (arith, below)))))
 
-pub none_null_taken : (validity : List ℕ) (marks : Marks) (number n : ℕ) → AreTaken validity marks → number + n ≤ marks.count
+pub none_null_taken : (validity : List ℕ) (marks : ValidityMask) (number n : ℕ) → AreTaken validity marks → number + n ≤ marks.count
     → ((k : ℕ) → k < n → mark_of marks (number + k) ≡ true) → has_null validity (run_spots (marks.start + number) n) ≡ false
 none_null_taken validity marks number n taken there all =
     ap (λ m. not (m == 0))
     (shown_each validity (marks.start + number) n
     (λ k below. subst (λ s. valid_in validity s ≡ true) (omega arith) (taken (number + k) (omega (arith, below, there)) (all k below))))
 
-pub taken_inside : (s : Source) (marks : Marks) (number n : ℕ) → has_null s.validity.now (run_spots (marks.start + number) n) ≡ false
+pub taken_inside : (s : EncodedColumn) (marks : ValidityMask) (number n : ℕ) → has_null s.validity.now (run_spots (marks.start + number) n) ≡ false
     → ((k : ℕ) → k < n → mark_of marks (number + k) ≡ true)
     → source_spots s (run_spots (marks.start + number) n) ≡ spots_inside (layout_named s.layout) s.second.now (marked_from marks number n)
 taken_inside s marks number n whole all =
     ap (spots_inside (layout_named s.layout) s.second.now)
     (all_seen s.validity.now (marks.start + number) n whole ∙ sym (marked_alike marks number n true all))
 
-pub inside_more : (layout : Layout) (second : List ℕ) (marks : Marks) (m n : ℕ)
+pub inside_more : (layout : Layout) (second : List ℕ) (marks : ValidityMask) (m n : ℕ)
     → spots_inside layout second (marked_from marks 0 (m + n)) ≡ spots_inside layout second (marked_from marks 0 m) ++ spots_inside layout second (marked_from marks m n)
 inside_more layout second marks m n =
     let at : 0 + m ≡ m = omega arith in
@@ -125,7 +125,7 @@ inside_more layout second marks m n =
 
 -- ---- one run more
 
-pub source_more : (s : Source) (start m n : ℕ) → source_spots s (run_spots start (m + n)) ≡ source_spots s (run_spots start m) ++ source_spots s (run_spots (start + m) n)
+pub source_more : (s : EncodedColumn) (start m n : ℕ) → source_spots s (run_spots start (m + n)) ≡ source_spots s (run_spots start m) ++ source_spots s (run_spots (start + m) n)
 source_more s start m n = ap (source_spots s) (run_both start m n) ∙ source_both s (run_spots start m) (run_spots (start + m) n)
 
 -- ---- one field after the other
@@ -169,7 +169,7 @@ counted_same : (x y : Counted) → x.has_null ≡ y.has_null → x.total ≡ y.t
 counted_same x y nulls totals = ap₂ (λ n t. let r : Counted = record { has_null = n; total = t } in r) nulls totals
 
 module _ (x : Field) (head : BatchHead) (place : Place) (body : List ℕ) (end : ℕ)
-    (m : MayWalk (more (tree (field_head_of x) (entries_in x) (fields_in x)) no_more) head place body end) (s : Source)
+    (m : MayWalk (more (tree (field_head_of x) (entries_in x) (fields_in x)) no_more) head place body end) (s : EncodedColumn)
     (of : IsSource body (layout_of (field_head_of x).data_type) (get_or (drop place.node head.nodes.items) 0 (pos 0, pos 0))
     (take (buffers_in_layout (layout_of (field_head_of x).data_type)) (drop place.buffer head.buffers.items)) s)
     (spots : List Spot) (counted : Counted) (has : IsCounted s spots counted) (table : List Counted) (entry old : Counted) (room : place.node < length table)

@@ -6,7 +6,7 @@ use Rattle.batch_types.specs.Layouts.{Layout, null_layout, bits_layout, bytes_la
 use Rattle.batch_types.specs.Layouts.{list_layout, fixed_size_list_layout, struct_layout}
 use Rattle.batch_types.specs.Placed.{start_of, length_of}
 use Rattle.batch_columns.specs.Held.{layout_named}
-use Rattle.batch_columns.specs.declared.source.Source.{Source}
+use Rattle.batch_columns.specs.declared.encoded_column.EncodedColumn.{EncodedColumn}
 use Rattle.batch_reading.specs.Spots.{Spot}
 use Rattle.batch_reading.specs.Taken.{seen}
 use Rattle.batch_reading.specs.Planned.{elements_taken, spots_under, spots_inside}
@@ -138,7 +138,7 @@ end_less (list_layout offset) second less end few reach = starts_to second end r
 end_less (fixed_size_list_layout size) second less end few reach = mul-le-mul_left size few
 end_less struct_layout second less end few reach = few
 
-pub reads_less : (s : Source) (less end : ℕ) → less ≤ end → ReadsTo s end → ReadsTo s less
+pub reads_less : (s : EncodedColumn) (less end : ℕ) → less ≤ end → ReadsTo s end → ReadsTo s less
 reads_less s less end few reads = record {
   few = omega (arith, reads.few, few);
   reaches = layout_less (layout_named s.layout) s.second.now less end few reads.reaches;
@@ -161,7 +161,7 @@ spans_fit (fixed_size_list_layout size) second from end taken reach is =
     omega (arith, flat_fits (span_length (fixed_size_list_layout size) second) (λ spot. refl) taken)
 spans_fit struct_layout second from end taken reach is = omega (arith, flat_fits (span_length struct_layout second) (λ spot. refl) taken)
 
-pub counted_fits : (s : Source) (from end : ℕ) (spots : List Spot) (counted : Counted) → ReadsTo s end → Between from end spots → IsCounted s spots counted
+pub counted_fits : (s : EncodedColumn) (from end : ℕ) (spots : List Spot) (counted : Counted) → ReadsTo s end → Between from end spots → IsCounted s spots counted
     → counted.total < 2 ^ 64
 counted_fits s from end spots counted reads is of =
     subst (λ n. n < 2 ^ 64) (sym of.lengths)

@@ -6,7 +6,7 @@ use Rattle.bitmaps.specs.Bits.{zeros}
 use Rattle.batch_types.specs.Layouts.{Layout, null_layout, bits_layout, bytes_layout, binary_layout, utf8_layout}
 use Rattle.batch_types.specs.Layouts.{list_layout, fixed_size_list_layout, struct_layout}
 use Rattle.batch_columns.specs.Held.{layout_named}
-use Rattle.batch_columns.specs.declared.source.Source.{Source}
+use Rattle.batch_columns.specs.declared.encoded_column.EncodedColumn.{EncodedColumn}
 use Rattle.batch_reading.specs.Spots.{Spot}
 use Rattle.batch_reading.specs.Taken.{valid_in, is_shown, seen}
 use Rattle.batch_reading.specs.Planned.{spots_under, spots_inside}
@@ -70,7 +70,7 @@ no_spans_blank layout second (spot ∷ spots) all =
     sum_by-cons (span_length layout second) spot spots
     ∙ ap₂ (λ m n. m + n) (no_span layout second spot.0 spot.1 all.0) (no_spans_blank layout second spots all.1)
 
-pub blank_counted : (s : Source) (spots : List Spot) → AreBlank spots → IsCounted s spots (record { has_null = false; total = 0 })
+pub blank_counted : (s : EncodedColumn) (spots : List Spot) → AreBlank spots → IsCounted s spots (record { has_null = false; total = 0 })
 blank_counted s spots all = record {
   nulls = ap (λ n. not (n == 0)) (sym (no_nulls s.validity.now spots all));
   lengths = sym (no_spans_blank (layout_named s.layout) s.second.now (map (seen s.validity.now) spots) (seen_blank s.validity.now spots all));

@@ -7,11 +7,11 @@ use Rattle.std.proofs.lemmas.Simd.{map-map}
 use Rattle.std.specs.Cmp.Lexicographic.{pointwise}
 use Rattle.std.specs.List.{range_with_len}
 use Rattle.bitmaps.specs.Bits.{bit_of, zeros}
-use Rattle.batch_columns.specs.declared.source.Source.{Source}
+use Rattle.batch_columns.specs.declared.encoded_column.EncodedColumn.{EncodedColumn}
 use Rattle.batch_reading.specs.Spots.{Spot}
 use Rattle.batch_reading.specs.Taken.{valid_in, is_shown, seen}
 use Rattle.batch_lengths.specs.declared.counted.Counted.{Counted}
-use Rattle.batch_lengths.specs.declared.marks.Marks.{Marks}
+use Rattle.batch_lengths.specs.declared.validity_mask.ValidityMask.{ValidityMask}
 use Rattle.batch_lengths.specs.Along.{run_spots, blank_spots, mark_of, marked_from, spots_marked}
 use Rattle.batch_lengths.specs.Counted.{has_null, IsCounted}
 use Rattle.batch_lengths.specs.Reach.{Between, ReadsTo}
@@ -38,24 +38,24 @@ all_marked start count mark all =
     same_on (λ number. (start + number, mark number)) (λ number. (start + number, true)) 0 count (λ k from below. ap (λ m. (start + k, m)) (all k))
     ∙ moved (λ place. (place, true)) start count
 
-pub run_marked : (marks : Marks) → marks.all ≡ true → spots_marked marks ≡ run_spots marks.start marks.count
+pub run_marked : (marks : ValidityMask) → marks.all ≡ true → spots_marked marks ≡ run_spots marks.start marks.count
 run_marked marks all = all_marked marks.start marks.count (mark_of marks) (λ k. ap (λ b. b || bit_of marks.set k) all)
 
 -- the marked ones up to one more
-pub one_marked_more : (marks : Marks) (n : ℕ) → marked_from marks 0 (n + 1) ≡ marked_from marks 0 n ++ (marks.start + n, mark_of marks n) ∷ []
+pub one_marked_more : (marks : ValidityMask) (n : ℕ) → marked_from marks 0 (n + 1) ≡ marked_from marks 0 n ++ (marks.start + n, mark_of marks n) ∷ []
 one_marked_more marks n =
     let at : 0 + n ≡ n = omega arith in
     ap (λ l. map {B = Spot} (λ number. (marks.start + number, mark_of marks number)) l) (range_both 0 n 1)
     ∙ map-append {B = Spot} (λ number. (marks.start + number, mark_of marks number)) (range_with_len 0 n) (range_with_len (0 + n) 1)
     ∙ ap (λ k. marked_from marks 0 n ++ marked_from marks k 1) at
 
-pub marked_both : (marks : Marks) (low m n : ℕ) → marked_from marks low (m + n) ≡ marked_from marks low m ++ marked_from marks (low + m) n
+pub marked_both : (marks : ValidityMask) (low m n : ℕ) → marked_from marks low (m + n) ≡ marked_from marks low m ++ marked_from marks (low + m) n
 marked_both marks low m n =
     ap (λ l. map {B = Spot} (λ number. (marks.start + number, mark_of marks number)) l) (range_both low m n)
     ∙ map-append {B = Spot} (λ number. (marks.start + number, mark_of marks number)) (range_with_len low m) (range_with_len (low + m) n)
 
 -- those that are valid too
-pub taken_marked : (marks made : Marks) (validity : List ℕ) → made.start ≡ marks.start → made.count ≡ marks.count
+pub taken_marked : (marks made : ValidityMask) (validity : List ℕ) → made.start ≡ marks.start → made.count ≡ marks.count
     → ((k : ℕ) → k < marks.count → mark_of made k ≡ (mark_of marks k && valid_in validity (marks.start + k)))
     → spots_marked made ≡ map (seen validity) (spots_marked marks)
 taken_marked marks made validity start count each =
@@ -64,7 +64,7 @@ taken_marked marks made validity start count each =
     (λ k from below. ap (λ m. (marks.start + k, m)) (each k (omega (arith, below))))
     ∙ sym (map-map (seen validity) (λ number. (marks.start + number, mark_of marks number)) (range_with_len 0 marks.count))
 
-pub marked_between : (marks : Marks) (n low : ℕ) → Between (marks.start + low) (marks.start + (low + n)) (map (λ number. (marks.start + number, mark_of marks number)) (range_with_len low n))
+pub marked_between : (marks : ValidityMask) (n low : ℕ) → Between (marks.start + low) (marks.start + (low + n)) (map (λ number. (marks.start + number, mark_of marks number)) (range_with_len low n))
 marked_between marks zero low = omega arith
 marked_between marks (suc n) low =
     let next : marks.start + (low + 1) ≡ marks.start + low + 1 = omega arith in
@@ -84,7 +84,7 @@ taken_valid made mark valid is marked = and_true mark valid (sym is ∙ marked)
 
 -- ---- one more
 
-module _ (s : Source) (marks : Marks) (n : ℕ) (below : n < marks.count) (reads : ReadsTo s (marks.start + marks.count)) (a b : Counted)
+module _ (s : EncodedColumn) (marks : ValidityMask) (n : ℕ) (below : n < marks.count) (reads : ReadsTo s (marks.start + marks.count)) (a b : Counted)
     (before : IsCounted s (marked_from marks 0 n) a) (one : IsCounted s ((marks.start + n, mark_of marks n) ∷ []) b) where
   pub marked_next : (c : Counted) → c.has_null ≡ (a.has_null || b.has_null) → c.total ≡ a.total + b.total → IsCounted s (marked_from marks 0 (n + 1)) c
   marked_next c nulls lengths =
@@ -101,7 +101,7 @@ module _ (s : Source) (marks : Marks) (n : ℕ) (below : n < marks.count) (reads
 
 -- ---- a run behind others
 
-pub joined_run : (marks : Marks) (start count : ℕ) → marks.all ≡ true → start ≡ marks.start + marks.count
+pub joined_run : (marks : ValidityMask) (start count : ℕ) → marks.all ≡ true → start ≡ marks.start + marks.count
     → spots_marked (record { start = marks.start; count = marks.count + count; all = marks.all; set = marks.set })
     ≡ spots_marked marks ++ (blank_spots (marks.start + marks.count) (start - (marks.start + marks.count)) ++ run_spots start count)
 joined_run marks start count all at =
@@ -111,7 +111,7 @@ joined_run marks start count all at =
     ∙ ap₂ (λ xs ys. xs ++ ys) (sym (run_marked marks all))
     (ap (λ s. run_spots s count) (sym at) ∙ ap (λ n. blank_spots (marks.start + marks.count) n ++ run_spots start count) none)
 
-module _ (old new : Marks) (start count : ℕ) (at : new.start ≡ old.start) (so_many : new.count ≡ start - old.start + count) (behind : old.start + old.count ≤ start)
+module _ (old new : ValidityMask) (start count : ℕ) (at : new.start ≡ old.start) (so_many : new.count ≡ start - old.start + count) (behind : old.start + old.count ≤ start)
     (same : (k : ℕ) → k < old.count → mark_of new k ≡ mark_of old k) (none : (k : ℕ) → old.count ≤ k → k < start - old.start → mark_of new k ≡ false)
     (these : (k : ℕ) → start - old.start ≤ k → k < start - old.start + count → mark_of new k ≡ true) where
   abbrev gap : ℕ

@@ -8,7 +8,7 @@ use Rattle.std.specs.List.{range_with_len}
 use Rattle.bitmaps.specs.Bits.{zeros}
 use Rattle.batch_types.specs.Layouts.{Layout}
 use Rattle.batch_columns.specs.Held.{layout_named}
-use Rattle.batch_columns.specs.declared.source.Source.{Source}
+use Rattle.batch_columns.specs.declared.encoded_column.EncodedColumn.{EncodedColumn}
 use Rattle.batch_reading.specs.Spots.{Spot}
 use Rattle.batch_reading.specs.Taken.{is_shown, seen}
 use Rattle.batch_reading.specs.Planned.{spots_under, spots_inside}
@@ -40,7 +40,7 @@ pub inside_both : (layout : Layout) (second : List ℕ) (xs ys : List Spot)
     → spots_inside layout second (xs ++ ys) ≡ spots_inside layout second xs ++ spots_inside layout second ys
 inside_both layout second xs ys = flat_map-append (spots_under layout second) xs ys
 
-pub source_both : (s : Source) (xs ys : List Spot) → source_spots s (xs ++ ys) ≡ source_spots s xs ++ source_spots s ys
+pub source_both : (s : EncodedColumn) (xs ys : List Spot) → source_spots s (xs ++ ys) ≡ source_spots s xs ++ source_spots s ys
 source_both s xs ys =
     ap (spots_inside (layout_named s.layout) s.second.now) (map-append (seen s.validity.now) xs ys)
     ∙ inside_both (layout_named s.layout) s.second.now (map (seen s.validity.now) xs) (map (seen s.validity.now) ys)
@@ -67,7 +67,7 @@ spans_both layout second validity xs ys =
     ap (span_total layout second) (map-append (seen validity) xs ys)
     ∙ sum_by-append (span_length layout second) (map (seen validity) xs) (map (seen validity) ys)
 
-pub counted_both : (s : Source) (xs ys : List Spot) (a b c : Counted) → IsCounted s xs a → IsCounted s ys b
+pub counted_both : (s : EncodedColumn) (xs ys : List Spot) (a b c : Counted) → IsCounted s xs a → IsCounted s ys b
     → c.has_null ≡ (a.has_null || b.has_null) → c.total ≡ a.total + b.total → IsCounted s (xs ++ ys) c
 counted_both s xs ys a b c first next nulls lengths = record {
   nulls = nulls ∙ ap₂ (λ p q. p || q) first.nulls next.nulls ∙ sym (nulls_both s.validity.now xs ys);

@@ -18,7 +18,7 @@ use Rattle.batch_columns.specs.Held.{layout_named}
 use Rattle.batch_columns.specs.Read.{IsSource}
 use Rattle.batch_columns.specs.declared.layout.Layout.{Layout as Declared}
 use Rattle.batch_columns.specs.declared.place.Place.{Place}
-use Rattle.batch_columns.specs.declared.source.Source.{Source}
+use Rattle.batch_columns.specs.declared.encoded_column.EncodedColumn.{EncodedColumn}
 use Rattle.batch_columns.specs.Sources.{nodes_of_tree, buffers_of_tree, columns_from}
 use Rattle.batch_reading.specs.Readable.{forest_seen, columns_there}
 use Rattle.batch_reading.proofs.Fitting.{MayHave, may_have}
@@ -178,7 +178,7 @@ module _ (fh : FieldHead) (entries : List Entry) (inside rest : Forest) (head : 
     }
 
   -- what is read of its column
-  module _ (s : Source) (of : IsSource body (layout_of fh.data_type) node ranges s) where
+  module _ (s : EncodedColumn) (of : IsSource body (layout_of fh.data_type) node ranges s) where
     pub field_reads : ReadsTo s end
     field_reads = record {
       few = m.few_values;

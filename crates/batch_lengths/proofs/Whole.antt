@@ -11,7 +11,7 @@ use Rattle.batch_types.specs.Placed.{start_of, length_of}
 use Rattle.batch_columns.specs.Held.{layout_named}
 use Rattle.batch_columns.specs.declared.layout.Layout.{Layout as Declared}
 use Rattle.batch_columns.specs.declared.layout.Layout.TheVariants.{Null, Bits, Bytes, Binary, Utf8, List as Lists, FixedSizeList, Struct}
-use Rattle.batch_columns.specs.declared.source.Source.{Source}
+use Rattle.batch_columns.specs.declared.encoded_column.EncodedColumn.{EncodedColumn}
 use Rattle.batch_reading.specs.Spots.{Spot}
 use Rattle.batch_reading.specs.Taken.{valid_in, is_shown, seen}
 use Rattle.batch_reading.specs.Planned.{spots_under, spots_inside}
@@ -216,7 +216,7 @@ IsFlat Struct = ⊥
 le_same : (n : ℕ) → n ≤ n
 le_same n = omega arith
 
-module _ (s : Source) (start count : ℕ) (reads : ReadsTo s (start + count)) where
+module _ (s : EncodedColumn) (start count : ℕ) (reads : ReadsTo s (start + count)) where
   abbrev IsSpan : ℕ → Type 0
   IsSpan n = n + start_of 4 s.second.now start ≡ start_of 4 s.second.now (start + count)
 
@@ -264,14 +264,14 @@ module _ (s : Source) (start count : ℕ) (reads : ReadsTo s (start + count)) wh
   flat_inside Struct is flat = absurd flat
 
 -- what is wanted inside a run of valid values
-pub whole_inside : (s : Source) (start count first n : ℕ) → has_null s.validity.now (run_spots start count) ≡ false
+pub whole_inside : (s : EncodedColumn) (start count first n : ℕ) → has_null s.validity.now (run_spots start count) ≡ false
     → spots_inside (layout_named s.layout) s.second.now (run_spots start count) ≡ run_spots first n
     → source_spots s (run_spots start count) ≡ run_spots first n
 whole_inside s start count first n whole are =
     ap (spots_inside (layout_named s.layout) s.second.now) (all_seen s.validity.now start count whole) ∙ are
 
 -- what is counted of one
-pub whole_counted : (s : Source) (start count n : ℕ) → has_null s.validity.now (run_spots start count) ≡ false
+pub whole_counted : (s : EncodedColumn) (start count n : ℕ) → has_null s.validity.now (run_spots start count) ≡ false
     → n ≡ span_total (layout_named s.layout) s.second.now (run_spots start count)
     → IsCounted s (run_spots start count) (record { has_null = false; total = n })
 whole_counted s start count n whole total = record {
@@ -280,7 +280,7 @@ whole_counted s start count n whole total = record {
 }
 
 -- and of one in which a value is null, where all have as many bytes
-pub null_counted_run : (s : Source) (start count : ℕ) → has_null s.validity.now (run_spots start count) ≡ true → has_spans (layout_named s.layout) ≡ false
+pub null_counted_run : (s : EncodedColumn) (start count : ℕ) → has_null s.validity.now (run_spots start count) ≡ true → has_spans (layout_named s.layout) ≡ false
     → IsCounted s (run_spots start count) (record { has_null = true; total = 0 })
 null_counted_run s start count null none = record {
   nulls = sym null;
@@ -288,7 +288,7 @@ null_counted_run s start count null none = record {
 }
 
 -- nothing is counted where none can be null and all have as many bytes
-pub plain_counted : (s : Source) (spots : List Spot) → (length s.validity.now == 0) ≡ true → has_spans (layout_named s.layout) ≡ false
+pub plain_counted : (s : EncodedColumn) (spots : List Spot) → (length s.validity.now == 0) ≡ true → has_spans (layout_named s.layout) ≡ false
     → IsCounted s spots (record { has_null = false; total = 0 })
 plain_counted s spots none flat = record {
   nulls = sym (null_by_none s.validity.now spots none);

@@ -7,7 +7,7 @@ use Rattle.batch_types.specs.Layouts.{Layout, null_layout, bits_layout, bytes_la
 use Rattle.batch_types.specs.Layouts.{list_layout, fixed_size_list_layout, struct_layout}
 use Rattle.batch_types.specs.Placed.{length_of}
 use Rattle.batch_columns.specs.Held.{layout_named}
-use Rattle.batch_columns.specs.declared.source.Source.{Source}
+use Rattle.batch_columns.specs.declared.encoded_column.EncodedColumn.{EncodedColumn}
 use Rattle.batch_reading.specs.Spots.{Spot}
 use Rattle.batch_reading.specs.Taken.{is_shown, seen}
 use Rattle.batch_lengths.specs.declared.counted.Counted.{Counted}
@@ -43,7 +43,7 @@ abbrev pub span_total : Layout → List ℕ → List Spot → ℕ
 span_total layout second taken = sum_by (span_length layout second) taken
 
 -- this was counted of the cells of a column at these spots
-pub record IsCounted (source : Source) (spots : List Spot) (counted : Counted) : Type 0 where
+pub record IsCounted (source : EncodedColumn) (spots : List Spot) (counted : Counted) : Type 0 where
   pub nulls : counted.has_null ≡ has_null source.validity.now spots
   pub lengths : counted.total
       ≡ span_total (layout_named source.layout) source.second.now (map (seen source.validity.now) spots)

@@ -5,7 +5,7 @@ use Rattle.batch_types.specs.Layouts.{list_layout, fixed_size_list_layout, struc
 use Rattle.batch_types.specs.Placed.{start_of}
 use Rattle.batch_types.specs.LaysOut.{values_limit}
 use Rattle.batch_columns.specs.Held.{layout_named}
-use Rattle.batch_columns.specs.declared.source.Source.{Source}
+use Rattle.batch_columns.specs.declared.encoded_column.EncodedColumn.{EncodedColumn}
 use Rattle.batch_reading.specs.Spots.{Spot}
 
 -- where inside a column the places end that belong to its values before this place
@@ -36,7 +36,7 @@ Reaches (fixed_size_list_layout size) second end = size * end < 2 ^ 64
 Reaches struct_layout second end = Unit {0}
 
 -- the values before this place can be read
-pub record ReadsTo (source : Source) (end : ℕ) : Type 0 where
+pub record ReadsTo (source : EncodedColumn) (end : ℕ) : Type 0 where
   pub few : end ≤ values_limit
   pub reaches : Reaches (layout_named source.layout) source.second.now end
 

@@ -15,7 +15,7 @@ ghost use Rattle.batch_lengths.specs.Tally.{tally, added_from, BeginsWith};
 
 use crate::counted::Counted;
 use crate::fields::fields_left;
-use crate::marks::Marks;
+use crate::validity_mask::ValidityMask;
 use crate::walk::walk;
 use batch_columns::Place;
 use batch_columns::laws::sources_are_the_columns;
@@ -48,7 +48,7 @@ fn count_rows(schema: &Schema, head: &BatchHead, body: &[u8], rows: usize, table
         (tally body.now (columns_there (schema_of schema.now).fields head.now first_place) (run_spots 0 rows)) }
 {
     if rows > 0 {
-        let marks = Marks::run(0, rows);
+        let marks = ValidityMask::run(0, rows);
         walk(&schema.fields, head, Place::FIRST, body, &marks, table);
     }
 }

@@ -22,9 +22,9 @@ mod counted;
 mod fields;
 mod length;
 mod marked;
-mod marks;
 mod run;
 mod sizes;
+mod validity_mask;
 mod walk;
 
 pub use length::canonical_length;

@@ -7,13 +7,13 @@ ghost use Rattle.batch_lengths.specs.Counted.{has_null, has_spans as has_spans_o
 ghost use Rattle.batch_lengths.specs.Reach.{ReadsTo};
 
 use crate::counted::Counted;
-use crate::marks::Marks;
 use crate::run::{count_one, count_run, has_spans};
-use batch_columns::Source;
+use crate::validity_mask::ValidityMask;
+use batch_columns::EncodedColumn;
 use bitmaps::count_zeros;
 
 /// What is counted of the value of this number, where it is wanted.
-fn count_marked(source: &Source, marks: &Marks, number: usize) -> Counted
+fn count_marked(source: &EncodedColumn, marks: &ValidityMask, number: usize) -> Counted
     requires { ReadsTo source.now (marks.now.start + number + 1) }
     ensures { IsCounted source.now ((marks.now.start + number, mark_of marks.now number) ∷ []) result }
 {
@@ -25,7 +25,7 @@ fn count_marked(source: &Source, marks: &Marks, number: usize) -> Counted
 }
 
 /// What is counted of the values that are wanted, one by one.
-fn count_each_marked(source: &Source, marks: &Marks) -> Counted
+fn count_each_marked(source: &EncodedColumn, marks: &ValidityMask) -> Counted
     requires { ReadsTo source.now (marks.now.start + marks.now.count) }
     ensures { IsCounted source.now (spots_marked marks.now) result }
 {
@@ -37,7 +37,7 @@ fn count_each_marked(source: &Source, marks: &Marks) -> Counted
 }
 
 /// Whether one of the values that are wanted is null by a bitmap.
-fn is_null_marked(validity: &[u8], marks: &Marks) -> bool
+fn is_null_marked(validity: &[u8], marks: &ValidityMask) -> bool
     requires all { marks.now.all ≡ false }
     requires few { marks.now.count ≤ 1024 }
     requires within { marks.now.start + marks.now.count + 8 < 2 ^ 64 }
@@ -49,7 +49,7 @@ fn is_null_marked(validity: &[u8], marks: &Marks) -> bool
 }
 
 /// What is counted of the values that are wanted, where all have as many bytes or elements.
-fn count_nulls(source: &Source, marks: &Marks) -> Counted
+fn count_nulls(source: &EncodedColumn, marks: &ValidityMask) -> Counted
     requires even { has_spans_of (layout_named source.now.layout) ≡ false }
     requires all { marks.now.all ≡ false }
     requires few { marks.now.count ≤ 1024 }
@@ -67,7 +67,7 @@ fn count_nulls(source: &Source, marks: &Marks) -> Counted
 
 /// What is counted of the values that are wanted. One by one they are looked at only where they may have any number of bytes
 /// or elements.
-pub(crate) fn count_marks(source: &Source, marks: &Marks) -> Counted
+pub(crate) fn count_marks(source: &EncodedColumn, marks: &ValidityMask) -> Counted
     requires marked { IsMarked marks.now }
     requires reads { ReadsTo source.now (marks.now.start + marks.now.count) }
     ensures { IsCounted source.now (spots_marked marks.now) result }

@@ -10,7 +10,7 @@ ghost use Rattle.batch_lengths.specs.Counted.{has_null, has_spans as has_spans_o
 ghost use Rattle.batch_lengths.specs.Reach.{DoReach, ReadsTo, end_inside};
 
 use crate::counted::Counted;
-use batch_columns::{Layout, Source};
+use batch_columns::{EncodedColumn, Layout};
 use bitmaps::{bit, count_zeros};
 use byteorder::{ByteOrder, LittleEndian};
 
@@ -63,7 +63,7 @@ pub(crate) fn has_spans(layout: Layout) -> bool
 }
 
 /// How many bytes or elements the values of a run have in all; none in layouts where all have as many.
-fn length_of(source: &Source, start: usize, count: usize) -> usize
+fn length_of(source: &EncodedColumn, start: usize, count: usize) -> usize
     requires some { 0 < count }
     requires reads { ReadsTo source.now (start + count) }
     ensures { result ≡ span_total (layout_named source.now.layout) source.now.second.now (run_spots start count) }
@@ -76,7 +76,7 @@ fn length_of(source: &Source, start: usize, count: usize) -> usize
 }
 
 /// What is counted of a run of values that are valid.
-fn count_whole(source: &Source, start: usize, count: usize) -> Counted
+fn count_whole(source: &EncodedColumn, start: usize, count: usize) -> Counted
     requires some { 0 < count }
     requires reads { ReadsTo source.now (start + count) }
     requires whole { has_null source.now.validity.now (run_spots start count) ≡ false }
@@ -89,7 +89,7 @@ fn count_whole(source: &Source, start: usize, count: usize) -> Counted
 }
 
 /// What is counted of the value at a place.
-pub(crate) fn count_one(source: &Source, place: usize) -> Counted
+pub(crate) fn count_one(source: &EncodedColumn, place: usize) -> Counted
     requires { ReadsTo source.now (place + 1) }
     ensures { IsCounted source.now (run_spots place 1) result }
 {
@@ -104,7 +104,7 @@ pub(crate) fn count_one(source: &Source, place: usize) -> Counted
 }
 
 /// What is counted of a run of values, one by one.
-fn count_each(source: &Source, start: usize, count: usize) -> Counted
+fn count_each(source: &EncodedColumn, start: usize, count: usize) -> Counted
     requires { ReadsTo source.now (start + count) }
     ensures { IsCounted source.now (run_spots start count) result }
 {
@@ -117,7 +117,7 @@ fn count_each(source: &Source, start: usize, count: usize) -> Counted
 
 /// What is counted of a run of values. Only where some of them are null and any number of bytes or elements stands under
 /// those, they are looked at one by one.
-pub(crate) fn count_run(source: &Source, start: usize, count: usize) -> Counted
+pub(crate) fn count_run(source: &EncodedColumn, start: usize, count: usize) -> Counted
     requires some { 0 < count }
     requires reads { ReadsTo source.now (start + count) }
     ensures { IsCounted source.now (run_spots start count) result }
@@ -135,7 +135,7 @@ pub(crate) fn count_run(source: &Source, start: usize, count: usize) -> Counted
 }
 
 /// Where inside a column the places begin that belong to a run of values that are valid, and how many they are.
-pub(crate) fn run_inside(source: &Source, start: usize, count: usize) -> (usize, usize)
+pub(crate) fn run_inside(source: &EncodedColumn, start: usize, count: usize) -> (usize, usize)
     requires some { 0 < count }
     requires reads { ReadsTo source.now (start + count) }
     requires whole { has_null source.now.validity.now (run_spots start count) ≡ false }

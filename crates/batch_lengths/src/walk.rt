@@ -21,13 +21,13 @@ ghost use Rattle.batch_lengths.specs.Tally.{tally, tally_of, added_from, counted
 
 use crate::counted::Counted;
 use crate::marked::count_marks;
-use crate::marks::{BLOCK, Marks};
 use crate::run::{is_whole, run_inside};
-use batch_columns::{Layout, Place, Source, layout_of, place_behind, source_at};
+use crate::validity_mask::{BLOCK, ValidityMask};
+use batch_columns::{EncodedColumn, Layout, Place, encoded_column_at, layout_of, place_behind};
 use header_types::{BatchHead, Field};
 
 /// The column of a field as the header and the body have it, whose buffers lie inside the body.
-fn source_of<'a>(field: &Field, head: &BatchHead, place: Place, body: &'a [u8]) -> Source<'a>
+fn source_of<'a>(field: &Field, head: &BatchHead, place: Place, body: &'a [u8]) -> EncodedColumn<'a>
     requires node { place.node < length head.now.nodes.items }
     requires counted { pos 0 ≤ℤ (get_or head.now.nodes.items place.node (pos 0, pos 0)).0 }
     requires buffers { place.buffer + buffers_in_layout (layout_of_type (field_head_of field.now).data_type)
@@ -35,7 +35,7 @@ fn source_of<'a>(field: &Field, head: &BatchHead, place: Place, body: &'a [u8]) 
     requires inside { LiesInside body.now (column_at field.now head.now place) }
     ensures { IsSourceOf body.now (column_at field.now head.now place) result }
 {
-    source_at(field, head, place, body).unwrap()
+    encoded_column_at(field, head, place, body).unwrap()
 }
 
 /// Where the column behind that of a field and behind those inside it stands.
@@ -76,7 +76,7 @@ fn walk_some(
     head: &BatchHead,
     first: Place,
     body: &[u8],
-    marks: &Marks,
+    marks: &ValidityMask,
     table: &mut [Counted],
 )
     requires marked { marks.now.all ≡ false → marks.now.count ≤ 1024 }
@@ -100,7 +100,7 @@ fn gather(
     body: &[u8],
     start: usize,
     count: usize,
-    gathered: &mut Marks,
+    gathered: &mut ValidityMask,
     table: &mut [Counted],
 )
     requires gathered { IsGathered gathered.old }
@@ -117,7 +117,7 @@ fn gather(
 {
     if !gathered.join(start, count) {
         walk_some(field, head, first, body, gathered, table);
-        *gathered = Marks::run(start, count);
+        *gathered = ValidityMask::run(start, count);
     }
 }
 
@@ -125,14 +125,14 @@ fn gather(
 #[cycle(walking)]
 fn gather_alike(
     field: &Field,
-    source: &Source,
+    source: &EncodedColumn,
     head: &BatchHead,
     first: Place,
     body: &[u8],
-    marks: &Marks,
+    marks: &ValidityMask,
     number: usize,
     alike: usize,
-    gathered: &mut Marks,
+    gathered: &mut ValidityMask,
     table: &mut [Counted],
 )
     requires some { 0 < alike }
@@ -166,11 +166,11 @@ fn gather_alike(
 #[cycle(walking)]
 fn walk_places(
     field: &Field,
-    source: &Source,
+    source: &EncodedColumn,
     head: &BatchHead,
     first: Place,
     body: &[u8],
-    marks: &Marks,
+    marks: &ValidityMask,
     table: &mut [Counted],
 )
     requires one { marks.now.all ≡ false }
@@ -183,7 +183,7 @@ fn walk_places(
     ensures { table.new ≡ counted_with (fields_in field.now) head.now first body.now table.old
         (spots_inside (layout_named source.now.layout) source.now.second.now (spots_marked marks.now)) }
 {
-    let mut gathered = Marks::run(0, 0);
+    let mut gathered = ValidityMask::run(0, 0);
     let mut done = 0;
     while done < marks.count {
         let alike = marks.alike(done);
@@ -208,11 +208,11 @@ fn walk_places(
 #[cycle(walking)]
 fn walk_taken(
     field: &Field,
-    source: &Source,
+    source: &EncodedColumn,
     head: &BatchHead,
     first: Place,
     body: &[u8],
-    marks: &Marks,
+    marks: &ValidityMask,
     table: &mut [Counted],
 )
     requires one { marks.now.all ≡ false }
@@ -236,7 +236,7 @@ fn walk_taken(
 #[cycle(walking)]
 fn walk_block(
     field: &Field,
-    source: &Source,
+    source: &EncodedColumn,
     head: &BatchHead,
     first: Place,
     body: &[u8],
@@ -252,7 +252,7 @@ fn walk_block(
     ensures { table.new ≡ counted_with (fields_in field.now) head.now first body.now table.old
         (source_spots source.now (run_spots start count)) }
 {
-    let marks = Marks::run(start, count).taken(source.validity);
+    let marks = ValidityMask::run(start, count).taken(source.validity);
     walk_taken(field, source, head, first, body, &marks, table);
 }
 
@@ -260,7 +260,7 @@ fn walk_block(
 #[cycle(walking)]
 fn walk_blocks(
     field: &Field,
-    source: &Source,
+    source: &EncodedColumn,
     head: &BatchHead,
     first: Place,
     body: &[u8],
@@ -287,11 +287,11 @@ fn walk_blocks(
 #[cycle(walking)]
 fn walk_inside(
     field: &Field,
-    source: &Source,
+    source: &EncodedColumn,
     head: &BatchHead,
     first: Place,
     body: &[u8],
-    marks: &Marks,
+    marks: &ValidityMask,
     table: &mut [Counted],
 )
     requires marked { IsMarked marks.now }
@@ -321,7 +321,14 @@ fn walk_inside(
         return;
     }
     let (start, count) = run_inside(source, marks.start, marks.count);
-    walk_some(field, head, first, body, &Marks::run(start, count), table);
+    walk_some(
+        field,
+        head,
+        first,
+        body,
+        &ValidityMask::run(start, count),
+        table,
+    );
 }
 
 /// Counts a column and what is inside it.
@@ -331,7 +338,7 @@ fn walk_column(
     head: &BatchHead,
     place: Place,
     body: &[u8],
-    marks: &Marks,
+    marks: &ValidityMask,
     table: &mut [Counted],
 )
     requires marked { IsMarked marks.now }
@@ -359,7 +366,7 @@ pub(crate) fn walk(
     head: &BatchHead,
     place: Place,
     body: &[u8],
-    marks: &Marks,
+    marks: &ValidityMask,
     table: &mut [Counted],
 )
     requires marked { IsMarked marks.now }

@@ -1,4 +1,4 @@
--- What is wanted inside a column lies within the columns inside.
+-- What is selected inside a column lies within the columns inside.
 use Rattle.std.proofs.Common.{◌≡◌, inl, inr, refl, sym, ap, subst, ◌∙◌, ℕ, zero, suc, ◌+◌, ◌-◌, ◌*◌, ◌^◌, ◌<◌, ◌≤◌, Bool, true, false, if◌then◌else◌, nat_lt, pos, ◌-ℤ◌, ◌≤ℤ◌, nat_abs, List, [], ◌∷◌, ◌++◌, map, length, get_or, drop, arith, mul-le-mul_left, length-take, length-drop, ext_get_or}
 use Rattle.std.proofs.lemmas.Int.{ints}
 use Rattle.std.proofs.lemmas.List.{get_or-take, get_or-drop, get_or_past}
@@ -10,10 +10,10 @@ use Rattle.batch_types.specs.Placed.{bytes_from, offset_at, start_of, length_of}
 use Rattle.batch_types.specs.Rules.{AreOffsetsLong, DoRise as OffsetsDoRise, OffsetsRise}
 use Rattle.batch_types.specs.LaysOut.{values_limit}
 use Rattle.batch_types.specs.Layouts.{list_layout, fixed_size_list_layout}
-use Rattle.batch_reading.specs.declared.wanted.Run.{Run}
-use Rattle.batch_reading.specs.declared.wanted.Wanted.{Wanted}
-use Rattle.batch_reading.specs.declared.plan.Inside.{Inside}
-use Rattle.batch_reading.specs.Spots.{DoRun, places_of, marks_of, HasMarks, Spot, spots_at, spots_of, IsWanted}
+use Rattle.batch_reading.specs.declared.selection.Run.{Run}
+use Rattle.batch_reading.specs.declared.selection.Selection.{Selection}
+use Rattle.batch_reading.specs.declared.plan.ChildSelection.{ChildSelection}
+use Rattle.batch_reading.specs.Spots.{DoRun, places_of, marks_of, HasMarks, Spot, spots_at, spots_of, IsSelection}
 use Rattle.batch_reading.specs.Spread.{HasSpans}
 use Rattle.batch_reading.specs.Taken.{seen}
 use Rattle.batch_reading.specs.Planned.{elements_taken, spots_under, spots_inside, AreInside}
@@ -71,9 +71,9 @@ spots_below from limit (p ∷ ps) [] rise = tt
 spots_below from limit (p ∷ ps) (m ∷ ms) rise =
     (omega (arith, rise_end (p + 1) limit ps rise.1), spots_below (p + 1) limit ps ms rise.1)
 
-pub wanted_are_below : (limit : ℕ) (wanted : Wanted) → IsWanted limit wanted → AreBelow limit (spots_of wanted)
-wanted_are_below limit wanted is =
-    spots_below 0 limit (places_of wanted.runs.now) (marks_of wanted.count wanted.there.now) (places_rise 0 limit wanted.runs.now is.rising)
+pub wanted_are_below : (limit : ℕ) (selection : Selection) → IsSelection limit selection → AreBelow limit (spots_of selection)
+wanted_are_below limit selection is =
+    spots_below 0 limit (places_of selection.runs.now) (marks_of selection.count selection.there.now) (places_rise 0 limit selection.runs.now is.rising)
 
 pub seen_below : (limit : ℕ) (validity : List ℕ) (spots : List Spot) → AreBelow limit spots → AreBelow limit (map (seen validity) spots)
 seen_below limit validity [] all = tt
@@ -111,11 +111,11 @@ lists_below limit total offsets spots has all = flat_below (spots_under (list_la
         (range_below (start_of 4 offsets j) (length_of 4 offsets j) total (omega (arith, has.rises j below, has.ends j below)))
     by_mark j false below = tt
 
--- what is wanted inside, by where it lies
-pub inside_wanted : (limit : ℕ) (spots : List Spot) (inside : Inside) (wanted : Wanted) → AreInside spots inside → AreBelow limit spots → limit ≤ values_limit
-    → wanted.runs.now ≡ inside.runs.items → wanted.count ≡ inside.count → wanted.there.now ≡ inside.there
-    → IsWanted limit wanted
-inside_wanted limit spots inside wanted are below few runs count there =
+-- what is selected inside, by where it lies
+pub inside_wanted : (limit : ℕ) (spots : List Spot) (inside : ChildSelection) (selection : Selection) → AreInside spots inside → AreBelow limit spots → limit ≤ values_limit
+    → selection.runs.now ≡ inside.runs.items → selection.count ≡ inside.count → selection.there.now ≡ inside.there
+    → IsSelection limit selection
+inside_wanted limit spots inside selection are below few runs count there =
     let long : length (marks_of inside.count inside.there) ≡ length (places_of inside.runs.items) = marks_long inside.count inside.there are.marked ∙ are.counted in
     let all : AllByRecursion (λ p. p < limit) (places_of inside.runs.items) =
     places_below limit (places_of inside.runs.items) (marks_of inside.count inside.there) long (subst (AreBelow limit) (sym are.spots_are) below) in
@@ -123,13 +123,13 @@ inside_wanted limit spots inside wanted are below few runs count there =
       rising = subst (DoRun 0 limit) (sym runs) (tighter 0 are.rising.0 limit inside.runs.items are.rising.1 (omega arith) all);
       few = few;
       counted = count ∙ are.counted ∙ ap (λ l. length (places_of l)) (sym runs);
-      marked = subst (λ n. HasMarks n wanted.there.now) (sym count) (subst (HasMarks inside.count) (sym there) are.marked);
+      marked = subst (λ n. HasMarks n selection.there.now) (sym count) (subst (HasMarks inside.count) (sym there) are.marked);
     }
 
-pub inside_spots : (spots : List Spot) (inside : Inside) (wanted : Wanted) → AreInside spots inside
-    → wanted.runs.now ≡ inside.runs.items → wanted.count ≡ inside.count → wanted.there.now ≡ inside.there → spots_of wanted ≡ spots
-inside_spots spots inside wanted are runs count there =
-    ap (λ l. spots_at l wanted.count wanted.there.now) runs ∙ ap (λ n. spots_at inside.runs.items n wanted.there.now) count
+pub inside_spots : (spots : List Spot) (inside : ChildSelection) (selection : Selection) → AreInside spots inside
+    → selection.runs.now ≡ inside.runs.items → selection.count ≡ inside.count → selection.there.now ≡ inside.there → spots_of selection ≡ spots
+inside_spots spots inside selection are runs count there =
+    ap (λ l. spots_at l selection.count selection.there.now) runs ∙ ap (λ n. spots_at inside.runs.items n selection.there.now) count
     ∙ ap (spots_at inside.runs.items inside.count) there ∙ are.spots_are
 
 -- ---- offsets

@@ -5,8 +5,8 @@ use Rattle.std.proofs.Math.Seq.{take-append-add, drop-append-add, take-append_se
 use native.Mathlib.Nat.{mul-suc}
 use Rattle.std.specs.List.{flat_map, zip}
 use Rattle.batch_types.specs.Placed.{bytes_from}
-use Rattle.batch_reading.specs.declared.wanted.Wanted.{Wanted}
-use Rattle.batch_reading.specs.Spots.{places_of, marks_of, spots_at, spots_of, IsWanted}
+use Rattle.batch_reading.specs.declared.selection.Selection.{Selection}
+use Rattle.batch_reading.specs.Spots.{places_of, marks_of, spots_at, spots_of, IsSelection}
 use Rattle.batch_reading.specs.Cleared.{without_block, cleared}
 use Rattle.batch_reading.specs.Taken.{block_taken}
 use Rattle.batch_reading.proofs.Running.{marks_long, places_rise, DoRise, rise_end}
@@ -110,23 +110,23 @@ blocks_cleared size bytes from limit (p ∷ ps) (mark ∷ marks) rise fits same 
     (ap (cleared size marks) (ap (λ k. drop k (block ++ rest)) (sym long) ∙ drop-append_seam block rest)
     ∙ blocks_cleared size bytes (p + 1) limit ps marks rise.1 fits (omega (arith, same)))
 
-module _ (limit : ℕ) (wanted : Wanted) (is : IsWanted limit wanted) (marks : List Bool) (there : wanted.there.now ≡ Some marks) where
-  pub marks_counted : length marks ≡ length (places_of wanted.runs.now)
+module _ (limit : ℕ) (selection : Selection) (is : IsSelection limit selection) (marks : List Bool) (there : selection.there.now ≡ Some marks) where
+  pub marks_counted : length marks ≡ length (places_of selection.runs.now)
   marks_counted =
-      ap (λ there. length (marks_of wanted.count there)) (sym there) ∙ marks_long wanted.count wanted.there.now is.marked ∙ is.counted
+      ap (λ there. length (marks_of selection.count there)) (sym there) ∙ marks_long selection.count selection.there.now is.marked ∙ is.counted
 
   pub wanted_cleared : (size : ℕ) (bytes : List ℕ) → size * limit ≤ length bytes
-      → cleared size marks (flat_map (λ place. bytes_from bytes (size * place) size) (places_of wanted.runs.now))
-      ≡ flat_map (block_taken size bytes) (spots_of wanted)
+      → cleared size marks (flat_map (λ place. bytes_from bytes (size * place) size) (places_of selection.runs.now))
+      ≡ flat_map (block_taken size bytes) (spots_of selection)
   wanted_cleared size bytes fits =
-      blocks_cleared size bytes 0 limit (places_of wanted.runs.now) marks (places_rise 0 limit wanted.runs.now is.rising) fits marks_counted
-      ∙ ap (λ there. flat_map (block_taken size bytes) (spots_at wanted.runs.now wanted.count there)) (sym there)
+      blocks_cleared size bytes 0 limit (places_of selection.runs.now) marks (places_rise 0 limit selection.runs.now is.rising) fits marks_counted
+      ∙ ap (λ there. flat_map (block_taken size bytes) (spots_at selection.runs.now selection.count there)) (sym there)
 
   -- as many bytes as the marks ask for
   pub cleared_fits : (size : ℕ) (bytes : List ℕ) → size * limit ≤ length bytes
-      → length (flat_map (λ place. bytes_from bytes (size * place) size) (places_of wanted.runs.now)) ≡ size * length marks
+      → length (flat_map (λ place. bytes_from bytes (size * place) size) (places_of selection.runs.now)) ≡ size * length marks
   cleared_fits size bytes fits =
-      long 0 (places_of wanted.runs.now) (places_rise 0 limit wanted.runs.now is.rising) ∙ ap (λ k. size * k) (sym marks_counted)
+      long 0 (places_of selection.runs.now) (places_rise 0 limit selection.runs.now is.rising) ∙ ap (λ k. size * k) (sym marks_counted)
     where
       long : (from : ℕ) (places : List ℕ) → DoRise from limit places → length (flat_map (λ place. bytes_from bytes (size * place) size) places) ≡ size * length places
       long from [] rise = let none : 0 ≡ size * 0 = omega arith in none

@@ -13,8 +13,8 @@ use Rattle.batch_columns.specs.Few.{columns_cells}
 use Rattle.batch_columns.specs.Contents.{Contents}
 use Rattle.batch_columns.specs.Held.{shapes_held}
 use Rattle.batch_columns.specs.Kept.{HasElements, HaveFields, HaveInside}
-use Rattle.batch_reading.specs.declared.wanted.Wanted.{Wanted}
-use Rattle.batch_reading.specs.Spots.{IsWanted}
+use Rattle.batch_reading.specs.declared.selection.Selection.{Selection}
+use Rattle.batch_reading.specs.Spots.{IsSelection}
 use Rattle.batch_reading.specs.Readable.{HasFewValues, HaveFewValues}
 use Rattle.batch_reading.proofs.Bounding.{both_all}
 use Rattle.batch_reading.proofs.Gathering.{run_count}
@@ -22,8 +22,8 @@ use Rattle.batch_reading.proofs.Gathering.{run_count}
 abbrev IsFew : Node → Type 0
 IsFew node = node.0 ≤ℤ pos values_limit
 
-pub wanted_few : (limit : ℕ) (wanted : Wanted) → IsWanted limit wanted → (n : ℕ) → n ≡ wanted.count → n ≤ values_limit
-wanted_few limit wanted is n same = omega (arith, same, is.counted, is.few, run_count 0 limit wanted.runs.now is.rising)
+pub wanted_few : (limit : ℕ) (selection : Selection) → IsSelection limit selection → (n : ℕ) → n ≡ selection.count → n ≤ values_limit
+wanted_few limit selection is n same = omega (arith, same, is.counted, is.few, run_count 0 limit selection.runs.now is.rising)
 
 count_few : (n : ℕ) → n ≤ values_limit → pos n ≤ℤ pos values_limit
 count_few n few = omega (arith, ints, few)

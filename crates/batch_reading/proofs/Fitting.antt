@@ -1,4 +1,4 @@
--- What is wanted inside a column is of the fields inside, where the cells are of the field.
+-- What is selected inside a column is of the fields inside, where the cells are of the field.
 use Rattle.std.proofs.Common.{◌≡◌, refl, sym, ap, subst, ℕ, zero, suc, ◌*◌, Bool, true, false, ◌&&◌, if◌then◌else◌, List, [], ◌∷◌, ◌++◌, map, replicate, drop, arith, true≢false}
 use Rattle.std.proofs.lemmas.List.{length-replicate, map-append}
 use Rattle.std.proofs.lemmas.Str.{IsUtf8-nil}

@@ -8,10 +8,10 @@ use native.Mathlib.Nat.{mul-suc}
 use Rattle.batch_types.specs.LaysOut.{values_limit}
 use Rattle.batch_types.specs.Layouts.{list_layout, fixed_size_list_layout}
 use Rattle.batch_types.specs.Placed.{start_of}
-use Rattle.batch_reading.specs.declared.wanted.Run.{Run}
-use Rattle.batch_reading.specs.declared.wanted.Wanted.{Wanted}
+use Rattle.batch_reading.specs.declared.selection.Run.{Run}
+use Rattle.batch_reading.specs.declared.selection.Selection.{Selection}
 use Rattle.batch_reading.specs.declared.inside.Spans.{Spans}
-use Rattle.batch_reading.specs.Spots.{DoRun, places_of, Spot, IsWanted}
+use Rattle.batch_reading.specs.Spots.{DoRun, places_of, Spot, IsSelection}
 use Rattle.batch_reading.specs.Spread.{HasSpans}
 use Rattle.batch_reading.specs.Planned.{elements_taken, spots_inside}
 use Rattle.batch_reading.specs.Gathered.{scaled, places_gathered, AreGathered}
@@ -193,16 +193,16 @@ list_spots offsets places count spots counted are =
     ∙ mapped_flat (λ p. (p, true)) (elements_taken offsets) spots
 
 -- the next list begins where the last one ended, or behind it
-pub ends_before : (offsets : List ℕ) (limit total from end i place : ℕ) (wanted : Wanted) (is : IsWanted limit wanted) → HasSpans offsets limit total
-    → i < wanted.count → place ≡ get_or (places_of wanted.runs.now) i 0
-    → DoRise from values_limit (drop i (places_of wanted.runs.now)) → end ≤ start_of 4 offsets from
-    → (end ≤ start_of 4 offsets place) × DoRise (place + 1) values_limit (drop (i + 1) (places_of wanted.runs.now))
-ends_before offsets limit total from end i place wanted is has there p rise low =
-    let next : DoRise from values_limit (get_or (places_of wanted.runs.now) i 0 ∷ drop (i + 1) (places_of wanted.runs.now)) =
-    subst (DoRise from values_limit) (drop_more (places_of wanted.runs.now) i 0 (there_of limit wanted is i there)) rise in
-    let step : DoRise from values_limit (place ∷ drop (i + 1) (places_of wanted.runs.now)) =
-    subst (λ q. DoRise from values_limit (q ∷ drop (i + 1) (places_of wanted.runs.now))) (sym p) next in
-    let below : place < limit = wanted_below limit wanted is i place there p in (
+pub ends_before : (offsets : List ℕ) (limit total from end i place : ℕ) (selection : Selection) (is : IsSelection limit selection) → HasSpans offsets limit total
+    → i < selection.count → place ≡ get_or (places_of selection.runs.now) i 0
+    → DoRise from values_limit (drop i (places_of selection.runs.now)) → end ≤ start_of 4 offsets from
+    → (end ≤ start_of 4 offsets place) × DoRise (place + 1) values_limit (drop (i + 1) (places_of selection.runs.now))
+ends_before offsets limit total from end i place selection is has there p rise low =
+    let next : DoRise from values_limit (get_or (places_of selection.runs.now) i 0 ∷ drop (i + 1) (places_of selection.runs.now)) =
+    subst (DoRise from values_limit) (drop_more (places_of selection.runs.now) i 0 (there_of limit selection is i there)) rise in
+    let step : DoRise from values_limit (place ∷ drop (i + 1) (places_of selection.runs.now)) =
+    subst (λ q. DoRise from values_limit (q ∷ drop (i + 1) (places_of selection.runs.now))) (sym p) next in
+    let below : place < limit = wanted_below limit selection is i place there p in (
       omega (arith, low, starts_to offsets limit total has from place step.0 (omega (arith, below))),
       step.1,
     )

@@ -1,4 +1,4 @@
--- A column that is built as planned, with what is wanted inside, keeps what a column keeps.
+-- A column that is built as planned, with what is selected inside, keeps what a column keeps.
 use Rattle.std.proofs.Common.{◌≡◌, refl, sym, ap, ap₂, ◌∙◌, ℕ, zero, suc, ◌+◌, ◌*◌, Bool, true, false, if◌then◌else◌, List, [], ◌∷◌, ◌++◌, map, length, get_or, replicate, arith}
 use Rattle.std.proofs.lemmas.List.{map-append, length-map}
 use Rattle.std.proofs.lemmas.Simd.{map-map}

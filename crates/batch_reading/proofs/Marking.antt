@@ -7,8 +7,8 @@ use Rattle.bitmaps.specs.Bits.{bit_of, zeros}
 use Rattle.bitmaps.specs.Joined.{set_in_both, set_in_one}
 use Rattle.bitmaps.specs.Packing.{packed_bytes}
 use Rattle.batch_columns.specs.Made.{validity_bytes}
-use Rattle.batch_reading.specs.declared.wanted.Wanted.{Wanted}
-use Rattle.batch_reading.specs.Spots.{places_of, marks_of, Spot, spots_at, spots_of, IsWanted}
+use Rattle.batch_reading.specs.declared.selection.Selection.{Selection}
+use Rattle.batch_reading.specs.Spots.{places_of, marks_of, Spot, spots_at, spots_of, IsSelection}
 use Rattle.batch_reading.specs.Taken.{valid_in, is_shown, seen, bit_taken}
 use Rattle.batch_reading.proofs.Running.{marks_long, spots_long}
 
@@ -21,7 +21,7 @@ set_first : (bit : Bool) (bits : List Bool) → zeros (bit ∷ bits) ≡ 0 → (
 set_first true bits none = (refl, omega (arith, zeros_first true bits, none))
 set_first false bits none = absurd (omega (arith, zeros_first false bits, none))
 
--- where no cell is null, the values that are wanted are taken
+-- where no cell is null, the values that are selected are taken
 seen_shown : (mark valid : Bool) → not mark || valid ≡ true → mark && valid ≡ mark
 seen_shown true valid shown = shown
 seen_shown false valid shown = refl
@@ -76,26 +76,26 @@ turned bytes (p ∷ ps) [] same = absurd (omega (arith, same))
 turned bytes (p ∷ ps) (mark ∷ marks) same =
     ap₂ (λ bit rest. bit ∷ rest) (turned_bit mark (bit_of bytes p)) (turned bytes ps marks (omega (arith, same)))
 
-module _ (limit : ℕ) (wanted : Wanted) (is : IsWanted limit wanted) (bytes : List ℕ) (marks bits : List Bool) (there : wanted.there.now ≡ Some marks) where
-  marks_as_long : length marks ≡ length (places_of wanted.runs.now)
+module _ (limit : ℕ) (selection : Selection) (is : IsSelection limit selection) (bytes : List ℕ) (marks bits : List Bool) (there : selection.there.now ≡ Some marks) where
+  marks_as_long : length marks ≡ length (places_of selection.runs.now)
   marks_as_long =
-      ap (λ there. length (marks_of wanted.count there)) (sym there) ∙ marks_long wanted.count wanted.there.now is.marked ∙ is.counted
+      ap (λ there. length (marks_of selection.count there)) (sym there) ∙ marks_long selection.count selection.there.now is.marked ∙ is.counted
 
-  pub bits_as_long : bits ≡ map (bit_of bytes) (places_of wanted.runs.now) → length bits ≡ length marks
-  bits_as_long run = ap length run ∙ length-map (places_of wanted.runs.now) (bit_of bytes) ∙ sym marks_as_long
+  pub bits_as_long : bits ≡ map (bit_of bytes) (places_of selection.runs.now) → length bits ≡ length marks
+  bits_as_long run = ap length run ∙ length-map (places_of selection.runs.now) (bit_of bytes) ∙ sym marks_as_long
 
-  pub bits_kept : bits ≡ map (bit_of bytes) (places_of wanted.runs.now) → set_in_both bits marks ≡ map (bit_taken bytes false) (spots_of wanted)
+  pub bits_kept : bits ≡ map (bit_of bytes) (places_of selection.runs.now) → set_in_both bits marks ≡ map (bit_taken bytes false) (spots_of selection)
   bits_kept run =
-      ap (λ l. set_in_both l marks) run ∙ kept_bits bytes (places_of wanted.runs.now) marks marks_as_long
-      ∙ ap (λ there. map (bit_taken bytes false) (spots_at wanted.runs.now wanted.count there)) (sym there)
+      ap (λ l. set_in_both l marks) run ∙ kept_bits bytes (places_of selection.runs.now) marks marks_as_long
+      ∙ ap (λ there. map (bit_taken bytes false) (spots_at selection.runs.now selection.count there)) (sym there)
 
-  pub bits_turned : bits ≡ map (bit_taken bytes false) (spots_of wanted)
-      → set_in_one (set_in_one (replicate (length marks) true) marks) bits ≡ map (bit_taken bytes true) (spots_of wanted)
+  pub bits_turned : bits ≡ map (bit_taken bytes false) (spots_of selection)
+      → set_in_one (set_in_one (replicate (length marks) true) marks) bits ≡ map (bit_taken bytes true) (spots_of selection)
   bits_turned kept =
       ap (set_in_one (set_in_one (replicate (length marks) true) marks))
-      (kept ∙ ap (λ there. map (bit_taken bytes false) (spots_at wanted.runs.now wanted.count there)) there)
-      ∙ turned bytes (places_of wanted.runs.now) marks marks_as_long
-      ∙ ap (λ there. map (bit_taken bytes true) (spots_at wanted.runs.now wanted.count there)) (sym there)
+      (kept ∙ ap (λ there. map (bit_taken bytes false) (spots_at selection.runs.now selection.count there)) there)
+      ∙ turned bytes (places_of selection.runs.now) marks marks_as_long
+      ∙ ap (λ there. map (bit_taken bytes true) (spots_at selection.runs.now selection.count there)) (sym there)
 
 -- ---- bits of a bitmap
 
@@ -127,23 +127,23 @@ zip_seen validity (p ∷ ps) (mark ∷ marks) some same =
     (seen_bit mark (bit_of validity p) ∙ ap (λ valid. mark && valid) (sym (valid_bit validity p some)))
     (zip_seen validity ps marks some (omega (arith, same)))
 
-module _ (limit : ℕ) (wanted : Wanted) (is : IsWanted limit wanted) (validity : List ℕ) where
+module _ (limit : ℕ) (selection : Selection) (is : IsSelection limit selection) (validity : List ℕ) where
   -- the marks that were made
-  pub bits_seen : (taken : List Bool) → 0 < length validity → taken ≡ map (bit_taken validity false) (spots_of wanted)
-      → spots_at wanted.runs.now wanted.count (Some taken) ≡ map (seen validity) (spots_of wanted)
+  pub bits_seen : (taken : List Bool) → 0 < length validity → taken ≡ map (bit_taken validity false) (spots_of selection)
+      → spots_at selection.runs.now selection.count (Some taken) ≡ map (seen validity) (spots_of selection)
   bits_seen taken some made =
-      ap (zip (places_of wanted.runs.now)) made
-      ∙ zip_seen validity (places_of wanted.runs.now) (marks_of wanted.count wanted.there.now) some
-      (marks_long wanted.count wanted.there.now is.marked ∙ is.counted)
+      ap (zip (places_of selection.runs.now)) made
+      ∙ zip_seen validity (places_of selection.runs.now) (marks_of selection.count selection.there.now) some
+      (marks_long selection.count selection.there.now is.marked ∙ is.counted)
 
-  pub bits_marked : (taken : List Bool) → taken ≡ map (bit_taken validity false) (spots_of wanted) → length taken ≡ wanted.count
+  pub bits_marked : (taken : List Bool) → taken ≡ map (bit_taken validity false) (spots_of selection) → length taken ≡ selection.count
   bits_marked taken made =
-      ap length made ∙ length-map (spots_of wanted) (bit_taken validity false) ∙ spots_long limit wanted is
+      ap length made ∙ length-map (spots_of selection) (bit_taken validity false) ∙ spots_long limit selection is
 
-  pub same_seen : (marks : Option (List Bool)) → marks ≡ wanted.there.now → zeros (map (is_shown validity) (spots_of wanted)) ≡ 0
-      → spots_at wanted.runs.now wanted.count marks ≡ map (seen validity) (spots_of wanted)
+  pub same_seen : (marks : Option (List Bool)) → marks ≡ selection.there.now → zeros (map (is_shown validity) (spots_of selection)) ≡ 0
+      → spots_at selection.runs.now selection.count marks ≡ map (seen validity) (spots_of selection)
   same_seen marks same none =
-      ap (spots_at wanted.runs.now wanted.count) same ∙ sym (all_seen validity (spots_of wanted) none)
+      ap (spots_at selection.runs.now selection.count) same ∙ sym (all_seen validity (spots_of selection) none)
 
 pub no_validity : (bits : List Bool) → zeros bits ≡ 0 → validity_bytes bits ≡ []
 no_validity bits none = ap (λ n. if n == 0 then [] else packed_bytes bits) none

@@ -9,11 +9,11 @@ use Rattle.std.specs.List.{range_with_len, flat_map, sum_by}
 use Rattle.byteorder.specs.Endian.{little_bytes}
 use Rattle.batch_types.specs.Canonical.{offsets_of}
 use Rattle.batch_types.specs.Placed.{bytes_from, start_of, length_of, value_bytes}
-use Rattle.batch_reading.specs.declared.wanted.Run.{Run}
-use Rattle.batch_reading.specs.declared.wanted.Wanted.{Wanted}
-use Rattle.batch_reading.specs.declared.plan.Inside.{Inside}
+use Rattle.batch_reading.specs.declared.selection.Run.{Run}
+use Rattle.batch_reading.specs.declared.selection.Selection.{Selection}
+use Rattle.batch_reading.specs.declared.plan.ChildSelection.{ChildSelection}
 use Rattle.batch_reading.specs.OneRun.{offsets_from_zero, runs_from, AreElements}
-use Rattle.batch_reading.specs.Spots.{DoRun, places_of, HasMarks, Spot, spots_at, spots_of, IsWanted}
+use Rattle.batch_reading.specs.Spots.{DoRun, places_of, HasMarks, Spot, spots_at, spots_of, IsSelection}
 use Rattle.batch_reading.specs.Spread.{HasSpans}
 use Rattle.batch_reading.specs.Planned.{elements_taken, AreInside, spots_inside}
 use Rattle.batch_reading.specs.Taken.{span_taken}
@@ -25,8 +25,8 @@ use Rattle.batch_reading.proofs.Gathering.{range_split, list_spots}
 
 -- ---- the spots of a run
 
-module _ (limit : ℕ) (wanted : Wanted) (is : IsWanted limit wanted) (run : Run) (runs : wanted.runs.now ≡ run ∷ []) (there : wanted.there.now ≡ None) where
-  places_are : places_of wanted.runs.now ≡ range_with_len run.start run.count
+module _ (limit : ℕ) (selection : Selection) (is : IsSelection limit selection) (run : Run) (runs : selection.runs.now ≡ run ∷ []) (there : selection.there.now ≡ None) where
+  places_are : places_of selection.runs.now ≡ range_with_len run.start run.count
   places_are = ap places_of runs ∙ append-nil (range_with_len run.start run.count)
 
   rising : DoRun 0 limit (run ∷ [])
@@ -38,19 +38,19 @@ module _ (limit : ℕ) (wanted : Wanted) (is : IsWanted limit wanted) (run : Run
   pub only_within : run.start + run.count ≤ limit
   only_within = rising.2
 
-  counted : wanted.count ≡ length (places_of wanted.runs.now)
+  counted : selection.count ≡ length (places_of selection.runs.now)
   counted = is.counted
 
-  pub only_mapped : {X : Type 0} (f : Spot → X) → map f (spots_of wanted) ≡ map (λ p. f (p, true)) (range_with_len run.start run.count)
+  pub only_mapped : {X : Type 0} (f : Spot → X) → map f (spots_of selection) ≡ map (λ p. f (p, true)) (range_with_len run.start run.count)
   only_mapped f =
-      ap (λ marks. map f (spots_at wanted.runs.now wanted.count marks)) there
-      ∙ all_marked f (places_of wanted.runs.now) wanted.count counted
+      ap (λ marks. map f (spots_at selection.runs.now selection.count marks)) there
+      ∙ all_marked f (places_of selection.runs.now) selection.count counted
       ∙ ap (map (λ p. f (p, true))) places_are
 
-  pub only_gathered : {X : Type 0} (f : Spot → List X) → flat_map f (spots_of wanted) ≡ flat_map (λ p. f (p, true)) (range_with_len run.start run.count)
+  pub only_gathered : {X : Type 0} (f : Spot → List X) → flat_map f (spots_of selection) ≡ flat_map (λ p. f (p, true)) (range_with_len run.start run.count)
   only_gathered f =
-      ap (λ marks. flat_map f (spots_at wanted.runs.now wanted.count marks)) there
-      ∙ all_gathered f (places_of wanted.runs.now) wanted.count counted
+      ap (λ marks. flat_map f (spots_at selection.runs.now selection.count marks)) there
+      ∙ all_gathered f (places_of selection.runs.now) selection.count counted
       ∙ ap (flat_map (λ p. f (p, true))) places_are
 
 -- ---- offsets of a run
@@ -176,7 +176,7 @@ module _ (offsets : List ℕ) (limit total : ℕ) (has : HasSpans offsets limit 
   elements_long p below =
       omega (arith, has.rises p below, length-range_with_len (start_of 4 offsets p) (length_of 4 offsets p))
 
--- ---- what is wanted inside lists of a run
+-- ---- what is selected inside lists of a run
 
 pub run_places : (start n : ℕ) → places_of (runs_from start n) ≡ range_with_len start n
 run_places start zero = refl
@@ -186,24 +186,24 @@ run_rises : (start n : ℕ) → (end : ℕ) × DoRun 0 end (runs_from start n)
 run_rises start zero = (0, omega arith)
 run_rises start (suc n) = (start + suc n, (omega arith, omega arith, omega arith))
 
-pub run_inside : (offsets : List ℕ) (limit total : ℕ) (wanted : Wanted) (is : IsWanted limit wanted) (run : Run) → HasSpans offsets limit total
-    → wanted.runs.now ≡ run ∷ [] → wanted.there.now ≡ None → (inside : Inside) → AreElements offsets run.start run.count inside
-    → AreInside (spots_inside (list_layout 4) offsets (spots_of wanted)) inside
-run_inside offsets limit total wanted is run has runs there inside are =
+pub run_inside : (offsets : List ℕ) (limit total : ℕ) (selection : Selection) (is : IsSelection limit selection) (run : Run) → HasSpans offsets limit total
+    → selection.runs.now ≡ run ∷ [] → selection.there.now ≡ None → (inside : ChildSelection) → AreElements offsets run.start run.count inside
+    → AreInside (spots_inside (list_layout 4) offsets (spots_of selection)) inside
+run_inside offsets limit total selection is run has runs there inside are =
     let places : places_of inside.runs.items ≡ range_with_len (start_of 4 offsets run.start) inside.count =
     ap places_of are.runs_are ∙ run_places (start_of 4 offsets run.start) inside.count in
     let long : inside.count ≡ length (places_of inside.runs.items) =
     sym (length-range_with_len (start_of 4 offsets run.start) inside.count) ∙ ap length (sym places) in
     let rises = run_rises (start_of 4 offsets run.start) inside.count in
-    let elements : places_of inside.runs.items ≡ flat_map (elements_taken offsets) (spots_of wanted) =
+    let elements : places_of inside.runs.items ≡ flat_map (elements_taken offsets) (spots_of selection) =
     places ∙ ap (range_with_len (start_of 4 offsets run.start)) are.counted
-    ∙ sym (run_elements_are offsets limit total has run.start run.count (only_within limit wanted is run runs there))
-    ∙ sym (only_gathered limit wanted is run runs there (elements_taken offsets)) in
+    ∙ sym (run_elements_are offsets limit total has run.start run.count (only_within limit selection is run runs there))
+    ∙ sym (only_gathered limit selection is run runs there (elements_taken offsets)) in
     record {
       rising = (rises.0, subst (DoRun 0 rises.0) (sym are.runs_are) rises.1);
       counted = long;
       marked = subst (HasMarks inside.count) (sym are.all_there) tt;
       spots_are =
           ap (spots_at inside.runs.items inside.count) are.all_there
-          ∙ list_spots offsets (places_of inside.runs.items) inside.count (spots_of wanted) long elements;
+          ∙ list_spots offsets (places_of inside.runs.items) inside.count (spots_of selection) long elements;
     }

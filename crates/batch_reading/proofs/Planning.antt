@@ -1,4 +1,4 @@
--- What is wanted inside a column.
+-- What is selected inside a column.
 use Rattle.std.proofs.Common.{◌≡◌, inl, inr, refl, sym, ap, subst, ◌∙◌, ℕ, List, [], ◌∷◌, map, length}
 use Rattle.bitmaps.specs.Bits.{zeros}
 use Rattle.batch_types.specs.Canonical.{offsets_of}
@@ -6,7 +6,7 @@ use Rattle.batch_columns.specs.Made.{validity_bytes}
 use Rattle.batch_reading.specs.Spread.{IsSpread}
 use Rattle.std.specs.List.{flat_map}
 use Rattle.batch_types.specs.Layouts.{Layout, bits_layout, bytes_layout, binary_layout, utf8_layout, null_layout, struct_layout, fixed_size_list_layout}
-use Rattle.batch_reading.specs.declared.plan.Inside.{Inside}
+use Rattle.batch_reading.specs.declared.plan.ChildSelection.{ChildSelection}
 use Rattle.batch_reading.specs.declared.plan.Plan.{Plan}
 use Rattle.batch_reading.specs.Spots.{Spot}
 use Rattle.batch_reading.specs.Taken.{is_shown, seen, span_taken}
@@ -16,7 +16,7 @@ nothing_of : {X Y : Type 0} (xs : List X) → ◌≡◌ {A = List Y} (flat_map (
 nothing_of [] = refl
 nothing_of (x ∷ xs) = nothing_of xs
 
-pub as_spots : (spots other : List Spot) (inside : Inside) → AreInside spots inside → other ≡ spots → AreInside other inside
+pub as_spots : (spots other : List Spot) (inside : ChildSelection) → AreInside spots inside → other ≡ spots → AreInside other inside
 as_spots spots other inside are same = record {
   rising = are.rising;
   counted = are.counted;
@@ -24,26 +24,26 @@ as_spots spots other inside are same = record {
   spots_are = are.spots_are ∙ sym same;
 }
 
--- nothing is wanted inside the layouts without columns inside
-pub none_in_nulls : (second : List ℕ) (taken : List Spot) (inside : Inside) → AreInside [] inside → AreInside (spots_inside null_layout second taken) inside
+-- nothing is selected inside the layouts without columns inside
+pub none_in_nulls : (second : List ℕ) (taken : List Spot) (inside : ChildSelection) → AreInside [] inside → AreInside (spots_inside null_layout second taken) inside
 none_in_nulls second taken inside are = as_spots [] (spots_inside null_layout second taken) inside are (nothing_of taken)
 
-pub none_in_bits : (second : List ℕ) (taken : List Spot) (inside : Inside) → AreInside [] inside → AreInside (spots_inside bits_layout second taken) inside
+pub none_in_bits : (second : List ℕ) (taken : List Spot) (inside : ChildSelection) → AreInside [] inside → AreInside (spots_inside bits_layout second taken) inside
 none_in_bits second taken inside are = as_spots [] (spots_inside bits_layout second taken) inside are (nothing_of taken)
 
-pub none_in_bytes : (size : ℕ) (second : List ℕ) (taken : List Spot) (inside : Inside) → AreInside [] inside
+pub none_in_bytes : (size : ℕ) (second : List ℕ) (taken : List Spot) (inside : ChildSelection) → AreInside [] inside
     → AreInside (spots_inside (bytes_layout size) second taken) inside
 none_in_bytes size second taken inside are = as_spots [] (spots_inside (bytes_layout size) second taken) inside are (nothing_of taken)
 
-pub none_in_binary : (second : List ℕ) (taken : List Spot) (inside : Inside) → AreInside [] inside
+pub none_in_binary : (second : List ℕ) (taken : List Spot) (inside : ChildSelection) → AreInside [] inside
     → AreInside (spots_inside (binary_layout 4) second taken) inside
 none_in_binary second taken inside are = as_spots [] (spots_inside (binary_layout 4) second taken) inside are (nothing_of taken)
 
-pub none_in_utf8 : (second : List ℕ) (taken : List Spot) (inside : Inside) → AreInside [] inside
+pub none_in_utf8 : (second : List ℕ) (taken : List Spot) (inside : ChildSelection) → AreInside [] inside
     → AreInside (spots_inside (utf8_layout 4) second taken) inside
 none_in_utf8 second taken inside are = as_spots [] (spots_inside (utf8_layout 4) second taken) inside are (nothing_of taken)
 
--- the same spots are wanted inside a struct
+-- the same spots are selected inside a struct
 pub same_in_struct : (second : List ℕ) (taken : List Spot) → spots_inside struct_layout second taken ≡ taken
 same_in_struct second [] = refl
 same_in_struct second (spot ∷ taken) = ap (λ rest. spot ∷ rest) (same_in_struct second taken)
@@ -71,7 +71,7 @@ spread_planned layout (inr is) validity second third spots plan n v s t i =
       inside_is = none_in_utf8 second (map (seen validity) spots) plan.inside i;
     })
 
--- nothing is wanted inside lists of no element
+-- nothing is selected inside lists of no element
 pub none_in_empty : (spots : List Spot) → spots_inside (fixed_size_list_layout 0) [] spots ≡ []
 none_in_empty [] = refl
 none_in_empty (spot ∷ spots) = none_in_empty spots

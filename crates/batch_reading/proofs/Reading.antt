@@ -1,4 +1,4 @@
--- One field after the other: what its column keeps, what is wanted inside it, and what is built of it.
+-- One field after the other: what its column keeps, what is selected inside it, and what is built of it.
 use Rattle.std.proofs.Common.{◌≡◌, refl, sym, ap, subst, ℕ, zero, suc, ◌*◌, ◌^◌, ◌<◌, ◌≤◌, Bool, nat_abs, List, [], ◌∷◌, map, length, get_or, arith}
 use Rattle.std.specs.List.{AllByRecursion, zip, sum_by}
 use Rattle.header_types.specs.Fields.{tree, Forest, no_more, more, width}
@@ -17,8 +17,8 @@ use Rattle.batch_columns.specs.Held.{shapes_held, layout_named}
 use Rattle.batch_columns.specs.declared.layout.Layout.{Layout as Declared}
 use Rattle.batch_columns.specs.declared.layout.Layout.TheVariants.{Null, Bits, Bytes, Binary, Utf8, List as Lists, FixedSizeList, Struct}
 use Rattle.batch_columns.specs.Sources.{columns_from}
-use Rattle.batch_reading.specs.declared.wanted.Wanted.{Wanted}
-use Rattle.batch_reading.specs.Spots.{places_of, marks_of, Spot, spots_of, IsWanted}
+use Rattle.batch_reading.specs.declared.selection.Selection.{Selection}
+use Rattle.batch_reading.specs.Spots.{places_of, marks_of, Spot, spots_of, IsSelection}
 use Rattle.batch_reading.specs.Spread.{HasSpans, ReadsWithin}
 use Rattle.batch_reading.specs.Taken.{seen, span_taken}
 use Rattle.batch_reading.specs.Planned.{elements_taken, spots_inside}
@@ -40,14 +40,14 @@ buffer_bytes body all (range ∷ ranges) (suc n) k = buffer_bytes body all range
 
 -- what is known of the column of a field of this layout, with these fields inside it
 pub record FieldFacts (layout : Declared) (body : List ℕ) (node : Node) (ranges : List Range) (inside : Forest) (nodes : List Node) (others : List Range)
-    (asked : ℕ) (places : List ℕ) (wanted : Wanted) : Type 0 where
+    (asked : ℕ) (places : List ℕ) (selection : Selection) : Type 0 where
   pub kept : AreKept (KeepsRule body (layout_named layout) node ranges (columns_from inside nodes others) asked places) column_order
   pub sound : AreSound body (columns_from inside nodes others) (asked_inside (layout_named layout) (nat_abs node.0)) (places_inside body (layout_named layout) ranges places)
   pub may : MayHave (layout_named layout) (width inside)
   pub fit : AllByRecursion (IsCellOf (shape (layout_named layout) (shapes_of inside)))
-      (cells_wanted body (laid (layout_named layout) node ranges (columns_from inside nodes others)) (shape (layout_named layout) (shapes_of inside)) (spots_of wanted))
+      (cells_wanted body (laid (layout_named layout) node ranges (columns_from inside nodes others)) (shape (layout_named layout) (shapes_of inside)) (spots_of selection))
   pub formed : IsWellFormedForest inside
-  pub wanted_is : IsWanted asked wanted
+  pub wanted_is : IsSelection asked selection
   pub node_few : nat_abs node.0 ≤ values_limit
   pub first_few : first_length (columns_from inside nodes others) ≤ values_limit
   pub bytes : (k : ℕ) → get_or body k 0 < 256
@@ -58,7 +58,7 @@ first_asked : (body : List ℕ) (inside : Forest) (nodes : List Node) (others : 
 first_asked body no_more nodes others asked places one sound = absurd (omega (arith, one))
 first_asked body (more (tree field entries inner) rest) nodes others asked places one sound = sound.0.0.1.1.1.0
 
--- how far what is wanted inside reaches
+-- how far what is selected inside reaches
 abbrev pub inside_limit : Declared → ℕ → ℕ → ℕ
 inside_limit Null count total = 0
 inside_limit Bits count total = 0
@@ -70,12 +70,12 @@ inside_limit (FixedSizeList size) count total = size * count
 inside_limit Struct count total = count
 
 module _ (body : List ℕ) (node : Node) (ranges : List Range) (inside : Forest) (nodes : List Node) (others : List Range)
-    (asked : ℕ) (places : List ℕ) (wanted : Wanted) where
+    (asked : ℕ) (places : List ℕ) (selection : Selection) where
   abbrev inner : LaidColumns
   inner = columns_from inside nodes others
 
   abbrev Facts : Declared → Type 0
-  Facts layout = FieldFacts layout body node ranges inside nodes others asked places wanted
+  Facts layout = FieldFacts layout body node ranges inside nodes others asked places selection
 
   abbrev Reads : Declared → Type 0
   Reads layout = ReadsWithin (layout_named layout) asked (first_length inner) (buffer_at body ranges 1) (buffer_at body ranges 2)
@@ -101,10 +101,10 @@ module _ (body : List ℕ) (node : Node) (ranges : List Range) (inside : Forest)
   reads Struct f = tt
 
   abbrev taken : List Spot
-  taken = map (seen (buffer_at body ranges 0)) (spots_of wanted)
+  taken = map (seen (buffer_at body ranges 0)) (spots_of selection)
 
   taken_below : (layout : Declared) → Facts layout → AreBelow asked taken
-  taken_below layout f = seen_below asked (buffer_at body ranges 0) (spots_of wanted) (wanted_are_below asked wanted f.wanted_is)
+  taken_below layout f = seen_below asked (buffer_at body ranges 0) (spots_of selection) (wanted_are_below asked selection f.wanted_is)
 
   pub inside_below : (layout : Declared) → Facts layout
       → AreBelow (inside_limit layout (nat_abs node.0) (first_length inner)) (spots_inside (layout_named layout) (buffer_at body ranges 1) taken)
@@ -139,7 +139,7 @@ module _ (body : List ℕ) (node : Node) (ranges : List Range) (inside : Forest)
       omega (arith, f.first_few, first_asked body inside nodes others (size * nat_abs node.0) (places_inside body (fixed_size_list_layout size) ranges places) f.may f.sound)
   limit_few Struct f = f.node_few
 
--- ---- the columns inside keep their rules as far as something is wanted of them
+-- ---- the columns inside keep their rules as far as something is selected of them
 
 resound : (body : List ℕ) (inside : Forest) (nodes : List Node) (others : List Range) (asked : ℕ) (places : List ℕ) → width inside ≡ 1
     → AreSound body (columns_from inside nodes others) asked places → AreSound body (columns_from inside nodes others) (first_length (columns_from inside nodes others)) places
@@ -154,9 +154,9 @@ no_fields no_more none = refl
 no_fields (more t rest) none = absurd (omega (arith, none))
 
 module _ (body : List ℕ) (node : Node) (ranges : List Range) (nodes : List Node) (others : List Range)
-    (asked : ℕ) (places : List ℕ) (wanted : Wanted) where
+    (asked : ℕ) (places : List ℕ) (selection : Selection) where
   abbrev AllFacts : Declared → Forest → Type 0
-  AllFacts layout inside = FieldFacts layout body node ranges inside nodes others asked places wanted
+  AllFacts layout inside = FieldFacts layout body node ranges inside nodes others asked places selection
 
   pub sound_inside : (layout : Declared) (inside : Forest) → AllFacts layout inside
       → AreSound body (columns_from inside nodes others) (inside_limit layout (nat_abs node.0) (first_length (columns_from inside nodes others)))
@@ -171,25 +171,25 @@ module _ (body : List ℕ) (node : Node) (ranges : List Range) (nodes : List Nod
   sound_inside Struct inside f = f.sound
 
   none_fit : (layout : Layout) (inside : Forest) → width inside ≡ 0
-      → AreFit body (columns_from inside nodes others) (shapes_of inside) (spots_inside layout (buffer_at body ranges 1) (map (seen (buffer_at body ranges 0)) (spots_of wanted)))
+      → AreFit body (columns_from inside nodes others) (shapes_of inside) (spots_inside layout (buffer_at body ranges 1) (map (seen (buffer_at body ranges 0)) (spots_of selection)))
   none_fit layout no_more none = tt
   none_fit layout (more t rest) none = absurd (omega (arith, none))
 
   pub fit_inside : (layout : Declared) (inside : Forest) → AllFacts layout inside
       → AreFit body (columns_from inside nodes others) (shapes_of inside)
-      (spots_inside (layout_named layout) (buffer_at body ranges 1) (map (seen (buffer_at body ranges 0)) (spots_of wanted)))
+      (spots_inside (layout_named layout) (buffer_at body ranges 1) (map (seen (buffer_at body ranges 0)) (spots_of selection)))
   fit_inside Null inside f = none_fit null_layout inside f.may
   fit_inside Bits inside f = none_fit bits_layout inside f.may
   fit_inside (Bytes size) inside f = none_fit (bytes_layout size) inside f.may
   fit_inside Binary inside f = none_fit (binary_layout 4) inside f.may
   fit_inside Utf8 inside f = none_fit (utf8_layout 4) inside f.may
   fit_inside Lists no_more f = absurd (omega (arith, f.may))
-  fit_inside Lists (more t no_more) f = (lists_fit body node ranges t nodes others (spots_of wanted) f.fit, tt)
+  fit_inside Lists (more t no_more) f = (lists_fit body node ranges t nodes others (spots_of selection) f.fit, tt)
   fit_inside Lists (more t (more u rest)) f = absurd (omega (arith, f.may))
   fit_inside (FixedSizeList size) no_more f = absurd (omega (arith, f.may))
-  fit_inside (FixedSizeList size) (more t no_more) f = (sized_fit body node ranges t nodes others size f.formed.0 (spots_of wanted) f.fit, tt)
+  fit_inside (FixedSizeList size) (more t no_more) f = (sized_fit body node ranges t nodes others size f.formed.0 (spots_of selection) f.fit, tt)
   fit_inside (FixedSizeList size) (more t (more u rest)) f = absurd (omega (arith, f.may))
-  fit_inside Struct inside f = structs_fit body node ranges inside nodes others f.formed (spots_of wanted) f.fit
+  fit_inside Struct inside f = structs_fit body node ranges inside nodes others f.formed (spots_of selection) f.fit
 
   -- which columns stand inside
   no_columns : (columns : List Contents) → shapes_held columns ≡ no_shape → columns ≡ []
@@ -226,28 +226,28 @@ module _ (body : List ℕ) (node : Node) (ranges : List Range) (nodes : List Nod
   seen_zip validity (p ∷ ps) (m ∷ ms) = ap (λ l. seen validity (p, m) ∷ l) (seen_zip validity ps ms)
 
   room_of : {X : Type 0} (f : Spot → List X) → ((p : ℕ) (mark : Bool) → length (f (p, mark)) ≤ length_of 4 (buffer_at body ranges 1) p) → (total : ℕ)
-      → IsWanted asked wanted → HasSpans (buffer_at body ranges 1) asked total
-      → sum_by (λ n. n) (map (λ spot. length (f spot)) (map (seen (buffer_at body ranges 0)) (spots_of wanted))) < 2 ^ 31
+      → IsSelection asked selection → HasSpans (buffer_at body ranges 1) asked total
+      → sum_by (λ n. n) (map (λ spot. length (f spot)) (map (seen (buffer_at body ranges 0)) (spots_of selection))) < 2 ^ 31
   room_of f short total is has =
-      let ps : List ℕ = places_of wanted.runs.now in
-      let ms : List Bool = marks_of wanted.count wanted.there.now in
-      subst (λ spots. sum_by (λ n. n) (map (λ spot. length (f spot)) spots) < 2 ^ 31) (sym (seen_zip (buffer_at body ranges 0) (places_of wanted.runs.now) (marks_of wanted.count wanted.there.now)))
-      (lists_room (buffer_at body ranges 1) asked total f short ps (map (λ spot. spot.1) (map (seen (buffer_at body ranges 0)) (spots_of wanted)))
-      (places_rise 0 asked wanted.runs.now is.rising) has)
+      let ps : List ℕ = places_of selection.runs.now in
+      let ms : List Bool = marks_of selection.count selection.there.now in
+      subst (λ spots. sum_by (λ n. n) (map (λ spot. length (f spot)) spots) < 2 ^ 31) (sym (seen_zip (buffer_at body ranges 0) (places_of selection.runs.now) (marks_of selection.count selection.there.now)))
+      (lists_room (buffer_at body ranges 1) asked total f short ps (map (λ spot. spot.1) (map (seen (buffer_at body ranges 0)) (spots_of selection)))
+      (places_rise 0 asked selection.runs.now is.rising) has)
 
   pub room_taken : (layout : Declared) (inside : Forest) → AllFacts layout inside
-      → HasRoomTaken layout (buffer_at body ranges 1) (buffer_at body ranges 2) (map (seen (buffer_at body ranges 0)) (spots_of wanted))
+      → HasRoomTaken layout (buffer_at body ranges 1) (buffer_at body ranges 2) (map (seen (buffer_at body ranges 0)) (spots_of selection))
   room_taken Null inside f = tt
   room_taken Bits inside f = tt
   room_taken (Bytes size) inside f = tt
   room_taken Binary inside f =
       room_of (span_taken (buffer_at body ranges 1) (buffer_at body ranges 2)) (spans_short (buffer_at body ranges 1) (buffer_at body ranges 2))
-      (length (buffer_at body ranges 2)) f.wanted_is (reads body node ranges inside nodes others asked places wanted Binary f)
+      (length (buffer_at body ranges 2)) f.wanted_is (reads body node ranges inside nodes others asked places selection Binary f)
   room_taken Utf8 inside f =
       room_of (span_taken (buffer_at body ranges 1) (buffer_at body ranges 2)) (spans_short (buffer_at body ranges 1) (buffer_at body ranges 2))
-      (length (buffer_at body ranges 2)) f.wanted_is (reads body node ranges inside nodes others asked places wanted Utf8 f)
+      (length (buffer_at body ranges 2)) f.wanted_is (reads body node ranges inside nodes others asked places selection Utf8 f)
   room_taken Lists inside f =
       room_of (elements_taken (buffer_at body ranges 1)) (elements_short (buffer_at body ranges 1)) (first_length (columns_from inside nodes others)) f.wanted_is
-      (reads body node ranges inside nodes others asked places wanted Lists f).0
+      (reads body node ranges inside nodes others asked places selection Lists f).0
   room_taken (FixedSizeList size) inside f = tt
   room_taken Struct inside f = tt

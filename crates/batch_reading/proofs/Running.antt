@@ -5,9 +5,9 @@ use Rattle.std.proofs.lemmas.Slice.Zip.{get_or-zip}
 use Rattle.std.proofs.lemmas.Grind.{flat_map-append}
 use Rattle.std.specs.List.{range_with_len, zip, flat_map}
 use Rattle.batch_types.specs.LaysOut.{values_limit}
-use Rattle.batch_reading.specs.declared.wanted.Run.{Run}
-use Rattle.batch_reading.specs.declared.wanted.Wanted.{Wanted}
-use Rattle.batch_reading.specs.Spots.{DoRun, places_of, marks_of, HasMarks, Spot, spots_of, IsWanted}
+use Rattle.batch_reading.specs.declared.selection.Run.{Run}
+use Rattle.batch_reading.specs.declared.selection.Selection.{Selection}
+use Rattle.batch_reading.specs.Spots.{DoRun, places_of, marks_of, HasMarks, Spot, spots_of, IsSelection}
 
 -- ---- runs
 
@@ -69,24 +69,24 @@ pub marks_long : (count : ℕ) (marks : Option (List Bool)) → HasMarks count m
 marks_long count None has = length-replicate count true
 marks_long count (Some marks) has = has
 
-module _ (limit : ℕ) (wanted : Wanted) (is : IsWanted limit wanted) where
-  pub within_all : DoRun 0 values_limit wanted.runs.now
-  within_all = wider 0 limit values_limit wanted.runs.now is.rising is.few
+module _ (limit : ℕ) (selection : Selection) (is : IsSelection limit selection) where
+  pub within_all : DoRun 0 values_limit selection.runs.now
+  within_all = wider 0 limit values_limit selection.runs.now is.rising is.few
 
-  pub there_of : (i : ℕ) → i < wanted.count → i < length (places_of wanted.runs.now)
+  pub there_of : (i : ℕ) → i < selection.count → i < length (places_of selection.runs.now)
   there_of i there = subst (λ n. i < n) is.counted there
 
   -- the spot of this number
-  pub spot_is : (i : ℕ) → i < wanted.count
-      → get_or (spots_of wanted) i (0, false) ≡ (get_or (places_of wanted.runs.now) i 0, get_or (marks_of wanted.count wanted.there.now) i false)
+  pub spot_is : (i : ℕ) → i < selection.count
+      → get_or (spots_of selection) i (0, false) ≡ (get_or (places_of selection.runs.now) i 0, get_or (marks_of selection.count selection.there.now) i false)
   spot_is i there =
-      get_or-zip (places_of wanted.runs.now) (marks_of wanted.count wanted.there.now) i (0, false) (there_of i there)
-      (subst (λ n. i < n) (sym (marks_long wanted.count wanted.there.now is.marked)) there)
+      get_or-zip (places_of selection.runs.now) (marks_of selection.count selection.there.now) i (0, false) (there_of i there)
+      (subst (λ n. i < n) (sym (marks_long selection.count selection.there.now is.marked)) there)
 
-  pub spots_long : length (spots_of wanted) ≡ wanted.count
+  pub spots_long : length (spots_of selection) ≡ selection.count
   spots_long =
-      zip_long (places_of wanted.runs.now) (marks_of wanted.count wanted.there.now)
-      (marks_long wanted.count wanted.there.now is.marked ∙ is.counted)
+      zip_long (places_of selection.runs.now) (marks_of selection.count selection.there.now)
+      (marks_long selection.count selection.there.now is.marked ∙ is.counted)
       ∙ sym is.counted
     where
       zip_long : (ps : List ℕ) (bs : List Bool) → length bs ≡ length ps → length (zip ps bs) ≡ length ps
@@ -95,37 +95,37 @@ module _ (limit : ℕ) (wanted : Wanted) (is : IsWanted limit wanted) where
       zip_long (p ∷ ps) (b ∷ bs) same = ap suc (zip_long ps bs (omega (arith, same)))
 
   -- a cell for each
-  pub cells_long : {X : Type 0} (f : Spot → X) → length (map f (spots_of wanted)) ≡ wanted.count
-  cells_long f = length-map (spots_of wanted) f ∙ spots_long
+  pub cells_long : {X : Type 0} (f : Spot → X) → length (map f (spots_of selection)) ≡ selection.count
+  cells_long f = length-map (spots_of selection) f ∙ spots_long
 
-  module _ (i place : ℕ) (mark : Bool) (there : i < wanted.count) (p : place ≡ get_or (places_of wanted.runs.now) i 0)
-      (m : mark ≡ get_or (marks_of wanted.count wanted.there.now) i false) where
-    this_spot : get_or (spots_of wanted) i (0, false) ≡ (place, mark)
+  module _ (i place : ℕ) (mark : Bool) (there : i < selection.count) (p : place ≡ get_or (places_of selection.runs.now) i 0)
+      (m : mark ≡ get_or (marks_of selection.count selection.there.now) i false) where
+    this_spot : get_or (spots_of selection) i (0, false) ≡ (place, mark)
     this_spot = spot_is i there ∙ ap₂ (λ x y. (x, y)) (sym p) (sym m)
 
-    pub spots_more : take (i + 1) (spots_of wanted) ≡ take i (spots_of wanted) ++ (place, mark) ∷ []
+    pub spots_more : take (i + 1) (spots_of selection) ≡ take i (spots_of selection) ++ (place, mark) ∷ []
     spots_more =
-        take_more (spots_of wanted) i (0, false) (subst (λ n. i < n) (sym spots_long) there)
-        ∙ ap (λ s. take i (spots_of wanted) ++ s ∷ []) this_spot
+        take_more (spots_of selection) i (0, false) (subst (λ n. i < n) (sym spots_long) there)
+        ∙ ap (λ s. take i (spots_of selection) ++ s ∷ []) this_spot
 
 module _ {X : Type 0} where
   -- one value a spot
-  pub mapped_more : (f : Spot → X) (limit : ℕ) (wanted : Wanted) (is : IsWanted limit wanted) (i place : ℕ) (mark : Bool) (there : i < wanted.count)
-      → place ≡ get_or (places_of wanted.runs.now) i 0 → mark ≡ get_or (marks_of wanted.count wanted.there.now) i false
-      → map f (take (i + 1) (spots_of wanted)) ≡ map f (take i (spots_of wanted)) ++ f (place, mark) ∷ []
-  mapped_more f limit wanted is i place mark there p m =
-      ap (map f) (spots_more limit wanted is i place mark there p m) ∙ map-append f (take i (spots_of wanted)) ((place, mark) ∷ [])
+  pub mapped_more : (f : Spot → X) (limit : ℕ) (selection : Selection) (is : IsSelection limit selection) (i place : ℕ) (mark : Bool) (there : i < selection.count)
+      → place ≡ get_or (places_of selection.runs.now) i 0 → mark ≡ get_or (marks_of selection.count selection.there.now) i false
+      → map f (take (i + 1) (spots_of selection)) ≡ map f (take i (spots_of selection)) ++ f (place, mark) ∷ []
+  mapped_more f limit selection is i place mark there p m =
+      ap (map f) (spots_more limit selection is i place mark there p m) ∙ map-append f (take i (spots_of selection)) ((place, mark) ∷ [])
 
   -- some values a spot
-  pub gathered_more : (f : Spot → List X) (limit : ℕ) (wanted : Wanted) (is : IsWanted limit wanted) (i place : ℕ) (mark : Bool) (there : i < wanted.count)
-      → place ≡ get_or (places_of wanted.runs.now) i 0 → mark ≡ get_or (marks_of wanted.count wanted.there.now) i false
-      → flat_map f (take (i + 1) (spots_of wanted)) ≡ flat_map f (take i (spots_of wanted)) ++ f (place, mark)
-  gathered_more f limit wanted is i place mark there p m =
-      ap (flat_map f) (spots_more limit wanted is i place mark there p m)
-      ∙ flat_map-append f (take i (spots_of wanted)) ((place, mark) ∷ [])
-      ∙ ap (λ l. flat_map f (take i (spots_of wanted)) ++ l) (append-nil (f (place, mark)))
+  pub gathered_more : (f : Spot → List X) (limit : ℕ) (selection : Selection) (is : IsSelection limit selection) (i place : ℕ) (mark : Bool) (there : i < selection.count)
+      → place ≡ get_or (places_of selection.runs.now) i 0 → mark ≡ get_or (marks_of selection.count selection.there.now) i false
+      → flat_map f (take (i + 1) (spots_of selection)) ≡ flat_map f (take i (spots_of selection)) ++ f (place, mark)
+  gathered_more f limit selection is i place mark there p m =
+      ap (flat_map f) (spots_more limit selection is i place mark there p m)
+      ∙ flat_map-append f (take i (spots_of selection)) ((place, mark) ∷ [])
+      ∙ ap (λ l. flat_map f (take i (spots_of selection)) ++ l) (append-nil (f (place, mark)))
 
-  -- where all are wanted
+  -- where all are selected
   pub all_marked : (f : Spot → X) (places : List ℕ) (count : ℕ) → count ≡ length places
       → map f (zip places (replicate count true)) ≡ map (λ p. f (p, true)) places
   all_marked f places count counted =
@@ -144,26 +144,26 @@ module _ {X : Type 0} where
       all [] = refl
       all (p ∷ ps) = ap (λ l. f (p, true) ++ l) (all ps)
 
--- ---- one step of a loop over the wanted cells
+-- ---- one step of a loop over the selected cells
 
 module _ {X : Type 0} where
-  pub mapped_step : (f : Spot → X) (limit : ℕ) (wanted : Wanted) (is : IsWanted limit wanted) (i place : ℕ) (mark : Bool) (value : X) (out out_then : List X)
-      → i < wanted.count → place ≡ get_or (places_of wanted.runs.now) i 0 → mark ≡ get_or (marks_of wanted.count wanted.there.now) i false
-      → out ≡ map f (take i (spots_of wanted)) → value ≡ f (place, mark) → out_then ≡ out ++ value ∷ []
-      → out_then ≡ map f (take (i + 1) (spots_of wanted))
-  mapped_step f limit wanted is i place mark value out out_then there p m done v next =
-      next ∙ ap₂ (λ xs x. xs ++ x ∷ []) done v ∙ sym (mapped_more f limit wanted is i place mark there p m)
+  pub mapped_step : (f : Spot → X) (limit : ℕ) (selection : Selection) (is : IsSelection limit selection) (i place : ℕ) (mark : Bool) (value : X) (out out_then : List X)
+      → i < selection.count → place ≡ get_or (places_of selection.runs.now) i 0 → mark ≡ get_or (marks_of selection.count selection.there.now) i false
+      → out ≡ map f (take i (spots_of selection)) → value ≡ f (place, mark) → out_then ≡ out ++ value ∷ []
+      → out_then ≡ map f (take (i + 1) (spots_of selection))
+  mapped_step f limit selection is i place mark value out out_then there p m done v next =
+      next ∙ ap₂ (λ xs x. xs ++ x ∷ []) done v ∙ sym (mapped_more f limit selection is i place mark there p m)
 
-  pub gathered_step : (f : Spot → List X) (limit : ℕ) (wanted : Wanted) (is : IsWanted limit wanted) (i place : ℕ) (mark : Bool) (out out_then : List X)
-      → i < wanted.count → place ≡ get_or (places_of wanted.runs.now) i 0 → mark ≡ get_or (marks_of wanted.count wanted.there.now) i false
-      → out ≡ flat_map f (take i (spots_of wanted)) → out_then ≡ out ++ f (place, mark)
-      → out_then ≡ flat_map f (take (i + 1) (spots_of wanted))
-  gathered_step f limit wanted is i place mark out out_then there p m done next =
-      next ∙ ap (λ xs. xs ++ f (place, mark)) done ∙ sym (gathered_more f limit wanted is i place mark there p m)
+  pub gathered_step : (f : Spot → List X) (limit : ℕ) (selection : Selection) (is : IsSelection limit selection) (i place : ℕ) (mark : Bool) (out out_then : List X)
+      → i < selection.count → place ≡ get_or (places_of selection.runs.now) i 0 → mark ≡ get_or (marks_of selection.count selection.there.now) i false
+      → out ≡ flat_map f (take i (spots_of selection)) → out_then ≡ out ++ f (place, mark)
+      → out_then ≡ flat_map f (take (i + 1) (spots_of selection))
+  gathered_step f limit selection is i place mark out out_then there p m done next =
+      next ∙ ap (λ xs. xs ++ f (place, mark)) done ∙ sym (gathered_more f limit selection is i place mark there p m)
 
 -- the end of such a loop
-pub all_taken : (limit : ℕ) (wanted : Wanted) (is : IsWanted limit wanted) (i : ℕ) → wanted.count ≤ i → take i (spots_of wanted) ≡ spots_of wanted
-all_taken limit wanted is i past = take_all i (spots_of wanted) (subst (λ n. n ≤ i) (sym (spots_long limit wanted is)) past)
+pub all_taken : (limit : ℕ) (selection : Selection) (is : IsSelection limit selection) (i : ℕ) → selection.count ≤ i → take i (spots_of selection) ≡ spots_of selection
+all_taken limit selection is i past = take_all i (spots_of selection) (subst (λ n. n ≤ i) (sym (spots_long limit selection is)) past)
 
 -- ---- places rise
 
@@ -193,17 +193,17 @@ place_below from limit [] i rise there = absurd (omega (arith, there))
 place_below from limit (p ∷ ps) zero rise there = omega (arith, rise_end (p + 1) limit ps rise.1)
 place_below from limit (p ∷ ps) (suc i) rise there = place_below (p + 1) limit ps i rise.1 (omega (arith, there))
 
--- a place that is wanted lies below the limit
-pub wanted_below : (limit : ℕ) (wanted : Wanted) (is : IsWanted limit wanted) (i place : ℕ) → i < wanted.count
-    → place ≡ get_or (places_of wanted.runs.now) i 0 → place < limit
-wanted_below limit wanted is i place there p =
+-- a place that is selected lies below the limit
+pub wanted_below : (limit : ℕ) (selection : Selection) (is : IsSelection limit selection) (i place : ℕ) → i < selection.count
+    → place ≡ get_or (places_of selection.runs.now) i 0 → place < limit
+wanted_below limit selection is i place there p =
     subst (λ x. x < limit) (sym p)
-    (place_below 0 limit (places_of wanted.runs.now) i (places_rise 0 limit wanted.runs.now is.rising) (there_of limit wanted is i there))
+    (place_below 0 limit (places_of selection.runs.now) i (places_rise 0 limit selection.runs.now is.rising) (there_of limit selection is i there))
 
 -- the same places with other marks
-pub remarked : (limit : ℕ) (wanted other : Wanted) → IsWanted limit wanted → other.runs.now ≡ wanted.runs.now → other.count ≡ wanted.count
-    → HasMarks other.count other.there.now → IsWanted limit other
-remarked limit wanted other is runs count marked = record {
+pub remarked : (limit : ℕ) (selection other : Selection) → IsSelection limit selection → other.runs.now ≡ selection.runs.now → other.count ≡ selection.count
+    → HasMarks other.count other.there.now → IsSelection limit other
+remarked limit selection other is runs count marked = record {
   rising = subst (DoRun 0 limit) (sym runs) is.rising;
   few = is.few;
   counted = count ∙ is.counted ∙ ap (λ l. length (places_of l)) (sym runs);

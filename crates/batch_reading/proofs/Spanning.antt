@@ -7,8 +7,8 @@ use Rattle.std.specs.List.{range_with_len, flat_map, sum_by, zip}
 use Rattle.byteorder.specs.Endian.{little_bytes}
 use Rattle.batch_types.specs.Canonical.{offsets_of}
 use Rattle.batch_types.specs.Placed.{start_of, length_of}
-use Rattle.batch_reading.specs.declared.wanted.Wanted.{Wanted}
-use Rattle.batch_reading.specs.Spots.{places_of, marks_of, Spot, spots_of, IsWanted}
+use Rattle.batch_reading.specs.declared.selection.Selection.{Selection}
+use Rattle.batch_reading.specs.Spots.{places_of, marks_of, Spot, spots_of, IsSelection}
 use Rattle.batch_reading.specs.Spread.{HasSpans}
 use Rattle.std.proofs.lemmas.List.FromFn.{length-range_with_len}
 use Rattle.batch_reading.specs.Planned.{elements_taken}
@@ -60,23 +60,23 @@ sum_long f (x ∷ xs) =
 
 -- ---- one step of the loop
 
-module _ (f : Spot → List ℕ) (limit : ℕ) (wanted : Wanted) (is : IsWanted limit wanted) (i place : ℕ) (mark : Bool) (ends spans more ends_then spans_then : List ℕ)
-    (there : i < wanted.count) (p : place ≡ get_or (places_of wanted.runs.now) i 0) (m : mark ≡ get_or (marks_of wanted.count wanted.there.now) i false)
-    (ended : ends ≡ offsets_of 4 (map (λ spot. length (f spot)) (take i (spots_of wanted))))
-    (spanned : spans ≡ flat_map f (take i (spots_of wanted)))
+module _ (f : Spot → List ℕ) (limit : ℕ) (selection : Selection) (is : IsSelection limit selection) (i place : ℕ) (mark : Bool) (ends spans more ends_then spans_then : List ℕ)
+    (there : i < selection.count) (p : place ≡ get_or (places_of selection.runs.now) i 0) (m : mark ≡ get_or (marks_of selection.count selection.there.now) i false)
+    (ended : ends ≡ offsets_of 4 (map (λ spot. length (f spot)) (take i (spots_of selection))))
+    (spanned : spans ≡ flat_map f (take i (spots_of selection)))
     (v : more ≡ f (place, mark)) (span_put : spans_then ≡ spans ++ more) (end_put : ends_then ≡ ends ++ little_bytes 4 (length (spans ++ more))) where
-  pub spans_step : spans_then ≡ flat_map f (take (i + 1) (spots_of wanted))
+  pub spans_step : spans_then ≡ flat_map f (take (i + 1) (spots_of selection))
   spans_step =
-      gathered_step f limit wanted is i place mark spans spans_then there p m spanned (span_put ∙ ap (λ xs. spans ++ xs) v)
+      gathered_step f limit selection is i place mark spans spans_then there p m spanned (span_put ∙ ap (λ xs. spans ++ xs) v)
 
-  pub ends_step : ends_then ≡ offsets_of 4 (map (λ spot. length (f spot)) (take (i + 1) (spots_of wanted)))
+  pub ends_step : ends_then ≡ offsets_of 4 (map (λ spot. length (f spot)) (take (i + 1) (spots_of selection)))
   ends_step =
-      let lengths : List ℕ = map (λ spot. length (f spot)) (take i (spots_of wanted)) in
-      let longer : map (λ spot. length (f spot)) (take (i + 1) (spots_of wanted)) ≡ lengths ++ length (f (place, mark)) ∷ [] =
-      mapped_more (λ spot. length (f spot)) limit wanted is i place mark there p m in
+      let lengths : List ℕ = map (λ spot. length (f spot)) (take i (spots_of selection)) in
+      let longer : map (λ spot. length (f spot)) (take (i + 1) (spots_of selection)) ≡ lengths ++ length (f (place, mark)) ∷ [] =
+      mapped_more (λ spot. length (f spot)) limit selection is i place mark there p m in
       end_put
       ∙ ap₂ (λ xs n. xs ++ little_bytes 4 n) ended
-      (ap length (sym span_put ∙ spans_step) ∙ sym (sum_long f (take (i + 1) (spots_of wanted))) ∙ ap (sum_by (λ n. n)) longer)
+      (ap length (sym span_put ∙ spans_step) ∙ sym (sum_long f (take (i + 1) (spots_of selection))) ∙ ap (sum_by (λ n. n)) longer)
       ∙ sym (offsets_push lengths (length (f (place, mark))))
       ∙ ap (offsets_of 4) (sym longer)
 

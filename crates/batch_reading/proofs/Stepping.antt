@@ -23,10 +23,10 @@ use Rattle.batch_columns.specs.Kept.{IsKept}
 use Rattle.batch_columns.specs.declared.layout.Layout.{Layout as Declared}
 use Rattle.batch_columns.specs.declared.place.Place.{Place}
 use Rattle.batch_columns.specs.Sources.{nodes_of_tree, buffers_of_tree, column_from, columns_from}
-use Rattle.batch_reading.specs.declared.wanted.Wanted.{Wanted}
-use Rattle.batch_reading.specs.declared.plan.Inside.{Inside}
+use Rattle.batch_reading.specs.declared.selection.Selection.{Selection}
+use Rattle.batch_reading.specs.declared.plan.ChildSelection.{ChildSelection}
 use Rattle.batch_reading.specs.declared.plan.Plan.{Plan}
-use Rattle.batch_reading.specs.Spots.{Spot, spots_of, IsWanted}
+use Rattle.batch_reading.specs.Spots.{Spot, spots_of, IsSelection}
 use Rattle.batch_reading.specs.Spread.{ReadsWithin}
 use Rattle.batch_reading.specs.Taken.{seen}
 use Rattle.batch_reading.specs.Planned.{spots_inside, AreInside, IsPlanned}
@@ -44,11 +44,11 @@ falls_fields [] i x there is = absurd (omega (arith, there))
 falls_fields (field ∷ fields) zero x there is = omega (arith, ap node_count (forest_next (field ∷ fields) 0 x there is))
 falls_fields (field ∷ fields) (suc i) x there is = omega (arith, falls_fields fields i x (omega (arith, there)) is)
 
-pub readable_next : (fields : List Field) (i : ℕ) (x : Field) (head : BatchHead) (place : Place) (body : List ℕ) (wanted : Wanted) → i < length fields → x ≡ get_or fields i x
-    → AreReadable (forest_seen (drop i fields)) head place body wanted
-    → AreReadable (more (tree (field_head_of x) (entries_in x) (fields_in x)) (forest_seen (drop (i + 1) fields))) head place body wanted
-readable_next fields i x head place body wanted there is r =
-    subst (λ f. AreReadable f head place body wanted) (forest_next fields i x there is) r
+pub readable_next : (fields : List Field) (i : ℕ) (x : Field) (head : BatchHead) (place : Place) (body : List ℕ) (selection : Selection) → i < length fields → x ≡ get_or fields i x
+    → AreReadable (forest_seen (drop i fields)) head place body selection
+    → AreReadable (more (tree (field_head_of x) (entries_in x) (fields_in x)) (forest_seen (drop (i + 1) fields))) head place body selection
+readable_next fields i x head place body selection there is r =
+    subst (λ f. AreReadable f head place body selection) (forest_next fields i x there is) r
 
 pub as_buffers : (layout : Layout) (v s t w u x : List ℕ) (spots : List Spot) (plan : Plan) → v ≡ w → s ≡ u → t ≡ x → IsPlanned layout v s t spots plan → IsPlanned layout w u x spots plan
 as_buffers layout v s t w u x spots plan a b c planned =
@@ -68,8 +68,8 @@ first_within (more (tree field entries inner) rest) nodes start others there cou
 
 -- ---- one field
 
-module _ (fh : FieldHead) (entries : List Entry) (inside rest : Forest) (head : BatchHead) (place : Place) (body : List ℕ) (wanted : Wanted)
-    (r : AreReadable (more (tree fh entries inside) rest) head place body wanted) (bytes : (k : ℕ) → get_or body k 0 < 256) where
+module _ (fh : FieldHead) (entries : List Entry) (inside rest : Forest) (head : BatchHead) (place : Place) (body : List ℕ) (selection : Selection)
+    (r : AreReadable (more (tree fh entries inside) rest) head place body selection) (bytes : (k : ℕ) → get_or body k 0 < 256) where
   abbrev nodes : List Node
   nodes = drop place.node head.nodes.items
 
@@ -100,7 +100,7 @@ module _ (fh : FieldHead) (entries : List Entry) (inside rest : Forest) (head : 
       (first_within inside head.nodes.items (place.node + 1) inner_others (omega (arith, r.nodes_there)) r.counted r.few)
 
   pub facts : (layout : Declared) → layout_named layout ≡ layout_of fh.data_type
-      → FieldFacts layout body node ranges inside inner_nodes inner_others r.asked r.places wanted
+      → FieldFacts layout body node ranges inside inner_nodes inner_others r.asked r.places selection
   facts layout named = record {
     kept =
         subst (λ l. AreKept (KeepsRule body l node ranges (columns_from inside inner_nodes inner_others) r.asked r.places) column_order) (sym named) r.sound.0.0;
@@ -109,7 +109,7 @@ module _ (fh : FieldHead) (entries : List Entry) (inside rest : Forest) (head : 
     may = subst (λ l. MayHave l (width inside)) (sym named) (may_have fh.data_type (width inside) r.formed.0.0);
     fit =
         subst (λ l. AllByRecursion (IsCellOf (shape l (shapes_of inside)))
-        (cells_wanted body (laid l node ranges (columns_from inside inner_nodes inner_others)) (shape l (shapes_of inside)) (spots_of wanted))) (sym named) r.fit.0;
+        (cells_wanted body (laid l node ranges (columns_from inside inner_nodes inner_others)) (shape l (shapes_of inside)) (spots_of selection))) (sym named) r.fit.0;
     formed = r.formed.0.2;
     wanted_is = r.wanted_is;
     node_few = node_is_few;
@@ -119,10 +119,10 @@ module _ (fh : FieldHead) (entries : List Entry) (inside rest : Forest) (head : 
 
   pub reads_field : (layout : Declared) → layout_named layout ≡ layout_of fh.data_type
       → ReadsWithin (layout_named layout) r.asked (first_length (columns_from inside inner_nodes inner_others)) (buffer_at body ranges 1) (buffer_at body ranges 2)
-  reads_field layout named = reads body node ranges inside inner_nodes inner_others r.asked r.places wanted layout (facts layout named)
+  reads_field layout named = reads body node ranges inside inner_nodes inner_others r.asked r.places selection layout (facts layout named)
 
   pub source_reads : (layout : Declared) → layout_named layout ≡ layout_of fh.data_type → (second third : List ℕ) → second ≡ buffer_at body ranges 1 → third ≡ buffer_at body ranges 2
-      → (limit : ℕ) × (total : ℕ) × IsWanted limit wanted × ReadsWithin (layout_named layout) limit total second third
+      → (limit : ℕ) × (total : ℕ) × IsSelection limit selection × ReadsWithin (layout_named layout) limit total second third
   source_reads layout named second third s t = (
     r.asked,
     first_length (columns_from inside inner_nodes inner_others),
@@ -133,8 +133,8 @@ module _ (fh : FieldHead) (entries : List Entry) (inside rest : Forest) (head : 
   )
 
   -- the columns inside
-  module _ (layout : Declared) (named : layout_named layout ≡ layout_of fh.data_type) (planned : Inside) (w : Wanted) (within : Place)
-      (are : AreInside (spots_inside (layout_named layout) (buffer_at body ranges 1) (map (seen (buffer_at body ranges 0)) (spots_of wanted))) planned)
+  module _ (layout : Declared) (named : layout_named layout ≡ layout_of fh.data_type) (planned : ChildSelection) (w : Selection) (within : Place)
+      (are : AreInside (spots_inside (layout_named layout) (buffer_at body ranges 1) (map (seen (buffer_at body ranges 0)) (spots_of selection))) planned)
       (runs : w.runs.now ≡ planned.runs.items) (count : w.count ≡ planned.count) (there : w.there.now ≡ planned.there)
       (at_node : within.node ≡ place.node + 1) (at_buffer : within.buffer ≡ place.buffer + buffers_in_layout (layout_named layout)) where
     columns_same : columns_from inside inner_nodes inner_others ≡ columns_there inside head within
@@ -145,22 +145,22 @@ module _ (fh : FieldHead) (entries : List Entry) (inside rest : Forest) (head : 
 
     pub inside_readable : AreReadable inside head within body w
     inside_readable =
-        let f : FieldFacts layout body node ranges inside inner_nodes inner_others r.asked r.places wanted = facts layout named in
+        let f : FieldFacts layout body node ranges inside inner_nodes inner_others r.asked r.places selection = facts layout named in
         record {
           asked = inside_limit layout (nat_abs node.0) (first_length (columns_from inside inner_nodes inner_others));
           places = places_inside body (layout_named layout) ranges r.places;
           wanted_is =
               inside_wanted (inside_limit layout (nat_abs node.0) (first_length (columns_from inside inner_nodes inner_others)))
-              (spots_inside (layout_named layout) (buffer_at body ranges 1) (map (seen (buffer_at body ranges 0)) (spots_of wanted))) planned w are
-              (inside_below body node ranges inside inner_nodes inner_others r.asked r.places wanted layout f)
-              (limit_few body node ranges inside inner_nodes inner_others r.asked r.places wanted layout f) runs count there;
+              (spots_inside (layout_named layout) (buffer_at body ranges 1) (map (seen (buffer_at body ranges 0)) (spots_of selection))) planned w are
+              (inside_below body node ranges inside inner_nodes inner_others r.asked r.places selection layout f)
+              (limit_few body node ranges inside inner_nodes inner_others r.asked r.places selection layout f) runs count there;
           sound =
               subst (λ cs. AreSound body cs (inside_limit layout (nat_abs node.0) (first_length (columns_from inside inner_nodes inner_others))) (places_inside body (layout_named layout) ranges r.places))
-              columns_same (sound_inside body node ranges inner_nodes inner_others r.asked r.places wanted layout inside f);
+              columns_same (sound_inside body node ranges inner_nodes inner_others r.asked r.places selection layout inside f);
           fit =
               subst (λ cs. AreFit body cs (shapes_of inside) (spots_of w)) columns_same
               (subst (AreFit body (columns_from inside inner_nodes inner_others) (shapes_of inside)) (sym (inside_spots _ planned w are runs count there))
-              (fit_inside body node ranges inner_nodes inner_others r.asked r.places wanted layout inside f));
+              (fit_inside body node ranges inner_nodes inner_others r.asked r.places selection layout inside f));
           formed = r.formed.0.2;
           nodes_there = omega (arith, at_node, r.nodes_there);
           buffers_there = omega (arith, at_buffer, ap buffers_in_layout named, r.buffers_there);
@@ -171,30 +171,30 @@ module _ (fh : FieldHead) (entries : List Entry) (inside rest : Forest) (head : 
     -- the cells of the column, by what stands inside it
     abbrev pub field_cells : List Contents → List Cell
     field_cells columns =
-        cells_wanted body (laid (layout_named layout) node ranges (columns_from inside inner_nodes inner_others)) (shape (layout_named layout) (shapes_held columns)) (spots_of wanted)
+        cells_wanted body (laid (layout_named layout) node ranges (columns_from inside inner_nodes inner_others)) (shape (layout_named layout) (shapes_held columns)) (spots_of selection)
 
     pub field_kept : (plan : Plan) (columns : List Contents)
-        → IsPlanned (layout_named layout) (buffer_at body ranges 0) (buffer_at body ranges 1) (buffer_at body ranges 2) (spots_of wanted) plan
+        → IsPlanned (layout_named layout) (buffer_at body ranges 0) (buffer_at body ranges 1) (buffer_at body ranges 2) (spots_of selection) plan
         → AreBuilt inside head within body w columns
         → IsKept (layout_named layout) (field_cells columns) plan.nulls plan.validity.items plan.second.items plan.third.items columns
     field_kept plan columns is built =
-        let f : FieldFacts layout body node ranges inside inner_nodes inner_others r.asked r.places wanted = facts layout named in
-        planned_kept body node ranges (spots_of wanted) plan layout (columns_from inside inner_nodes inner_others) columns (
+        let f : FieldFacts layout body node ranges inside inner_nodes inner_others r.asked r.places selection = facts layout named in
+        planned_kept body node ranges (spots_of selection) plan layout (columns_from inside inner_nodes inner_others) columns (
           is,
           subst (λ s. AllByRecursion (IsCellOf (shape (layout_named layout) s))
-              (cells_wanted body (laid (layout_named layout) node ranges (columns_from inside inner_nodes inner_others)) (shape (layout_named layout) s) (spots_of wanted)))
+              (cells_wanted body (laid (layout_named layout) node ranges (columns_from inside inner_nodes inner_others)) (shape (layout_named layout) s) (spots_of selection)))
               (sym built.0) f.fit,
-          may_hold body node ranges inner_nodes inner_others r.asked r.places wanted layout inside columns f.may built.0,
+          may_hold body node ranges inner_nodes inner_others r.asked r.places selection layout inside columns f.may built.0,
           built.1
               ∙ ap (λ cs. columns_wanted body cs (shapes_of inside) (spots_of w)) (sym columns_same)
               ∙ ap₂ (columns_wanted body (columns_from inside inner_nodes inner_others)) (sym built.0) (inside_spots _ planned w are runs count there),
-          room_taken body node ranges inner_nodes inner_others r.asked r.places wanted layout inside f,
+          room_taken body node ranges inner_nodes inner_others r.asked r.places selection layout inside f,
         )
 
     pub field_is : (columns : List Contents) → shapes_held columns ≡ shapes_of inside
-        → field_cells columns ≡ cells_wanted body (column_from (tree fh entries inside) nodes others) (shape_of (tree fh entries inside)) (spots_of wanted)
+        → field_cells columns ≡ cells_wanted body (column_from (tree fh entries inside) nodes others) (shape_of (tree fh entries inside)) (spots_of selection)
     field_is columns same =
-        ap₂ (λ l s. cells_wanted body (laid l node ranges (columns_from inside inner_nodes inner_others)) (shape l s) (spots_of wanted)) named same
+        ap₂ (λ l s. cells_wanted body (laid l node ranges (columns_from inside inner_nodes inner_others)) (shape l s) (spots_of selection)) named same
 
   -- the columns behind
   module _ (next : Place) (at_node : next.node ≡ place.node + nodes_of_tree (tree fh entries inside)) (at_buffer : next.buffer ≡ place.buffer + buffers_of_tree (tree fh entries inside)) where
@@ -204,13 +204,13 @@ module _ (fh : FieldHead) (entries : List Entry) (inside rest : Forest) (head : 
         (drop-drop (nodes_of_tree (tree fh entries inside)) place.node head.nodes.items ∙ ap (λ n. drop n head.nodes.items) (sym at_node))
         (drop-drop (buffers_of_tree (tree fh entries inside)) place.buffer head.buffers.items ∙ ap (λ n. drop n head.buffers.items) (sym at_buffer))
 
-    pub next_readable : AreReadable rest head next body wanted
+    pub next_readable : AreReadable rest head next body selection
     next_readable = record {
       asked = r.asked;
       places = r.places;
       wanted_is = r.wanted_is;
       sound = subst (λ cs. AreSound body cs r.asked r.places) rest_same r.sound.1;
-      fit = subst (λ cs. AreFit body cs (shapes_of rest) (spots_of wanted)) rest_same r.fit.1;
+      fit = subst (λ cs. AreFit body cs (shapes_of rest) (spots_of selection)) rest_same r.fit.1;
       formed = r.formed.1;
       nodes_there = omega (arith, at_node, r.nodes_there);
       buffers_there = omega (arith, at_buffer, r.buffers_there);
@@ -219,9 +219,9 @@ module _ (fh : FieldHead) (entries : List Entry) (inside rest : Forest) (head : 
     }
 
     pub built_more : (child : Contents) (columns : List Contents) → child.shape ≡ shape_of (tree fh entries inside)
-        → child.cells ≡ cells_wanted body (column_from (tree fh entries inside) nodes others) (shape_of (tree fh entries inside)) (spots_of wanted)
-        → AreBuilt rest head next body wanted columns → AreBuilt (more (tree fh entries inside) rest) head place body wanted (child ∷ columns)
+        → child.cells ≡ cells_wanted body (column_from (tree fh entries inside) nodes others) (shape_of (tree fh entries inside)) (spots_of selection)
+        → AreBuilt rest head next body selection columns → AreBuilt (more (tree fh entries inside) rest) head place body selection (child ∷ columns)
     built_more child columns shaped cells built = (
       ap₂ shape_then shaped built.0,
-      ap₂ (λ x xs. x ∷ xs) cells (built.1 ∙ ap (λ cs. columns_wanted body cs (shapes_of rest) (spots_of wanted)) (sym rest_same)),
+      ap₂ (λ x xs. x ∷ xs) cells (built.1 ∙ ap (λ cs. columns_wanted body cs (shapes_of rest) (spots_of selection)) (sym rest_same)),
     )

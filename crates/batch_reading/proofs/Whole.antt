@@ -27,7 +27,7 @@ use Rattle.batch_columns.specs.Contents.{Contents}
 use Rattle.batch_columns.specs.declared.batch.Batch.{Batch}
 use Rattle.batch_columns.specs.declared.place.Place.{Place}
 use Rattle.batch_columns.specs.Sources.{columns_from}
-use Rattle.batch_reading.specs.declared.wanted.Wanted.{Wanted}
+use Rattle.batch_reading.specs.declared.selection.Selection.{Selection}
 use Rattle.batch_reading.specs.Spots.{DoRun, places_of, marks_of, HasMarks, Spot, spots_of, runs_of_rows}
 use Rattle.batch_reading.specs.Built.{cell_wanted, columns_wanted, AreFit}
 use Rattle.batch_reading.specs.Readable.{columns_there, AreReadable, HaveFewValues, AreBuilt}
@@ -79,7 +79,7 @@ columns_are_one schema head cs ds of also =
     (same_columns schema.fields cs ds [] [] [] [] of.of_schema also.of_schema
     (ap (λ l. l ++ []) (sym of.nodes ∙ also.nodes)) (ap (λ l. l ++ []) (sym of.buffers ∙ also.buffers))).0
 
--- ---- all rows are wanted
+-- ---- all rows are selected
 
 module _ (body : List ℕ) (spots : List Spot) (count : ℕ)
     (all : (f : Spot → Cell) → map f spots ≡ map (λ p. f (p, true)) (range_with_len 0 count)) where
@@ -125,13 +125,13 @@ rows_run : (count : ℕ) → DoRun 0 count (runs_of_rows count)
 rows_run zero = omega arith
 rows_run (suc n) = (omega arith, omega arith, omega arith)
 
-module _ (schema : Schema) (head : BatchHead) (body spoken : List ℕ) (rows : Rows) (wanted : Wanted) (place : Place)
+module _ (schema : Schema) (head : BatchHead) (body spoken : List ℕ) (rows : Rows) (selection : Selection) (place : Place)
     (profile : InProfile (schema_of schema)) (laid_out : LaysOut (schema_of schema) (head_of head) body rows)
     (sources : (s : SchemaTree) (h : Head) → length h.nodes ≡ node_count s.fields → length h.buffers ≡ buffer_count s.fields
     → HasColumns s h (columns_from s.fields h.nodes h.buffers))
     (typed : AreRowsOf (schema_of schema) rows)
     (spoken_is : spoken ≡ body_of (head_of head) body)
-    (runs : wanted.runs.now ≡ runs_of_rows rows.count) (count : wanted.count ≡ rows.count) (there : wanted.there.now ≡ None)
+    (runs : selection.runs.now ≡ runs_of_rows rows.count) (count : selection.count ≡ rows.count) (there : selection.there.now ≡ None)
     (at_node : place.node ≡ 0) (at_buffer : place.buffer ≡ 0) where
   columns_are : laid_out.columns ≡ columns_there (schema_of schema).fields head place
   columns_are =
@@ -139,11 +139,11 @@ module _ (schema : Schema) (head : BatchHead) (body spoken : List ℕ) (rows : R
       (sources (schema_of schema) (head_of head) laid_out.head_kept.1.1.0 laid_out.head_kept.1.1.1.0)
       ∙ ap₂ (λ m n. columns_from (schema_of schema).fields (drop m head.nodes.items) (drop n head.buffers.items)) (sym at_node) (sym at_buffer)
 
-  all_rows : (f : Spot → Cell) → map f (spots_of wanted) ≡ map (λ p. f (p, true)) (range_with_len 0 rows.count)
+  all_rows : (f : Spot → Cell) → map f (spots_of selection) ≡ map (λ p. f (p, true)) (range_with_len 0 rows.count)
   all_rows f =
-      ap (λ rs. map f (zip (places_of rs) (marks_of wanted.count wanted.there.now))) runs
-      ∙ ap₂ (λ ps m. map f (zip ps (marks_of wanted.count m))) (rows_places rows.count) there
-      ∙ all_marked f (range_with_len 0 rows.count) wanted.count (count ∙ sym (length-range_with_len 0 rows.count))
+      ap (λ rs. map f (zip (places_of rs) (marks_of selection.count selection.there.now))) runs
+      ∙ ap₂ (λ ps m. map f (zip ps (marks_of selection.count m))) (rows_places rows.count) there
+      ∙ all_marked f (range_with_len 0 rows.count) selection.count (count ∙ sym (length-range_with_len 0 rows.count))
 
   of_fields : AreColumnsOf (schema_of schema).fields (columns_there (schema_of schema).fields head place)
   of_fields = subst (AreColumnsOf (schema_of schema).fields) columns_are laid_out.columns_are.of_schema
@@ -155,7 +155,7 @@ module _ (schema : Schema) (head : BatchHead) (body spoken : List ℕ) (rows : R
   rows_few : rows.count ≤ rows_limit
   rows_few = omega (arith, ints, laid_out.count, laid_out.head_kept.1.0.few)
 
-  pub batch_readable : AreReadable (schema_of schema).fields head place spoken wanted
+  pub batch_readable : AreReadable (schema_of schema).fields head place spoken selection
   batch_readable = record {
     asked = rows.count;
     places = range_with_len 0 rows.count;
@@ -163,13 +163,13 @@ module _ (schema : Schema) (head : BatchHead) (body spoken : List ℕ) (rows : R
       rising = subst (DoRun 0 rows.count) (sym runs) (rows_run rows.count);
       few = omega (arith, rows_few);
       counted = count ∙ sym (length-range_with_len 0 rows.count) ∙ ap length (sym (rows_places rows.count)) ∙ ap (λ rs. length (places_of rs)) (sym runs);
-      marked = subst (HasMarks wanted.count) (sym there) tt;
+      marked = subst (HasMarks selection.count) (sym there) tt;
     };
     sound =
         subst (λ b. AreSound b (columns_there (schema_of schema).fields head place) rows.count (range_with_len 0 rows.count)) (sym spoken_is)
         (subst (λ cs. AreSound (body_of (head_of head) body) cs rows.count (range_with_len 0 rows.count)) columns_are laid_out.sound);
     fit =
-        fit_all spoken (spots_of wanted) rows.count all_rows (schema_of schema).fields (columns_there (schema_of schema).fields head place) of_fields
+        fit_all spoken (spots_of selection) rows.count all_rows (schema_of schema).fields (columns_there (schema_of schema).fields head place) of_fields
         (subst (AreColumnsOfRows rows.count (shapes_of (schema_of schema).fields)) cells_are typed);
     formed = profile.well_formed;
     nodes_there = omega (arith, at_node, laid_out.head_kept.1.1.0);
@@ -178,10 +178,10 @@ module _ (schema : Schema) (head : BatchHead) (body spoken : List ℕ) (rows : R
     few = laid_out.head_kept.1.0.nodes_few;
   }
 
-  module _ (batch : Batch) (built : AreBuilt (schema_of schema).fields head place spoken wanted batch.columns.items) (held : batch.rows ≡ rows.count) where
+  module _ (batch : Batch) (built : AreBuilt (schema_of schema).fields head place spoken selection batch.columns.items) (held : batch.rows ≡ rows.count) where
     cells_held : columns_cells batch.columns.items ≡ columns_at spoken (columns_there (schema_of schema).fields head place) rows.count
     cells_held =
-        built.1 ∙ wanted_all spoken (spots_of wanted) rows.count all_rows (schema_of schema).fields (columns_there (schema_of schema).fields head place) of_fields
+        built.1 ∙ wanted_all spoken (spots_of selection) rows.count all_rows (schema_of schema).fields (columns_there (schema_of schema).fields head place) of_fields
 
     rows_held : rows ≡ rows_of batch
     rows_held = ap₂ (λ n cs. record { count = n; columns = cs }) (sym held) (cells_are ∙ sym cells_held)
@@ -194,7 +194,7 @@ module _ (schema : Schema) (head : BatchHead) (body spoken : List ℕ) (rows : R
       shapes = built.0;
       counts =
           subst (λ n. AllByRecursion (λ column. length column.cells ≡ n) batch.columns.items) (sym held)
-          (counts_all spoken (spots_of wanted) rows.count all_rows (columns_there (schema_of schema).fields head place) batch.columns.items cells_held);
+          (counts_all spoken (spots_of selection) rows.count all_rows (columns_there (schema_of schema).fields head place) batch.columns.items cells_held);
       rows_few = omega (arith, held, rows_few);
       values_few =
           subst (λ s. AllByRecursion (λ (node : Node). node.0 ≤ℤ pos values_limit) (columns_parts s (columns_cells batch.columns.items)).nodes) built.0

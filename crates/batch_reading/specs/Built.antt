@@ -1,4 +1,4 @@
--- The cells of a column at the wanted places: Apache Arrow, "Arrow Columnar Format", "Physical memory layout".
+-- The cells of a column at the selected places: Apache Arrow, "Arrow Columnar Format", "Physical memory layout".
 use Rattle.std.specs.Prelude.{ℕ, if◌then◌else◌, List, [], ◌∷◌, map}
 use Rattle.std.specs.List.{AllByRecursion}
 use Rattle.batch_types.specs.Cells.{Cell, null_cell, no_cell}
@@ -10,7 +10,7 @@ use Rattle.batch_types.specs.Canonical.{blank_cell, blank_of}
 use Rattle.batch_types.specs.Typed.{IsCellOf}
 use Rattle.batch_reading.specs.Spots.{Spot}
 
--- the cell at a spot, or the blank one where it is not wanted
+-- the cell at a spot, or the blank one where it is not selected
 abbrev pub cell_wanted : (ℕ → Cell) → Cell → Spot → Cell
 cell_wanted cell_there blank spot = if spot.1 then cell_there spot.0 else blank
 

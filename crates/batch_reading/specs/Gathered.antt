@@ -1,7 +1,7 @@
 -- Places that are gathered one behind the other.
 use Rattle.std.specs.Prelude.{◌≡◌, ℕ, ◌+◌, ◌*◌, ◌≤◌, List, ◌++◌, length}
 use Rattle.std.specs.List.{range_with_len}
-use Rattle.batch_reading.specs.declared.wanted.Run.{Run}
+use Rattle.batch_reading.specs.declared.selection.Run.{Run}
 use Rattle.batch_reading.specs.declared.inside.Spans.{Spans}
 use Rattle.batch_reading.specs.Spots.{DoRun, places_of}
 

@@ -4,8 +4,8 @@ use Rattle.std.specs.Prelude.{◌≡◌, ℕ, zero, suc, ◌+◌, ◌-◌, List,
 use Rattle.std.specs.List.{flat_map, range_with_len}
 use Rattle.byteorder.specs.Endian.{little_bytes}
 use Rattle.batch_types.specs.Placed.{start_of}
-use Rattle.batch_reading.specs.declared.wanted.Run.{Run}
-use Rattle.batch_reading.specs.declared.plan.Inside.{Inside}
+use Rattle.batch_reading.specs.declared.selection.Run.{Run}
+use Rattle.batch_reading.specs.declared.plan.ChildSelection.{ChildSelection}
 
 -- the offsets of so many values from this one on, and where the last of them ends, without the first offset
 abbrev pub offsets_from_zero : List ℕ → ℕ → ℕ → List ℕ
@@ -17,8 +17,8 @@ abbrev pub runs_from : ℕ → ℕ → List Run
 runs_from start zero = []
 runs_from start (suc n) = record { start = start; count = suc n } ∷ []
 
--- the elements of so many lists from this one on are wanted inside
-pub record AreElements (offsets : List ℕ) (start count : ℕ) (inside : Inside) : Type 0 where
+-- the elements of so many lists from this one on are selected inside
+pub record AreElements (offsets : List ℕ) (start count : ℕ) (inside : ChildSelection) : Type 0 where
   pub counted : inside.count ≡ start_of 4 offsets (start + count) - start_of 4 offsets start
   pub runs_are : inside.runs.items ≡ runs_from (start_of 4 offsets start) inside.count
   pub all_there : inside.there ≡ None

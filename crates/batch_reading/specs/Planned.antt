@@ -9,7 +9,7 @@ use Rattle.batch_types.specs.Layouts.{Layout, null_layout, bits_layout, bytes_la
 use Rattle.batch_types.specs.Layouts.{list_layout, fixed_size_list_layout, struct_layout}
 use Rattle.batch_types.specs.Placed.{start_of, length_of}
 use Rattle.batch_columns.specs.Made.{validity_bytes}
-use Rattle.batch_reading.specs.declared.plan.Inside.{Inside}
+use Rattle.batch_reading.specs.declared.plan.ChildSelection.{ChildSelection}
 use Rattle.batch_reading.specs.declared.plan.Plan.{Plan}
 use Rattle.batch_reading.specs.Spots.{DoRun, places_of, HasMarks, Spot, spots_at}
 use Rattle.batch_reading.specs.Taken.{is_shown, seen, bit_taken, block_taken, span_taken}
@@ -66,7 +66,7 @@ third_planned (list_layout offset) second third taken = []
 third_planned (fixed_size_list_layout size) second third taken = []
 third_planned struct_layout second third taken = []
 
--- ---- what is wanted inside
+-- ---- what is selected inside
 
 -- Inside a list the elements of those that are taken, inside a list of one size and inside a struct blank cells for the
 -- others.
@@ -84,8 +84,8 @@ spots_under struct_layout second spot = spot ∷ []
 abbrev pub spots_inside : Layout → List ℕ → List Spot → List Spot
 spots_inside layout second taken = flat_map (spots_under layout second) taken
 
--- these spots are wanted inside, in order
-pub record AreInside (spots : List Spot) (inside : Inside) : Type 0 where
+-- these spots are selected inside, in order
+pub record AreInside (spots : List Spot) (inside : ChildSelection) : Type 0 where
   pub rising : (end : ℕ) × DoRun 0 end inside.runs.items
   pub counted : inside.count ≡ length (places_of inside.runs.items)
   pub marked : HasMarks inside.count inside.there

@@ -1,4 +1,4 @@
--- Columns that a header lists for some fields, of which some places are wanted: Apache Arrow, "Arrow Columnar Format",
+-- Columns that a header lists for some fields, of which some places are selected: Apache Arrow, "Arrow Columnar Format",
 -- "RecordBatch message".
 use Rattle.std.specs.Prelude.{◌≡◌, ℕ, ◌+◌, ◌<◌, ◌≤◌, pos, ◌≤ℤ◌, List, map, length, drop, get_or}
 use Rattle.std.specs.List.{AllByRecursion}
@@ -17,8 +17,8 @@ use Rattle.batch_columns.specs.Contents.{Contents}
 use Rattle.batch_columns.specs.Held.{shapes_held}
 use Rattle.batch_columns.specs.declared.place.Place.{Place}
 use Rattle.batch_columns.specs.Sources.{columns_from}
-use Rattle.batch_reading.specs.declared.wanted.Wanted.{Wanted}
-use Rattle.batch_reading.specs.Spots.{spots_of, IsWanted}
+use Rattle.batch_reading.specs.declared.selection.Selection.{Selection}
+use Rattle.batch_reading.specs.Spots.{spots_of, IsSelection}
 use Rattle.batch_reading.specs.Built.{columns_wanted, AreFit}
 
 -- the fields of the program
@@ -30,14 +30,14 @@ abbrev pub columns_there : Forest → BatchHead → Place → LaidColumns
 columns_there fields head place =
     columns_from fields (drop place.node head.nodes.items) (drop place.buffer head.buffers.items)
 
--- The columns keep their rules, and the wanted cells are cells of the fields.
-pub record AreReadable (fields : Forest) (head : BatchHead) (place : Place) (body : List ℕ) (wanted : Wanted)
+-- The columns keep their rules, and the selected cells are cells of the fields.
+pub record AreReadable (fields : Forest) (head : BatchHead) (place : Place) (body : List ℕ) (selection : Selection)
     : Type 0 where
   pub asked : ℕ
   pub places : List ℕ
-  pub wanted_is : IsWanted asked wanted
+  pub wanted_is : IsSelection asked selection
   pub sound : AreSound body (columns_there fields head place) asked places
-  pub fit : AreFit body (columns_there fields head place) (shapes_of fields) (spots_of wanted)
+  pub fit : AreFit body (columns_there fields head place) (shapes_of fields) (spots_of selection)
   pub formed : IsWellFormedForest fields
   pub nodes_there : place.node + node_count fields ≤ length head.nodes.items
   pub buffers_there : place.buffer + buffer_count fields ≤ length head.buffers.items
@@ -51,9 +51,9 @@ HasFewValues s cells = AllByRecursion (λ node. node.0 ≤ℤ pos values_limit) 
 abbrev pub HaveFewValues : List Contents → Type 0
 HaveFewValues columns = AllByRecursion (λ column. HasFewValues column.shape column.cells) columns
 
--- these are the columns of the wanted cells
-abbrev pub AreBuilt : Forest → BatchHead → Place → List ℕ → Wanted → List Contents → Type 0
-AreBuilt fields head place body wanted columns =
+-- these are the columns of the selected cells
+abbrev pub AreBuilt : Forest → BatchHead → Place → List ℕ → Selection → List Contents → Type 0
+AreBuilt fields head place body selection columns =
     (shapes_held columns ≡ shapes_of fields)
     × (columns_cells columns
-    ≡ columns_wanted body (columns_there fields head place) (shapes_of fields) (spots_of wanted))
+    ≡ columns_wanted body (columns_there fields head place) (shapes_of fields) (spots_of selection))

@@ -1,13 +1,13 @@
--- The places of a column that are wanted: Apache Arrow, "Arrow Columnar Format", "Physical memory layout", for what
+-- The places of a column that are selected: Apache Arrow, "Arrow Columnar Format", "Physical memory layout", for what
 -- stands under a null.
 use Rattle.std.specs.Prelude.{◌≡◌, ℕ, zero, suc, ◌+◌, ◌<◌, ◌≤◌, Bool, true, Option, Some, None}
 use Rattle.std.specs.Prelude.{List, [], ◌∷◌, ◌++◌, length, drop}
 use Rattle.std.specs.Prelude.{replicate}
 use Rattle.std.specs.List.{range_with_len, zip}
 use Rattle.batch_types.specs.LaysOut.{values_limit}
-use Rattle.batch_reading.specs.declared.wanted.Run.{Run}
-use Rattle.batch_reading.specs.declared.wanted.Cursor.{Cursor}
-use Rattle.batch_reading.specs.declared.wanted.Wanted.{Wanted}
+use Rattle.batch_reading.specs.declared.selection.Run.{Run}
+use Rattle.batch_reading.specs.declared.selection.Cursor.{Cursor}
+use Rattle.batch_reading.specs.declared.selection.Selection.{Selection}
 
 -- ---- places
 
@@ -33,7 +33,7 @@ runs_of_rows (suc n) = record { start = 0; count = suc n } ∷ []
 
 -- ---- marks
 
--- which of so many cells are wanted: all where nothing says otherwise
+-- which of so many cells are selected: all where nothing says otherwise
 abbrev pub marks_of : ℕ → Option (List Bool) → List Bool
 marks_of count None = replicate count true
 marks_of count (Some marks) = marks
@@ -44,19 +44,19 @@ HasMarks count (Some marks) = length marks ≡ count
 
 -- ---- spots
 
--- a place, and whether the cell there is wanted
+-- a place, and whether the cell there is selected
 abbrev pub Spot : Type 0
 Spot = ℕ × Bool
 
 abbrev pub spots_at : List Run → ℕ → Option (List Bool) → List Spot
 spots_at runs count marks = zip (places_of runs) (marks_of count marks)
 
-abbrev pub spots_of : Wanted → List Spot
-spots_of wanted = spots_at wanted.runs.now wanted.count wanted.there.now
+abbrev pub spots_of : Selection → List Spot
+spots_of selection = spots_at selection.runs.now selection.count selection.there.now
 
 -- so many places below a limit, in order, and a mark for each or for none
-pub record IsWanted (limit : ℕ) (wanted : Wanted) : Type 0 where
-  pub rising : DoRun 0 limit wanted.runs.now
+pub record IsSelection (limit : ℕ) (selection : Selection) : Type 0 where
+  pub rising : DoRun 0 limit selection.runs.now
   pub few : limit ≤ values_limit
-  pub counted : wanted.count ≡ length (places_of wanted.runs.now)
-  pub marked : HasMarks wanted.count wanted.there.now
+  pub counted : selection.count ≡ length (places_of selection.runs.now)
+  pub marked : HasMarks selection.count selection.there.now

@@ -1,4 +1,4 @@
--- What is taken of a column's buffers at the wanted places: Apache Arrow, "Arrow Columnar Format", "Physical memory
+-- What is taken of a column's buffers at the selected places: Apache Arrow, "Arrow Columnar Format", "Physical memory
 -- layout".
 use Rattle.std.specs.Prelude.{ℕ, ◌*◌, ◌==◌, ◌||◌, ◌&&◌, Bool, not, if◌then◌else◌, List, [], length, replicate}
 use Rattle.bitmaps.specs.Bits.{bit_of}

@@ -10,8 +10,8 @@ ghost use Rattle.batch_columns.specs.Batches.{IsBatchOf, rows_of};
 ghost use Rattle.batch_reading.specs.Spots.{runs_of_rows};
 
 use crate::building::build_columns;
-use crate::plan::Inside;
-use crate::wanted::Run;
+use crate::plan::ChildSelection;
+use crate::selection::Run;
 use batch_columns::laws::sources_are_the_columns;
 use batch_columns::{Batch, Place};
 use batch_types::laws::laid_out_rows_are_of_the_schema;
@@ -64,15 +64,15 @@ pub fn build_batch(
     laid_out_rows_are_of_the_schema();
     let count = row_count(head);
     let runs = row_runs(alloc, count)?;
-    let rows = Inside {
+    let rows = ChildSelection {
         count,
         runs,
         there: None,
     };
-    let wanted = rows.wanted();
+    let selection = rows.selection();
     let fields = schema.fields.as_slice();
     let spoken = spoken_of(head, body);
-    let (columns, _) = build_columns(alloc, fields, head, Place::FIRST, spoken, &wanted)?;
+    let (columns, _) = build_columns(alloc, fields, head, Place::FIRST, spoken, &selection)?;
     Ok(Batch {
         rows: count as u64,
         columns,

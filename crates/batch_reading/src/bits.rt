@@ -1,4 +1,4 @@
-//! The bits of wanted places.
+//! The bits of selected places.
 
 ghost use Rattle.std.specs.Prelude.{◌≡◌, ℕ, ◌<◌, ◌≤◌, map, length, replicate, true, Some, IfOk};
 ghost use Rattle.std.specs.List.{zip};
@@ -6,10 +6,10 @@ ghost use Rattle.bitmaps.specs.Bits.{bit_of, zeros};
 ghost use Rattle.bitmaps.specs.Joined.{set_in_one};
 ghost use Rattle.batch_types.specs.LaysOut.{values_limit};
 ghost use Rattle.batch_columns.specs.Made.{validity_bytes};
-ghost use Rattle.batch_reading.specs.Spots.{DoRun, places_of, HasMarks, spots_at, spots_of, IsWanted};
+ghost use Rattle.batch_reading.specs.Spots.{DoRun, places_of, HasMarks, spots_at, spots_of, IsSelection};
 ghost use Rattle.batch_reading.specs.Taken.{is_shown, seen, bit_taken};
 
-use crate::wanted::{Run, Wanted};
+use crate::selection::{Run, Selection};
 use bitmaps::Bitmap;
 use std::alloc::{AllocError, Global};
 
@@ -38,19 +38,19 @@ fn set_unmarked(alloc: Global, bits: &Bitmap, marks: &Bitmap) -> Result<Bitmap, 
     Ok(made)
 }
 
-/// The bits at the wanted places, and the other bit where the cell is not marked.
+/// The bits at the selected places, and the other bit where the cell is not marked.
 fn marked_bits(
     alloc: Global,
     bytes: &[u8],
-    wanted: &Wanted<'_>,
+    selection: &Selection<'_>,
     marks: &Bitmap,
     other: bool,
 ) -> Result<Bitmap, AllocError>
-    requires wanted { (limit : ℕ) × IsWanted limit wanted.now }
-    requires marks { wanted.now.there.now ≡ Some marks.now }
-    ensures { IfOk result (λ bits. bits ≡ map (bit_taken bytes.now other) (spots_of wanted.now)) }
+    requires selection { (limit : ℕ) × IsSelection limit selection.now }
+    requires marks { selection.now.there.now ≡ Some marks.now }
+    ensures { IfOk result (λ bits. bits ≡ map (bit_taken bytes.now other) (spots_of selection.now)) }
 {
-    let mut bits = run_bits(alloc, bytes, wanted.runs)?;
+    let mut bits = run_bits(alloc, bytes, selection.runs)?;
     bits.and_with(marks);
     if other {
         set_unmarked(alloc, &bits, marks)
@@ -59,25 +59,25 @@ fn marked_bits(
     }
 }
 
-/// The bits at the wanted places, and the other bit where the cell is not wanted.
+/// The bits at the selected places, and the other bit where the cell is not selected.
 pub(crate) fn bits_taken(
     alloc: Global,
     bytes: &[u8],
-    wanted: &Wanted<'_>,
+    selection: &Selection<'_>,
     other: bool,
 ) -> Result<Bitmap, AllocError>
-    requires { (limit : ℕ) × IsWanted limit wanted.now }
-    ensures { IfOk result (λ bits. bits ≡ map (bit_taken bytes.now other) (spots_of wanted.now)) }
+    requires { (limit : ℕ) × IsSelection limit selection.now }
+    ensures { IfOk result (λ bits. bits ≡ map (bit_taken bytes.now other) (spots_of selection.now)) }
 {
-    match wanted.there {
-        Some(marks) => marked_bits(alloc, bytes, wanted, marks, other),
-        None => run_bits(alloc, bytes, wanted.runs),
+    match selection.there {
+        Some(marks) => marked_bits(alloc, bytes, selection, marks, other),
+        None => run_bits(alloc, bytes, selection.runs),
     }
 }
 
-/// Which of the wanted cells are null, and which values are taken.
+/// Which of the selected cells are null, and which values are taken.
 #[derive(Drop)]
-pub(crate) struct Marks {
+pub(crate) struct SelectedValidity {
     /// The validity bitmap of the column that is built, no bytes where nothing is null.
     pub validity: Vec<u8>,
     /// How many cells are null.
@@ -96,71 +96,75 @@ fn same_marks(marks: &Option<Bitmap>) -> Result<Option<Bitmap>, AllocError>
     }
 }
 
-/// The marks where all wanted cells are valid.
-fn without_nulls(alloc: Global, validity: &[u8], wanted: &Wanted<'_>) -> Result<Marks, AllocError>
-    requires wanted { (limit : ℕ) × IsWanted limit wanted.now }
-    requires valid { zeros (map (is_shown validity.now) (spots_of wanted.now)) ≡ 0 }
+/// The marks where all selected cells are valid.
+fn without_nulls(
+    alloc: Global,
+    validity: &[u8],
+    selection: &Selection<'_>,
+) -> Result<SelectedValidity, AllocError>
+    requires selection { (limit : ℕ) × IsSelection limit selection.now }
+    requires valid { zeros (map (is_shown validity.now) (spots_of selection.now)) ≡ 0 }
     ensures validity { IfOk result (λ marks. marks.validity.items
-        ≡ validity_bytes (map (is_shown validity.now) (spots_of wanted.now))) }
-    ensures nulls { IfOk result (λ marks. marks.nulls ≡ zeros (map (is_shown validity.now) (spots_of wanted.now))) }
-    ensures taken { IfOk result (λ marks. spots_at wanted.now.runs.now wanted.now.count marks.taken
-        ≡ map (seen validity.now) (spots_of wanted.now)) }
-    ensures marked { IfOk result (λ marks. HasMarks wanted.now.count marks.taken) }
+        ≡ validity_bytes (map (is_shown validity.now) (spots_of selection.now))) }
+    ensures nulls { IfOk result (λ marks. marks.nulls ≡ zeros (map (is_shown validity.now) (spots_of selection.now))) }
+    ensures taken { IfOk result (λ marks. spots_at selection.now.runs.now selection.now.count marks.taken
+        ≡ map (seen validity.now) (spots_of selection.now)) }
+    ensures marked { IfOk result (λ marks. HasMarks selection.now.count marks.taken) }
 {
-    Ok(Marks {
+    Ok(SelectedValidity {
         validity: Vec::new(alloc),
         nulls: 0,
-        taken: same_marks(wanted.there)?,
+        taken: same_marks(selection.there)?,
     })
 }
 
-/// The marks where so many of the wanted cells are null.
+/// The marks where so many of the selected cells are null.
 fn with_nulls(
     alloc: Global,
     validity: &[u8],
-    wanted: &Wanted<'_>,
+    selection: &Selection<'_>,
     shown: Bitmap,
     nulls: usize,
-) -> Result<Marks, AllocError>
-    requires wanted { (limit : ℕ) × IsWanted limit wanted.now }
+) -> Result<SelectedValidity, AllocError>
+    requires selection { (limit : ℕ) × IsSelection limit selection.now }
     requires some { (0 < length validity.now) × (0 < nulls) }
-    requires shown { shown ≡ map (is_shown validity.now) (spots_of wanted.now) }
+    requires shown { shown ≡ map (is_shown validity.now) (spots_of selection.now) }
     requires nulls { nulls ≡ zeros shown }
     ensures validity { IfOk result (λ marks. marks.validity.items
-        ≡ validity_bytes (map (is_shown validity.now) (spots_of wanted.now))) }
-    ensures nulls { IfOk result (λ marks. marks.nulls ≡ zeros (map (is_shown validity.now) (spots_of wanted.now))) }
-    ensures taken { IfOk result (λ marks. spots_at wanted.now.runs.now wanted.now.count marks.taken
-        ≡ map (seen validity.now) (spots_of wanted.now)) }
-    ensures marked { IfOk result (λ marks. HasMarks wanted.now.count marks.taken) }
+        ≡ validity_bytes (map (is_shown validity.now) (spots_of selection.now))) }
+    ensures nulls { IfOk result (λ marks. marks.nulls ≡ zeros (map (is_shown validity.now) (spots_of selection.now))) }
+    ensures taken { IfOk result (λ marks. spots_at selection.now.runs.now selection.now.count marks.taken
+        ≡ map (seen validity.now) (spots_of selection.now)) }
+    ensures marked { IfOk result (λ marks. HasMarks selection.now.count marks.taken) }
 {
-    Ok(Marks {
-        taken: Some(bits_taken(alloc, validity, wanted, false)?),
+    Ok(SelectedValidity {
+        taken: Some(bits_taken(alloc, validity, selection, false)?),
         validity: shown.into_bytes(),
         nulls,
     })
 }
 
-/// Which of the wanted cells are null by this validity bitmap, and which values are taken.
+/// Which of the selected cells are null by this validity bitmap, and which values are taken.
 pub(crate) fn marks_at(
     alloc: Global,
     validity: &[u8],
-    wanted: &Wanted<'_>,
-) -> Result<Marks, AllocError>
-    requires { (limit : ℕ) × IsWanted limit wanted.now }
+    selection: &Selection<'_>,
+) -> Result<SelectedValidity, AllocError>
+    requires { (limit : ℕ) × IsSelection limit selection.now }
     ensures validity { IfOk result (λ marks. marks.validity.items
-        ≡ validity_bytes (map (is_shown validity.now) (spots_of wanted.now))) }
-    ensures nulls { IfOk result (λ marks. marks.nulls ≡ zeros (map (is_shown validity.now) (spots_of wanted.now))) }
-    ensures taken { IfOk result (λ marks. spots_at wanted.now.runs.now wanted.now.count marks.taken
-        ≡ map (seen validity.now) (spots_of wanted.now)) }
-    ensures marked { IfOk result (λ marks. HasMarks wanted.now.count marks.taken) }
+        ≡ validity_bytes (map (is_shown validity.now) (spots_of selection.now))) }
+    ensures nulls { IfOk result (λ marks. marks.nulls ≡ zeros (map (is_shown validity.now) (spots_of selection.now))) }
+    ensures taken { IfOk result (λ marks. spots_at selection.now.runs.now selection.now.count marks.taken
+        ≡ map (seen validity.now) (spots_of selection.now)) }
+    ensures marked { IfOk result (λ marks. HasMarks selection.now.count marks.taken) }
 {
     if validity.is_empty() {
-        return without_nulls(alloc, validity, wanted);
+        return without_nulls(alloc, validity, selection);
     }
-    let shown = bits_taken(alloc, validity, wanted, true)?;
+    let shown = bits_taken(alloc, validity, selection, true)?;
     let nulls = shown.count_zeros();
     if nulls == 0 {
-        return without_nulls(alloc, validity, wanted);
+        return without_nulls(alloc, validity, selection);
     }
-    with_nulls(alloc, validity, wanted, shown, nulls)
+    with_nulls(alloc, validity, selection, shown, nulls)
 }

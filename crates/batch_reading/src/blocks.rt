@@ -1,13 +1,13 @@
-//! The bytes of wanted values that have so many bytes each.
+//! The bytes of selected values that have so many bytes each.
 
 ghost use Rattle.std.specs.Prelude.{◌≡◌, ℕ, ◌+◌, ◌*◌, ◌≤◌, length, if◌then◌else◌, Some, IfOk};
 ghost use Rattle.std.specs.List.{flat_map};
 ghost use Rattle.batch_types.specs.Placed.{bytes_from};
-ghost use Rattle.batch_reading.specs.Spots.{DoRun, places_of, spots_of, IsWanted};
+ghost use Rattle.batch_reading.specs.Spots.{DoRun, places_of, spots_of, IsSelection};
 ghost use Rattle.batch_reading.specs.Cleared.{without_block, cleared};
 ghost use Rattle.batch_reading.specs.Taken.{block_taken};
 
-use crate::wanted::{Run, Wanted, bit_at};
+use crate::selection::{Run, Selection, bit_at};
 use bitmaps::Bitmap;
 use std::alloc::{AllocError, Global};
 
@@ -63,35 +63,35 @@ fn clear_unmarked(blocks: &mut [u8], size: usize, marks: &Bitmap)
     }
 }
 
-/// The bytes of the wanted values, and zero bytes where the value is not marked.
+/// The bytes of the selected values, and zero bytes where the value is not marked.
 fn marked_blocks(
     alloc: Global,
     size: usize,
     bytes: &[u8],
-    wanted: &Wanted<'_>,
+    selection: &Selection<'_>,
     marks: &Bitmap,
 ) -> Result<Vec<u8>, AllocError>
-    requires wanted { (limit : ℕ) × IsWanted limit wanted.now × (size * limit ≤ length bytes.now) }
-    requires marks { wanted.now.there.now ≡ Some marks.now }
-    ensures { IfOk result (λ blocks. blocks.items ≡ flat_map (block_taken size bytes.now) (spots_of wanted.now)) }
+    requires selection { (limit : ℕ) × IsSelection limit selection.now × (size * limit ≤ length bytes.now) }
+    requires marks { selection.now.there.now ≡ Some marks.now }
+    ensures { IfOk result (λ blocks. blocks.items ≡ flat_map (block_taken size bytes.now) (spots_of selection.now)) }
 {
-    let mut blocks = run_blocks(alloc, size, bytes, wanted.runs)?;
+    let mut blocks = run_blocks(alloc, size, bytes, selection.runs)?;
     clear_unmarked(blocks.as_mut_slice(), size, marks);
     Ok(blocks)
 }
 
-/// The bytes of the wanted values, and zero bytes where the value is not wanted.
+/// The bytes of the selected values, and zero bytes where the value is not selected.
 pub(crate) fn blocks_taken(
     alloc: Global,
     size: usize,
     bytes: &[u8],
-    wanted: &Wanted<'_>,
+    selection: &Selection<'_>,
 ) -> Result<Vec<u8>, AllocError>
-    requires { (limit : ℕ) × IsWanted limit wanted.now × (size * limit ≤ length bytes.now) }
-    ensures { IfOk result (λ blocks. blocks.items ≡ flat_map (block_taken size bytes.now) (spots_of wanted.now)) }
+    requires { (limit : ℕ) × IsSelection limit selection.now × (size * limit ≤ length bytes.now) }
+    ensures { IfOk result (λ blocks. blocks.items ≡ flat_map (block_taken size bytes.now) (spots_of selection.now)) }
 {
-    match wanted.there {
-        Some(marks) => marked_blocks(alloc, size, bytes, wanted, marks),
-        None => run_blocks(alloc, size, bytes, wanted.runs),
+    match selection.there {
+        Some(marks) => marked_blocks(alloc, size, bytes, selection, marks),
+        None => run_blocks(alloc, size, bytes, selection.runs),
     }
 }

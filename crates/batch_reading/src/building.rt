@@ -12,13 +12,13 @@ ghost use Rattle.batch_columns.specs.Read.{column_at, IsSourceOf, LiesInside};
 ghost use Rattle.batch_reading.specs.Readable.{forest_seen, AreReadable, HaveFewValues, AreBuilt};
 
 use crate::plan::{Plan, plan_column};
-use crate::wanted::Wanted;
-use batch_columns::{Column, Layout, Place, Source, source_at};
+use crate::selection::Selection;
+use batch_columns::{Column, EncodedColumn, Layout, Place, encoded_column_at};
 use header_types::{BatchHead, Field};
 use std::alloc::{AllocError, Global};
 
 /// The column of a field as the header and the body have it, whose buffers lie inside the body.
-fn source_of<'a>(field: &Field, head: &BatchHead, place: Place, body: &'a [u8]) -> Source<'a>
+fn source_of<'a>(field: &Field, head: &BatchHead, place: Place, body: &'a [u8]) -> EncodedColumn<'a>
     requires node { place.node < length head.now.nodes.items }
     requires counted { pos 0 ≤ℤ (get_or head.now.nodes.items place.node (pos 0, pos 0)).0 }
     requires buffers { place.buffer + buffers_in_layout (layout_of_type (field_head_of field.now).data_type)
@@ -26,7 +26,7 @@ fn source_of<'a>(field: &Field, head: &BatchHead, place: Place, body: &'a [u8]) 
     requires inside { LiesInside body.now (column_at field.now head.now place) }
     ensures { IsSourceOf body.now (column_at field.now head.now place) result }
 {
-    source_at(field, head, place, body).unwrap()
+    encoded_column_at(field, head, place, body).unwrap()
 }
 
 /// The column that was planned, with the columns inside it.
@@ -48,7 +48,7 @@ fn column_of(layout: Layout, count: usize, plan: Plan, inside: Vec<Column>) -> C
     )
 }
 
-/// The columns of the wanted cells of some fields, whose columns stand at this place of the header, and where the next
+/// The columns of the selected cells of some fields, whose columns stand at this place of the header, and where the next
 /// column stands.
 pub(crate) fn build_columns(
     alloc: Global,
@@ -56,11 +56,11 @@ pub(crate) fn build_columns(
     head: &BatchHead,
     place: Place,
     body: &[u8],
-    wanted: &Wanted<'_>,
+    selection: &Selection<'_>,
 ) -> Result<(Vec<Column>, Place), AllocError>
-    requires { AreReadable (forest_seen fields.now) head.now place body.now wanted.now }
+    requires { AreReadable (forest_seen fields.now) head.now place body.now selection.now }
     ensures built { IfOk result
-        (λ made. AreBuilt (forest_seen fields.now) head.now place body.now wanted.now made.0.items) }
+        (λ made. AreBuilt (forest_seen fields.now) head.now place body.now selection.now made.0.items) }
     ensures few { IfOk result (λ made. HaveFewValues made.0.items) }
     ensures node { IfOk result (λ made. made.1.node ≡ place.node + node_count (forest_seen fields.now)) }
     ensures buffer { IfOk result (λ made. made.1.buffer ≡ place.buffer + buffer_count (forest_seen fields.now)) }
@@ -70,8 +70,8 @@ pub(crate) fn build_columns(
     for field in fields {
         let source = source_of(field, head, next, body);
         let layout = source.layout;
-        let plan = plan_column(alloc, &source, wanted)?;
-        let inner = plan.inside.wanted();
+        let plan = plan_column(alloc, &source, selection)?;
+        let inner = plan.inside.selection();
         let first = next.inside(layout);
         let (inside, behind) = build_columns(
             alloc,
@@ -81,7 +81,7 @@ pub(crate) fn build_columns(
             body,
             &inner,
         )?;
-        columns.push(column_of(layout, wanted.count, plan, inside))?;
+        columns.push(column_of(layout, selection.count, plan, inside))?;
         next = behind;
     }
     Ok((columns, next))

@@ -1,4 +1,4 @@
-//! What is wanted inside lists.
+//! What is selected inside lists.
 
 ghost use Rattle.std.specs.Prelude.{◌≡◌, ℕ, ◌+◌, ◌*◌, ◌<◌, ◌≤◌, ◌++◌, [], map, length};
 ghost use Rattle.std.specs.Prelude.{replicate, slice_index_or, false, IfOk, OnOk};
@@ -10,13 +10,13 @@ ghost use Rattle.batch_types.specs.LaysOut.{values_limit};
 ghost use Rattle.batch_types.specs.Placed.{start_of};
 ghost use Rattle.batch_reading.specs.Gathered.{scaled, places_gathered, AreGathered};
 ghost use Rattle.batch_reading.specs.Planned.{elements_taken, spots_inside, AreInside};
-ghost use Rattle.batch_reading.specs.Spots.{DoRun, places_of, marks_of, HasMarks, spots_of, IsWanted};
+ghost use Rattle.batch_reading.specs.Spots.{DoRun, places_of, marks_of, HasMarks, spots_of, IsSelection};
 ghost use Rattle.batch_reading.specs.Spread.{HasSpans};
 
-use crate::one_run::{only_run, run_lists};
-use crate::plan::Inside;
+use crate::one_run::{contiguous_range, run_lists};
+use crate::plan::ChildSelection;
+use crate::selection::{Cursor, Run, Selection, bit_at, is_marked, next_place};
 use crate::spans::{offset_at, put_offset};
-use crate::wanted::{Cursor, Run, Wanted, bit_at, is_marked, next_place};
 use bitmaps::Bitmap;
 use std::alloc::{AllocError, Global};
 
@@ -64,20 +64,20 @@ fn repeated(
     }
 }
 
-/// What is wanted inside a list of this size, which is not 0.
+/// What is selected inside a list of this size, which is not 0.
 pub(crate) fn fixed_inside(
     alloc: Global,
     size: usize,
-    wanted: &Wanted<'_>,
-) -> Result<Inside, AllocError>
-    requires { (limit : ℕ) × IsWanted limit wanted.now × (size * limit ≤ values_limit) × (0 < size) }
+    selection: &Selection<'_>,
+) -> Result<ChildSelection, AllocError>
+    requires { (limit : ℕ) × IsSelection limit selection.now × (size * limit ≤ values_limit) × (0 < size) }
     ensures { IfOk result
-        (λ inside. AreInside (spots_inside (fixed_size_list_layout size) [] (spots_of wanted.now)) inside) }
+        (λ inside. AreInside (spots_inside (fixed_size_list_layout size) [] (spots_of selection.now)) inside) }
 {
-    Ok(Inside {
-        count: size * wanted.count,
-        runs: scaled_runs(alloc, size, wanted.runs)?,
-        there: repeated(alloc, size, wanted.there, wanted.count)?,
+    Ok(ChildSelection {
+        count: size * selection.count,
+        runs: scaled_runs(alloc, size, selection.runs)?,
+        there: repeated(alloc, size, selection.there, selection.count)?,
     })
 }
 
@@ -171,19 +171,19 @@ fn put_list(
     put_offset(ends, spans.count)
 }
 
-/// The offsets of the wanted lists, and what is wanted inside: the elements of those that are wanted, list by list.
+/// The offsets of the selected lists, and what is selected inside: the elements of those that are selected, list by list.
 fn picked_lists(
     alloc: Global,
     offsets: &[u8],
-    wanted: &Wanted<'_>,
-) -> Result<(Vec<u8>, Inside), AllocError>
-    requires { (limit : ℕ) × (total : ℕ) × IsWanted limit wanted.now × HasSpans offsets.now limit total
+    selection: &Selection<'_>,
+) -> Result<(Vec<u8>, ChildSelection), AllocError>
+    requires { (limit : ℕ) × (total : ℕ) × IsSelection limit selection.now × HasSpans offsets.now limit total
         × (total ≤ values_limit) }
     ensures offsets { IfOk result
         (λ made. made.0.items
-        ≡ offsets_of 4 (map (λ spot. length (elements_taken offsets.now spot)) (spots_of wanted.now))) }
+        ≡ offsets_of 4 (map (λ spot. length (elements_taken offsets.now spot)) (spots_of selection.now))) }
     ensures inside { IfOk result
-        (λ made. AreInside (spots_inside (list_layout 4) offsets.now (spots_of wanted.now)) made.1) }
+        (λ made. AreInside (spots_inside (list_layout 4) offsets.now (spots_of selection.now)) made.1) }
 {
     let mut ends = Vec::new(alloc);
     let mut spans = Spans {
@@ -193,9 +193,9 @@ fn picked_lists(
     };
     let mut cursor = Cursor::FIRST;
     put_offset(&mut ends, 0)?;
-    for number in 0..wanted.count {
-        let place = next_place(wanted.runs, &mut cursor);
-        let taken = is_marked(wanted.there, wanted.count, number);
+    for number in 0..selection.count {
+        let place = next_place(selection.runs, &mut cursor);
+        let taken = is_marked(selection.there, selection.count, number);
         put_list(&mut ends, &mut spans, offsets, place, taken)?;
     }
     let Spans {
@@ -206,7 +206,7 @@ fn picked_lists(
     close(&mut runs, last)?;
     Ok((
         ends,
-        Inside {
+        ChildSelection {
             count,
             runs,
             there: None,
@@ -214,22 +214,22 @@ fn picked_lists(
     ))
 }
 
-/// The offsets of the wanted lists, and what is wanted inside: the elements of those that are wanted.
+/// The offsets of the selected lists, and what is selected inside: the elements of those that are selected.
 pub(crate) fn lists_inside(
     alloc: Global,
     offsets: &[u8],
-    wanted: &Wanted<'_>,
-) -> Result<(Vec<u8>, Inside), AllocError>
-    requires { (limit : ℕ) × (total : ℕ) × IsWanted limit wanted.now × HasSpans offsets.now limit total
+    selection: &Selection<'_>,
+) -> Result<(Vec<u8>, ChildSelection), AllocError>
+    requires { (limit : ℕ) × (total : ℕ) × IsSelection limit selection.now × HasSpans offsets.now limit total
         × (total ≤ values_limit) }
     ensures offsets { IfOk result
         (λ made. made.0.items
-        ≡ offsets_of 4 (map (λ spot. length (elements_taken offsets.now spot)) (spots_of wanted.now))) }
+        ≡ offsets_of 4 (map (λ spot. length (elements_taken offsets.now spot)) (spots_of selection.now))) }
     ensures inside { IfOk result
-        (λ made. AreInside (spots_inside (list_layout 4) offsets.now (spots_of wanted.now)) made.1) }
+        (λ made. AreInside (spots_inside (list_layout 4) offsets.now (spots_of selection.now)) made.1) }
 {
-    match only_run(wanted) {
+    match contiguous_range(selection) {
         Some(run) => run_lists(alloc, offsets, run),
-        None => picked_lists(alloc, offsets, wanted),
+        None => picked_lists(alloc, offsets, selection),
     }
 }

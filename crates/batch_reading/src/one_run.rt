@@ -8,17 +8,17 @@ ghost use Rattle.batch_reading.specs.OneRun.{offsets_from_zero, runs_from, AreEl
 ghost use Rattle.batch_reading.specs.Spots.{places_of};
 ghost use Rattle.batch_reading.specs.Spread.{HasSpans};
 
-use crate::plan::Inside;
+use crate::plan::ChildSelection;
+use crate::selection::{Run, Selection};
 use crate::spans::{offset_at, part, put_offset};
-use crate::wanted::{Run, Wanted};
 use std::alloc::{AllocError, Global};
 
-/// The run that is wanted, where it is the only one and no cell of it is left out.
-pub(crate) fn only_run(wanted: &Wanted<'_>) -> Option<Run>
-    ensures runs { IfSome result (λ run. wanted.now.runs.now ≡ run ∷ []) }
-    ensures there { IfSome result (λ run. wanted.now.there.now ≡ None) }
+/// The run that is selected, where it is the only one and no cell of it is left out.
+pub(crate) fn contiguous_range(selection: &Selection<'_>) -> Option<Run>
+    ensures runs { IfSome result (λ run. selection.now.runs.now ≡ run ∷ []) }
+    ensures there { IfSome result (λ run. selection.now.there.now ≡ None) }
 {
-    match (wanted.runs, wanted.there) {
+    match (selection.runs, selection.there) {
         ([run], None) => Some(*run),
         _ => None,
     }
@@ -88,12 +88,12 @@ fn run_of(alloc: Global, start: usize, count: usize) -> Result<Vec<Run>, AllocEr
     Ok(runs)
 }
 
-/// The offsets of the lists of a run, from 0 on, and what is wanted inside: their elements.
+/// The offsets of the lists of a run, from 0 on, and what is selected inside: their elements.
 pub(crate) fn run_lists(
     alloc: Global,
     offsets: &[u8],
     run: Run,
-) -> Result<(Vec<u8>, Inside), AllocError>
+) -> Result<(Vec<u8>, ChildSelection), AllocError>
     requires offsets { (limit : ℕ) × (total : ℕ) × HasSpans offsets.now limit total × (run.start + run.count ≤ limit) }
     requires some { 0 < run.count }
     ensures offsets { IfOk result (λ made. made.0.items ≡ offsets_from_zero offsets.now run.start run.count) }
@@ -101,7 +101,7 @@ pub(crate) fn run_lists(
 {
     let start = offset_at(offsets, run.start);
     let end = offset_at(offsets, run.start + run.count);
-    let inside = Inside {
+    let inside = ChildSelection {
         count: end - start,
         runs: run_of(alloc, start, end - start)?,
         there: None,

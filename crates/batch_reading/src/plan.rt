@@ -5,39 +5,39 @@ ghost use Rattle.batch_types.specs.Layouts.{null_layout, bits_layout, bytes_layo
 ghost use Rattle.batch_types.specs.LaysOut.{values_limit};
 ghost use Rattle.batch_columns.specs.Held.{layout_named};
 ghost use Rattle.batch_reading.specs.Planned.{spots_inside, AreInside, IsPlanned};
-ghost use Rattle.batch_reading.specs.Spots.{spots_of, IsWanted};
+ghost use Rattle.batch_reading.specs.Spots.{spots_of, IsSelection};
 ghost use Rattle.batch_reading.specs.Spread.{HasSpans, IsSpread, ReadsWithin};
 
-use crate::bits::{Marks, bits_taken, marks_at};
+use crate::bits::{SelectedValidity, bits_taken, marks_at};
 use crate::blocks::blocks_taken;
 use crate::inside::{fixed_inside, lists_inside};
+use crate::selection::{Run, Selection};
 use crate::spans::spans_taken;
-use crate::wanted::{Run, Wanted};
-use batch_columns::{Layout, Source};
+use batch_columns::{EncodedColumn, Layout};
 use bitmaps::Bitmap;
 use std::alloc::{AllocError, Global};
 
-/// The places that are wanted of the columns inside a column.
+/// The places that are selected of the columns inside a column.
 #[derive(Drop)]
-pub(crate) struct Inside {
+pub(crate) struct ChildSelection {
     /// How many there are.
     pub count: usize,
     /// The places, as runs that are not empty and lie behind one another.
     pub runs: Vec<Run>,
-    /// Which of the cells there are wanted, all where there is no bitmap.
+    /// Which of the cells there are selected, all where there is no bitmap.
     pub there: Option<Bitmap>,
 }
 
-impl Inside {
+impl ChildSelection {
     ghost use Rattle.std.specs.Prelude.{◌≡◌};
 
     /// The places, lent.
-    pub fn wanted(&self) -> Wanted<'_>
+    pub fn selection(&self) -> Selection<'_>
         ensures count { result.count ≡ self.now.count }
         ensures runs { result.runs.now ≡ self.now.runs.items }
         ensures there { result.there.now ≡ self.now.there }
     {
-        Wanted {
+        Selection {
             count: self.count,
             runs: self.runs.as_slice(),
             there: &self.there,
@@ -56,15 +56,15 @@ pub(crate) struct Plan {
     pub second: Vec<u8>,
     /// The third buffer.
     pub third: Vec<u8>,
-    /// What is wanted of the columns inside.
-    pub inside: Inside,
+    /// What is selected of the columns inside.
+    pub inside: ChildSelection,
 }
 
 /// Nothing inside.
-fn nothing_inside(alloc: Global) -> Inside
+fn nothing_inside(alloc: Global) -> ChildSelection
     ensures { AreInside [] result }
 {
-    Inside {
+    ChildSelection {
         count: 0,
         runs: Vec::new(alloc),
         there: None,
@@ -72,13 +72,13 @@ fn nothing_inside(alloc: Global) -> Inside
 }
 
 /// The plan in the layout `Null`. It takes no memory.
-fn plan_nulls(alloc: Global, wanted: &Wanted<'_>) -> Plan
-    requires { (limit : ℕ) × IsWanted limit wanted.now }
+fn plan_nulls(alloc: Global, selection: &Selection<'_>) -> Plan
+    requires { (limit : ℕ) × IsSelection limit selection.now }
     ensures { (validity second third : List ℕ)
-        → IsPlanned null_layout validity second third (spots_of wanted.now) result }
+        → IsPlanned null_layout validity second third (spots_of selection.now) result }
 {
     Plan {
-        nulls: wanted.count,
+        nulls: selection.count,
         validity: Vec::new(alloc),
         second: Vec::new(alloc),
         third: Vec::new(alloc),
@@ -91,20 +91,20 @@ fn plan_bits(
     alloc: Global,
     validity: &[u8],
     second: &[u8],
-    wanted: &Wanted<'_>,
+    selection: &Selection<'_>,
 ) -> Result<Plan, AllocError>
-    requires { (limit : ℕ) × IsWanted limit wanted.now }
+    requires { (limit : ℕ) × IsSelection limit selection.now }
     ensures { IfOk result (λ plan. (third : List ℕ)
-        → IsPlanned bits_layout validity.now second.now third (spots_of wanted.now) plan) }
+        → IsPlanned bits_layout validity.now second.now third (spots_of selection.now) plan) }
 {
-    let Marks {
+    let SelectedValidity {
         validity,
         nulls,
         taken,
-    } = marks_at(alloc, validity, wanted)?;
-    let values = Wanted {
+    } = marks_at(alloc, validity, selection)?;
+    let values = Selection {
         there: &taken,
-        ..*wanted
+        ..*selection
     };
     let bits = bits_taken(alloc, second, &values, false)?;
     Ok(Plan {
@@ -122,21 +122,21 @@ fn plan_blocks(
     size: u32,
     validity: &[u8],
     second: &[u8],
-    wanted: &Wanted<'_>,
+    selection: &Selection<'_>,
 ) -> Result<Plan, AllocError>
-    requires { (limit : ℕ) × IsWanted limit wanted.now × (size * limit ≤ length second.now) }
+    requires { (limit : ℕ) × IsSelection limit selection.now × (size * limit ≤ length second.now) }
     ensures { IfOk result
         (λ plan. (third : List ℕ)
-        → IsPlanned (bytes_layout size) validity.now second.now third (spots_of wanted.now) plan) }
+        → IsPlanned (bytes_layout size) validity.now second.now third (spots_of selection.now) plan) }
 {
-    let Marks {
+    let SelectedValidity {
         validity,
         nulls,
         taken,
-    } = marks_at(alloc, validity, wanted)?;
-    let values = Wanted {
+    } = marks_at(alloc, validity, selection)?;
+    let values = Selection {
         there: &taken,
-        ..*wanted
+        ..*selection
     };
     Ok(Plan {
         nulls,
@@ -154,21 +154,21 @@ fn plan_spans(
     validity: &[u8],
     second: &[u8],
     third: &[u8],
-    wanted: &Wanted<'_>,
+    selection: &Selection<'_>,
 ) -> Result<Plan, AllocError>
     requires layout { IsSpread (layout_named layout) }
-    requires wanted { (limit : ℕ) × IsWanted limit wanted.now × HasSpans second.now limit (length third.now) }
+    requires selection { (limit : ℕ) × IsSelection limit selection.now × HasSpans second.now limit (length third.now) }
     ensures { IfOk result
-        (λ plan. IsPlanned (layout_named layout) validity.now second.now third.now (spots_of wanted.now) plan) }
+        (λ plan. IsPlanned (layout_named layout) validity.now second.now third.now (spots_of selection.now) plan) }
 {
-    let Marks {
+    let SelectedValidity {
         validity,
         nulls,
         taken,
-    } = marks_at(alloc, validity, wanted)?;
-    let values = Wanted {
+    } = marks_at(alloc, validity, selection)?;
+    let values = Selection {
         there: &taken,
-        ..*wanted
+        ..*selection
     };
     let (offsets, bytes) = spans_taken(alloc, second, third, &values)?;
     Ok(Plan {
@@ -192,39 +192,47 @@ fn same_runs(alloc: Global, runs: &[Run]) -> Result<Vec<Run>, AllocError>
 }
 
 /// The plan in the layout `Struct`.
-fn plan_struct(alloc: Global, validity: &[u8], wanted: &Wanted<'_>) -> Result<Plan, AllocError>
-    requires { (limit : ℕ) × IsWanted limit wanted.now }
+fn plan_struct(
+    alloc: Global,
+    validity: &[u8],
+    selection: &Selection<'_>,
+) -> Result<Plan, AllocError>
+    requires { (limit : ℕ) × IsSelection limit selection.now }
     ensures { IfOk result (λ plan. (second third : List ℕ)
-        → IsPlanned struct_layout validity.now second third (spots_of wanted.now) plan) }
+        → IsPlanned struct_layout validity.now second third (spots_of selection.now) plan) }
 {
-    let Marks {
+    let SelectedValidity {
         validity,
         nulls,
         taken,
-    } = marks_at(alloc, validity, wanted)?;
+    } = marks_at(alloc, validity, selection)?;
     Ok(Plan {
         nulls,
         validity,
         second: Vec::new(alloc),
         third: Vec::new(alloc),
-        inside: Inside {
-            count: wanted.count,
-            runs: same_runs(alloc, wanted.runs)?,
+        inside: ChildSelection {
+            count: selection.count,
+            runs: same_runs(alloc, selection.runs)?,
             there: taken,
         },
     })
 }
 
-/// What is wanted inside a list of this size.
-fn sized_inside(alloc: Global, size: u32, wanted: &Wanted<'_>) -> Result<Inside, AllocError>
-    requires { (limit : ℕ) × IsWanted limit wanted.now × (size * limit ≤ values_limit) }
+/// What is selected inside a list of this size.
+fn sized_inside(
+    alloc: Global,
+    size: u32,
+    selection: &Selection<'_>,
+) -> Result<ChildSelection, AllocError>
+    requires { (limit : ℕ) × IsSelection limit selection.now × (size * limit ≤ values_limit) }
     ensures { IfOk result
-        (λ inside. AreInside (spots_inside (fixed_size_list_layout size) [] (spots_of wanted.now)) inside) }
+        (λ inside. AreInside (spots_inside (fixed_size_list_layout size) [] (spots_of selection.now)) inside) }
 {
     if size == 0 {
         return Ok(nothing_inside(alloc));
     }
-    fixed_inside(alloc, size as usize, wanted)
+    fixed_inside(alloc, size as usize, selection)
 }
 
 /// The plan in the layout `FixedSizeList` of this size.
@@ -232,21 +240,21 @@ fn plan_sized_lists(
     alloc: Global,
     size: u32,
     validity: &[u8],
-    wanted: &Wanted<'_>,
+    selection: &Selection<'_>,
 ) -> Result<Plan, AllocError>
-    requires { (limit : ℕ) × IsWanted limit wanted.now × (size * limit ≤ values_limit) }
+    requires { (limit : ℕ) × IsSelection limit selection.now × (size * limit ≤ values_limit) }
     ensures { IfOk result
         (λ plan. (second third : List ℕ)
-        → IsPlanned (fixed_size_list_layout size) validity.now second third (spots_of wanted.now) plan) }
+        → IsPlanned (fixed_size_list_layout size) validity.now second third (spots_of selection.now) plan) }
 {
-    let Marks {
+    let SelectedValidity {
         validity,
         nulls,
         taken,
-    } = marks_at(alloc, validity, wanted)?;
-    let values = Wanted {
+    } = marks_at(alloc, validity, selection)?;
+    let values = Selection {
         there: &taken,
-        ..*wanted
+        ..*selection
     };
     Ok(Plan {
         nulls,
@@ -262,21 +270,21 @@ fn plan_lists(
     alloc: Global,
     validity: &[u8],
     second: &[u8],
-    wanted: &Wanted<'_>,
+    selection: &Selection<'_>,
 ) -> Result<Plan, AllocError>
-    requires { (limit : ℕ) × (total : ℕ) × IsWanted limit wanted.now × HasSpans second.now limit total
+    requires { (limit : ℕ) × (total : ℕ) × IsSelection limit selection.now × HasSpans second.now limit total
         × (total ≤ values_limit) }
     ensures { IfOk result (λ plan. (third : List ℕ)
-        → IsPlanned (list_layout 4) validity.now second.now third (spots_of wanted.now) plan) }
+        → IsPlanned (list_layout 4) validity.now second.now third (spots_of selection.now) plan) }
 {
-    let Marks {
+    let SelectedValidity {
         validity,
         nulls,
         taken,
-    } = marks_at(alloc, validity, wanted)?;
-    let values = Wanted {
+    } = marks_at(alloc, validity, selection)?;
+    let values = Selection {
         there: &taken,
-        ..*wanted
+        ..*selection
     };
     let (offsets, inside) = lists_inside(alloc, second, &values)?;
     Ok(Plan {
@@ -288,33 +296,40 @@ fn plan_lists(
     })
 }
 
-/// The plan of the column of the wanted cells of a source.
+/// The plan of the column of the selected cells of a source.
 pub(crate) fn plan_column(
     alloc: Global,
-    source: &Source<'_>,
-    wanted: &Wanted<'_>,
+    source: &EncodedColumn<'_>,
+    selection: &Selection<'_>,
 ) -> Result<Plan, AllocError>
-    requires { (limit : ℕ) × (total : ℕ) × IsWanted limit wanted.now
+    requires { (limit : ℕ) × (total : ℕ) × IsSelection limit selection.now
         × ReadsWithin (layout_named source.now.layout) limit total source.now.second.now source.now.third.now }
     ensures { IfOk result (λ plan. IsPlanned (layout_named source.now.layout) source.now.validity.now
-        source.now.second.now source.now.third.now (spots_of wanted.now) plan) }
+        source.now.second.now source.now.third.now (spots_of selection.now) plan) }
 {
     let (validity, second) = (source.validity, source.second);
     match source.layout {
-        Layout::Null => Ok(plan_nulls(alloc, wanted)),
-        Layout::Bits => plan_bits(alloc, validity, second, wanted),
-        Layout::Bytes { size } => plan_blocks(alloc, size, validity, second, wanted),
+        Layout::Null => Ok(plan_nulls(alloc, selection)),
+        Layout::Bits => plan_bits(alloc, validity, second, selection),
+        Layout::Bytes { size } => plan_blocks(alloc, size, validity, second, selection),
         Layout::Binary => plan_spans(
             alloc,
             Layout::Binary,
             validity,
             second,
             source.third,
-            wanted,
+            selection,
         ),
-        Layout::Utf8 => plan_spans(alloc, Layout::Utf8, validity, second, source.third, wanted),
-        Layout::List => plan_lists(alloc, validity, second, wanted),
-        Layout::FixedSizeList { size } => plan_sized_lists(alloc, size, validity, wanted),
-        Layout::Struct => plan_struct(alloc, validity, wanted),
+        Layout::Utf8 => plan_spans(
+            alloc,
+            Layout::Utf8,
+            validity,
+            second,
+            source.third,
+            selection,
+        ),
+        Layout::List => plan_lists(alloc, validity, second, selection),
+        Layout::FixedSizeList { size } => plan_sized_lists(alloc, size, validity, selection),
+        Layout::Struct => plan_struct(alloc, validity, selection),
     }
 }

@@ -1,16 +1,16 @@
-//! The bytes of wanted values that stand where offsets say.
+//! The bytes of selected values that stand where offsets say.
 
 ghost use Rattle.std.specs.Prelude.{◌≡◌, ℕ, ◌+◌, ◌-◌, ◌*◌, ◌<◌, ◌≤◌, ◌++◌, [], map, length, IfOk, OnOk};
 ghost use Rattle.std.specs.List.{flat_map};
 ghost use Rattle.byteorder.specs.Endian.{little_bytes};
 ghost use Rattle.batch_types.specs.Canonical.{offsets_of};
 ghost use Rattle.batch_types.specs.Placed.{bytes_from, start_of, value_bytes};
-ghost use Rattle.batch_reading.specs.Spots.{spots_of, IsWanted};
+ghost use Rattle.batch_reading.specs.Spots.{spots_of, IsSelection};
 ghost use Rattle.batch_reading.specs.Spread.{HasSpans};
 ghost use Rattle.batch_reading.specs.Taken.{span_taken};
 
-use crate::one_run::{only_run, run_spans};
-use crate::wanted::{Cursor, Wanted, is_marked, next_place};
+use crate::one_run::{contiguous_range, run_spans};
+use crate::selection::{Cursor, Selection, is_marked, next_place};
 use byteorder::{ByteOrder, LittleEndian};
 use std::alloc::{AllocError, Global};
 
@@ -61,7 +61,11 @@ fn span_or<'a>(offsets: &[u8], bytes: &'a [u8], place: usize, taken: bool) -> &'
 }
 
 /// Appends the bytes of a value, and the offset where they end.
-fn put_span(offsets: &mut Vec<u8>, bytes: &mut Vec<u8>, more: &[u8]) -> Result<(), AllocError>
+fn append_variable(
+    offsets: &mut Vec<u8>,
+    bytes: &mut Vec<u8>,
+    more: &[u8],
+) -> Result<(), AllocError>
     ensures bytes { OnOk result (bytes.new.items ≡ bytes.old.items ++ more.now) }
     ensures offsets { OnOk result
         (offsets.new.items ≡ offsets.old.items ++ little_bytes 4 (length (bytes.old.items ++ more.now))) }
@@ -70,47 +74,47 @@ fn put_span(offsets: &mut Vec<u8>, bytes: &mut Vec<u8>, more: &[u8]) -> Result<(
     put_offset(offsets, bytes.len())
 }
 
-/// The offsets and the bytes of the wanted values, no bytes where the value is not wanted, one by one.
+/// The offsets and the bytes of the selected values, no bytes where the value is not selected, one by one.
 fn picked_spans(
     alloc: Global,
     offsets: &[u8],
     bytes: &[u8],
-    wanted: &Wanted<'_>,
+    selection: &Selection<'_>,
 ) -> Result<(Vec<u8>, Vec<u8>), AllocError>
-    requires { (limit : ℕ) × IsWanted limit wanted.now × HasSpans offsets.now limit (length bytes.now) }
+    requires { (limit : ℕ) × IsSelection limit selection.now × HasSpans offsets.now limit (length bytes.now) }
     ensures offsets { IfOk result (λ made. made.0.items
-        ≡ offsets_of 4 (map (λ spot. length (span_taken offsets.now bytes.now spot)) (spots_of wanted.now))) }
+        ≡ offsets_of 4 (map (λ spot. length (span_taken offsets.now bytes.now spot)) (spots_of selection.now))) }
     ensures bytes { IfOk result (λ made. made.1.items
-        ≡ flat_map (span_taken offsets.now bytes.now) (spots_of wanted.now)) }
+        ≡ flat_map (span_taken offsets.now bytes.now) (spots_of selection.now)) }
 {
     let mut ends = Vec::new(alloc);
     let mut spans = Vec::new(alloc);
     let mut cursor = Cursor::FIRST;
     put_offset(&mut ends, 0)?;
-    for number in 0..wanted.count {
-        let place = next_place(wanted.runs, &mut cursor);
-        let taken = is_marked(wanted.there, wanted.count, number);
+    for number in 0..selection.count {
+        let place = next_place(selection.runs, &mut cursor);
+        let taken = is_marked(selection.there, selection.count, number);
         let more = span_or(offsets, bytes, place, taken);
-        put_span(&mut ends, &mut spans, more)?;
+        append_variable(&mut ends, &mut spans, more)?;
     }
     Ok((ends, spans))
 }
 
-/// The offsets and the bytes of the wanted values, no bytes where the value is not wanted.
+/// The offsets and the bytes of the selected values, no bytes where the value is not selected.
 pub(crate) fn spans_taken(
     alloc: Global,
     offsets: &[u8],
     bytes: &[u8],
-    wanted: &Wanted<'_>,
+    selection: &Selection<'_>,
 ) -> Result<(Vec<u8>, Vec<u8>), AllocError>
-    requires { (limit : ℕ) × IsWanted limit wanted.now × HasSpans offsets.now limit (length bytes.now) }
+    requires { (limit : ℕ) × IsSelection limit selection.now × HasSpans offsets.now limit (length bytes.now) }
     ensures offsets { IfOk result (λ made. made.0.items
-        ≡ offsets_of 4 (map (λ spot. length (span_taken offsets.now bytes.now spot)) (spots_of wanted.now))) }
+        ≡ offsets_of 4 (map (λ spot. length (span_taken offsets.now bytes.now spot)) (spots_of selection.now))) }
     ensures bytes { IfOk result (λ made. made.1.items
-        ≡ flat_map (span_taken offsets.now bytes.now) (spots_of wanted.now)) }
+        ≡ flat_map (span_taken offsets.now bytes.now) (spots_of selection.now)) }
 {
-    match only_run(wanted) {
+    match contiguous_range(selection) {
         Some(run) => run_spans(alloc, offsets, bytes, run),
-        None => picked_spans(alloc, offsets, bytes, wanted),
+        None => picked_spans(alloc, offsets, bytes, selection),
     }
 }

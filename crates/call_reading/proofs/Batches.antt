@@ -21,13 +21,13 @@ use Rattle.upload_writing.specs.Making.{upload_of, AreOfSchema, IsSmall}
 use Rattle.upload_writing.specs.Sized.{parts_held}
 use Rattle.call_words.specs.declared.refusal.Refusal.{Refusal}
 use Rattle.call_words.specs.Names.{Descriptor, NamesUpload}
-use Rattle.call_reading.specs.declared.incoming.Incoming.{Incoming}
+use Rattle.call_reading.specs.declared.upload_builder.UploadBuilder.{UploadBuilder}
 use Rattle.call_reading.specs.Requests.{Data, header_in, body_in, IsBlank, HasBatch, Adds}
-use Rattle.call_reading.specs.declared.incoming.Addition.{Addition}
-use Rattle.call_reading.specs.declared.incoming.Addition.TheVariants as additions
+use Rattle.call_reading.specs.declared.upload_builder.Addition.{Addition}
+use Rattle.call_reading.specs.declared.upload_builder.Addition.TheVariants as additions
 use Rattle.call_reading.specs.Additions.{HasAddition, AddsAs, HasRoom}
 use Rattle.call_reading.specs.Faults.{MeansAtFault, OpeningFault, SchemaFault, HeadFault, BatchFaultIn, FurtherFault}
-use Rattle.call_reading.specs.Incoming.{IsTooMuch, IsOnItsWay, Holds, HoldsMore, SizeWith, IsCounted, with_more, Grows}
+use Rattle.call_reading.specs.Builder.{IsTooMuch, IsOnItsWay, Holds, HoldsMore, SizeWith, IsCounted, with_more, Grows}
 
 -- ---- lists
 
@@ -106,7 +106,7 @@ of_schema_push schema old new batch h is e = record {
   each = subst (λ l. AllByRecursion (IsBatchOf schema) l) (sym e) (all_push (IsBatchOf schema) old batch h.each is);
 }
 
-module _ (old : Incoming) (rows : Rows) (size : ℕ) (way : IsOnItsWay old) (counted : SizeWith old rows size) where
+module _ (old : UploadBuilder) (rows : Rows) (size : ℕ) (way : IsOnItsWay old) (counted : SizeWith old rows size) where
   held_size : (upload : Upload) → Holds old upload → old.size ≤ upload_limit → upload.batches ≡ map rows_of old.batches.items
       → old.size ≡ length (batches_text (batches_parts upload))
   held_size upload holds within are =
@@ -151,7 +151,7 @@ module _ (old : Incoming) (rows : Rows) (size : ℕ) (way : IsOnItsWay old) (cou
       ]
 
   -- none is kept any more
-  pub holds_over : (new : Incoming) → IsCounted old new [] (old.count + 1) size → upload_limit < size → HoldsMore (rows ∷ []) old new
+  pub holds_over : (new : UploadBuilder) → IsCounted old new [] (old.count + 1) size → upload_limit < size → HoldsMore (rows ∷ []) old new
   holds_over new h over = λ upload holds. record {
     table_is = holds.table_is ∙ ap string_bytes (sym h.table_is);
     id_is = holds.id_is ∙ sym h.id_is;
@@ -160,7 +160,7 @@ module _ (old : Incoming) (rows : Rows) (size : ℕ) (way : IsOnItsWay old) (cou
     batches_are = inr (omega (arith, over, h.size_is), over_with upload holds over);
   }
 
-  pub way_over : (new : Incoming) → IsCounted old new [] (old.count + 1) size → upload_limit < size → old.count < batches_limit → IsOnItsWay new
+  pub way_over : (new : UploadBuilder) → IsCounted old new [] (old.count + 1) size → upload_limit < size → old.count < batches_limit → IsOnItsWay new
   way_over new h over room = record {
     named = subst (λ t. IsTableName (string_bytes t)) (sym h.table_is) way.named;
     id_named = subst (λ i. IsId i) (sym h.id_is) way.id_named;
@@ -175,7 +175,7 @@ module _ (old : Incoming) (rows : Rows) (size : ℕ) (way : IsOnItsWay old) (cou
   }
 
   -- the batch is kept
-  pub holds_kept : (new : Incoming) (batch : Batch) → IsCounted old new (old.batches.items ++ batch ∷ []) (old.count + 1) size → size ≤ upload_limit → rows_of batch ≡ rows
+  pub holds_kept : (new : UploadBuilder) (batch : Batch) → IsCounted old new (old.batches.items ++ batch ∷ []) (old.count + 1) size → size ≤ upload_limit → rows_of batch ≡ rows
       → HoldsMore (rows ∷ []) old new
   holds_kept new batch h within same = λ upload holds. record {
     table_is = holds.table_is ∙ ap string_bytes (sym h.table_is);
@@ -199,7 +199,7 @@ module _ (old : Incoming) (rows : Rows) (size : ℕ) (way : IsOnItsWay old) (cou
                 ∙ ap (λ l. map rows_of l) (sym h.batches_are)
           ]
 
-  pub way_kept : (new : Incoming) (batch : Batch) → IsCounted old new (old.batches.items ++ batch ∷ []) (old.count + 1) size → size ≤ upload_limit → rows_of batch ≡ rows
+  pub way_kept : (new : UploadBuilder) (batch : Batch) → IsCounted old new (old.batches.items ++ batch ∷ []) (old.count + 1) size → size ≤ upload_limit → rows_of batch ≡ rows
       → IsBatchOf (schema_of old.schema) batch → old.count < batches_limit → IsOnItsWay new
   way_kept new batch h within same of_schema room = record {
     named = subst (λ t. IsTableName (string_bytes t)) (sym h.table_is) way.named;
@@ -241,7 +241,7 @@ too_long : (schema : SchemaTree) (id : List ℕ) (rows : Rows) → payload_limit
 too_long schema id rows long = λ fits. omega (arith, long, fits, (message_long (head_text schema rows) id (canonical_body schema rows)).2)
 
 -- it is too much with those before it
-pub left_out_size : (i : Incoming) (rows : Rows) (size : ℕ) → (i.size ≤ upload_limit → payload_limit < length (canonical_body (schema_of i.schema) rows))
+pub left_out_size : (i : UploadBuilder) (rows : Rows) (size : ℕ) → (i.size ≤ upload_limit → payload_limit < length (canonical_body (schema_of i.schema) rows))
     → upload_limit < size → SizeWith i rows size
 left_out_size i rows size long over =
     elim (cases_lt upload_limit i.size) [
@@ -250,12 +250,12 @@ left_out_size i rows size long over =
     ]
 
 -- what is left out is counted, and is too much
-abbrev LeavesOut : Incoming → List ℕ → Bool → Type 0
+abbrev LeavesOut : UploadBuilder → List ℕ → Bool → Type 0
 LeavesOut i message wanted =
     (rows : Rows) × Adds (schema_of i.schema) message (rows ∷ [])
     × (wanted ≡ true → payload_limit < length (canonical_body (schema_of i.schema) rows))
 
-module _ (old new : Incoming) (message : List ℕ) (wanted : Bool) (added : Addition) (way : IsOnItsWay old) (is : added ≡ additions.LeftOut)
+module _ (old new : UploadBuilder) (message : List ℕ) (wanted : Bool) (added : Addition) (way : IsOnItsWay old) (is : added ≡ additions.LeftOut)
     (adds : AddsAs (schema_of old.schema) wanted message added) (room : HasRoom old.count added) (within : old.size ≤ upload_limit → wanted ≡ true) where
   left_out : LeavesOut old message wanted
   left_out = subst (AddsAs (schema_of old.schema) wanted message) is adds
@@ -275,7 +275,7 @@ module _ (old new : Incoming) (message : List ℕ) (wanted : Bool) (added : Addi
       (subst (HasRoom old.count) is room)
 
 -- an upload that was opened
-pub way_opened : (i : Incoming) (descriptor : Descriptor) (table : List ℕ) → NamesUpload descriptor table i.id → string_bytes i.table ≡ table → InProfile (schema_of i.schema)
+pub way_opened : (i : UploadBuilder) (descriptor : Descriptor) (table : List ℕ) → NamesUpload descriptor table i.id → string_bytes i.table ≡ table → InProfile (schema_of i.schema)
     → i.batches.items ≡ [] → i.count ≡ 0 → i.size ≡ 0 → IsOnItsWay i
 way_opened i descriptor table names is profile none count size = record {
   named = subst IsTableName (sym is) names.named;
@@ -294,7 +294,7 @@ of_parts : List ℕ → List ℕ → SchemaTree → List Rows → Upload
 of_parts table id schema batches = record { table = table; id = id; schema = schema; batches = batches }
 
 -- the upload of what is kept, while it is not too much
-pub held_is : (i : Incoming) (upload : Upload) → Holds i upload → i.size ≤ upload_limit
+pub held_is : (i : UploadBuilder) (upload : Upload) → Holds i upload → i.size ≤ upload_limit
     → upload_of (string_bytes i.table) i.id (schema_of i.schema) i.batches.items ≡ upload
 unfolding of_parts
 held_is i upload h within =
@@ -310,14 +310,14 @@ held_is i upload h within =
           | inr much ↦ absurd (omega (arith, much.0, within))
         ]
 
-pub made_is : (i : Incoming) (upload : Upload) → Holds i upload → i.size ≤ upload_limit → (table : List ℕ) (batches : List Batch) → table ≡ string_bytes i.table → batches ≡ i.batches.items
+pub made_is : (i : UploadBuilder) (upload : Upload) → Holds i upload → i.size ≤ upload_limit → (table : List ℕ) (batches : List Batch) → table ≡ string_bytes i.table → batches ≡ i.batches.items
     → upload_of table i.id (schema_of i.schema) batches ≡ upload
 made_is i upload h within table batches named kept =
     ap (λ t. upload_of t i.id (schema_of i.schema) batches) named
     ∙ ap (λ b. upload_of (string_bytes i.table) i.id (schema_of i.schema) b) kept ∙ held_is i upload h within
 
 -- none is made of what is too much
-pub none_made : (i : Incoming) (upload : Upload) → Holds i upload → IsOnItsWay i → upload_limit < i.size → ¬ IsSmall upload
+pub none_made : (i : UploadBuilder) (upload : Upload) → Holds i upload → IsOnItsWay i → upload_limit < i.size → ¬ IsSmall upload
 none_made i upload h way over =
     elim h.batches_are [
       | inl held ↦ absurd (omega (arith, held.0, over))
@@ -326,7 +326,7 @@ none_made i upload h way over =
     ]
 
 -- what was refused memory is as before
-pub way_same : (old new : Incoming) → IsCounted old new old.batches.items old.count old.size → IsOnItsWay old → IsOnItsWay new
+pub way_same : (old new : UploadBuilder) → IsCounted old new old.batches.items old.count old.size → IsOnItsWay old → IsOnItsWay new
 way_same old new h way = record {
   named = subst (λ t. IsTableName (string_bytes t)) (sym h.table_is) way.named;
   id_named = subst (λ i. IsId i) (sym h.id_is) way.id_named;
@@ -344,7 +344,7 @@ way_same old new h way = record {
 -- ---- messages
 
 -- a message that adds nothing leaves the upload as it is
-pub grows_nothing : (message : List ℕ) (i : Incoming) → Adds (schema_of i.schema) message [] → Grows message i i
+pub grows_nothing : (message : List ℕ) (i : UploadBuilder) → Adds (schema_of i.schema) message [] → Grows message i i
 grows_nothing message i adds = record {
   more = [];
   adds = adds;

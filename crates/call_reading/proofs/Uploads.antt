@@ -16,10 +16,10 @@ use Rattle.call_words.specs.declared.method.Method.TheVariants as methods
 use Rattle.call_words.specs.declared.refusal.Refusal.{Refusal}
 use Rattle.call_words.specs.declared.refusal.Refusal.TheVariants as refusals
 use Rattle.call_words.specs.Texts.{messages_text, end_text}
-use Rattle.call_reading.specs.declared.incoming.Incoming.{Incoming}
+use Rattle.call_reading.specs.declared.upload_builder.UploadBuilder.{UploadBuilder}
 use Rattle.call_reading.specs.Requests.{Adds, AddAll, Brings, messages_limit}
 use Rattle.call_reading.specs.Faults.{MeansAtFault, FurtherFault, MessageFault, IsFaultlessSoFar, BreaksMessages}
-use Rattle.call_reading.specs.Incoming.{with_more, IsOnItsWay, Holds, Grows, Finishes}
+use Rattle.call_reading.specs.Builder.{with_more, IsOnItsWay, Holds, Grows, Finishes}
 use Rattle.call_reading.specs.declared.frames.CallPart.{CallPart}
 use Rattle.call_reading.specs.declared.frames.CallPart.TheVariants as parts
 use Rattle.call_reading.specs.Reading.{ReadsPart}
@@ -53,7 +53,7 @@ all_push P [] x all h = (h, tt)
 all_push P (y ∷ ys) x all h = (all.0, all_push P ys x all.1 h)
 
 -- one message more has come
-pub takes_more : (count : ℕ) (i j : Incoming) (here now after message : List ℕ) → HasTaken count i here now → now ≡ in_frame message ++ after → FitsFrame message → Grows message i j
+pub takes_more : (count : ℕ) (i j : UploadBuilder) (here now after message : List ℕ) → HasTaken count i here now → now ≡ in_frame message ++ after → FitsFrame message → Grows message i j
     → HasTaken (count + 1) j here after
 takes_more count i j here now after message h front fits grows = record {
   messages = h.messages ++ message ∷ [];
@@ -79,7 +79,7 @@ again : (messages : List (List ℕ)) (upload : Upload) (b : Brings messages uplo
 again messages upload b = subst (λ (m : List (List ℕ)). Brings m upload) b.messages_are b
 
 -- a further message is at fault, or none can be read
-pub further_breaks : (count left : ℕ) (i j : Incoming) (here now after : List ℕ) (refusal : Refusal) → count + left ≡ messages_limit → IsOnItsWay i → HasTaken count i here now
+pub further_breaks : (count left : ℕ) (i j : UploadBuilder) (here now after : List ℕ) (refusal : Refusal) → count + left ≡ messages_limit → IsOnItsWay i → HasTaken count i here now
     → ReadsFurther left i j (Err refusal) now after → BreaksMessages methods.DoPut here after refusal
 further_breaks count left i j here now after refusal sum way h breaks =
     let b = h.brings in
@@ -146,7 +146,7 @@ opening_faults here after refusal breaks = record {
 
 -- ---- the end
 
-finished : (count : ℕ) (i : Incoming) (here now after : List ℕ) (r : Result (List ℕ) Refusal) → count ≤ messages_limit → IsOnItsWay i → (h : HasTaken count i here now)
+finished : (count : ℕ) (i : UploadBuilder) (here now after : List ℕ) (r : Result (List ℕ) Refusal) → count ≤ messages_limit → IsOnItsWay i → (h : HasTaken count i here now)
     → now ≡ end_text ++ after → Finishes h.upload r → ReadsUpload r here after
 finished count i here now after (Ok text) few way h front fin = record {
   messages = h.messages;
@@ -180,10 +180,10 @@ finished count i here now after (Err refusal) few way h front fin =
 
 -- ---- where the bytes are told
 
-abbrev pub HasRead : ℕ → Incoming → Option (List ℕ) → Option (List ℕ) → Type 0
+abbrev pub HasRead : ℕ → UploadBuilder → Option (List ℕ) → Option (List ℕ) → Type 0
 HasRead count i here now = WhereKnown here now (HasTaken count i)
 
-pub read_starts : (i : Incoming) (here now : Option (List ℕ)) → WhereKnown here now (ReadsOpening (Ok i)) → HasRead 1 i here now
+pub read_starts : (i : UploadBuilder) (here now : Option (List ℕ)) → WhereKnown here now (ReadsOpening (Ok i)) → HasRead 1 i here now
 read_starts i None now opens = tt
 read_starts i (Some x) None opens = absurd opens
 read_starts i (Some x) (Some y) opens = record {
@@ -196,7 +196,7 @@ read_starts i (Some x) (Some y) opens = record {
   holds = opens.3.1;
 }
 
-pub read_goes_on : (count left : ℕ) (i j : Incoming) (here now after : Option (List ℕ)) → HasRead count i here now → WhereKnown now after (ReadsFurther left i j (Ok true))
+pub read_goes_on : (count left : ℕ) (i j : UploadBuilder) (here now after : Option (List ℕ)) → HasRead count i here now → WhereKnown now after (ReadsFurther left i j (Ok true))
     → HasRead (count + 1) j here after
 read_goes_on count left i j None now after h further = tt
 read_goes_on count left i j (Some x) None after h further = absurd h
@@ -204,7 +204,7 @@ read_goes_on count left i j (Some x) (Some y) None h further = absurd further
 read_goes_on count left i j (Some x) (Some y) (Some z) h further =
     takes_more count i j x y z further.0 h further.1 further.2 further.3
 
-pub read_ends : (count left : ℕ) (i j : Incoming) (here now after : Option (List ℕ)) (r : Result (List ℕ) Refusal) → count ≤ messages_limit → IsOnItsWay i → HasRead count i here now
+pub read_ends : (count left : ℕ) (i j : UploadBuilder) (here now after : Option (List ℕ)) (r : Result (List ℕ) Refusal) → count ≤ messages_limit → IsOnItsWay i → HasRead count i here now
     → WhereKnown now after (ReadsFurther left i j (Ok false)) → ((upload : Upload) → Holds j upload → Finishes upload r) → WhereKnown here after (ReadsUpload r)
 read_ends count left i j None now after r few way h further fin = tt
 read_ends count left i j (Some x) None after r few way h further fin = absurd h
@@ -212,7 +212,7 @@ read_ends count left i j (Some x) (Some y) None r few way h further fin = absurd
 read_ends count left i j (Some x) (Some y) (Some z) r few way h further fin =
     finished count i x y z r few way h further.0 (fin h.upload (subst (λ k. Holds k h.upload) (sym further.1) h.holds))
 
-pub read_breaks : (count left : ℕ) (i j : Incoming) (here now after : Option (List ℕ)) (refusal : Refusal) → count + left ≡ messages_limit → IsOnItsWay i → HasRead count i here now
+pub read_breaks : (count left : ℕ) (i j : UploadBuilder) (here now after : Option (List ℕ)) (refusal : Refusal) → count + left ≡ messages_limit → IsOnItsWay i → HasRead count i here now
     → WhereKnown now after (ReadsFurther left i j (Err refusal)) → WhereKnown here after (ReadsUpload (Err refusal))
 read_breaks count left i j None now after refusal sum way h further = tt
 read_breaks count left i j (Some x) None after refusal sum way h further = absurd h
@@ -225,7 +225,7 @@ opening_breaks (Some x) None refusal opens = absurd opens
 opening_breaks (Some x) (Some y) refusal opens = opening_faults x y refusal opens
 
 -- a further message that is at fault
-pub further_read : (left : ℕ) (i j : Incoming) (here after : Option (List ℕ)) (part : CallPart) (message : Vec ℕ Global) (text : List ℕ) (refusal : Refusal)
+pub further_read : (left : ℕ) (i j : UploadBuilder) (here after : Option (List ℕ)) (part : CallPart) (message : Vec ℕ Global) (text : List ℕ) (refusal : Refusal)
     → WhereKnown here after (ReadsPart (Ok part)) → part ≡ parts.Message message → text ≡ message.items
     → MeansAtFault data_descriptor (FurtherFault (schema_of i.schema) i.count) text refusal ⊎ (refusal ≡ refusals.OutOfMemory)
     → WhereKnown here after (ReadsFurther left i j (Err refusal))

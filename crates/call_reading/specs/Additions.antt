@@ -9,8 +9,8 @@ use Rattle.batch_columns.specs.Batches.{rows_of, IsBatchOf}
 use Rattle.batch_columns.specs.declared.batch.Batch.{Batch}
 use Rattle.grpc_frames.specs.Frame.{payload_limit}
 use Rattle.table_types.specs.Valid.{batches_limit}
-use Rattle.call_reading.specs.declared.incoming.Addition.{Addition}
-use Rattle.call_reading.specs.declared.incoming.Addition.TheVariants as additions
+use Rattle.call_reading.specs.declared.upload_builder.Addition.{Addition}
+use Rattle.call_reading.specs.declared.upload_builder.Addition.TheVariants as additions
 use Rattle.call_reading.specs.Requests.{HasBatch, Adds}
 
 -- A batch that was wanted is built of what a head and a body lay out, and a frame has room for the body that is written of it.

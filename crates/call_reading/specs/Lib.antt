@@ -1,6 +1,6 @@
 pub mod Requests
 pub mod Faults
-pub mod Incoming
+pub mod Builder
 pub mod Additions
 pub mod Reading
 pub mod Uploading

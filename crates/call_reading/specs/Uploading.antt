@@ -10,14 +10,14 @@ use Rattle.call_words.specs.declared.method.Method.TheVariants as methods
 use Rattle.call_words.specs.declared.refusal.Refusal.{Refusal}
 use Rattle.call_words.specs.declared.refusal.Refusal.TheVariants as refusals
 use Rattle.call_words.specs.Texts.{messages_text, end_text}
-use Rattle.call_reading.specs.declared.incoming.Incoming.{Incoming}
+use Rattle.call_reading.specs.declared.upload_builder.UploadBuilder.{UploadBuilder}
 use Rattle.call_reading.specs.Requests.{puts, Brings}
 use Rattle.call_reading.specs.Faults.{MeansAtFault, OpeningFault, FurtherFault, FrameBreaks, BreaksMessages}
-use Rattle.call_reading.specs.Incoming.{Holds, IsOpened, Grows}
+use Rattle.call_reading.specs.Builder.{Holds, IsOpened, Grows}
 use Rattle.call_reading.specs.Reading.{AsksFor}
 
 -- the first message, or why there is no such
-abbrev pub ReadsOpening : Result Incoming Refusal → List ℕ → List ℕ → Type 0
+abbrev pub ReadsOpening : Result UploadBuilder Refusal → List ℕ → List ℕ → Type 0
 ReadsOpening (Ok i) here after =
     (message : List ℕ) × (here ≡ in_frame message ++ after) × FitsFrame message × IsOpened message i
 ReadsOpening (Err refusal) here after =
@@ -27,7 +27,7 @@ ReadsOpening (Err refusal) here after =
     × (MeansAtFault data_descriptor OpeningFault message refusal ⊎ (refusal ≡ refusals.OutOfMemory)))
 
 -- a further message, or the end, or why neither
-abbrev pub ReadsFurther : ℕ → Incoming → Incoming → Result Bool Refusal → List ℕ → List ℕ → Type 0
+abbrev pub ReadsFurther : ℕ → UploadBuilder → UploadBuilder → Result Bool Refusal → List ℕ → List ℕ → Type 0
 ReadsFurther left old new (Ok true) here after =
     (message : List ℕ) × (here ≡ in_frame message ++ after) × FitsFrame message × Grows message old new × (1 ≤ left)
 ReadsFurther left old new (Ok false) here after = (here ≡ end_text ++ after) × (new ≡ old)
@@ -39,7 +39,7 @@ ReadsFurther left old new (Err refusal) here after =
     ⊎ (refusal ≡ refusals.OutOfMemory)))
 
 -- so many messages came, which bring an upload that is on its way, and this is left
-pub record HasTaken (count : ℕ) (i : Incoming) (here now : List ℕ) : Type 0 where
+pub record HasTaken (count : ℕ) (i : UploadBuilder) (here now : List ℕ) : Type 0 where
   pub messages : List (List ℕ)
   pub parts : here ≡ messages_text messages ++ now
   pub fit : AllByRecursion FitsFrame messages

@@ -5,11 +5,11 @@
 #![tactic(auto)]
 
 mod frames;
-mod incoming;
 pub mod laws;
 mod one;
 mod reading;
 mod request;
+mod upload_builder;
 mod uploading;
 
 pub use reading::read_call;

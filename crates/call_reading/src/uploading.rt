@@ -3,11 +3,11 @@
 ghost use Rattle.std.specs.Prelude.{◌≡◌, ◌≤◌, ◌⊎◌, true, IfOk, Ok};
 ghost use Rattle.grpc_frames.specs.FrameFaults.{WhereKnown};
 ghost use Rattle.call_words.specs.declared.refusal.Refusal.TheVariants.{MessageCount};
-ghost use Rattle.call_reading.specs.Incoming.{IsOnItsWay};
+ghost use Rattle.call_reading.specs.Builder.{IsOnItsWay};
 ghost use Rattle.call_reading.specs.Uploading.{ReadsOpening, ReadsFurther, ReadsUpload};
 
 use crate::frames::{CallPart, next_part};
-use crate::incoming::Incoming;
+use crate::upload_builder::UploadBuilder;
 use call_words::Refusal;
 use std::alloc::Global;
 use std::io::Read;
@@ -17,12 +17,12 @@ use uploads::Upload;
 pub const MAX_MESSAGES: u32 = 65_535;
 
 /// Reads the first message of an upload.
-fn open<R: Read>(alloc: Global, r: &mut R) -> Result<Incoming, Refusal>
+fn open<R: Read>(alloc: Global, r: &mut R) -> Result<UploadBuilder, Refusal>
     ensures on_its_way { IfOk result IsOnItsWay }
     ensures read { WhereKnown (R.remaining r.old) (R.remaining r.new) (ReadsOpening result) }
 {
     match next_part(alloc, r)? {
-        CallPart::Message(message) => Incoming::open(alloc, &message),
+        CallPart::Message(message) => UploadBuilder::open(alloc, &message),
         CallPart::End => Err(Refusal::NoSchema),
     }
 }
@@ -31,7 +31,7 @@ fn open<R: Read>(alloc: Global, r: &mut R) -> Result<Incoming, Refusal>
 fn take_next<R: Read>(
     alloc: Global,
     r: &mut R,
-    incoming: &mut Incoming,
+    incoming: &mut UploadBuilder,
     left: u32,
 ) -> Result<bool, Refusal>
     requires { IsOnItsWay incoming.old }

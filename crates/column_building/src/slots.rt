@@ -97,7 +97,7 @@ fn put_offset(offsets: &mut Vec<u8>, number: usize) -> Result<(), AllocError>
 }
 
 /// Appends the elements of the list in a slot, and the offset where they end.
-fn put_span<'a>(
+fn append_variable<'a>(
     offsets: &mut Vec<u8>,
     elements: &mut Vec<Option<&'a Cell>>,
     slot: &Option<&'a Cell>,
@@ -125,7 +125,7 @@ pub(crate) fn spans<'a>(
     let mut elements = Vec::new(alloc);
     put_offset(&mut offsets, 0)?;
     for slot in slots {
-        put_span(&mut offsets, &mut elements, slot)?;
+        append_variable(&mut offsets, &mut elements, slot)?;
     }
     Ok((offsets, elements))
 }

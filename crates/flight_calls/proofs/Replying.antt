@@ -10,7 +10,7 @@ use Rattle.table_types.specs.Ticket.{TableVersion, IsTableVersion}
 use Rattle.call_words.specs.declared.refusal.Refusal.{Refusal}
 use Rattle.call_words.specs.declared.refusal.Refusal.TheVariants as refusals
 use Rattle.call_reading.specs.Requests.{describes, shows, lists, serves}
-use Rattle.flight_calls.specs.declared.described.Described.{Described}
+use Rattle.flight_calls.specs.declared.table_description.TableDescription.{TableDescription}
 use Rattle.flight_calls.specs.declared.outgoing.Outgoing.{Outgoing}
 use Rattle.flight_calls.specs.declared.outgoing.Outgoing.TheVariants.{Shared}
 use Rattle.flight_calls.specs.Replies.{Description, described, shown, listed, served, Reply, answers, refuses, RepliesBy, info_message, schema_result}
@@ -27,10 +27,10 @@ use Rattle.flight_calls.proofs.Sizes.{put_fits}
 abbrev of_parts : List ℕ → ℕ → TableVersion
 of_parts table version = record { table = table; version = version }
 
-version_is : (d : Described) (description : Description) → Describes d description → version_in d ≡ description.version
+version_is : (d : TableDescription) (description : Description) → Describes d description → version_in d ≡ description.version
 version_is d description h = ap₂ of_parts h.table h.version
 
-pub can_be_told : (d : Described) (description : Description) → Describes d description → CanBeTold d
+pub can_be_told : (d : TableDescription) (description : Description) → Describes d description → CanBeTold d
 can_be_told d description h = record {
   valid = subst IsTableVersion (sym (version_is d description h)) h.valid;
   small = subst FitsFrame (sym h.schema) h.small;
@@ -44,20 +44,20 @@ told_is description = refl
 same_told : (v w : TableVersion) (r s t u : ℕ) (x y : List ℕ) (k l : List (List ℕ)) → v ≡ w → r ≡ s → t ≡ u → x ≡ y → k ≡ l → message_told v r t x k ≡ message_told w s u y l
 same_told v w r s t u x y k l a b c d e = cc
 
-pub message_is : (d : Described) (description : Description) → Describes d description → message_of d ≡ info_message description
+pub message_is : (d : TableDescription) (description : Description) → Describes d description → message_of d ≡ info_message description
 message_is d description h =
     same_told (version_in d) description.version d.info.records description.records d.info.total_bytes description.total_bytes
     d.info.schema.items (schema_text description.schema) (locations_in d) description.locations
     (version_is d description h) h.records h.total_bytes h.schema h.locations
     ∙ told_is description
 
-pub all_can_be_told : (all : List Described) (descriptions : List Description) → DescribeAll all descriptions → AllByRecursion CanBeTold all
+pub all_can_be_told : (all : List TableDescription) (descriptions : List Description) → DescribeAll all descriptions → AllByRecursion CanBeTold all
 all_can_be_told [] [] h = tt
 all_can_be_told [] (y ∷ ys) h = absurd h
 all_can_be_told (x ∷ xs) [] h = absurd h
 all_can_be_told (x ∷ xs) (y ∷ ys) h = (can_be_told x y h.0, all_can_be_told xs ys h.1)
 
-pub messages_are : (all : List Described) (descriptions : List Description) → DescribeAll all descriptions → map message_of all ≡ map info_message descriptions
+pub messages_are : (all : List TableDescription) (descriptions : List Description) → DescribeAll all descriptions → map message_of all ≡ map info_message descriptions
 messages_are [] [] h = refl
 messages_are [] (y ∷ ys) h = absurd h
 messages_are (x ∷ xs) [] h = absurd h
@@ -90,7 +90,7 @@ applied_told text version upload (Err refusal) valid is h = (
 -- ---- a request, and what the backend answered
 
 module _ {B : Type 0} (may : MayAnswer B) (handed : Handed B) (leaves : Leaves B) (stays : Stays B) (old new : B) (same : handed new ≡ handed old) (took_nothing : stays old new) where
-  pub described_by : (table : List ℕ) (found : Described) (r : Result Outgoing Refusal)
+  pub described_by : (table : List ℕ) (found : TableDescription) (r : Result Outgoing Refusal)
       → (description : Description) × may old (describes table) (described description) × Describes found description
       → Frames (message_of found ∷ []) r → RespondsBy may handed leaves stays (describes table) old new r
   described_by table found r told frames =
@@ -105,7 +105,7 @@ module _ {B : Type 0} (may : MayAnswer B) (handed : Handed B) (leaves : Leaves B
       let k = framed_reply (schema_result told.0 ∷ []) r (subst (λ (s : List ℕ). Frames (schema_told s ∷ []) r) told.2 frames) in
       (k.0, record { answer = shown told.0; may_answer = told.1; replies = k.1; hands_nothing = same; takes_nothing = took_nothing }, k.2)
 
-  pub listed_by : (all : List Described) (r : Result Outgoing Refusal)
+  pub listed_by : (all : List TableDescription) (r : Result Outgoing Refusal)
       → (descriptions : List Description) × may old lists (listed descriptions) × DescribeAll all descriptions
       → Frames (map message_of all) r → RespondsBy may handed leaves stays lists old new r
   listed_by all r told frames =

@@ -4,11 +4,11 @@ use Rattle.std.specs.List.{AllZip}
 use Rattle.table_types.specs.Uploads.{schema_text}
 use Rattle.table_types.specs.Valid.{FitsFrame}
 use Rattle.table_types.specs.Ticket.{IsTableVersion}
-use Rattle.flight_calls.specs.declared.described.Described.{Described}
+use Rattle.flight_calls.specs.declared.table_description.TableDescription.{TableDescription}
 use Rattle.flight_calls.specs.Replies.{Description}
 
 -- the value describes this version, which there can be, by a schema that a frame has room for
-pub record Describes (d : Described) (description : Description) : Type 0 where
+pub record Describes (d : TableDescription) (description : Description) : Type 0 where
   pub valid : IsTableVersion description.version
   pub table : string_bytes d.info.table ≡ description.version.table
   pub version : d.info.version ≡ description.version.version
@@ -19,5 +19,5 @@ pub record Describes (d : Described) (description : Description) : Type 0 where
   pub locations : map string_bytes d.locations.items ≡ description.locations
 
 -- each of them does, in order
-abbrev pub DescribeAll : List Described → List Description → Type 0
+abbrev pub DescribeAll : List TableDescription → List Description → Type 0
 DescribeAll all descriptions = AllZip Describes all descriptions

@@ -8,18 +8,18 @@ use Rattle.header_writing.specs.Canonical.{encapsulated}
 use Rattle.table_types.specs.Valid.{FitsFrame}
 use Rattle.table_types.specs.Ticket.{TableVersion, IsTableVersion, ticket_text}
 use Rattle.call_words.specs.Names.{table_descriptor}
-use Rattle.flight_calls.specs.declared.described.Described.{Described}
+use Rattle.flight_calls.specs.declared.table_description.TableDescription.{TableDescription}
 use Rattle.flight_calls.specs.Replies.{total_of}
 
 -- the version that is described
-abbrev pub version_in : Described → TableVersion
+abbrev pub version_in : TableDescription → TableVersion
 version_in d = record { table = string_bytes d.info.table; version = d.info.version }
 
-abbrev pub locations_in : Described → List (List ℕ)
+abbrev pub locations_in : TableDescription → List (List ℕ)
 locations_in d = map string_bytes d.locations.items
 
 -- there can be such a version, and a frame has room for its schema
-pub record CanBeTold (d : Described) : Type 0 where
+pub record CanBeTold (d : TableDescription) : Type 0 where
   pub valid : IsTableVersion (version_in d)
   pub small : FitsFrame d.info.schema.items
 
@@ -42,7 +42,7 @@ message_told version records total_bytes schema locations =
     canonical info_descriptor (values_told version records total_bytes schema locations)
 
 -- the message that tells of what is described
-abbrev pub message_of : Described → List ℕ
+abbrev pub message_of : TableDescription → List ℕ
 message_of d = message_told (version_in d) d.info.records d.info.total_bytes d.info.schema.items (locations_in d)
 
 -- the message with a schema, whose own message this is

@@ -12,7 +12,7 @@ ghost use Rattle.flight_calls.specs.Replies.{BackAnswer, Description, described,
 ghost use Rattle.flight_calls.specs.Backing.{Describes, DescribeAll};
 ghost use Rattle.call_words.specs.declared.back_fault.BackFault.TheVariants.{OutOfMemory};
 
-use crate::described::Described;
+use crate::table_description::TableDescription;
 use call_words::BackFault;
 use std::alloc::Global;
 use table_types::Ticket;
@@ -59,7 +59,7 @@ pub trait Backend {
         ensures stays { stays self.old self.new };
 
     /// What is told of the latest version of a table, and where it is served.
-    fn info(&mut self, alloc: Global, table: &str) -> Result<Described, BackFault>
+    fn info(&mut self, alloc: Global, table: &str) -> Result<TableDescription, BackFault>
         ensures described { IfOk result (λ found. (description : Description)
             × may_answer self.old (describes table.now) (described description) × Describes found description) }
         ensures fault { IfErr result (λ fault. may_answer self.old (describes table.now) (failed fault)) }
@@ -77,7 +77,7 @@ pub trait Backend {
         ensures stays { stays self.old self.new };
 
     /// What is told of the latest version of each table.
-    fn list(&mut self, alloc: Global) -> Result<Vec<Described>, BackFault>
+    fn list(&mut self, alloc: Global) -> Result<Vec<TableDescription>, BackFault>
         ensures listed { IfOk result (λ all. (descriptions : List Description)
             × may_answer self.old lists (listed descriptions) × DescribeAll all.items descriptions) }
         ensures fault { IfErr result (λ fault. may_answer self.old lists (failed fault)) }

@@ -11,7 +11,7 @@ ghost use Rattle.flight_calls.specs.Replies.{total_of};
 ghost use Rattle.call_words.specs.Results.{applied_descriptor, put_result};
 ghost use Rattle.flight_calls.specs.Describing.{CanBeTold, version_in, locations_in, endpoint_told, values_told, message_of, schema_told};
 
-use crate::described::Described;
+use crate::table_description::TableDescription;
 use header_writing::encapsulate;
 use proto_messages::{ProtoMessage, append_bytes, append_uint64};
 use proto_wire::{
@@ -87,7 +87,10 @@ fn encapsulated_of(alloc: Global, schema: &[u8]) -> Result<Vec<u8>, AllocError>
 }
 
 /// Where a version is served.
-fn endpoints_of(alloc: Global, described: &Described) -> Result<Vec<FlightEndpoint>, AllocError>
+fn endpoints_of(
+    alloc: Global,
+    described: &TableDescription,
+) -> Result<Vec<FlightEndpoint>, AllocError>
     requires { IsTableVersion (version_in described.now) }
     ensures { IfOk result (λ endpoints. map endpoint_values endpoints.items
         ≡ endpoint_told (version_in described.now) (locations_in described.now) ∷ []) }
@@ -104,7 +107,7 @@ fn endpoints_of(alloc: Global, described: &Described) -> Result<Vec<FlightEndpoi
 }
 
 /// What is told of a table.
-fn flight_info(alloc: Global, described: &Described) -> Result<FlightInfo, AllocError>
+fn flight_info(alloc: Global, described: &TableDescription) -> Result<FlightInfo, AllocError>
     requires { CanBeTold described.now }
     ensures { IfOk result (λ info. info_values info
         ≡ values_told (version_in described.now) described.now.info.records described.now.info.total_bytes
@@ -135,7 +138,10 @@ fn encoded<M: ProtoMessage>(alloc: Global, message: &M) -> Result<Vec<u8>, Alloc
 }
 
 /// The message that tells of a table.
-pub(crate) fn info_message(alloc: Global, described: &Described) -> Result<Vec<u8>, AllocError>
+pub(crate) fn info_message(
+    alloc: Global,
+    described: &TableDescription,
+) -> Result<Vec<u8>, AllocError>
     requires { CanBeTold described.now }
     ensures { IfOk result (λ bytes. bytes.items ≡ message_of described.now) }
 {

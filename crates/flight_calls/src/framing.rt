@@ -9,9 +9,9 @@ ghost use Rattle.call_words.specs.declared.refusal.Refusal.TheVariants.{TooLarge
 ghost use Rattle.flight_calls.specs.Describing.{CanBeTold, message_of, schema_told};
 ghost use Rattle.flight_calls.specs.Framing.{Frames};
 
-use crate::described::Described;
 use crate::describing::{info_message, schema_message};
 use crate::outgoing::Outgoing;
+use crate::table_description::TableDescription;
 use call_words::Refusal;
 use grpc_frames::{MAX_FRAME_PAYLOAD, MESSAGE_FLAG};
 use std::alloc::{AllocError, Global};
@@ -69,7 +69,7 @@ pub(crate) fn schema_frame(alloc: Global, schema: &[u8]) -> Result<Outgoing, Ref
 }
 
 /// The frame of what is told of a table.
-pub(crate) fn info_frame(alloc: Global, described: &Described) -> Result<Outgoing, Refusal>
+pub(crate) fn info_frame(alloc: Global, described: &TableDescription) -> Result<Outgoing, Refusal>
     requires { CanBeTold described.now }
     ensures { Frames (message_of described.now ∷ []) result }
 {
@@ -80,7 +80,11 @@ pub(crate) fn info_frame(alloc: Global, described: &Described) -> Result<Outgoin
 }
 
 /// Appends the frame of what is told of a table. The refusals are those of [`append_frame`].
-fn append_info(alloc: Global, frames: &mut Vec<u8>, described: &Described) -> Result<(), Refusal>
+fn append_info(
+    alloc: Global,
+    frames: &mut Vec<u8>,
+    described: &TableDescription,
+) -> Result<(), Refusal>
     requires { CanBeTold described.now }
     ensures ok { OnOk result (frames.new.items ≡ frames.old.items ++ in_frame (message_of described.now)) }
     ensures fits { OnOk result (FitsFrame (message_of described.now)) }
@@ -94,7 +98,7 @@ fn append_info(alloc: Global, frames: &mut Vec<u8>, described: &Described) -> Re
 }
 
 /// The frames of what is told of each table. The refusals are those of [`append_frame`].
-pub(crate) fn info_frames(alloc: Global, all: &[Described]) -> Result<Outgoing, Refusal>
+pub(crate) fn info_frames(alloc: Global, all: &[TableDescription]) -> Result<Outgoing, Refusal>
     requires { AllByRecursion CanBeTold all.now }
     ensures { Frames (map message_of all.now) result }
 {

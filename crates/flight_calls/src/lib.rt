@@ -6,7 +6,6 @@
 #![tactic(auto)]
 
 mod backend;
-mod described;
 mod describing;
 mod framing;
 pub mod laws;
@@ -14,8 +13,9 @@ mod outgoing;
 mod responding;
 mod sending;
 mod serving;
+mod table_description;
 
 pub use backend::Backend;
 pub use call_words::CallFault;
-pub use described::Described;
 pub use serving::serve_call;
+pub use table_description::TableDescription;

@@ -10,7 +10,7 @@ use Rattle.table_versions.specs.declared.outcome.Outcome.{Outcome as Told}
 use Rattle.table_versions.specs.declared.outcome.Outcome.TheVariants as answers
 use Rattle.call_words.specs.declared.back_fault.BackFault.{BackFault}
 use Rattle.call_words.specs.declared.back_fault.BackFault.TheVariants as faults
-use Rattle.table_backend.specs.Backing.{Shelf, Takes, IsFull, IsUnknown, PutFault}
+use Rattle.table_backend.specs.Backing.{BackendState, Takes, IsFull, IsUnknown, PutFault}
 
 -- an upload of whose name nothing had come is taken
 pub unknown_is_taken : (outcome : Outcome) (text : List ℕ) (slots : ℕ) (x y : TablesState) → outcome ≡ unknown → x.taken < slots
@@ -54,7 +54,7 @@ on_ok_both (Ok x) f p q = f p q
 on_ok_both (Err e) f p q = tt
 
 -- it is refused where the tables are full, which are those that the shelf held, or memory was refused
-pub put_fault : (old mid : Shelf) (uploads : List Upload) (text : List ℕ) (fault : BackFault) → mid.tables ≡ old.tables → mid.slots ≡ old.slots → IsUnknown uploads text
+pub put_fault : (old mid : BackendState) (uploads : List Upload) (text : List ℕ) (fault : BackFault) → mid.tables ≡ old.tables → mid.slots ≡ old.slots → IsUnknown uploads text
     → (IsFull mid × (fault ≡ faults.SlotsSpent)) ⊎ (fault ≡ faults.OutOfMemory) → PutFault old uploads text fault
 put_fault old mid uploads text fault tables slots new (inl full) =
     inl (subst (λ t. (old.slots ≤ t.taken) ⊎ (1000000 ≤ t.taken)) tables (subst (λ n. (n ≤ mid.tables.taken) ⊎ (1000000 ≤ mid.tables.taken)) slots full.0), new, full.1)

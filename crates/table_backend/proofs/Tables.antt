@@ -13,7 +13,7 @@ use Rattle.table_types.specs.Tables.{firsts, has_id, has_shape, is_to, like_the_
 use Rattle.table_versions.specs.Info.{IsLatest, IsInfoOf}
 use Rattle.table_versions.specs.declared.info.TableInfo.{TableInfo}
 use Rattle.upload_parts.proofs.CallerLemmas.{message_long}
-use Rattle.flight_calls.specs.declared.described.Described.{Described}
+use Rattle.flight_calls.specs.declared.table_description.TableDescription.{TableDescription}
 use Rattle.flight_calls.specs.Replies.{Description}
 use Rattle.flight_calls.specs.Backing.{Describes, DescribeAll}
 use Rattle.table_backend.specs.Backing.{DescribesTable, TellsLatest}
@@ -95,7 +95,7 @@ module _ (table : List ℕ) (uploads : List Upload) (valid : AllByRecursion IsUp
       let long = message_long (schema_text first.schema) [] [] in
       omega (arith, is.schema_served, long.0)
 
-  describes_by : HaveOneTable → length uploads ≤ 1000000 → (locations : List (List ℕ)) (found : Described) (counted : List Upload) → effective table uploads ≡ counted → TellsLatest locations table counted found
+  describes_by : HaveOneTable → length uploads ≤ 1000000 → (locations : List (List ℕ)) (found : TableDescription) (counted : List Upload) → effective table uploads ≡ counted → TellsLatest locations table counted found
       → (d : Description) × DescribesTable locations table counted d × Describes found d
   describes_by law few locations found [] e tells = absurd tells
   describes_by law few locations found (first ∷ rest) e tells = (
@@ -118,11 +118,11 @@ module _ (table : List ℕ) (uploads : List Upload) (valid : AllByRecursion IsUp
     },
   )
 
-  pub describes_latest : HaveOneTable → length uploads ≤ 1000000 → (locations : List (List ℕ)) (found : Described) → TellsLatest locations table (effective table uploads) found
+  pub describes_latest : HaveOneTable → length uploads ≤ 1000000 → (locations : List (List ℕ)) (found : TableDescription) → TellsLatest locations table (effective table uploads) found
       → (d : Description) × DescribesTable locations table (effective table uploads) d × Describes found d
   describes_latest law few locations found tells = describes_by law few locations found (effective table uploads) refl tells
 
-pub describe_all : (uploads : List Upload) → AllByRecursion IsUpload uploads → HaveOneTable → length uploads ≤ 1000000 → (locations : List (List ℕ)) (names : List (List ℕ)) (all : List Described)
+pub describe_all : (uploads : List Upload) → AllByRecursion IsUpload uploads → HaveOneTable → length uploads ≤ 1000000 → (locations : List (List ℕ)) (names : List (List ℕ)) (all : List TableDescription)
     → AllZip (λ name found. TellsLatest locations name (effective name uploads) found) names all
     → (descriptions : List Description) × AllZip (λ name d. DescribesTable locations name (effective name uploads) d) names descriptions × DescribeAll all descriptions
 describe_all uploads valid law few locations [] [] tells = ([], tells, tells)
@@ -136,12 +136,12 @@ describe_all uploads valid law few locations (name ∷ names) (found ∷ all) te
 -- ---- one table after the other
 
 -- what is told of the latest version, as a value
-tells : (locations : List (List ℕ)) (table : List ℕ) (counted : List Upload) (info : TableInfo) (found : Described) → IsLatest (Some info) table counted → found.info ≡ info
+tells : (locations : List (List ℕ)) (table : List ℕ) (counted : List Upload) (info : TableInfo) (found : TableDescription) → IsLatest (Some info) table counted → found.info ≡ info
     → map string_bytes found.locations.items ≡ locations → TellsLatest locations table counted found
 tells locations table [] info found latest same at = absurd latest
 tells locations table (first ∷ rest) info found latest same at = (subst (λ i. IsInfoOf i table first (first ∷ rest)) (sym same) latest, at)
 
-pub tells_latest : (locations : List (List ℕ)) (table : List ℕ) (counted : List Upload) (latest : Option TableInfo) (info : TableInfo) (found : Described) → IsLatest latest table counted → latest ≡ Some info
+pub tells_latest : (locations : List (List ℕ)) (table : List ℕ) (counted : List Upload) (latest : Option TableInfo) (info : TableInfo) (found : TableDescription) → IsLatest latest table counted → latest ≡ Some info
     → found.info ≡ info → map string_bytes found.locations.items ≡ locations → TellsLatest locations table counted found
 tells_latest locations table counted latest info found is some same at =
     tells locations table counted info found (subst (λ l. IsLatest l table counted) some is) same at
@@ -180,7 +180,7 @@ all_zip_push R (z ∷ xs) [] x y all h = absurd all
 all_zip_push R (z ∷ xs) (w ∷ ys) x y all h = (all.0, all_zip_push R xs ys x y all.1 h)
 
 -- one more of them is told
-pub one_more_told : (R : List ℕ → Described → Type 0) (names : List (String Global)) (i : ℕ) (x : String Global) (name : List ℕ) (old new : List Described) (found : Described) → i < length names → x ≡ get_or names i x
+pub one_more_told : (R : List ℕ → TableDescription → Type 0) (names : List (String Global)) (i : ℕ) (x : String Global) (name : List ℕ) (old new : List TableDescription) (found : TableDescription) → i < length names → x ≡ get_or names i x
     → name ≡ string_bytes x → AllZip R (map string_bytes (take i names)) old → R name found → new ≡ old ++ found ∷ [] → AllZip R (map string_bytes (take (i + 1) names)) new
 one_more_told R names i x name old new found there is same all told put =
     let named : map string_bytes (take (i + 1) names) ≡ map string_bytes (take i names) ++ name ∷ [] =

@@ -15,11 +15,11 @@ use Rattle.call_words.specs.declared.back_fault.BackFault.{BackFault}
 use Rattle.call_words.specs.declared.back_fault.BackFault.TheVariants as faults
 use Rattle.call_reading.specs.Requests.{Request, describes, shows, lists, serves, puts}
 use Rattle.table_versions.specs.Info.{IsInfoOf}
-use Rattle.flight_calls.specs.declared.described.Described.{Described}
+use Rattle.flight_calls.specs.declared.table_description.TableDescription.{TableDescription}
 use Rattle.flight_calls.specs.Replies.{BackAnswer, Description, described, shown, listed, served, decided, failed}
 
 -- tables, where they are served, how many uploads they take, and the uploads that were handed over
-pub record Shelf : Type 0 where
+pub record BackendState : Type 0 where
   pub tables : TablesState
   pub locations : List (List ℕ)
   pub slots : ℕ
@@ -38,7 +38,7 @@ DescribesTable locations table (first ∷ rest) d =
     }
 
 -- the same, as a value: the table of this name with these effective uploads, and where it is served
-abbrev pub TellsLatest : List (List ℕ) → List ℕ → List Upload → Described → Type 0
+abbrev pub TellsLatest : List (List ℕ) → List ℕ → List Upload → TableDescription → Type 0
 TellsLatest locations table [] found = ⊥
 TellsLatest locations table (first ∷ rest) found =
     IsInfoOf found.info table first (first ∷ rest) × (map string_bytes found.locations.items ≡ locations)
@@ -49,7 +49,7 @@ TableFault counted fault =
     ((counted ≡ []) × (fault ≡ faults.NoTable)) ⊎ ((counted ≢ []) × (fault ≡ faults.OutOfMemory))
 
 -- as many values were taken as may be
-abbrev pub IsFull : Shelf → Type 0
+abbrev pub IsFull : BackendState → Type 0
 IsFull shelf = (shelf.slots ≤ shelf.tables.taken) ⊎ (values_limit ≤ shelf.tables.taken)
 
 -- nothing is known of the upload of this encoding
@@ -57,12 +57,12 @@ abbrev pub IsUnknown : List Upload → List ℕ → Type 0
 IsUnknown uploads text = (upload : Upload) → IsUpload upload → upload_text upload ≡ text → outcome_of uploads upload ≡ unknown
 
 -- nothing is known of an upload, and as many were taken as may be; or memory was refused
-abbrev pub PutFault : Shelf → List Upload → List ℕ → BackFault → Type 0
+abbrev pub PutFault : BackendState → List Upload → List ℕ → BackFault → Type 0
 PutFault shelf uploads text fault =
     (IsFull shelf × IsUnknown uploads text × (fault ≡ faults.SlotsSpent)) ⊎ (fault ≡ faults.OutOfMemory)
 
 -- By these uploads, this is an answer to the request.
-abbrev pub Answers : Shelf → List Upload → Request → BackAnswer → Type 0
+abbrev pub Answers : BackendState → List Upload → Request → BackAnswer → Type 0
 Answers shelf uploads (describes table) (described d) = DescribesTable shelf.locations table (effective table uploads) d
 Answers shelf uploads (describes table) (failed fault) = TableFault (effective table uploads) fault
 Answers shelf uploads (shows table) (shown schema) =
@@ -80,17 +80,17 @@ Answers shelf uploads (puts text) (failed fault) = PutFault shelf uploads text f
 Answers shelf uploads request other = ⊥
 
 -- the tables have taken values of uploads of which this holds
-abbrev pub Stands : Shelf → (List Upload → Type 0) → Type 0
+abbrev pub Stands : BackendState → (List Upload → Type 0) → Type 0
 Stands shelf P =
     (values : List Value) × (uploads : List Upload) × HasTaken shelf.tables values × AreUploadsIn values uploads × P uploads
 
 -- an answer by uploads that the tables have taken
-abbrev pub MayAnswer : Shelf → Request → BackAnswer → Type 0
+abbrev pub MayAnswer : BackendState → Request → BackAnswer → Type 0
 MayAnswer shelf request answer =
     Stands shelf (λ uploads. Answers shelf uploads request answer)
 
 -- the same is held, at the same locations, and as many uploads are taken
-pub record HoldsTheSame (old new : Shelf) : Type 0 where
+pub record HoldsTheSame (old new : BackendState) : Type 0 where
   pub tables : IsSame old.tables new.tables
   pub locations : new.locations ≡ old.locations
   pub slots : new.slots ≡ old.slots
@@ -106,7 +106,7 @@ Takes mismatched text slots old new = IsSame old new
 Takes conflicting text slots old new = IsSame old new
 
 -- what a put leaves that did not fail
-pub record Leaves (old : Shelf) (text : List ℕ) (new : Shelf) : Type 0 where
+pub record Leaves (old : BackendState) (text : List ℕ) (new : BackendState) : Type 0 where
   pub tables : (values : List Value) (uploads : List Upload) (upload : Upload) → HasTaken old.tables values
       → AreUploadsIn values uploads → IsUpload upload → upload_text upload ≡ text
       → Takes (outcome_of uploads upload) text old.slots old.tables new.tables

@@ -9,7 +9,7 @@ ghost use Rattle.table_backend.specs.Backing.{MayAnswer, Leaves, HoldsTheSame, I
 
 use crate::parts::{all_described, described, schema_in, value_of};
 use call_words::BackFault;
-use flight_calls::{Backend, Described};
+use flight_calls::{Backend, TableDescription};
 use std::alloc::Global;
 use std::hash::RandomState;
 use std::marker::Model;
@@ -32,9 +32,9 @@ pub struct TableBackend {
 }
 
 impl Model for TableBackend {
-    ghost use Rattle.table_backend.specs.Backing.{Shelf};
+    ghost use Rattle.table_backend.specs.Backing.{BackendState};
 
-    ghost Value = { Shelf };
+    ghost Value = { BackendState };
 
     ghost use Rattle.table_versions.specs.contracts.tables.Tables as tables_part;
     ghost use Rattle.std.specs.Coded.{codes};
@@ -167,7 +167,7 @@ impl Backend for TableBackend {
         }
     }
 
-    fn info(&mut self, alloc: Global, table: &str) -> Result<Described, BackFault> {
+    fn info(&mut self, alloc: Global, table: &str) -> Result<TableDescription, BackFault> {
         tables_have_one_shape();
         values_hold_one_list_of_uploads();
         let info = match self.tables.latest(table) {
@@ -188,7 +188,7 @@ impl Backend for TableBackend {
         Ok(schema_in(info))
     }
 
-    fn list(&mut self, alloc: Global) -> Result<Vec<Described>, BackFault> {
+    fn list(&mut self, alloc: Global) -> Result<Vec<TableDescription>, BackFault> {
         tables_have_one_shape();
         values_hold_one_list_of_uploads();
         let names = match self.tables.tables() {

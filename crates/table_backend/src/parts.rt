@@ -14,7 +14,7 @@ ghost use Rattle.table_backend.specs.Backing.{TellsLatest};
 
 use ballots::{UploadBytes, Value};
 use call_words::BackFault;
-use flight_calls::Described;
+use flight_calls::TableDescription;
 use std::alloc::{AllocError, Global};
 use table_versions::laws::tables_have_effective_uploads;
 use table_versions::{TableInfo, Tables};
@@ -48,13 +48,13 @@ pub(crate) fn described(
     alloc: Global,
     info: TableInfo,
     locations: &[String],
-) -> Result<Described, BackFault>
+) -> Result<TableDescription, BackFault>
     ensures described { IfOk result (λ found. (found.info ≡ info)
         × (map string_bytes found.locations.items ≡ map string_bytes locations.now)) }
     ensures fault { IfErr result (λ fault. fault ≡ OutOfMemory) }
 {
     match copies(alloc, locations) {
-        Ok(locations) => Ok(Described { info, locations }),
+        Ok(locations) => Ok(TableDescription { info, locations }),
         Err(_) => Err(BackFault::OutOfMemory),
     }
 }
@@ -72,7 +72,7 @@ fn told(
     tables: &Tables,
     table: &str,
     locations: &[String],
-) -> Result<Described, BackFault>
+) -> Result<TableDescription, BackFault>
     requires { (values : List Agreed) × (uploads : List Uploaded) × HasTaken tables.now values
         × AreUploadsIn values uploads × (effective table.now uploads ≢ []) }
     ensures told { IfOk result (λ found. (values : List Agreed) (uploads : List Uploaded) → HasTaken tables.now values
@@ -93,7 +93,7 @@ pub(crate) fn all_described(
     tables: &Tables,
     names: &[String],
     locations: &[String],
-) -> Result<Vec<Described>, BackFault>
+) -> Result<Vec<TableDescription>, BackFault>
     requires { (values : List Agreed) × (uploads : List Uploaded) × HasTaken tables.now values
         × AreUploadsIn values uploads × (map string_bytes names.now ≡ table_names uploads) }
     ensures told { IfOk result (λ all. (values : List Agreed) (uploads : List Uploaded) → HasTaken tables.now values

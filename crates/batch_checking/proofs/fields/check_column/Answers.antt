@@ -3,7 +3,7 @@ use Rattle.header_types.specs.FieldView.{field_head_of}
 use Rattle.batch_types.specs.Layouts.{layout_of, buffers_in_layout}
 use Rattle.batch_types.specs.Order.{column_order, AreKept, IsFirstBroken}
 use Rattle.batch_columns.specs.Held.{layout_named}
-use Rattle.batch_columns.specs.declared.source.Source.{Source}
+use Rattle.batch_columns.specs.declared.encoded_column.EncodedColumn.{EncodedColumn}
 use Rattle.batch_columns.specs.Read.{column_at}
 use Rattle.batch_checking.specs.Around.{places_around}
 use Rattle.batch_checking.specs.Checked.{SourceKeeps}
@@ -21,7 +21,7 @@ returns-in-Ok-clause-kept c =
     (layout_of (field_head_of c.args.field.now).data_type) (get_or (drop c.args.place.node c.args.head.now.nodes.items) 0 (pos 0, pos 0))
     (take (buffers_in_layout (layout_of (field_head_of c.args.field.now).data_type)) (drop c.args.place.buffer c.args.head.now.buffers.items))
     refl c.first_inside-first.ensures
-    (subst (λ (l : List Source). AreKept (SourceKeeps c.in-Some.source c.first_inside-first.result c.args.asked (places_around (first_places c.args.around.now) l)) column_order)
+    (subst (λ (l : List EncodedColumn). AreKept (SourceKeeps c.in-Some.source c.first_inside-first.result c.args.asked (places_around (first_places c.args.around.now) l)) column_order)
     c.sources.ensures.sources c.in-Ok.ensures.kept)
 
 pub returns-in-Ok-clause-seen : goal.returns-in-Ok-clause-seen
@@ -46,5 +46,5 @@ returns-in-Err-clause-fault c =
     (layout_of (field_head_of c.args.field.now).data_type) (get_or (drop c.args.place.node c.args.head.now.nodes.items) 0 (pos 0, pos 0))
     (take (buffers_in_layout (layout_of (field_head_of c.args.field.now).data_type)) (drop c.args.place.buffer c.args.head.now.buffers.items))
     refl c.first_inside-first.ensures c.in-Err.fault
-    (subst (λ (l : List Source). IsFirstBroken (SourceKeeps c.in-Some.source c.first_inside-first.result c.args.asked (places_around (first_places c.args.around.now) l)) column_order c.in-Err.fault)
+    (subst (λ (l : List EncodedColumn). IsFirstBroken (SourceKeeps c.in-Some.source c.first_inside-first.result c.args.asked (places_around (first_places c.args.around.now) l)) column_order c.in-Err.fault)
     c.sources.ensures.sources c.in-Err.ensures.fault)

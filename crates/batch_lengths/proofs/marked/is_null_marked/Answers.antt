@@ -4,13 +4,13 @@ use Rattle.std.specs.List.{range_with_len}
 use Rattle.std.specs.Cmp.Lexicographic.{pointwise}
 use Rattle.bitmaps.specs.Bits.{bit_of, zeros, bits_of}
 use Rattle.batch_reading.specs.Taken.{valid_in}
-use Rattle.batch_lengths.specs.declared.marks.Marks.{Marks}
+use Rattle.batch_lengths.specs.declared.validity_mask.ValidityMask.{ValidityMask}
 use Rattle.batch_lengths.specs.Along.{mark_of, spots_marked}
 use Rattle.batch_lengths.specs.Counted.{has_null}
 use Rattle.batch_lengths.proofs.Marking.{nulls_taken, same_marks}
 use Rattle.batch_lengths.proofs.marked.is_null_marked.Goals as goal
 
-module _ (validity : List ℕ) (marks made : Marks) (one : marks.all ≡ false)
+module _ (validity : List ℕ) (marks made : ValidityMask) (one : marks.all ≡ false)
     (each : (k : ℕ) → k < marks.count → bit_of made.set k ≡ (mark_of marks k && valid_in validity (marks.start + k))) where
   told : nat_lt (zeros (bits_of marks.set 0 marks.count)) (zeros (bits_of made.set 0 marks.count)) ≡ has_null validity (spots_marked marks)
   told =

@@ -1,7 +1,7 @@
 use Rattle.std.proofs.Common.{◌≡◌, sym, ap, ◌⊎◌, inl, inr, ℕ, ◌+◌}
 use Rattle.batch_columns.specs.Held.{layout_named}
 use Rattle.batch_columns.specs.declared.layout.Layout.TheVariants.{Null, Bits, Bytes, Binary, Utf8}
-use Rattle.batch_columns.specs.declared.source.Source.{Source}
+use Rattle.batch_columns.specs.declared.encoded_column.EncodedColumn.{EncodedColumn}
 use Rattle.batch_lengths.specs.Reach.{ReadsTo, end_inside}
 use Rattle.batch_lengths.proofs.Whole.{AreInside, whole_inside, lists_inside, sized_inside, struct_inside, flat_inside}
 use Rattle.batch_lengths.proofs.run.run_inside.Goals as goal
@@ -21,7 +21,7 @@ returns-in-Struct-clause-spots c =
     whole_inside c.args.source.now c.args.start c.args.count c.args.start c.args.count c.requires.whole
     (struct_inside c.args.source.now c.args.start c.args.count c.requires.reads c.in-Struct.is).0
 
-flat : (s : Source) (start count : ℕ) (reads : ReadsTo s (start + count))
+flat : (s : EncodedColumn) (start count : ℕ) (reads : ReadsTo s (start + count))
     → (s.layout ≡ Null) ⊎ ((s.layout ≡ Bits) ⊎ (((size : ℕ) × (s.layout ≡ Bytes size)) ⊎ ((s.layout ≡ Binary) ⊎ (s.layout ≡ Utf8))))
     → AreInside s start count reads s.layout 0 0
 flat s start count reads (inl is) = flat_inside s start count reads Null is tt
@@ -30,7 +30,7 @@ flat s start count reads (inr (inr (inl (size, is)))) = flat_inside s start coun
 flat s start count reads (inr (inr (inr (inl is)))) = flat_inside s start count reads Binary is tt
 flat s start count reads (inr (inr (inr (inr is)))) = flat_inside s start count reads Utf8 is tt
 
-none_before : (s : Source) (start : ℕ)
+none_before : (s : EncodedColumn) (start : ℕ)
     → (s.layout ≡ Null) ⊎ ((s.layout ≡ Bits) ⊎ (((size : ℕ) × (s.layout ≡ Bytes size)) ⊎ ((s.layout ≡ Binary) ⊎ (s.layout ≡ Utf8))))
     → 0 ≡ end_inside (layout_named s.layout) s.second.now start
 none_before s start (inl is) = ap (λ l. end_inside (layout_named l) s.second.now start) (sym is)

@@ -12,7 +12,7 @@ use Rattle.batch_types.specs.Layouts.{buffers_in_layout}
 use Rattle.batch_types.specs.Laid.{node_count}
 use Rattle.batch_columns.specs.Held.{layout_named}
 use Rattle.batch_columns.specs.declared.place.Place.{Place}
-use Rattle.batch_columns.specs.declared.source.Source.{Source}
+use Rattle.batch_columns.specs.declared.encoded_column.EncodedColumn.{EncodedColumn}
 use Rattle.batch_reading.specs.Planned.{spots_inside}
 use Rattle.batch_reading.specs.Readable.{forest_seen, columns_there}
 use Rattle.batch_lengths.specs.Along.{run_spots, blank_spots, source_spots, mark_of, marked_from, spots_marked}
@@ -32,7 +32,7 @@ field_walk : (fields : List Field) (i : ℕ) (x : Field) → i < length fields �
     → MayWalk (more (tree (field_head_of x) (entries_in x) (fields_in x)) (forest_seen (drop (i + 1) fields))) head place body end
 field_walk fields i x there is head place body end m = subst (λ f. MayWalk f head place body end) (forest_next fields i x there is) m
 
-less_inside : (field : Field) (s : Source) (head : BatchHead) (first : Place) (body : List ℕ) (end less : ℕ) → less ≤ end → ReadsTo s end
+less_inside : (field : Field) (s : EncodedColumn) (head : BatchHead) (first : Place) (body : List ℕ) (end less : ℕ) → less ≤ end → ReadsTo s end
     → MayWalk (fields_in field) head first body (end_inside (layout_named s.layout) s.second.now end)
     → MayWalk (fields_in field) head first body (end_inside (layout_named s.layout) s.second.now less)
 less_inside field s head first body end less few reads m =

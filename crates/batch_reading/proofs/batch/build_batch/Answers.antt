@@ -13,41 +13,41 @@ spoken_of-spoken-requires c =
 
 pub build_columns-requires : goal.build_columns-requires
 build_columns-requires c =
-    subst (λ f. AreReadable f c.args.head.now (record { node = 0; buffer = 0 }) c.spoken_of-spoken.result.now c.wanted-wanted.result)
+    subst (λ f. AreReadable f c.args.head.now (record { node = 0; buffer = 0 }) c.spoken_of-spoken.result.now c.selection-selection.result)
     (ap forest_seen (sym c.as_slice-fields.ensures.value))
     (batch_readable
-    c.args.schema.now c.args.head.now c.args.body.now c.spoken_of-spoken.result.now c.requires.laid.0 c.wanted-wanted.result (record { node = 0; buffer = 0 })
+    c.args.schema.now c.args.head.now c.args.body.now c.spoken_of-spoken.result.now c.requires.laid.0 c.selection-selection.result (record { node = 0; buffer = 0 })
     c.requires.profile c.requires.laid.1 c.sources_are_the_columns.ensures
     (c.laid_out_rows_are_of_the_schema.ensures (schema_of c.args.schema.now) (head_of c.args.head.now) c.args.body.now c.requires.laid.0 c.requires.profile c.requires.laid.1)
     c.spoken_of-spoken.ensures
-    (c.wanted-wanted.ensures.runs ∙ c.in_ok-runs.ensures ∙ ap runs_of_rows (c.row_count-count.ensures ∙ ap nat_abs c.requires.laid.1.count))
-    (c.wanted-wanted.ensures.count ∙ c.row_count-count.ensures ∙ ap nat_abs c.requires.laid.1.count)
-    c.wanted-wanted.ensures.there refl refl)
+    (c.selection-selection.ensures.runs ∙ c.in_ok-runs.ensures ∙ ap runs_of_rows (c.row_count-count.ensures ∙ ap nat_abs c.requires.laid.1.count))
+    (c.selection-selection.ensures.count ∙ c.row_count-count.ensures ∙ ap nat_abs c.requires.laid.1.count)
+    c.selection-selection.ensures.there refl refl)
 
 pub returns-clause-rows : goal.returns-clause-rows
 returns-clause-rows c =
     batch_rows
-    c.args.schema.now c.args.head.now c.args.body.now c.spoken_of-spoken.result.now c.requires.laid.0 c.wanted-wanted.result (record { node = 0; buffer = 0 })
+    c.args.schema.now c.args.head.now c.args.body.now c.spoken_of-spoken.result.now c.requires.laid.0 c.selection-selection.result (record { node = 0; buffer = 0 })
     c.requires.profile c.requires.laid.1 c.sources_are_the_columns.ensures
     (c.laid_out_rows_are_of_the_schema.ensures (schema_of c.args.schema.now) (head_of c.args.head.now) c.args.body.now c.requires.laid.0 c.requires.profile c.requires.laid.1)
     c.spoken_of-spoken.ensures
-    (c.wanted-wanted.ensures.runs ∙ c.in_ok-runs.ensures ∙ ap runs_of_rows (c.row_count-count.ensures ∙ ap nat_abs c.requires.laid.1.count))
-    (c.wanted-wanted.ensures.count ∙ c.row_count-count.ensures ∙ ap nat_abs c.requires.laid.1.count)
-    c.wanted-wanted.ensures.there refl refl (record { rows = c.row_count-count.result; columns = c.in_ok-columns.columns })
-    (subst (λ f. AreBuilt f c.args.head.now (record { node = 0; buffer = 0 }) c.spoken_of-spoken.result.now c.wanted-wanted.result c.in_ok-columns.columns.items)
+    (c.selection-selection.ensures.runs ∙ c.in_ok-runs.ensures ∙ ap runs_of_rows (c.row_count-count.ensures ∙ ap nat_abs c.requires.laid.1.count))
+    (c.selection-selection.ensures.count ∙ c.row_count-count.ensures ∙ ap nat_abs c.requires.laid.1.count)
+    c.selection-selection.ensures.there refl refl (record { rows = c.row_count-count.result; columns = c.in_ok-columns.columns })
+    (subst (λ f. AreBuilt f c.args.head.now (record { node = 0; buffer = 0 }) c.spoken_of-spoken.result.now c.selection-selection.result c.in_ok-columns.columns.items)
     (ap forest_seen c.as_slice-fields.ensures.value) c.in_ok-columns.ensures.built)
     (c.row_count-count.ensures ∙ ap nat_abs c.requires.laid.1.count)
 
 pub returns-clause-of_schema : goal.returns-clause-of_schema
 returns-clause-of_schema c =
     batch_of
-    c.args.schema.now c.args.head.now c.args.body.now c.spoken_of-spoken.result.now c.requires.laid.0 c.wanted-wanted.result (record { node = 0; buffer = 0 })
+    c.args.schema.now c.args.head.now c.args.body.now c.spoken_of-spoken.result.now c.requires.laid.0 c.selection-selection.result (record { node = 0; buffer = 0 })
     c.requires.profile c.requires.laid.1 c.sources_are_the_columns.ensures
     (c.laid_out_rows_are_of_the_schema.ensures (schema_of c.args.schema.now) (head_of c.args.head.now) c.args.body.now c.requires.laid.0 c.requires.profile c.requires.laid.1)
     c.spoken_of-spoken.ensures
-    (c.wanted-wanted.ensures.runs ∙ c.in_ok-runs.ensures ∙ ap runs_of_rows (c.row_count-count.ensures ∙ ap nat_abs c.requires.laid.1.count))
-    (c.wanted-wanted.ensures.count ∙ c.row_count-count.ensures ∙ ap nat_abs c.requires.laid.1.count)
-    c.wanted-wanted.ensures.there refl refl (record { rows = c.row_count-count.result; columns = c.in_ok-columns.columns })
-    (subst (λ f. AreBuilt f c.args.head.now (record { node = 0; buffer = 0 }) c.spoken_of-spoken.result.now c.wanted-wanted.result c.in_ok-columns.columns.items)
+    (c.selection-selection.ensures.runs ∙ c.in_ok-runs.ensures ∙ ap runs_of_rows (c.row_count-count.ensures ∙ ap nat_abs c.requires.laid.1.count))
+    (c.selection-selection.ensures.count ∙ c.row_count-count.ensures ∙ ap nat_abs c.requires.laid.1.count)
+    c.selection-selection.ensures.there refl refl (record { rows = c.row_count-count.result; columns = c.in_ok-columns.columns })
+    (subst (λ f. AreBuilt f c.args.head.now (record { node = 0; buffer = 0 }) c.spoken_of-spoken.result.now c.selection-selection.result c.in_ok-columns.columns.items)
     (ap forest_seen c.as_slice-fields.ensures.value) c.in_ok-columns.ensures.built)
     (c.row_count-count.ensures ∙ ap nat_abs c.requires.laid.1.count) c.in_ok-columns.ensures.few

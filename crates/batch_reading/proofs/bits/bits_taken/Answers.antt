@@ -8,15 +8,15 @@ use Rattle.batch_reading.proofs.Running.{within_all, all_marked}
 use Rattle.batch_reading.proofs.bits.bits_taken.Goals as goal
 
 pub run_bits-requires : goal.run_bits-requires
-run_bits-requires c = within_all c.requires.0 c.args.wanted.now c.requires.1
+run_bits-requires c = within_all c.requires.0 c.args.selection.now c.requires.1
 
 pub returns-in-None : goal.returns-in-None
 returns-in-None c =
-    IfOk-weaker c.run_bits.result (λ bits. bits ≡ map (bit_of c.args.bytes.now) (places_of c.args.wanted.now.runs.now))
-    (λ bits. bits ≡ map (bit_taken c.args.bytes.now c.args.other) (spots_of c.args.wanted.now))
+    IfOk-weaker c.run_bits.result (λ bits. bits ≡ map (bit_of c.args.bytes.now) (places_of c.args.selection.now.runs.now))
+    (λ bits. bits ≡ map (bit_taken c.args.bytes.now c.args.other) (spots_of c.args.selection.now))
     (λ bits same.
     same
-    ∙ sym (all_marked (bit_taken c.args.bytes.now c.args.other) (places_of c.args.wanted.now.runs.now) c.args.wanted.now.count c.requires.1.counted)
-    ∙ ap (λ there. map (bit_taken c.args.bytes.now c.args.other) (zip (places_of c.args.wanted.now.runs.now) (marks_of c.args.wanted.now.count there)))
+    ∙ sym (all_marked (bit_taken c.args.bytes.now c.args.other) (places_of c.args.selection.now.runs.now) c.args.selection.now.count c.requires.1.counted)
+    ∙ ap (λ there. map (bit_taken c.args.bytes.now c.args.other) (zip (places_of c.args.selection.now.runs.now) (marks_of c.args.selection.now.count there)))
     (sym c.in-None.is))
     c.run_bits.ensures

@@ -7,5 +7,5 @@ use Rattle.batch_reading.proofs.bits.marks_at.Goals as goal
 
 pub without_nulls-requires-clause-valid : goal.without_nulls-requires-clause-valid
 without_nulls-requires-clause-valid c =
-    none_null c.args.validity.now (spots_of c.args.wanted.now)
+    none_null c.args.validity.now (spots_of c.args.selection.now)
     (nil_from_length c.args.validity.now (eqb-true (length c.args.validity.now) 0 (sym c.is_empty.ensures ∙ c.if-is_empty.true)))

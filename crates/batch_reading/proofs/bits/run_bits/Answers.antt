@@ -2,7 +2,7 @@ use Rattle.std.proofs.Common.{sym, ap, ◌∙◌, ◌++◌, map, arith}
 use Rattle.std.proofs.lemmas.List.{map-append}
 use Rattle.std.specs.List.{range_with_len}
 use Rattle.std.proofs.Common.{take, get_or}
-use Rattle.batch_reading.specs.declared.wanted.Run.{Run}
+use Rattle.batch_reading.specs.declared.selection.Run.{Run}
 use Rattle.bitmaps.specs.Bits.{bit_of}
 use Rattle.batch_types.specs.LaysOut.{values_limit}
 use Rattle.batch_reading.specs.Spots.{places_of}

@@ -9,7 +9,7 @@ clear_unmarked-requires c =
     omega (
       arith,
       ap length (c.as_mut_slice.ensures.value ∙ c.in_ok-blocks.ensures),
-      cleared_fits c.requires.wanted.0 c.args.wanted.now c.requires.wanted.1 c.args.marks.now c.requires.marks c.args.size c.args.bytes.now c.requires.wanted.2,
+      cleared_fits c.requires.selection.0 c.args.selection.now c.requires.selection.1 c.args.marks.now c.requires.marks c.args.size c.args.bytes.now c.requires.selection.2,
     )
 
 pub returns : goal.returns
@@ -21,4 +21,4 @@ returns c =
     ∙ take-append_seam new (drop (length new) items)
     ∙ c.clear_unmarked.ensures.cleared
     ∙ ap (cleared c.args.size c.args.marks.now) (c.as_mut_slice.ensures.value ∙ c.in_ok-blocks.ensures)
-    ∙ wanted_cleared c.requires.wanted.0 c.args.wanted.now c.requires.wanted.1 c.args.marks.now c.requires.marks c.args.size c.args.bytes.now c.requires.wanted.2
+    ∙ wanted_cleared c.requires.selection.0 c.args.selection.now c.requires.selection.1 c.args.marks.now c.requires.marks c.args.size c.args.bytes.now c.requires.selection.2

@@ -2,7 +2,7 @@ use Rattle.std.proofs.Common.{sym, ap, ap₂, ◌∙◌, ℕ, List, ◌+◌, ◌
 use Rattle.std.proofs.lemmas.Grind.{flat_map-append}
 use Rattle.std.specs.List.{flat_map, range_with_len}
 use Rattle.batch_types.specs.Placed.{bytes_from}
-use Rattle.batch_reading.specs.declared.wanted.Run.{Run}
+use Rattle.batch_reading.specs.declared.selection.Run.{Run}
 use Rattle.batch_reading.specs.Spots.{places_of}
 use Rattle.batch_reading.proofs.Running.{run_there, places_more}
 use Rattle.batch_reading.proofs.Sizing.{run_blocks_are, run_within}

@@ -9,9 +9,9 @@ decreases-build_columns l = node_count (forest_seen l.fields.now)
 
 abbrev pub invariant-loop-field : goal.invariant-loop-field
 invariant-loop-field l = record {
-  readable : AreReadable (forest_seen (drop l.field-index l.fn.fields)) l.fn.head l.next l.fn.body l.fn.wanted;
-  done : (rest : List Contents) → AreBuilt (forest_seen (drop l.field-index l.fn.fields)) l.fn.head l.next l.fn.body l.fn.wanted rest
-      → AreBuilt (forest_seen l.fn.fields) l.fn.head l.fn.place l.fn.body l.fn.wanted (l.columns.items ++ rest);
+  readable : AreReadable (forest_seen (drop l.field-index l.fn.fields)) l.fn.head l.next l.fn.body l.fn.selection;
+  done : (rest : List Contents) → AreBuilt (forest_seen (drop l.field-index l.fn.fields)) l.fn.head l.next l.fn.body l.fn.selection rest
+      → AreBuilt (forest_seen l.fn.fields) l.fn.head l.fn.place l.fn.body l.fn.selection (l.columns.items ++ rest);
   few : HaveFewValues l.columns.items;
   node : l.next.node + node_count (forest_seen (drop l.field-index l.fn.fields)) ≡ l.fn.place.node + node_count (forest_seen l.fn.fields);
   buffer : l.next.buffer + buffer_count (forest_seen (drop l.field-index l.fn.fields)) ≡ l.fn.place.buffer + buffer_count (forest_seen l.fn.fields);

@@ -11,10 +11,10 @@ use Rattle.batch_reading.proofs.inside.picked_lists.Given as goal
 
 abbrev pub invariant-loop-number : goal.invariant-loop-number
 invariant-loop-number l = record {
-  ended : l.ends.items ≡ offsets_of 4 (map (λ spot. length (elements_taken l.fn.offsets spot)) (take l.number (spots_of l.fn.wanted)));
-  placed : places_gathered l.spans ≡ flat_map (elements_taken l.fn.offsets) (take l.number (spots_of l.fn.wanted));
-  kept : (from : ℕ) × (end : ℕ) × DoRise from values_limit (drop l.number (places_of l.fn.wanted.runs.now))
+  ended : l.ends.items ≡ offsets_of 4 (map (λ spot. length (elements_taken l.fn.offsets spot)) (take l.number (spots_of l.fn.selection)));
+  placed : places_gathered l.spans ≡ flat_map (elements_taken l.fn.offsets) (take l.number (spots_of l.fn.selection));
+  kept : (from : ℕ) × (end : ℕ) × DoRise from values_limit (drop l.number (places_of l.fn.selection.runs.now))
       × AreGathered end l.spans × (end ≤ start_of 4 l.fn.offsets from);
-  ahead : places_ahead l.fn.wanted.runs.now l.cursor ≡ drop l.number (places_of l.fn.wanted.runs.now);
+  ahead : places_ahead l.fn.selection.runs.now l.cursor ≡ drop l.number (places_of l.fn.selection.runs.now);
   within : l.cursor.place + l.cursor.left ≤ values_limit;
 }

@@ -1,6 +1,6 @@
 use Rattle.std.proofs.Common.{get_or, arith}
 use Rattle.batch_types.specs.LaysOut.{values_limit}
-use Rattle.batch_reading.specs.declared.wanted.Run.{Run}
+use Rattle.batch_reading.specs.declared.selection.Run.{Run}
 use Rattle.batch_reading.proofs.Running.{run_there}
 use Rattle.batch_reading.proofs.Sizing.{run_within}
 use Rattle.batch_reading.proofs.inside.scaled_runs.Goals as goal

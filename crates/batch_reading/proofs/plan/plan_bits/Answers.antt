@@ -14,6 +14,6 @@ returns c = λ third. record {
       ∙ ap (λ taken. packed_bytes (map (bit_taken c.args.second.now false) taken)) c.in_ok-validity.ensures.taken;
   third_is = c.new.ensures.items;
   inside_is =
-      none_in_bits c.args.second.now (map (seen c.args.validity.now) (spots_of c.args.wanted.now)) c.nothing_inside.result
+      none_in_bits c.args.second.now (map (seen c.args.validity.now) (spots_of c.args.selection.now)) c.nothing_inside.result
       c.nothing_inside.ensures;
 }

@@ -14,6 +14,6 @@ returns c = λ third. record {
       ∙ ap (flat_map (block_taken c.args.size c.args.second.now)) c.in_ok-validity.ensures.taken;
   third_is = c.new.ensures.items;
   inside_is =
-      none_in_bytes c.args.size c.args.second.now (map (seen c.args.validity.now) (spots_of c.args.wanted.now))
+      none_in_bytes c.args.size c.args.second.now (map (seen c.args.validity.now) (spots_of c.args.selection.now))
       c.nothing_inside.result c.nothing_inside.ensures;
 }

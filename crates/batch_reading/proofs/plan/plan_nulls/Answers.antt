@@ -7,9 +7,9 @@ use Rattle.batch_reading.proofs.plan.plan_nulls.Goals as goal
 
 pub returns : goal.returns
 returns c = λ validity second third. record {
-  nulls_are = sym (spots_long c.requires.0 c.args.wanted.now c.requires.1);
+  nulls_are = sym (spots_long c.requires.0 c.args.selection.now c.requires.1);
   validity_is = c.new.ensures.items;
   second_is = c.new-2.ensures.items;
   third_is = c.new-3.ensures.items;
-  inside_is = none_in_nulls second (map (seen validity) (spots_of c.args.wanted.now)) c.nothing_inside.result c.nothing_inside.ensures;
+  inside_is = none_in_nulls second (map (seen validity) (spots_of c.args.selection.now)) c.nothing_inside.result c.nothing_inside.ensures;
 }

@@ -10,7 +10,7 @@ use Rattle.batch_reading.proofs.plan.plan_spans.Goals as goal
 pub returns : goal.returns
 returns c =
     spread_planned (layout_named c.args.layout) c.requires.layout c.args.validity.now c.args.second.now c.args.third.now
-    (spots_of c.args.wanted.now) _ c.in_ok-validity.ensures.nulls c.in_ok-validity.ensures.validity
+    (spots_of c.args.selection.now) _ c.in_ok-validity.ensures.nulls c.in_ok-validity.ensures.validity
     (c.in_ok-offsets.ensures.offsets
     ∙ ap (λ taken. offsets_of 4 (map (λ spot. length (span_taken c.args.second.now c.args.third.now spot)) taken))
     c.in_ok-validity.ensures.taken)

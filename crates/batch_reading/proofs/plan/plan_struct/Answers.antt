@@ -15,8 +15,8 @@ returns c = λ second third. record {
     counted = c.requires.1.counted ∙ ap (λ runs. length (places_of runs)) (sym c.in_ok-same_runs.ensures);
     marked = c.in_ok-validity.ensures.marked;
     spots_are =
-        ap (λ runs. spots_at runs c.args.wanted.now.count c.in_ok-validity.field-0.taken) c.in_ok-same_runs.ensures
+        ap (λ runs. spots_at runs c.args.selection.now.count c.in_ok-validity.field-0.taken) c.in_ok-same_runs.ensures
         ∙ c.in_ok-validity.ensures.taken
-        ∙ sym (same_in_struct second (map (seen c.args.validity.now) (spots_of c.args.wanted.now)));
+        ∙ sym (same_in_struct second (map (seen c.args.validity.now) (spots_of c.args.selection.now)));
   };
 }

@@ -7,7 +7,7 @@ use Rattle.batch_reading.proofs.plan.sized_inside.Goals as goal
 
 pub returns-then-size-eq0 : goal.returns-then-size-eq0
 returns-then-size-eq0 c =
-    as_spots [] (spots_inside (fixed_size_list_layout c.args.size) [] (spots_of c.args.wanted.now)) c.nothing_inside.result
+    as_spots [] (spots_inside (fixed_size_list_layout c.args.size) [] (spots_of c.args.selection.now)) c.nothing_inside.result
     c.nothing_inside.ensures
-    (ap (λ n. spots_inside (fixed_size_list_layout n) [] (spots_of c.args.wanted.now)) c.if-size-eq0.true
-    ∙ none_in_empty (spots_of c.args.wanted.now))
+    (ap (λ n. spots_inside (fixed_size_list_layout n) [] (spots_of c.args.selection.now)) c.if-size-eq0.true
+    ∙ none_in_empty (spots_of c.args.selection.now))

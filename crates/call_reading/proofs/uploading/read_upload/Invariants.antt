@@ -1,6 +1,6 @@
 use Rattle.std.specs.Prelude.{◌+◌, ◌≤◌}
 use Rattle.call_reading.specs.Requests.{messages_limit}
-use Rattle.call_reading.specs.Incoming.{IsOnItsWay}
+use Rattle.call_reading.specs.Builder.{IsOnItsWay}
 use Rattle.call_reading.proofs.Uploads.{HasRead}
 use Rattle.call_reading.proofs.uploading.read_upload.Given as goal
 

@@ -11,12 +11,12 @@ pub loop-slot-preserved : goal.loop-slot-preserved
 loop-slot-preserved c =
     let more = λ (blank : Cell).
     elements_more 0 blank c.args.slots.now c.loop-slot.slot-index c.slot-item.result c.loop-slot-test.true c.slot-item.is
-    (slot_cells blank c.loop-slot.elements.items) (slot_cells blank c.put_span.new.elements.items) (c.loop-slot.invariant.elements blank)
-    (c.in_ok-put_span.ensures.elements blank) in
+    (slot_cells blank c.loop-slot.elements.items) (slot_cells blank c.append_variable.new.elements.items) (c.loop-slot.invariant.elements blank)
+    (c.in_ok-append_variable.ensures.elements blank) in
     record {
       offsets =
           offsets_more c.args.slots.now c.loop-slot.slot-index c.slot-item.result c.loop-slot-test.true c.slot-item.is c.loop-slot.offsets.items
-          c.put_span.new.offsets.items c.put_span.new.elements.items c.loop-slot.invariant.offsets (more null_cell) c.in_ok-put_span.ensures.offsets;
+          c.append_variable.new.offsets.items c.append_variable.new.elements.items c.loop-slot.invariant.offsets (more null_cell) c.in_ok-append_variable.ensures.offsets;
       elements = more;
     }
 
