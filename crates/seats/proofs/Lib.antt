@@ -8,3 +8,4 @@ mod Ready
 mod Moving
 mod Preparing
 mod Owned
+mod Holding

@@ -64,7 +64,7 @@ pub is_up : {S : Type 0} (seat : RunningSeat S) (node : NodeState) → Some node
 is_up seat node is down = none_is_some node (sym down ∙ sym is)
 
 -- and stands by what the seat does
-node_has : {S : Type 0} (seat : RunningSeat S) (node : NodeState) (views : Views) → Some node ≡ seat.node.node → StandsUp seat.node views
+pub node_has : {S : Type 0} (seat : RunningSeat S) (node : NodeState) (views : Views) → Some node ≡ seat.node.node → StandsUp seat.node views
     → NodeHas node views × (seat.node.config ≡ node.agreement.config)
 node_has seat node views is up =
     let same : up.node ≡ node = some_same up.node node (sym up.up ∙ sym is) in (

@@ -2,8 +2,12 @@
 -- Made Simple", section 2.5, for what a node keeps). That nodes share a journal is this service's own.
 use Rattle.std.specs.Prelude.{◌≡◌, ◌⊎◌, ℕ, Option, None, List}
 use Rattle.ballots.specs.declared.record.Record.{Record}
+use Rattle.agreement_rules.specs.Views.{Views}
+use Rattle.table_types.specs.Uploads.{Upload}
+use Rattle.histories.specs.Texts.{HasUploads}
 use Rattle.histories.specs.Following.{Seat, IsUp, IsDown, at_first}
 use Rattle.histories.specs.Owning.{Entry, OwnReaches}
+use Rattle.node_core.specs.State.{NodeState, NodeHas}
 use Rattle.node_seats.specs.State.{SeatState, IsPlaced, StandsUp}
 use Rattle.schedule_runner.specs.declared.config.Config.{Config}
 use Rattle.schedule_runner.specs.Told.{config_of}
@@ -33,6 +37,14 @@ pub record IsLedTo {S : Type 0} (seat : RunningSeat S) (stood : Seat) : Type 0 w
   pub placed : IsPlaced seat.node
   pub led : OwnReaches (config_of seat.config) (at_first seat.node.me) seat.own stood
   pub stands : StandsSo seat.node stood
+
+-- The seat's own entries leave this node these views, which it stands by, and these uploads are those of its prefix.
+pub record IsLedNode {S : Type 0} (seat : RunningSeat S) (node : NodeState) : Type 0 where
+  pub views : Views
+  pub led : IsLedTo seat (IsUp views)
+  pub has : NodeHas node views
+  pub uploads : List Upload
+  pub are : HasUploads node.agreement.config.members views.learner_calls uploads
 
 abbrev pub IsLed : {S : Type 0} → RunningSeat S → Type 0
 IsLed seat = (stood : Seat) × IsLedTo seat stood

@@ -4,6 +4,9 @@ ghost use Rattle.std.specs.Prelude.{◌≡◌, ◌≢◌, ◌⊎◌, ◌↔◌, 
 ghost use Rattle.std.specs.Option.{IfSome};
 ghost use Rattle.ballots.specs.declared.record.Record.{Record as Held};
 ghost use Rattle.ballots.specs.declared.value.Value.{Value as Decided};
+ghost use Rattle.table_types.specs.Uploads.{Upload as Uploaded};
+ghost use Rattle.table_versions.specs.Values.{AreUploadsIn};
+ghost use Rattle.table_versions.specs.State.{HasTaken};
 ghost use Rattle.agreement_rules.specs.Views.{started_with, Views, HasPrefix};
 ghost use Rattle.histories.specs.Following.{Seat as HistorySeat, IsUp};
 ghost use Rattle.safe_histories.specs.Learning.{Runs, HasLearnedPrefix};
@@ -14,7 +17,7 @@ ghost use Rattle.schedule_runner.specs.Limits.{IsWithinLimits};
 ghost use Rattle.schedule_runner.specs.Told.{steps_of};
 ghost use Rattle.journal.specs.Journaled.{own_in};
 ghost use Rattle.seats.specs.declared.fault.SeatFault.TheVariants.{Down};
-ghost use Rattle.seats.specs.State.{Agrees, IsLedTo};
+ghost use Rattle.seats.specs.State.{Agrees, IsLedTo, IsLedNode};
 ghost use Rattle.seats.specs.Steps.{IsDown, StandsSame, PrepareGives, IsFaultFor};
 
 use crate::agreeing::are_own;
@@ -141,9 +144,13 @@ impl<S: Stable + Drop, J: Naming> Seat<S, J> {
         self.config
     }
 
-    /// The node, or [`SeatFault::Down`] exactly where there is none.
+    /// The node, or [`SeatFault::Down`] exactly where there is none. The seat's own entries leave it what it has, and its
+    /// tables have taken the values of its prefix: so there is a list of uploads that all of its answers are by.
     pub fn node(&self) -> Result<&Node, SeatFault>
         ensures up { IfOk result (λ node. self.now.node.node ≡ Some node.now) }
+        ensures led { IfOk result (λ node. IsLedNode self.now node.now) }
+        ensures tables { IfOk result (λ node. (values : List Decided) × (uploads : List Uploaded)
+            × HasTaken node.now.tables values × AreUploadsIn values uploads) }
         ensures down { IfErr result (λ why. (why ≡ Down) × IsDown self.now) }
     {
         match self.node.node() {
