@@ -1,0 +1,3 @@
+mod Closing
+mod Waiting
+mod Doing
