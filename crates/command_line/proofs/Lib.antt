@@ -1,2 +1,6 @@
-pub mod ValueNamed
+pub mod Made
+pub mod Enters
+pub mod Rows
+pub mod Walks
 pub mod Calls
+pub mod Found

@@ -1,104 +1,176 @@
--- The words that the program is called with, each as its bytes.
-use Rattle.std.specs.Prelude.{◌≡◌, ◌≢◌, ◌⊎◌, ℕ, Bool, true, false, List, [], ◌∷◌, codes, Option, Some, None, option_and_then, if◌then◌else◌}
+-- The words that the program is called with, each as its bytes: the commands, what each takes, and what it asks for.
+use Rattle.std.specs.Prelude.{ℕ, Bool, true, false, List, [], ◌∷◌, ◌++◌, map, fold, codes, Option, Some, None, unwrap_or, if◌then◌else◌}
 use Rattle.std.specs.Option.{option_map_or}
 use Rattle.std.specs.Str.{bytes_eq}
 use Rattle.clap.specs.declared.builder.action.ArgAction.TheVariants.{SetTrue}
 use Rattle.clap.specs.declared.parser.matches.ArgMatches.{ArgMatches}
 use Rattle.command_line.specs.declared.words.Asked.{Asked as Declared}
-use Rattle.command_line.specs.declared.words.Asked.TheVariants.{Acceptor, Audit, Explain, Replay}
-use Rattle.clap.specs.Words.{App, Row, Rule, Text, first_of, new_app, new_rule, subcommand_rows_of, with_rule, with_subcommand}
+use Rattle.command_line.specs.declared.words.Asked.TheVariants as declared
+use Rattle.clap.specs.Words.{App, Rule, Text, first_of, new_app, new_rule, subcommand_rows_of, with_rule, with_subcommand}
+use Rattle.std.specs.Prelude.{option_map}
+use Rattle.std.specs.Borrow.{Bor}
 
--- The word names a file and no flag: it does not begin with a hyphen (45), or is a hyphen alone (POSIX, Utility Syntax
--- Guidelines 3, 9 and 13).
-abbrev pub IsOperand : List ℕ → Type 0
-IsOperand [] = Unit {0}
-IsOperand (only ∷ []) = Unit {0}
-IsOperand (first ∷ second ∷ rest) = first ≢ 45
+-- what the program does
+pub data Command : Type 0 where
+  accepting : Command
+  auditing : Command
+  replaying : Command
+  serving : Command
+  scripting : Command
+  putting : Command
+  getting : Command
+  listing : Command
+  informing : Command
 
--- the words of an audit of a file that is to be explained: the option stands before the file or behind it
-abbrev pub IsExplained : List (List ℕ) → List ℕ → List ℕ → Type 0
-IsExplained words name file =
-    (words ≡ name ∷ codes "audit" ∷ codes "--explain" ∷ file ∷ []) ⊎ (words ≡ name ∷ codes "audit" ∷ file ∷ codes "--explain" ∷ [])
+-- the word for it
+abbrev pub name_of : Command → Text
+name_of accepting = codes "acceptor"
+name_of auditing = codes "audit"
+name_of replaying = codes "replay"
+name_of serving = codes "serve"
+name_of scripting = codes "script"
+name_of putting = codes "put"
+name_of getting = codes "get"
+name_of listing = codes "list"
+name_of informing = codes "info"
 
--- the program's name alone; that and the word of the acceptor; that, the word of the audit or of the replay, and a file; or
--- the words of an audit that is to be explained
-abbrev pub IsCall : List (List ℕ) → Type 0
-IsCall words =
-    (name : List ℕ)
-    × ((words ≡ name ∷ []) ⊎ (words ≡ name ∷ codes "acceptor" ∷ [])
-    ⊎ ((file : List ℕ) × IsOperand file × (words ≡ name ∷ codes "audit" ∷ file ∷ []))
-    ⊎ ((file : List ℕ) × IsOperand file × IsExplained words name file)
-    ⊎ ((file : List ℕ) × IsOperand file × (words ≡ name ∷ codes "replay" ∷ file ∷ [])))
+-- the command of a word, and the acceptor's where it is none
+abbrev pub command_named : Text → Command
+command_named name =
+    if bytes_eq name (codes "audit") then auditing
+    else if bytes_eq name (codes "replay") then replaying
+    else if bytes_eq name (codes "serve") then serving
+    else if bytes_eq name (codes "script") then scripting
+    else if bytes_eq name (codes "put") then putting
+    else if bytes_eq name (codes "get") then getting
+    else if bytes_eq name (codes "list") then listing
+    else if bytes_eq name (codes "info") then informing
+    else accepting
+
+-- ---- what a command takes behind its word
+
+-- the names of the operands that have to be there, in their order, of those that may follow them, of the options with a value,
+-- and of those without
+pub record Takes : Type 0 where
+  pub required : List Text
+  pub optional : List Text
+  pub options : List Text
+  pub flags : List Text
+
+-- nothing, and operands alone
+abbrev pub operands_alone : List Text → Takes
+operands_alone names = record { required = names; optional = []; options = []; flags = [] }
+
+abbrev pub takes_of : Command → Takes
+takes_of accepting = operands_alone []
+takes_of auditing = record (operands_alone (codes "FILE" ∷ [])) { flags = codes "explain" ∷ [] }
+takes_of replaying = operands_alone (codes "FILE" ∷ [])
+takes_of serving = record (operands_alone []) { options = codes "nodes" ∷ codes "port" ∷ [] }
+takes_of scripting = operands_alone (codes "FILE" ∷ [])
+takes_of putting =
+    record (operands_alone (codes "ADDRESS" ∷ codes "TABLE" ∷ codes "FILE" ∷ [])) { options = codes "id" ∷ codes "schema" ∷ [] }
+takes_of getting =
+    record (operands_alone (codes "ADDRESS" ∷ codes "TABLE" ∷ [])) { optional = codes "VERSION" ∷ []; flags = codes "all-locations" ∷ [] }
+takes_of listing = operands_alone (codes "ADDRESS" ∷ [])
+takes_of informing = operands_alone (codes "ADDRESS" ∷ codes "TABLE" ∷ [])
+
+-- ---- the same, as the arguments of clap
+
+-- an operand that has to be there
+abbrev pub operand_rule : Text → Rule
+operand_rule name = record (new_rule name) { required = true }
+
+-- an option with a value, which the help gives a name
+abbrev pub option_rule : Text → Rule
+option_rule name = record (new_rule name) { long = Some name; value_names = 1 }
+
+-- an option that has none
+abbrev pub flag_rule : Text → Rule
+flag_rule name = record (new_rule name) { long = Some name; action = Some SetTrue }
+
+-- an operand that may be there has no rule but its name
+abbrev pub rules_for : Takes → List Rule
+rules_for t = map operand_rule t.required ++ map new_rule t.optional ++ map option_rule t.options ++ map flag_rule t.flags
+
+abbrev pub app_for : Command → App
+app_for command = fold with_rule (new_app (name_of command)) (rules_for (takes_of command))
 
 -- the command has a version
 abbrev pub with_version : App → App
 with_version a = record a { top = record a.top { has_version = true } }
 
--- the argument of the audit and of the replay, which has to be there
-abbrev pub file_rule : Rule
-file_rule = record (new_rule (codes "FILE")) { required = true }
+abbrev pub with_command : App → Command → App
+with_command a command = with_subcommand a (app_for command).top
 
--- the option of the audit that asks for its explanation
-abbrev pub explain_rule : Rule
-explain_rule = record (new_rule (codes "explain")) { long = Some (codes "explain"); action = Some SetTrue }
+-- the commands that ask no server, and then those that ask one
+abbrev pub local_commands : App → App
+local_commands a = fold with_command a (accepting ∷ auditing ∷ replaying ∷ serving ∷ scripting ∷ [])
 
--- the audit's words: its file, and its option
-abbrev pub audit_app : App
-audit_app = with_rule (with_rule (new_app (codes "audit")) file_rule) explain_rule
-
--- the program's words: its version, and its three commands
+-- the program's words: its version, and its commands
 abbrev pub command_line : App
-command_line =
-    with_subcommand
-    (with_subcommand (with_subcommand (with_version (new_app (codes "flightd"))) (new_app (codes "acceptor")).top)
-    audit_app.top)
-    (with_rule (new_app (codes "replay")) file_rule).top
+command_line = fold with_command (local_commands (with_version (new_app (codes "flightd")))) (putting ∷ getting ∷ listing ∷ informing ∷ [])
 
--- the value under this id of a parse's matches, where they are those of the command of this name
-abbrev pub value_in : Text → Text → Text × List Row → Option Text
-value_in name id command = if bytes_eq command.0 name then first_of id command.1 else None
+-- ---- what is asked for
 
-abbrev pub value_by : Text → Text → ArgMatches → Option Text
-value_by name id matches = option_and_then (value_in name id) (subcommand_rows_of matches)
-
--- the value of an option that is there
-abbrev pub is_yes : Option Text → Bool
-is_yes value = option_map_or (λ text. bytes_eq text (codes "true")) value false
-
--- what words ask for: the acceptor, the audit of a file, its audit with the explanation, or its replay
+-- the acceptor; the audit of a file, its audit with the explanation, or its replay; a cluster, with the number of its nodes and
+-- its first port, as far as these are told; the script of a file; a put, with its address, table, file, upload's name and
+-- schema; a get, with its address, table, version, and whether all locations are asked; the tables at an address; or what is
+-- told of one of them
 pub data Asked : Type 0 where
   acceptor : Asked
   audit : Text → Asked
   explain : Text → Asked
   replay : Text → Asked
+  serve : Option Text → Option Text → Asked
+  script : Text → Asked
+  put : Text → Text → Text → Option Text → Option Text → Asked
+  get : Text → Text → Option Text → Bool → Asked
+  list : Text → Asked
+  info : Text → Text → Asked
+
+-- the same, as the program says it
+abbrev pub text_of : Option (Bor Text) → Option Text
+text_of = option_map (λ text. text.now)
+
+abbrev pub asked_of : Declared → Asked
+asked_of declared.Acceptor = acceptor
+asked_of (declared.Audit file) = audit file.now
+asked_of (declared.Explain file) = explain file.now
+asked_of (declared.Replay file) = replay file.now
+asked_of (declared.Serve nodes port) = serve (text_of nodes) (text_of port)
+asked_of (declared.Script file) = script file.now
+asked_of (declared.Put address table file id schema) = put address.now table.now file.now (text_of id) (text_of schema)
+asked_of (declared.Get address table version all_locations) = get address.now table.now (text_of version) all_locations
+asked_of (declared.List address) = list address.now
+asked_of (declared.Info address table) = info address.now table.now
+
+-- the value of an operand that is there
+abbrev pub value_of : Option Text → Text
+value_of value = unwrap_or value []
+
+-- the value of an option that has none says that it is there
+abbrev pub is_yes : Option Text → Bool
+is_yes value = option_map_or (λ text. bytes_eq text (codes "true")) value false
 
 -- by whether the audit is to be explained
 abbrev pub audit_for : Bool → Text → Asked
 audit_for true file = explain file
 audit_for false file = audit file
 
--- by the file that is to be audited, the value of the audit's option, and the file that is to be replayed, where there are such
-abbrev pub asked_for : Option Text → Option Text → Option Text → Asked
-asked_for (Some file) option other = audit_for (is_yes option) file
-asked_for None option (Some file) = replay file
-asked_for None option None = acceptor
+-- what a command asks for, by the values under its names
+abbrev pub asks : Command → (Text → Option Text) → Asked
+asks accepting under = acceptor
+asks auditing under = audit_for (is_yes (under (codes "explain"))) (value_of (under (codes "FILE")))
+asks replaying under = replay (value_of (under (codes "FILE")))
+asks serving under = serve (under (codes "nodes")) (under (codes "port"))
+asks scripting under = script (value_of (under (codes "FILE")))
+asks putting under =
+    put (value_of (under (codes "ADDRESS"))) (value_of (under (codes "TABLE"))) (value_of (under (codes "FILE"))) (under (codes "id")) (under (codes "schema"))
+asks getting under =
+    get (value_of (under (codes "ADDRESS"))) (value_of (under (codes "TABLE"))) (under (codes "VERSION")) (is_yes (under (codes "all-locations")))
+asks listing under = list (value_of (under (codes "ADDRESS")))
+asks informing under = info (value_of (under (codes "ADDRESS"))) (value_of (under (codes "TABLE")))
 
+-- what a parse's matches ask for: the acceptor, where they name no command
 abbrev pub asked_by : ArgMatches → Asked
-asked_by matches =
-    asked_for (value_by (codes "audit") (codes "FILE") matches) (value_by (codes "audit") (codes "explain") matches)
-    (value_by (codes "replay") (codes "FILE") matches)
-
--- the same, as the program says it
-abbrev pub asked_of : Declared → Asked
-asked_of Acceptor = acceptor
-asked_of (Audit file) = audit file.now
-asked_of (Explain file) = explain file.now
-asked_of (Replay file) = replay file.now
-
--- What a call asks for.
-pub record AsksFor (words : List Text) (asked : Asked) : Type 0 where
-  pub alone : (name : Text) → words ≡ name ∷ [] → asked ≡ acceptor
-  pub acceptor_named : (name : Text) → words ≡ name ∷ codes "acceptor" ∷ [] → asked ≡ acceptor
-  pub audit_named : (name operand : Text) → IsOperand operand → words ≡ name ∷ codes "audit" ∷ operand ∷ [] → asked ≡ audit operand
-  pub explain_named : (name operand : Text) → IsOperand operand → IsExplained words name operand → asked ≡ explain operand
-  pub replay_named : (name operand : Text) → IsOperand operand → words ≡ name ∷ codes "replay" ∷ operand ∷ [] → asked ≡ replay operand
+asked_by matches = option_map_or (λ found. asks (command_named found.0) (λ name. first_of name found.1)) (subcommand_rows_of matches) acceptor

@@ -6,6 +6,7 @@ pub(crate) const PROGRAM: &str =
 
 /// How the program ends.
 pub(crate) const PROGRAM_MORE: &str = "\
+Example: flightd audit --explain run.json
 Exit status: 0 success; 1 a fault, or a recorded run that is unlawful; 2 words that are no call.
 A fault is told in a line on standard error. docs/FORMATS.md has the bytes and the files.";
 
@@ -15,6 +16,7 @@ pub(crate) const ACCEPTOR: &str =
 
 /// What the acceptor reads, and how it ends.
 pub(crate) const ACCEPTOR_MORE: &str = "\
+Example: flightd acceptor < asked.frames > answered.frames
 Input: frames on standard input, each of a message of Paxos (docs/FORMATS.md). Each Prepare and Accept is answered.
 Exit status: 0 at the end of the input; 1 after a fault; 2 words that are no call.";
 
@@ -24,6 +26,7 @@ pub(crate) const AUDIT: &str =
 
 /// What the audit reads, and how it ends.
 pub(crate) const AUDIT_MORE: &str = "\
+Example: flightd audit --explain run.json
 Input: FILE, a JSON object with the number of members and the messages that they sent (docs/FORMATS.md).
 Exit status: 0 lawful; 1 unlawful, or a fault; 2 words that are no call.";
 
@@ -40,8 +43,97 @@ pub(crate) const REPLAY: &str =
 
 /// What the replay reads, and how it ends.
 pub(crate) const REPLAY_MORE: &str = "\
+Example: flightd replay schedule.json
 Input: FILE, a JSON object with members, slots, uploads and events (docs/FORMATS.md).
 Exit status: 0 where every line was written; 1 after a fault; 2 words that are no call.";
 
 /// What the file of a replay is.
 pub(crate) const SCHEDULE_FILE: &str = "A schedule of events";
+
+/// What serving does.
+pub(crate) const SERVE: &str =
+    "Serves the tables of a cluster, each of its nodes at a port of 127.0.0.1";
+
+/// Which ports are served, and how it ends.
+pub(crate) const SERVE_MORE: &str = "\
+Example: flightd serve --nodes 5 --port 42000 serves nodes 0 to 4 at the ports 42000 to 42004.
+Exit status: 1 after a fault; 2 words that are no call.";
+
+/// How many nodes are served.
+pub(crate) const NODES: &str = "How many nodes the cluster has: 3, the default, or 5";
+
+/// Where they are served.
+pub(crate) const PORT: &str =
+    "The port of node 0, from 1024 to 65000, where 42000 is the default; node k is k above it";
+
+/// What a script does.
+pub(crate) const SCRIPT: &str =
+    "Runs the calls of a script at a cluster of its own, and prints a line for each call";
+
+/// What a script reads, and how it ends.
+pub(crate) const SCRIPT_MORE: &str = "\
+Example: flightd script calls.json
+Input: FILE, a JSON object with the number of nodes and the calls.
+Exit status: 0 where the receipts of all answers are right; 1 where not, or after a fault; 2 words that are no call.";
+
+/// What the file of a script is.
+pub(crate) const SCRIPT_FILE: &str = "A script of calls";
+
+/// What a put does.
+pub(crate) const PUT: &str = "Puts the rows of a file into a table at a server";
+
+/// What a put reads, and how it ends.
+pub(crate) const PUT_MORE: &str = "\
+Example: flightd put 127.0.0.1:42000 cities cities.jsonl --id 000102030405060708090a0b0c0d0e0f
+Input: FILE, rows as lines of JSON (docs/FORMATS.md).
+Exit status: 0 where the server has them; 1 after a fault; 2 words that are no call.";
+
+/// Where a server is.
+pub(crate) const ADDRESS: &str = "Where the server is, as HOST:PORT";
+
+/// What names a table.
+pub(crate) const TABLE: &str = "The table's name: 1 to 64 of A-Z, a-z, 0-9, _, . and -";
+
+/// What the file of a put is.
+pub(crate) const ROWS_FILE: &str = "A file of rows, or - for standard input";
+
+/// What names an upload.
+pub(crate) const ID: &str =
+    "The upload's own name, 32 lower-case hexadecimal digits: what is put again by one name stands once";
+
+/// What the schema of a put is.
+pub(crate) const SCHEMA: &str = "The schema of the rows; without it, one that is made of them";
+
+/// What a get does.
+pub(crate) const GET: &str =
+    "Prints the rows of a table at a server, of its latest version or of another";
+
+/// What a get prints, and how it ends.
+pub(crate) const GET_MORE: &str = "\
+Example: flightd get 127.0.0.1:42000 cities 2
+Output: rows as lines of JSON (docs/FORMATS.md).
+Exit status: 0 where every row was printed; 1 after a fault; 2 words that are no call.";
+
+/// Which version is got.
+pub(crate) const VERSION: &str = "The version's number, from 1 on; without it, the latest version";
+
+/// From where a version is got.
+pub(crate) const ALL_LOCATIONS: &str =
+    "Asks each location that the server names, and not the server alone";
+
+/// What listing does.
+pub(crate) const LIST: &str = "Prints the tables of a server, a line for each";
+
+/// How listing ends.
+pub(crate) const LIST_MORE: &str = "\
+Example: flightd list 127.0.0.1:42000
+Exit status: 0 where every line was printed; 1 after a fault; 2 words that are no call.";
+
+/// What is told of a table.
+pub(crate) const INFO: &str =
+    "Prints what a server tells of a table: its latest version, its rows, its bytes and its locations";
+
+/// How telling of a table ends.
+pub(crate) const INFO_MORE: &str = "\
+Example: flightd info 127.0.0.1:42000 cities
+Exit status: 0 where it was printed; 1 after a fault; 2 words that are no call.";

@@ -1,15 +1,17 @@
 //! The words of the command line.
 
-ghost use Rattle.std.specs.Prelude.{◌≡◌, false, codes, map, option_map, string_bytes, IfOk, IfErr};
-ghost use Rattle.clap.specs.Words.{FailsBy, app_of, fault_of, kind_of, new_app, rule_of, with_rule, with_subcommand};
+ghost use Rattle.std.specs.Prelude.{◌≡◌, codes, map, option_map, string_bytes, unwrap_or, [], IfOk, IfErr};
+ghost use Rattle.clap.specs.Words.{FailsBy, fault_of, first_value, found_of, kind_of};
 ghost use Rattle.clap.specs.declared.error.kind.ErrorKind.TheVariants.{OutOfMemory};
-ghost use Rattle.command_line.specs.CommandLine.{IsCall, AsksFor, asked_by, asked_of, audit_app, audit_for, command_line, explain_rule, file_rule, is_yes, value_by, with_version};
+ghost use Rattle.command_line.specs.Calls.{AsksFor, IsCall};
+ghost use Rattle.command_line.specs.CommandLine.{asked_by, asked_of, asks, audit_for, command_line, command_named, getting, is_yes, putting};
 
-use crate::help;
-use clap::{Arg, ArgAction, ArgMatches, Command, Error};
-use std::alloc::{AllocError, Global};
+use crate::commands::command_line;
+use clap::{ArgMatches, Error};
+use std::alloc::Global;
 
-/// What the words of the command line ask for.
+/// What the words of the command line ask for. An address is a HOST:PORT, and a file a name, as they stand in the words: no
+/// more is known of them here than that they are there.
 #[derive(Clone, Copy, Debug, PartialEq, Eq)]
 pub enum Asked<'a> {
     /// The acceptor, over standard input and output.
@@ -20,11 +22,64 @@ pub enum Asked<'a> {
     Explain(&'a str),
     /// The lines of the schedule that this file tells.
     Replay(&'a str),
+    /// A cluster that is served, as [`served_by`](crate::served_by) says.
+    Serve {
+        /// How many nodes.
+        nodes: Option<&'a str>,
+        /// The port of the first of them.
+        port: Option<&'a str>,
+    },
+    /// The calls of the script that this file tells, at a cluster of their own.
+    Script(&'a str),
+    /// The rows of a file, put into a table at a server.
+    Put {
+        /// Where the server is.
+        address: &'a str,
+        /// The table's name.
+        table: &'a str,
+        /// The file, where `-` is standard input.
+        file: &'a str,
+        /// The upload's own name.
+        id: Option<&'a str>,
+        /// The schema of the rows.
+        schema: Option<&'a str>,
+    },
+    /// The rows of a version of a table.
+    Get {
+        /// Where the server is.
+        address: &'a str,
+        /// The table's name.
+        table: &'a str,
+        /// The version's number, as [`version_by`](crate::version_by) reads it; the latest where there is none.
+        version: Option<&'a str>,
+        /// Whether each location that has the version is asked, and not the server alone.
+        all_locations: bool,
+    },
+    /// The tables of the server that is there.
+    List(&'a str),
+    /// What a server tells of a table.
+    Info {
+        /// Where the server is.
+        address: &'a str,
+        /// The table's name.
+        table: &'a str,
+    },
 }
 
-/// Reads the words that the program was called with, its own name first: no more, the word `acceptor`, or the word
-/// `audit` or `replay` and a file's name. Before the file that is to be audited or behind it the option `--explain` may
-/// stand.
+/// Reads the words that the program was called with, its own name first: no more, or the word of a command, its operands in
+/// their order, and its options before them, between them or behind them, each at most once.
+///
+/// | Command | Operands | Options |
+/// |---|---|---|
+/// | `acceptor` | | |
+/// | `audit` | `FILE` | `--explain` |
+/// | `replay` | `FILE` | |
+/// | `serve` | | `--nodes N`, `--port P` |
+/// | `script` | `FILE` | |
+/// | `put` | `ADDRESS TABLE FILE` | `--id ID`, `--schema SCHEMA` |
+/// | `get` | `ADDRESS TABLE`, and perhaps `VERSION` | `--all-locations` |
+/// | `list` | `ADDRESS` | |
+/// | `info` | `ADDRESS TABLE` | |
 ///
 /// The error prints itself: a fault of the words to standard error, with exit status 2; the help and the version, which
 /// are asked for, to standard output, with exit status 0.
@@ -36,88 +91,22 @@ pub fn parse(alloc: Global, words: &[String]) -> Result<ArgMatches<'_>, Error>
     // Whatever the words, the outcome is the one that they have at this command line, or memory refused.
     ensures refused { FailsBy (fault_of command_line (map string_bytes words.now)) result }
 {
-    let command = command(alloc)?;
+    let command = command_line(alloc)?;
     command.try_get_matches_from(words)
 }
 
-// The program's words: its version, and its three commands.
-fn command<'a>(alloc: Global) -> Result<Command<'a>, AllocError>
-    ensures { IfOk result (λ made. app_of made ≡ command_line) }
+// The value of an operand, which is there in what `parse` takes.
+fn operand<'a>(found: &ArgMatches<'a>, id: &str) -> &'a str
+    ensures { result.now ≡ unwrap_or (first_value (found_of found.now) id.now) [] }
 {
-    with_replay(
-        alloc,
-        with_audit(alloc, with_acceptor(alloc, program(alloc))?)?,
-    )
+    found.get_str(id).unwrap_or("")
 }
 
-fn program<'a>(alloc: Global) -> Command<'a>
-    ensures { app_of result ≡ with_version (new_app (codes "flightd")) }
+// Whether an option is there that has no value.
+fn has_flag(found: &ArgMatches<'_>, id: &str) -> bool
+    ensures { result ≡ is_yes (first_value (found_of found.now) id.now) }
 {
-    Command::new(alloc, "flightd")
-        .version("0.1.0")
-        .about(help::PROGRAM)
-        .after_help(help::PROGRAM_MORE)
-}
-
-fn with_acceptor<'a>(alloc: Global, program: Command<'a>) -> Result<Command<'a>, AllocError>
-    ensures { IfOk result (λ made. app_of made ≡ with_subcommand (app_of program.entry) (new_app (codes "acceptor")).top) }
-{
-    let acceptor = Command::new(alloc, "acceptor")
-        .about(help::ACCEPTOR)
-        .after_help(help::ACCEPTOR_MORE);
-    program.subcommand(acceptor)
-}
-
-fn with_audit<'a>(alloc: Global, program: Command<'a>) -> Result<Command<'a>, AllocError>
-    ensures { IfOk result (λ made. app_of made ≡ with_subcommand (app_of program.entry) audit_app.top) }
-{
-    let audit = Command::new(alloc, "audit")
-        .about(help::AUDIT)
-        .after_help(help::AUDIT_MORE)
-        .arg(file_argument(alloc, help::RUN_FILE))?
-        .arg(explain_argument(alloc))?;
-    program.subcommand(audit)
-}
-
-fn with_replay<'a>(alloc: Global, program: Command<'a>) -> Result<Command<'a>, AllocError>
-    ensures { IfOk result (λ made. app_of made ≡ with_subcommand (app_of program.entry) (with_rule (new_app (codes "replay")) file_rule).top) }
-{
-    let replay = Command::new(alloc, "replay")
-        .about(help::REPLAY)
-        .after_help(help::REPLAY_MORE)
-        .arg(file_argument(alloc, help::SCHEDULE_FILE))?;
-    program.subcommand(replay)
-}
-
-fn file_argument<'a>(alloc: Global, help: &'a str) -> Arg<'a>
-    ensures rule { rule_of result ≡ file_rule }
-    ensures local { result.global ≡ false }
-{
-    Arg::new(alloc, "FILE").required(true).help(help)
-}
-
-fn explain_argument<'a>(alloc: Global) -> Arg<'a>
-    ensures rule { rule_of result ≡ explain_rule }
-    ensures local { result.global ≡ false }
-{
-    Arg::new(alloc, "explain")
-        .long("explain")
-        .action(ArgAction::SetTrue)
-        .help(help::EXPLAIN)
-}
-
-// The first value under this id, where the words name this command.
-fn value_of<'a>(matches: &ArgMatches<'a>, command: &str, id: &str) -> Option<&'a str>
-    ensures { option_map (λ value. value.now) result ≡ value_by command.now id.now matches.now }
-{
-    matches.subcommand_matches(command)?.get_str(id)
-}
-
-// Whether an option's value says that it is there.
-fn is_there(value: Option<&str>) -> bool
-    ensures { result ≡ is_yes (option_map (λ text. text.now) value.entry) }
-{
-    match value {
+    match found.get_str(id) {
         Some(text) => text == "true",
         None => false,
     }
@@ -137,12 +126,54 @@ fn audit_of<'a>(file: &'a str, is_explained: bool) -> Asked<'a>
 pub fn asked_by<'a>(matches: &ArgMatches<'a>) -> Asked<'a>
     ensures { asked_of result ≡ asked_by matches.now }
 {
-    let audited = value_of(matches, "audit", "FILE");
-    let option = value_of(matches, "audit", "explain");
-    let replayed = value_of(matches, "replay", "FILE");
-    match (audited, replayed) {
-        (Some(file), _) => audit_of(file, is_there(option)),
-        (None, Some(file)) => Asked::Replay(file),
-        (None, None) => Asked::Acceptor,
+    match matches.subcommand() {
+        Some((name, found)) => asked_of(name, found),
+        None => Asked::Acceptor,
+    }
+}
+
+// What the command of this name asks for.
+fn asked_of<'a>(name: &str, found: &ArgMatches<'a>) -> Asked<'a>
+    ensures { asked_of result ≡ asks (command_named name.now) (first_value (found_of found.now)) }
+{
+    match name {
+        "audit" => audit_of(operand(found, "FILE"), has_flag(found, "explain")),
+        "replay" => Asked::Replay(operand(found, "FILE")),
+        "serve" => Asked::Serve {
+            nodes: found.get_str("nodes"),
+            port: found.get_str("port"),
+        },
+        "script" => Asked::Script(operand(found, "FILE")),
+        "put" => put_of(found),
+        "get" => get_of(found),
+        "list" => Asked::List(operand(found, "ADDRESS")),
+        "info" => Asked::Info {
+            address: operand(found, "ADDRESS"),
+            table: operand(found, "TABLE"),
+        },
+        _ => Asked::Acceptor,
+    }
+}
+
+fn put_of<'a>(found: &ArgMatches<'a>) -> Asked<'a>
+    ensures { asked_of result ≡ asks putting (first_value (found_of found.now)) }
+{
+    Asked::Put {
+        address: operand(found, "ADDRESS"),
+        table: operand(found, "TABLE"),
+        file: operand(found, "FILE"),
+        id: found.get_str("id"),
+        schema: found.get_str("schema"),
+    }
+}
+
+fn get_of<'a>(found: &ArgMatches<'a>) -> Asked<'a>
+    ensures { asked_of result ≡ asks getting (first_value (found_of found.now)) }
+{
+    Asked::Get {
+        address: operand(found, "ADDRESS"),
+        table: operand(found, "TABLE"),
+        version: found.get_str("VERSION"),
+        all_locations: has_flag(found, "all-locations"),
     }
 }

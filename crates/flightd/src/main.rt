@@ -4,7 +4,8 @@
 //! FILE` says whether a recorded run of such messages is one that correct nodes may have sent, and `flightd audit --explain
 //! FILE` also why it is not. `flightd replay FILE` plays a schedule, and prints a line for each of its events. The words are
 //! read by `command_line`, and each command is one function over any reader and writers, with its contract, of a library of
-//! its own, `acceptor_command`, `audit_command` and `replay_command`; `main` gives it the real ones.
+//! its own, `acceptor_command`, `audit_command` and `replay_command`; `main` gives it the real ones. What else the words may
+//! ask for is not there yet.
 #![tactic(auto)]
 
 use acceptor_command::acceptor_run;
@@ -15,6 +16,9 @@ use std::hash::RandomState;
 use std::io::{BufReader, BufWriter};
 use std::process::ExitCode;
 use std::{fs, io};
+
+/// The exit status of words that are no call.
+const NO_CALL: u8 = 2;
 
 fn main(rt: HostRuntime) -> ExitCode {
     let status = match start(&rt) {
@@ -42,12 +46,20 @@ fn start(rt: &HostRuntime) -> io::Result<u8> {
             Asked::Audit(file) => judge(rt, file),
             Asked::Explain(file) => explain(rt, file),
             Asked::Replay(file) => play(rt, file),
+            _ => Ok(refuse(rt)),
         },
         Err(error) => {
             error.print(rt)?;
             Ok(error.exit_code() as u8)
         }
     }
+}
+
+// What is asked for is not there yet, and ends as words that are no call do.
+fn refuse(rt: &HostRuntime) -> u8 {
+    // Where this fails, the status alone tells.
+    let _ = eprintln!(rt; "flightd: Unsupported");
+    NO_CALL
 }
 
 fn answer(rt: &HostRuntime) -> io::Result<u8> {

@@ -1,6 +1,6 @@
 use Rattle.std.proofs.Common.{◌∙◌, ap, true, rules}
 use Rattle.clap.specs.Words.{Rule, rule_of}
-use Rattle.command_line.proofs.words.file_argument.Goals as goal
+use Rattle.command_line.proofs.commands.operand.Goals as goal
 
 pub returns-clause-rule : goal.returns-clause-rule
 returns-clause-rule c =

@@ -1,12 +1,12 @@
-use Rattle.std.proofs.Common.{◌∙◌, ap, codes, Some, rules}
+use Rattle.std.proofs.Common.{◌∙◌, ap, Some, rules}
 use Rattle.clap.specs.Words.{Rule, rule_of}
 use Rattle.clap.specs.declared.builder.action.ArgAction.TheVariants.{SetTrue}
-use Rattle.command_line.proofs.words.explain_argument.Goals as goal
+use Rattle.command_line.proofs.commands.flag.Goals as goal
 
 pub returns-clause-rule : goal.returns-clause-rule
 returns-clause-rule c =
     ap rule_of c.help.ensures ∙ ap rule_of c.action.ensures ∙ ap (λ (r : Rule). record r { action = Some SetTrue }) (ap rule_of c.long.ensures)
-    ∙ ap (λ (r : Rule). record r { long = Some (codes "explain"); action = Some SetTrue }) c.new.ensures.rule
+    ∙ ap (λ (r : Rule). record r { long = Some c.args.name.now; action = Some SetTrue }) c.new.ensures.rule
 
 pub returns-clause-local : goal.returns-clause-local
 returns-clause-local c = search rules steps 300000

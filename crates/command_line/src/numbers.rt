@@ -1,0 +1,104 @@
+//! The numbers among the words.
+
+ghost use Rattle.std.specs.Prelude.{◌≡◌, ◌<◌, ◌≤◌, ◌^◌, ℕ, MatchOption, option_map};
+ghost use Rattle.command_line.specs.Numbers.{IsNodes, IsPort, Writes, Gives, ServedBy, VersionBy};
+
+use thiserror::Error;
+
+/// How many nodes a cluster has where no words say.
+pub const DEFAULT_NODES: u8 = 3;
+
+/// The port of the first node where no words say.
+pub const DEFAULT_PORT: u16 = 42_000;
+
+/// The least port that the first node may have.
+pub const LEAST_PORT: u16 = 1_024;
+
+/// The last port that the first node may have: there is room behind it for those of the others.
+pub const LAST_PORT: u16 = 65_000;
+
+/// A cluster that is served.
+#[derive(Clone, Copy, Debug, PartialEq, Eq)]
+pub struct Served {
+    /// How many nodes it has, 3 or 5.
+    pub nodes: u8,
+    /// The port of node 0; node k has the port that is k more.
+    pub port: u16,
+}
+
+/// What is wrong with a number among the words. Its text says what is allowed.
+#[derive(Clone, Copy, Debug, PartialEq, Eq, Error)]
+pub enum WordsFault {
+    /// The value of `--nodes` is neither 3 nor 5.
+    #[error("--nodes takes 3 or 5")]
+    Nodes,
+    /// The value of `--port` is no port that the first node may have.
+    #[error("--port takes a number from 1024 to 65000")]
+    Port,
+    /// The version of a table is no number that one has.
+    #[error("VERSION is a decimal number from 1 on")]
+    Version,
+}
+
+/// The cluster that the values of `--nodes` and `--port` ask for, where each has its default where it is not there.
+///
+/// [`WordsFault::Nodes`] is told exactly where the first is no decimal number that is 3 or 5; and [`WordsFault::Port`]
+/// exactly where it is, and the other is no decimal number from [`LEAST_PORT`] to [`LAST_PORT`]. A decimal number is
+/// digits alone.
+pub fn served_by(nodes: Option<&str>, port: Option<&str>) -> Result<Served, WordsFault>
+    ensures { ServedBy (option_map (λ text. text.now) nodes.entry) (option_map (λ text. text.now) port.entry) result }
+{
+    let nodes = nodes_of(nodes).ok_or(WordsFault::Nodes)?;
+    let port = port_of(port).ok_or(WordsFault::Port)?;
+    Ok(Served { nodes, port })
+}
+
+/// The version's number that this text writes in decimal digits. It is [`WordsFault::Version`] exactly where it writes none,
+/// or 0, or one of 2^64 or more.
+pub fn version_by(text: &str) -> Result<u64, WordsFault>
+    ensures { VersionBy text.now result }
+{
+    match number_of(text) {
+        Some(number) if number > 0 => Ok(number),
+        _ => Err(WordsFault::Version),
+    }
+}
+
+fn nodes_of(text: Option<&str>) -> Option<u8>
+    ensures { MatchOption result ((n : ℕ) → Gives 3 (option_map (λ text. text.now) text.entry) n → ¬ IsNodes n)
+        (λ n. Gives 3 (option_map (λ text. text.now) text.entry) n × IsNodes n) }
+{
+    let Some(text) = text else {
+        return Some(DEFAULT_NODES);
+    };
+    match number_of(text)? {
+        3 => Some(3),
+        5 => Some(5),
+        _ => None,
+    }
+}
+
+fn port_of(text: Option<&str>) -> Option<u16>
+    ensures { MatchOption result ((n : ℕ) → Gives 42000 (option_map (λ text. text.now) text.entry) n → ¬ IsPort n)
+        (λ n. Gives 42000 (option_map (λ text. text.now) text.entry) n × IsPort n) }
+{
+    let Some(text) = text else {
+        return Some(DEFAULT_PORT);
+    };
+    let port = u16::try_from(number_of(text)?).ok()?;
+    if LEAST_PORT <= port && port <= LAST_PORT {
+        Some(port)
+    } else {
+        None
+    }
+}
+
+// The number that these digits write, with no sign before them.
+fn number_of(digits: &str) -> Option<u64>
+    ensures { MatchOption result ((n : ℕ) → Writes digits.now n → 2 ^ 64 ≤ n) (λ n. Writes digits.now n × (n < 2 ^ 64)) }
+{
+    match digits.as_bytes().first() {
+        Some(b'+') => None,
+        _ => digits.parse::<u64>().ok(),
+    }
+}
