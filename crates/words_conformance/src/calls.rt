@@ -1,0 +1,167 @@
+//! What each command asks for.
+
+use crate::support::{asks_for, words_in};
+use command_line::Asked;
+use std::test::Fail;
+
+#[test]
+fn takes_the_commands_without_a_server(rt: HostRuntime) -> Result<(), Fail> {
+    let alloc = rt.alloc();
+    for (call, wanted) in [
+        ("flightd", Asked::Acceptor),
+        ("flightd acceptor", Asked::Acceptor),
+        ("flightd audit run.json", Asked::Audit("run.json")),
+        (
+            "flightd audit --explain run.json",
+            Asked::Explain("run.json"),
+        ),
+        (
+            "flightd audit run.json --explain",
+            Asked::Explain("run.json"),
+        ),
+        ("flightd replay put", Asked::Replay("put")),
+        ("flightd script calls.json", Asked::Script("calls.json")),
+        ("flightd script -", Asked::Script("-")),
+        ("flightd script -- --calls", Asked::Script("--calls")),
+        (
+            "flightd list localhost:42000",
+            Asked::List("localhost:42000"),
+        ),
+        ("flightd list [::1]:42000", Asked::List("[::1]:42000")),
+        ("list list list", Asked::List("list")),
+    ] {
+        let words = words_in(alloc, call)?;
+        assert!(rt; asks_for(alloc, &words, wanted), "{call}");
+    }
+    Ok(())
+}
+
+#[test]
+fn takes_a_cluster(rt: HostRuntime) -> Result<(), Fail> {
+    let alloc = rt.alloc();
+    for (call, nodes, port) in [
+        ("flightd serve", None, None),
+        ("flightd serve --", None, None),
+        ("flightd serve --nodes 5", Some("5"), None),
+        ("flightd serve --nodes=5", Some("5"), None),
+        ("flightd serve --port 9000", None, Some("9000")),
+        ("flightd serve --port=9000", None, Some("9000")),
+        (
+            "flightd serve --nodes 3 --port 9000",
+            Some("3"),
+            Some("9000"),
+        ),
+        (
+            "flightd serve --port 9000 --nodes 3",
+            Some("3"),
+            Some("9000"),
+        ),
+        (
+            "flightd serve --port=9000 --nodes 3",
+            Some("3"),
+            Some("9000"),
+        ),
+        (
+            "flightd serve --port 9000 --nodes=3",
+            Some("3"),
+            Some("9000"),
+        ),
+        // Which numbers these are is not looked at here.
+        (
+            "flightd serve --nodes seven --port=-1",
+            Some("seven"),
+            Some("-1"),
+        ),
+        ("flightd serve --nodes= --port -", Some(""), Some("-")),
+    ] {
+        let words = words_in(alloc, call)?;
+        assert!(rt;
+            asks_for(alloc, &words, Asked::Serve { nodes, port }),
+            "{call}"
+        );
+    }
+    Ok(())
+}
+
+#[test]
+fn takes_a_get(rt: HostRuntime) -> Result<(), Fail> {
+    let alloc = rt.alloc();
+    for (call, version, all_locations) in [
+        ("flightd get a:1 t", None, false),
+        ("flightd get a:1 t 7", Some("7"), false),
+        ("flightd get a:1 t --all-locations", None, true),
+        ("flightd get a:1 --all-locations t", None, true),
+        ("flightd get --all-locations a:1 t", None, true),
+        ("flightd get --all-locations a:1 t 7", Some("7"), true),
+        ("flightd get a:1 --all-locations t 7", Some("7"), true),
+        ("flightd get a:1 t --all-locations 7", Some("7"), true),
+        ("flightd get a:1 t 7 --all-locations", Some("7"), true),
+        ("flightd get a:1 t --all-locations -- 7", Some("7"), true),
+        (
+            "flightd get a:1 t -- --all-locations",
+            Some("--all-locations"),
+            false,
+        ),
+    ] {
+        let (address, table) = ("a:1", "t");
+        let wanted = Asked::Get {
+            address,
+            table,
+            version,
+            all_locations,
+        };
+        let words = words_in(alloc, call)?;
+        assert!(rt; asks_for(alloc, &words, wanted), "{call}");
+    }
+    Ok(())
+}
+
+#[test]
+fn takes_an_info(rt: HostRuntime) -> Result<(), Fail> {
+    let alloc = rt.alloc();
+    for (call, address, table) in [
+        ("flightd info a:1 t", "a:1", "t"),
+        ("flightd info t a:1", "t", "a:1"),
+        ("flightd info a:1 -- -t", "a:1", "-t"),
+        ("flightd info info info", "info", "info"),
+    ] {
+        let words = words_in(alloc, call)?;
+        assert!(rt;
+            asks_for(alloc, &words, Asked::Info { address, table }),
+            "{call}"
+        );
+    }
+    Ok(())
+}
+
+#[test]
+fn takes_a_put_of_standard_input(rt: HostRuntime) -> Result<(), Fail> {
+    let alloc = rt.alloc();
+    for (call, id, schema) in [
+        ("flightd put a:1 t -", None, None),
+        (
+            "flightd put --id - a:1 t - --schema -",
+            Some("-"),
+            Some("-"),
+        ),
+        ("flightd put a:1 t - --id= --schema==", Some(""), Some("=")),
+        ("flightd put --schema=--id a:1 t -", None, Some("--id")),
+        (
+            "flightd put --id put a:1 --schema schema t -",
+            Some("put"),
+            Some("schema"),
+        ),
+    ] {
+        let (address, table, file) = ("a:1", "t", "-");
+        let wanted = Asked::Put {
+            address,
+            table,
+            file,
+            id,
+            schema,
+        };
+        let words = words_in(alloc, call)?;
+        assert!(rt; asks_for(alloc, &words, wanted), "{call}");
+    }
+    Ok(())
+}

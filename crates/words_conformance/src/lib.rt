@@ -1,0 +1,16 @@
+//! Conformance tests of `command_line`, over its public calls: each command with its options in each place, words that are
+//! refused, with the kind of fault that each is, and the numbers among the words.
+//!
+//! The crate has no code but tests, so that what is proved in the crate below is not proved again together with them.
+#![tactic(auto)]
+
+#[cfg(test)]
+mod calls;
+#[cfg(test)]
+mod faults;
+#[cfg(test)]
+mod numbers;
+#[cfg(test)]
+mod places;
+#[cfg(test)]
+mod support;

@@ -1,0 +1,142 @@
+//! The numbers of a cluster and of a version.
+
+use command_line::{Served, WordsFault, served_by, version_by};
+
+#[test]
+fn takes_three_or_five_nodes(rt: HostRuntime) {
+    assert!(rt;
+        served_by(None, None)
+            == Ok(Served {
+                nodes: 3,
+                port: 42_000
+            })
+    );
+    for (text, nodes) in [
+        ("3", 3),
+        ("5", 5),
+        ("03", 3),
+        ("0000000000000000000000005", 5),
+    ] {
+        assert!(rt;
+            served_by(Some(text), None)
+                == Ok(Served {
+                    nodes,
+                    port: 42_000
+                }),
+            "{text}"
+        );
+    }
+    for text in [
+        "",
+        "0",
+        "1",
+        "2",
+        "4",
+        "6",
+        "7",
+        "-3",
+        "+3",
+        "3.0",
+        "3 ",
+        " 3",
+        "three",
+        "0x3",
+        "3e0",
+        "259",
+        "4294967299",
+        "18446744073709551619",
+        "\u{663}",
+    ] {
+        assert!(rt;
+            served_by(Some(text), None) == Err(WordsFault::Nodes),
+            "{text}"
+        );
+        // The nodes are judged before the port.
+        assert!(rt;
+            served_by(Some(text), Some("0")) == Err(WordsFault::Nodes),
+            "{text}"
+        );
+    }
+}
+
+#[test]
+fn takes_a_port_with_room_behind_it(rt: HostRuntime) {
+    for (text, port) in [
+        ("1024", 1_024),
+        ("9000", 9_000),
+        ("65000", 65_000),
+        ("0042000", 42_000),
+    ] {
+        assert!(rt;
+            served_by(None, Some(text)) == Ok(Served { nodes: 3, port }),
+            "{text}"
+        );
+        assert!(rt;
+            served_by(Some("5"), Some(text)) == Ok(Served { nodes: 5, port }),
+            "{text}"
+        );
+    }
+    for text in [
+        "",
+        "0",
+        "80",
+        "1023",
+        "65001",
+        "65531",
+        "65535",
+        "65536",
+        "107536",
+        "4295009296",
+        "-42000",
+        "+42000",
+        "42,000",
+        "42000.",
+        "0xa410",
+        "port",
+    ] {
+        assert!(rt;
+            served_by(Some("5"), Some(text)) == Err(WordsFault::Port),
+            "{text}"
+        );
+    }
+}
+
+#[test]
+fn reads_a_version(rt: HostRuntime) {
+    for (text, version) in [
+        ("1", 1),
+        ("7", 7),
+        ("0010", 10),
+        ("18446744073709551615", u64::MAX),
+    ] {
+        assert!(rt; version_by(text) == Ok(version), "{text}");
+    }
+    for text in [
+        "",
+        "0",
+        "000",
+        "-1",
+        "+1",
+        "1.",
+        "one",
+        "latest",
+        "1 ",
+        "18446744073709551616",
+        "99999999999999999999999999",
+    ] {
+        assert!(rt; version_by(text) == Err(WordsFault::Version), "{text}");
+    }
+}
+
+#[test]
+fn faults_say_what_is_allowed(rt: HostRuntime) -> Result<(), std::test::Fail> {
+    let alloc = rt.alloc();
+    for (fault, text) in [
+        (WordsFault::Nodes, "--nodes takes 3 or 5"),
+        (WordsFault::Port, "--port takes a number from 1024 to 65000"),
+        (WordsFault::Version, "VERSION is a decimal number from 1 on"),
+    ] {
+        assert!(rt; format!(in alloc; "{fault}")?.as_str() == text, "{text}");
+    }
+    Ok(())
+}
