@@ -1,6 +1,7 @@
 //! How the cells of each type stand in JSON.
 
 ghost use Rattle.std.specs.Prelude.{◌≡◌};
+ghost use Rattle.header_types.specs.Fields.{floating_point_type, date_type, time_type};
 ghost use Rattle.header_types.specs.Views.{data_type_of};
 ghost use Rattle.json_rows.specs.Forms.{form_of as form_of_type};
 
@@ -46,6 +47,49 @@ pub enum Form {
     Unsupported,
 }
 
+/// A whole number of 32 bits with a sign.
+const INT32: Form = Form::Whole {
+    width: BitWidth::ThirtyTwo,
+    is_signed: true,
+};
+
+/// A whole number of 64 bits with a sign.
+const INT64: Form = Form::Whole {
+    width: BitWidth::SixtyFour,
+    is_signed: true,
+};
+
+/// The form of floats.
+fn float_form(precision: Precision) -> Form
+    ensures { result ≡ form_of_type (floating_point_type precision) }
+{
+    match precision {
+        Precision::Half => Form::Unsupported,
+        Precision::Single => Form::Single,
+        Precision::Double => Form::Double,
+    }
+}
+
+/// The form of dates.
+fn date_form(unit: DateUnit) -> Form
+    ensures { result ≡ form_of_type (date_type unit) }
+{
+    match unit {
+        DateUnit::Day => INT32,
+        DateUnit::Millisecond => INT64,
+    }
+}
+
+/// The form of times of a day.
+fn time_form(unit: TimeUnit) -> Form
+    ensures { result ≡ form_of_type (time_type unit) }
+{
+    match unit {
+        TimeUnit::Second | TimeUnit::Millisecond => INT32,
+        TimeUnit::Microsecond | TimeUnit::Nanosecond => INT64,
+    }
+}
+
 /// The form of the type's cells.
 pub fn form_of(ty: &Ty) -> Form
     ensures { result ≡ form_of_type (data_type_of ty.now) }
@@ -60,32 +104,10 @@ pub fn form_of(ty: &Ty) -> Form
             width: *bit_width,
             is_signed: *is_signed,
         },
-        Ty::Date {
-            unit: DateUnit::Day,
-        }
-        | Ty::Time {
-            unit: TimeUnit::Second | TimeUnit::Millisecond,
-        } => Form::Whole {
-            width: BitWidth::ThirtyTwo,
-            is_signed: true,
-        },
-        Ty::Date {
-            unit: DateUnit::Millisecond,
-        }
-        | Ty::Time {
-            unit: TimeUnit::Microsecond | TimeUnit::Nanosecond,
-        }
-        | Ty::Timestamp { .. }
-        | Ty::Duration { .. } => Form::Whole {
-            width: BitWidth::SixtyFour,
-            is_signed: true,
-        },
-        Ty::FloatingPoint {
-            precision: Precision::Single,
-        } => Form::Single,
-        Ty::FloatingPoint {
-            precision: Precision::Double,
-        } => Form::Double,
+        Ty::FloatingPoint { precision } => float_form(*precision),
+        Ty::Date { unit } => date_form(*unit),
+        Ty::Time { unit } => time_form(*unit),
+        Ty::Timestamp { .. } | Ty::Duration { .. } => INT64,
         Ty::Utf8 => Form::Text,
         Ty::Binary => Form::Bytes,
         Ty::FixedSizeBinary { byte_width } => Form::SizedBytes {
@@ -96,9 +118,6 @@ pub fn form_of(ty: &Ty) -> Form
             size: list_size.unsigned_abs(),
         },
         Ty::Struct => Form::Struct,
-        Ty::FloatingPoint {
-            precision: Precision::Half,
-        }
-        | Ty::Decimal { .. } => Form::Unsupported,
+        Ty::Decimal { .. } => Form::Unsupported,
     }
 }
