@@ -1,5 +1,5 @@
 -- A value tells one cell of a field at most.
-use Rattle.std.proofs.Common.{◌≡◌, inl, inr, ℕ, ℤ, pos, ◌*◌, ◌^◌, ◌<◌, Bool, true, false, List, [], ◌∷◌, Ok, refl, sym, ap, ap₂, subst, ◌∙◌, arith}
+use Rattle.std.proofs.Common.{◌≡◌, inl, inr, ℕ, ℤ, pos, ◌*◌, ◌^◌, ◌<◌, Bool, true, false, List, [], ◌∷◌, Ok, Some, refl, sym, ap, ap₂, subst, ◌∙◌, arith}
 use Rattle.std.specs.Prelude.{Float}
 use Rattle.std.specs.List.{AllZip}
 use Rattle.std.specs.Float.{Format, binary32, binary64, float_is_finite, round_to_format}
@@ -20,7 +20,10 @@ use Rattle.batch_types.specs.Layouts.{int_size}
 use Rattle.json_rows.specs.declared.form.Form.{Form}
 use Rattle.json_rows.specs.declared.form.Form.TheVariants as form
 use Rattle.json_rows.specs.Forms.{form_of}
-use Rattle.json_rows.specs.Numbers.{AreBytesOf, StandsAs, TellsWhole, TellsDouble, TellsSingle, half_of}
+use Rattle.json_rows.specs.declared.non_finite.NonFinite.{NonFinite}
+use Rattle.json_rows.specs.declared.non_finite.NonFinite.TheVariants.{Nan, Infinity, MinusInfinity}
+use Rattle.json_rows.specs.NonFinites.{TellsNonFinite, text_of, double_bits_of, single_bits_of}
+use Rattle.json_rows.specs.Numbers.{AreBytesOf, StandsAs, TellsWhole, TellsDouble, TellsFiniteDouble, TellsFiniteSingle, TellsSingle, float_told, half_of}
 use Rattle.json_rows.specs.Cells.{TellsBool, TellsText, TellsBytes, TellsNull, TellsElements, TellsCell, TellsElement, TellsFields, TellsForm, TellsMembers, IsBytesCell, name_of, told_at}
 use Rattle.json_rows.proofs.Told.{no_form_of_null, same_array}
 use Rattle.json_rows.proofs.Zipped.{zipped_are_one}
@@ -47,19 +50,54 @@ stands_alike format size x a b whole p q =
     let m = to_bits-of_bits format q.stands (subst (λ (m : ℕ). q.stands < m) whole q.within) (not_nan (of_bits format q.stands) (ap float_is_finite q.value_is ∙ q.finite)) in
     p.bytes_are ∙ ap (little_bytes size) (sym n ∙ ap (to_bits format) (p.value_is ∙ sym q.value_is) ∙ m) ∙ sym q.bytes_are
 
-double_one : (d : Data) (a b : List ℕ) → TellsDouble d a → TellsDouble d b → a ≡ b
-double_one d a b p q =
+string_one : (d : Data) (a b : List ℕ) → d ≡ string a → d ≡ string b → a ≡ b
+string_one d a b p q = same_Some a b (ap as_str (sym p ∙ q))
+
+finite_double_one : (d : Data) (a b : List ℕ) → TellsFiniteDouble d a → TellsFiniteDouble d b → a ≡ b
+finite_double_one d a b p q =
     let same : p.double ≡ q.double = same_Some p.double q.double (sym p.told ∙ q.told) in
     stands_alike binary64 8 q.double a b refl (subst (λ (x : Float). AreBytesOf binary64 8 x a) same p.stands) q.stands
 
-single_one : (d : Data) (a b : List ℕ) → TellsSingle d a → TellsSingle d b → a ≡ b
-single_one d a b p q =
+finite_single_one : (d : Data) (a b : List ℕ) → TellsFiniteSingle d a → TellsFiniteSingle d b → a ≡ b
+finite_single_one d a b p q =
     let same : p.double ≡ q.double = same_Some p.double q.double (sym p.told ∙ q.told) in
     stands_alike binary32 4 (round_to_format binary32 q.double) a b refl
     (subst (λ (x : Float). AreBytesOf binary32 4 (round_to_format binary32 x) a) same p.stands) q.stands
 
-string_one : (d : Data) (a b : List ℕ) → d ≡ string a → d ≡ string b → a ≡ b
-string_one d a b p q = same_Some a b (ap as_str (sym p ∙ q))
+-- ---- floats that are no finite numbers
+
+non_finite_alike : (m n : NonFinite) → text_of m ≡ text_of n → m ≡ n
+non_finite_alike Nan Nan same = refl
+non_finite_alike Nan Infinity same = cc
+non_finite_alike Nan MinusInfinity same = cc
+non_finite_alike Infinity Nan same = cc
+non_finite_alike Infinity Infinity same = refl
+non_finite_alike Infinity MinusInfinity same = cc
+non_finite_alike MinusInfinity Nan same = cc
+non_finite_alike MinusInfinity Infinity same = cc
+non_finite_alike MinusInfinity MinusInfinity same = refl
+
+non_finite_one : (bits : NonFinite → ℕ) (size : ℕ) (d : Data) (a b : List ℕ) → TellsNonFinite bits size d a → TellsNonFinite bits size d b → a ≡ b
+non_finite_one bits size d a b p q =
+    let same : p.non_finite ≡ q.non_finite =
+    non_finite_alike p.non_finite q.non_finite (string_one d (text_of p.non_finite) (text_of q.non_finite) p.told q.told) in
+    p.bytes_are ∙ ap (λ (m : NonFinite). little_bytes size (bits m)) same ∙ sym q.bytes_are
+
+-- a text is no number
+no_number : (d : Data) (text : List ℕ) (x : Float) → d ≡ string text → float_told d ≡ Some x → ⊥
+no_number d text x is told = let none : float_told (string text) ≡ Some x = sym (ap float_told is) ∙ told in cc
+
+double_one : (d : Data) (a b : List ℕ) → TellsDouble d a → TellsDouble d b → a ≡ b
+double_one d a b (inl p) (inl q) = finite_double_one d a b p q
+double_one d a b (inl p) (inr q) = absurd (no_number d (text_of q.non_finite) p.double q.told p.told)
+double_one d a b (inr p) (inl q) = absurd (no_number d (text_of p.non_finite) q.double p.told q.told)
+double_one d a b (inr p) (inr q) = non_finite_one double_bits_of 8 d a b p q
+
+single_one : (d : Data) (a b : List ℕ) → TellsSingle d a → TellsSingle d b → a ≡ b
+single_one d a b (inl p) (inl q) = finite_single_one d a b p q
+single_one d a b (inl p) (inr q) = absurd (no_number d (text_of q.non_finite) p.double q.told p.told)
+single_one d a b (inr p) (inl q) = absurd (no_number d (text_of p.non_finite) q.double p.told q.told)
+single_one d a b (inr p) (inr q) = non_finite_one single_bits_of 4 d a b p q
 
 text_one : (d : Data) (a b : List ℕ) → TellsText d a → TellsText d b → a ≡ b
 text_one d a b p q = string_one d a b p.told q.told

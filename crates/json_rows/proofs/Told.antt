@@ -23,6 +23,7 @@ use Rattle.batch_types.specs.Shapes.{shape_of}
 use Rattle.json_rows.specs.declared.form.Form.{Form}
 use Rattle.json_rows.specs.declared.form.Form.TheVariants as form
 use Rattle.json_rows.specs.Forms.{form_of}
+use Rattle.json_rows.specs.Numbers.{TellsDouble, TellsSingle}
 use Rattle.json_rows.proofs.Zipped.{items_are_one}
 use Rattle.json_rows.specs.Cells.{TellsCell, TellsElement, TellsElements, TellsFields, TellsFlat, TellsForm, TellsMembers, TellsNull, IsNameOf, forest_in, name_of, told_at}
 
@@ -55,12 +56,20 @@ is_null_told (string s) is = cc
 is_null_told (array ds) is = cc
 is_null_told (object ms) is = cc
 
+no_single_of_null : (bytes : List ℕ) → TellsSingle null bytes → ⊥
+no_single_of_null bytes (inl p) = let no = p.told in cc
+no_single_of_null bytes (inr p) = let no = p.told in cc
+
+no_double_of_null : (bytes : List ℕ) → TellsDouble null bytes → ⊥
+no_double_of_null bytes (inl p) = let no = p.told in cc
+no_double_of_null bytes (inr p) = let no = p.told in cc
+
 pub no_form_of_null : (f : Form) (inside : Forest) (cell : Cell) → TellsForm f (TellsElement inside) (TellsFields inside) null cell → ⊥
 no_form_of_null form.Null inside cell told = told
 no_form_of_null form.Bool inside cell told = let no = told.told in cc
 no_form_of_null (form.Whole width signed) inside cell told = let no = told.1.told in cc
-no_form_of_null form.Single inside cell told = let no = told.1.told in cc
-no_form_of_null form.Double inside cell told = let no = told.1.told in cc
+no_form_of_null form.Single inside cell told = no_single_of_null told.0 told.1
+no_form_of_null form.Double inside cell told = no_double_of_null told.0 told.1
 no_form_of_null form.Text inside cell told = let no = told.1.told in cc
 no_form_of_null form.Bytes inside cell told = let no = told.1.told in cc
 no_form_of_null (form.SizedBytes size) inside cell told = let no = told.1.0.told in cc

@@ -1,4 +1,5 @@
 pub mod Forms
+pub mod NonFinites
 pub mod Numbers
 pub mod Cells
 pub mod Written

@@ -1,5 +1,5 @@
 -- Whole numbers and floats by their bytes: Apache Arrow, "Arrow Columnar Format", "Physical memory layout" (the lowest
--- byte first, two's complement, IEEE 754), and RFC 8259, section 6.
+-- byte first, two's complement, IEEE 754), and RFC 8259, section 6. Floats that are no finite numbers are texts.
 use Rattle.std.specs.Prelude.{◌≡◌, ◌⊎◌, ◌≤◌, ◌<◌, ◌*◌, ◌^◌, ℕ, ℤ, pos, ◌-ℤ◌, Bool, true, false, List, Float, from_bits, Option, Some, option_map, option_and_then}
 use Rattle.std.specs.Float.{Format, binary32, binary64, float_is_finite, round_to_format}
 use Rattle.byteorder.specs.Endian.{little_bytes}
@@ -8,6 +8,7 @@ use Rattle.serde_json.specs.Find.{as_number, as_integer, to_float}
 use Rattle.header_types.specs.declared.field_type.BitWidth.{BitWidth}
 use Rattle.header_types.specs.declared.field_type.BitWidth.TheVariants.{Eight, Sixteen, ThirtyTwo, SixtyFour}
 use Rattle.batch_types.specs.Layouts.{int_size}
+use Rattle.json_rows.specs.NonFinites.{TellsNonFinite, double_bits_of, single_bits_of}
 
 -- ---- whole numbers
 
@@ -50,14 +51,20 @@ pub record AreBytesOf (format : Format) (size : ℕ) (value : Float) (bytes : Li
   pub bytes_are : bytes ≡ little_bytes size stands
 
 -- the value is a number, of which these are the bytes of the nearest float of eight bytes
-pub record TellsDouble (d : Data) (bytes : List ℕ) : Type 0 where
+pub record TellsFiniteDouble (d : Data) (bytes : List ℕ) : Type 0 where
   pub double : Float
   pub told : float_told d ≡ Some double
   pub stands : AreBytesOf binary64 8 double bytes
 
 -- and of that one rounded to four bytes
-pub record TellsSingle (d : Data) (bytes : List ℕ) : Type 0 where
+pub record TellsFiniteSingle (d : Data) (bytes : List ℕ) : Type 0 where
   pub double : Float
   pub told : float_told d ≡ Some double
   pub finite : float_is_finite double ≡ true
   pub stands : AreBytesOf binary32 4 (round_to_format binary32 double) bytes
+
+abbrev pub TellsDouble : Data → List ℕ → Type 0
+TellsDouble d bytes = TellsFiniteDouble d bytes ⊎ TellsNonFinite double_bits_of 8 d bytes
+
+abbrev pub TellsSingle : Data → List ℕ → Type 0
+TellsSingle d bytes = TellsFiniteSingle d bytes ⊎ TellsNonFinite single_bits_of 4 d bytes

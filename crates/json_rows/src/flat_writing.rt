@@ -5,7 +5,7 @@ ghost use Rattle.serde_json.specs.Data.{Data};
 ghost use Rattle.byteorder.specs.Endian.{little_bytes};
 ghost use Rattle.batch_types.specs.Layouts.{int_size};
 ghost use Rattle.json_rows.specs.declared.fault.CellFault.TheVariants.{OutOfMemory};
-ghost use Rattle.json_rows.specs.Numbers.{half_of as half_of_width, StandsAs, whole_told, TellsWhole, TellsDouble, TellsSingle};
+ghost use Rattle.json_rows.specs.Numbers.{half_of as half_of_width, StandsAs, whole_told, TellsWhole};
 ghost use Rattle.batch_types.specs.Cells.{bit_cell, bytes_cell};
 ghost use Rattle.batch_cells.specs.CellViews.{cell_of as seen};
 ghost use Rattle.json_rows.specs.declared.form.Form.TheVariants.{Bool as BoolForm};
@@ -13,19 +13,19 @@ ghost use Rattle.json_rows.specs.Cells.{TellsBool, TellsText, TellsBytes, TellsF
 ghost use Rattle.json_rows.specs.Written.{WritesValue};
 
 use crate::fault::CellFault;
+use crate::float_writing::{write_double, write_single};
 use crate::form::Form;
 use crate::numbers::half_of;
-use crate::tokens::{put_bool, put_float, put_negative, put_text, put_unsigned};
+use crate::tokens::{put_bool, put_negative, put_text, put_unsigned};
 use batch_cells::Cell;
 use byteorder::{ByteOrder, LittleEndian};
 use header_types::BitWidth;
 use json::Writer;
 use std::alloc::Global;
-use std::num::{f32_from_bits_with_nan, f64_from_bits_with_nan};
 use std::str::from_utf8;
 
 /// The number that stands in the bytes of a number of so many bits.
-fn number_in(width: BitWidth, bytes: &[u8]) -> Option<u64>
+pub(crate) fn number_in(width: BitWidth, bytes: &[u8]) -> Option<u64>
     ensures some { IfSome result (λ n. (bytes.now ≡ little_bytes (int_size width) n) × (n < 2 * half_of_width width)) }
     ensures none { IfNone result (length bytes.now ≡ int_size width → ⊥) }
 {
@@ -70,38 +70,6 @@ pub(crate) fn write_whole(
         Some(number) => put_whole(out, half_of(width), is_signed, number),
         None => Err(CellFault::WrongKind),
     }
-}
-
-/// Writes a float of eight bytes.
-pub(crate) fn write_double(out: &mut Writer, bytes: &[u8]) -> Result<(), CellFault>
-    ensures written { OnOk result (WritesValue (λ d. TellsDouble d bytes.now) 0 out.old.tokens out.new.tokens) }
-    ensures refused { (d : Data) → TellsDouble d bytes.now → IfErr result (λ fault. fault ≡ OutOfMemory) }
-    ensures before { out.new.before ≡ out.old.before }
-{
-    let Some(bits) = number_in(BitWidth::SixtyFour, bytes) else {
-        return Err(CellFault::WrongKind);
-    };
-    let double = f64_from_bits_with_nan(bits);
-    if !double.is_finite() {
-        return Err(CellFault::OutOfRange);
-    }
-    Ok(put_float(out, double)?)
-}
-
-/// Writes a float of four bytes.
-pub(crate) fn write_single(out: &mut Writer, bytes: &[u8]) -> Result<(), CellFault>
-    ensures written { OnOk result (WritesValue (λ d. TellsSingle d bytes.now) 0 out.old.tokens out.new.tokens) }
-    ensures refused { (d : Data) → TellsSingle d bytes.now → IfErr result (λ fault. fault ≡ OutOfMemory) }
-    ensures before { out.new.before ≡ out.old.before }
-{
-    let Some(bits) = number_in(BitWidth::ThirtyTwo, bytes) else {
-        return Err(CellFault::WrongKind);
-    };
-    let single = f32_from_bits_with_nan(bits as u32);
-    if !single.is_finite() {
-        return Err(CellFault::OutOfRange);
-    }
-    Ok(put_float(out, f64::from(single))?)
 }
 
 /// Writes a text, by its bytes.

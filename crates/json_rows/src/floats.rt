@@ -3,18 +3,19 @@
 ghost use Rattle.std.specs.Prelude.{◌≡◌, ℕ, List, IfOk, IfErr};
 ghost use Rattle.serde_json.specs.View.{view};
 ghost use Rattle.json_rows.specs.declared.fault.CellFault.TheVariants.{OutOfMemory};
-ghost use Rattle.json_rows.specs.Numbers.{TellsDouble, TellsSingle};
+ghost use Rattle.json_rows.specs.Numbers.{TellsDouble, TellsFiniteDouble, TellsFiniteSingle, TellsSingle};
 
 use crate::fault::CellFault;
+use crate::non_finite::NonFinite;
 use crate::numbers::bytes_of;
 use serde_json::Value;
 use std::alloc::Global;
 use std::num::nearest_f64_to_f32;
 
-/// The eight bytes of the float that a value is.
-pub(crate) fn double_bytes(alloc: Global, value: &Value) -> Result<Vec<u8>, CellFault>
-    ensures read { IfOk result (λ bytes. TellsDouble (view value.now) bytes.items) }
-    ensures refused { (bytes : List ℕ) → TellsDouble (view value.now) bytes
+/// The eight bytes of the float that a number is.
+fn finite_double_bytes(alloc: Global, value: &Value) -> Result<Vec<u8>, CellFault>
+    ensures read { IfOk result (λ bytes. TellsFiniteDouble (view value.now) bytes.items) }
+    ensures refused { (bytes : List ℕ) → TellsFiniteDouble (view value.now) bytes
         → IfErr result (λ fault. fault ≡ OutOfMemory) }
 {
     let Some(double) = value.as_f64() else {
@@ -26,10 +27,22 @@ pub(crate) fn double_bytes(alloc: Global, value: &Value) -> Result<Vec<u8>, Cell
     Ok(bytes_of(alloc, double.to_bits(), 8)?)
 }
 
-/// The four bytes of the float that a value is.
-pub(crate) fn single_bytes(alloc: Global, value: &Value) -> Result<Vec<u8>, CellFault>
-    ensures read { IfOk result (λ bytes. TellsSingle (view value.now) bytes.items) }
-    ensures refused { (bytes : List ℕ) → TellsSingle (view value.now) bytes
+/// The eight bytes of the float that a value tells.
+pub(crate) fn double_bytes(alloc: Global, value: &Value) -> Result<Vec<u8>, CellFault>
+    ensures read { IfOk result (λ bytes. TellsDouble (view value.now) bytes.items) }
+    ensures refused { (bytes : List ℕ) → TellsDouble (view value.now) bytes
+        → IfErr result (λ fault. fault ≡ OutOfMemory) }
+{
+    match NonFinite::told_by(value) {
+        Some(told) => Ok(bytes_of(alloc, told.double_bits(), 8)?),
+        None => finite_double_bytes(alloc, value),
+    }
+}
+
+/// The four bytes of the float that a number is.
+fn finite_single_bytes(alloc: Global, value: &Value) -> Result<Vec<u8>, CellFault>
+    ensures read { IfOk result (λ bytes. TellsFiniteSingle (view value.now) bytes.items) }
+    ensures refused { (bytes : List ℕ) → TellsFiniteSingle (view value.now) bytes
         → IfErr result (λ fault. fault ≡ OutOfMemory) }
 {
     let Some(double) = value.as_f64() else {
@@ -43,4 +56,16 @@ pub(crate) fn single_bytes(alloc: Global, value: &Value) -> Result<Vec<u8>, Cell
         return Err(CellFault::OutOfRange);
     }
     Ok(bytes_of(alloc, u64::from(single.to_bits()), 4)?)
+}
+
+/// The four bytes of the float that a value tells.
+pub(crate) fn single_bytes(alloc: Global, value: &Value) -> Result<Vec<u8>, CellFault>
+    ensures read { IfOk result (λ bytes. TellsSingle (view value.now) bytes.items) }
+    ensures refused { (bytes : List ℕ) → TellsSingle (view value.now) bytes
+        → IfErr result (λ fault. fault ≡ OutOfMemory) }
+{
+    match NonFinite::told_by(value) {
+        Some(told) => Ok(bytes_of(alloc, told.single_bits(), 4)?),
+        None => finite_single_bytes(alloc, value),
+    }
 }

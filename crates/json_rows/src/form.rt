@@ -21,9 +21,9 @@ pub enum Form {
         /// Whether it is one of two's complement.
         is_signed: bool,
     },
-    /// A number, in four bytes of a float.
+    /// A number, or the text of one that is not finite, in four bytes of a float.
     Single,
-    /// A number, in eight bytes of a float.
+    /// The same, in eight bytes of a float.
     Double,
     /// A text.
     Text,

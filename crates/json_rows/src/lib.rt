@@ -10,11 +10,13 @@
 mod fault;
 mod flat;
 mod flat_writing;
+mod float_writing;
 mod floats;
 mod form;
 pub mod laws;
 mod lines;
 mod names;
+mod non_finite;
 mod numbers;
 mod read;
 mod reading;

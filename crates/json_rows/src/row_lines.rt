@@ -170,8 +170,8 @@ fn all_cells(alloc: Global, columns: &[Column]) -> Result<Vec<Vec<Cell>>, AllocE
 /// object with a member for each field, in the order of the schema. Reading them with the schema gives the same rows.
 ///
 /// It is `BadSchema` where the batch is none of the schema or the schema is not in profile, and `SameNames` where two fields
-/// side by side have one name; else `Cell` of a cell that no value tells: a null in a field that may have none, a float
-/// that is not finite, a type that is not carried; or memory is refused.
+/// side by side have one name; else `Cell` of a cell that no value tells: a null in a field that may have none, a NaN
+/// of other bits than that of `"NaN"`, a type that is not carried; or memory is refused.
 pub fn rows_text(alloc: Global, schema: &Schema, batch: &Batch) -> Result<Vec<u8>, RowsFault>
     ensures written { IfOk result (λ text. (values : List Data) × TellsValues text.items values
         × TellsRows (schema_of schema.now).fields values (rows_of batch.now)) }

@@ -1,8 +1,9 @@
 //! The fault of each kind of line.
 
 use crate::schemas::{alone, both, int, plain, with_one};
+use batch_columns::{Batch, Column};
 use header_types::{BitWidth, Field, Precision, Schema, Ty};
-use json_rows::{CellFault, LineFault, RowsFault, read_rows};
+use json_rows::{CellFault, LineFault, RowsFault, read_rows, rows_text};
 use std::alloc::{AllocError, Global};
 use std::test::Fail;
 
@@ -52,6 +53,60 @@ fn faults_of_members_are_told_where_they_stand(rt: HostRuntime) -> Result<(), Fa
             == of_second(3, CellFault::NullValue),
         "a missing member"
     );
+    Ok(())
+}
+
+#[test]
+fn texts_that_are_no_floats_are_refused(rt: HostRuntime) -> Result<(), Fail> {
+    let alloc = rt.alloc();
+    let double = Ty::FloatingPoint {
+        precision: Precision::Double,
+    };
+    let schema = both(
+        alloc,
+        plain(alloc, "a", Ty::Utf8)?,
+        plain(alloc, "b", double)?,
+    )?;
+    for text in ["nan", "inf", "+Infinity", "Infinity ", "1.5", ""] {
+        let line = format!(in alloc; "{{\"b\":\"{text}\"}}\n")?;
+        assert!(rt;
+            fault_of(alloc, &schema, line.as_bytes()) == of_second(1, CellFault::WrongKind),
+            "another text"
+        );
+    }
+    Ok(())
+}
+
+/// A batch of one float of eight bytes with these bits.
+fn of_bits(alloc: Global, bits: u64) -> Result<Batch, Fail> {
+    match Column::from_sized(alloc, 8, &[Some(&bits.to_le_bytes())]) {
+        Ok(column) => Ok(Batch {
+            rows: 1,
+            columns: vec![in alloc; column]?,
+        }),
+        Err(_) => Err(Fail::from("no column")),
+    }
+}
+
+#[test]
+fn one_nan_is_written_and_no_other(rt: HostRuntime) -> Result<(), Fail> {
+    let alloc = rt.alloc();
+    let double = Ty::FloatingPoint {
+        precision: Precision::Double,
+    };
+    let schema = alone(alloc, plain(alloc, "a", double)?)?;
+    let quiet = rows_text(alloc, &schema, &of_bits(alloc, 0x7ff8_0000_0000_0000)?);
+    assert!(rt;
+        quiet.is_ok_and(|text| text.as_slice() == b"{\"a\":\"NaN\"}\n".as_slice()),
+        "the quiet one"
+    );
+    let other = RowsFault::Cell {
+        line: 1,
+        field: 0,
+        fault: CellFault::OutOfRange,
+    };
+    let signed = rows_text(alloc, &schema, &of_bits(alloc, 0xfff8_0000_0000_0000)?);
+    assert!(rt; signed.err() == Some(other), "one with a sign");
     Ok(())
 }
 

@@ -1,6 +1,7 @@
 //! Lines that are read as one batch, and what is written of it.
 
 use crate::schemas::{alone, both, int, plain, with_one};
+use batch_cells::{Cell, cells_of};
 use header_types::{BitWidth, DateUnit, Precision, Schema, TimeUnit, Ty};
 use json_rows::{RowsFault, read_rows, rows_text};
 use std::alloc::Global;
@@ -89,6 +90,55 @@ fn floats_stand_in_their_digits(rt: HostRuntime) -> Result<(), Fail> {
             "{\"a\":0.10000000149011612}\n{\"a\":2.0}\n"
         ) == Ok(true),
         "of four bytes"
+    );
+    Ok(())
+}
+
+#[test]
+fn floats_that_are_no_numbers_stand_as_texts(rt: HostRuntime) -> Result<(), Fail> {
+    let alloc = rt.alloc();
+    let lines = "{\"a\":\"NaN\"}\n{\"a\":\"Infinity\"}\n{\"a\":\"-Infinity\"}\n{\"a\":1.5}\n";
+    let double = Ty::FloatingPoint {
+        precision: Precision::Double,
+    };
+    assert!(rt; stand(alloc, double, lines) == Ok(true), "of eight bytes");
+    let single = Ty::FloatingPoint {
+        precision: Precision::Single,
+    };
+    assert!(rt; stand(alloc, single, lines) == Ok(true), "of four bytes");
+    Ok(())
+}
+
+/// The bits of the floats of the first column of a batch that is read of these lines.
+fn bits_of(alloc: Global, lines: &str) -> Result<Vec<u8>, Fail> {
+    let double = Ty::FloatingPoint {
+        precision: Precision::Double,
+    };
+    let schema = alone(alloc, plain(alloc, "a", double)?)?;
+    let Ok(batches) = read_rows(alloc, &schema, lines.as_bytes()) else {
+        return Err(Fail::from("no rows"));
+    };
+    let Some(column) = batches.first().and_then(|batch| batch.columns.first()) else {
+        return Err(Fail::from("no column"));
+    };
+    let mut bytes = Vec::new(alloc);
+    for cell in cells_of(alloc, column)?.iter() {
+        if let Cell::Bytes(some) = cell {
+            bytes.extend_from_slice(some)?;
+        }
+    }
+    Ok(bytes)
+}
+
+#[test]
+fn floats_that_are_no_numbers_have_their_bits(rt: HostRuntime) -> Result<(), Fail> {
+    let alloc = rt.alloc();
+    let lines = "{\"a\":\"NaN\"}\n{\"a\":\"Infinity\"}\n{\"a\":\"-Infinity\"}\n";
+    // As Python's struct.pack("<3d", math.nan, math.inf, -math.inf) has them.
+    let wanted = hex::decode(alloc, "000000000000f87f000000000000f07f000000000000f0ff")?;
+    assert!(rt;
+        bits_of(alloc, lines)?.as_slice() == wanted.as_slice(),
+        "their bits"
     );
     Ok(())
 }

@@ -1,21 +1,13 @@
-use Rattle.std.proofs.Common.{rules, sym}
-use Rattle.std.specs.Prelude.{T}
-use lib.Ieee.{fits, binary64, to_bits}
-use lib.Ieee.Bits.{of_bits-to_bits, to_bits-lt}
+use Rattle.std.proofs.Common.{◌≡◌, IfErr}
+use Rattle.serde_json.specs.View.{view}
+use Rattle.json_rows.specs.declared.fault.CellFault.TheVariants.{OutOfMemory}
+use Rattle.json_rows.specs.NonFinites.{double_bits_of}
+use Rattle.json_rows.specs.Numbers.{TellsFiniteDouble}
+use Rattle.json_rows.proofs.OtherFloats.{finite_told}
 use Rattle.json_rows.proofs.floats.double_bytes.Goals as goal
 
-pub returns-clause-read : goal.returns-clause-read
-returns-clause-read c =
-    let x = c.in-Some.double in
-    let held : T (fits binary64 x) = search rules in
-    record {
-      double = x;
-      told = sym c.in-Some.ensures;
-      stands = record {
-        stands = to_bits binary64 x;
-        within = to_bits-lt binary64 x held;
-        value_is = of_bits-to_bits binary64 x held;
-        finite = sym c.if-not-is_finite.ensures.value;
-        bytes_are = c.in_ok-bytes_of.ensures;
-      };
-    }
+pub returns-in-None-clause-refused : goal.returns-in-None-clause-refused
+returns-in-None-clause-refused c = λ bytes told.
+    let d = view c.args.value.now in
+    finite_told (TellsFiniteDouble d bytes) (IfErr c.finite_double_bytes.result (λ fault. fault ≡ OutOfMemory)) double_bits_of 8 d bytes c.in-None.ensures.none
+    (c.finite_double_bytes.ensures.refused bytes) told

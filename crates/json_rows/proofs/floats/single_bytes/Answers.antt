@@ -1,24 +1,13 @@
-use Rattle.std.proofs.Common.{rules, sym, ap, ◌∙◌}
-use Rattle.std.specs.Prelude.{T}
-use Rattle.std.specs.Float.{float_is_finite}
-use Rattle.byteorder.specs.Endian.{little_bytes}
-use lib.Ieee.{fits, binary32, to_bits}
-use lib.Ieee.Bits.{of_bits-to_bits, to_bits-lt}
+use Rattle.std.proofs.Common.{◌≡◌, IfErr}
+use Rattle.serde_json.specs.View.{view}
+use Rattle.json_rows.specs.declared.fault.CellFault.TheVariants.{OutOfMemory}
+use Rattle.json_rows.specs.NonFinites.{single_bits_of}
+use Rattle.json_rows.specs.Numbers.{TellsFiniteSingle}
+use Rattle.json_rows.proofs.OtherFloats.{finite_told}
 use Rattle.json_rows.proofs.floats.single_bytes.Goals as goal
 
-pub returns-clause-read : goal.returns-clause-read
-returns-clause-read c =
-    let x = c.nearest_f64_to_f32-single.result in
-    let held : T (fits binary32 x) = search rules in
-    record {
-      double = c.in-Some.double;
-      told = sym c.in-Some.ensures;
-      finite = sym c.if-not-is_finite.ensures.value;
-      stands = record {
-        stands = to_bits binary32 x;
-        within = to_bits-lt binary32 x held;
-        value_is = of_bits-to_bits binary32 x held ∙ c.nearest_f64_to_f32-single.ensures;
-        finite = ap float_is_finite (sym c.nearest_f64_to_f32-single.ensures) ∙ sym c.if-not-is_finite-2.ensures.value;
-        bytes_are = c.in_ok-bytes_of.ensures ∙ ap (little_bytes 4) c.from.ensures;
-      };
-    }
+pub returns-in-None-clause-refused : goal.returns-in-None-clause-refused
+returns-in-None-clause-refused c = λ bytes told.
+    let d = view c.args.value.now in
+    finite_told (TellsFiniteSingle d bytes) (IfErr c.finite_single_bytes.result (λ fault. fault ≡ OutOfMemory)) single_bits_of 4 d bytes c.in-None.ensures.none
+    (c.finite_single_bytes.ensures.refused bytes) told
