@@ -10,7 +10,7 @@ use Rattle.serde_json.specs.Data.{Data}
 use Rattle.header_types.specs.Fields.{Forest}
 use Rattle.batch_types.specs.Cells.{Rows}
 use Rattle.json_rows.specs.declared.fault.RowsFault.{RowsFault}
-use Rattle.json_rows.specs.Lines.{lines_of, begin_with, has_feed, text_of, IsOfLines, TellsBatches, TellsLine, TellsRows, TellsSomeRow}
+use Rattle.json_rows.specs.Lines.{lines_of, begin_with, has_feed, text_of, EndsLines, IsOfLines, TellsBatches, TellsLine, TellsRows, TellsSomeRow}
 use Rattle.json_rows.proofs.Zipped.{handed_on, zipped_are_one}
 
 not_true : (b : Bool) → (b ≡ true → ⊥) → b ≡ false
@@ -76,6 +76,17 @@ lines_again [] whole = refl
 lines_again (line ∷ lines) whole =
     ap lines_of (append_assoc line (10 ∷ []) (text_of lines)) ∙ line_then line (text_of lines) whole.0
     ∙ ap (λ (l : List (List ℕ)). line ∷ l) (lines_again lines whole.1)
+
+lines_before : (lines : List (List ℕ)) (behind : List ℕ) → AllByRecursion (λ line. has_feed line ≡ false) lines → lines_of (text_of lines ++ behind) ≡ lines ++ lines_of behind
+lines_before [] behind whole = refl
+lines_before (line ∷ lines) behind whole =
+    ap lines_of (append_assoc (line ++ 10 ∷ []) (text_of lines) behind ∙ append_assoc line (10 ∷ []) (text_of lines ++ behind))
+    ∙ line_then line (text_of lines ++ behind) whole.0 ∙ ap (λ (l : List (List ℕ)). line ∷ l) (lines_before lines behind whole.1)
+
+pub ends_lines : (text : List ℕ) (lines : List (List ℕ)) → text ≡ text_of lines → AllByRecursion (λ line. has_feed line ≡ false) lines → EndsLines text
+ends_lines text lines is whole = λ behind.
+    ap (λ (t : List ℕ). lines_of (t ++ behind)) is ∙ lines_before lines behind whole
+    ∙ ap (λ (l : List (List ℕ)). l ++ lines_of behind) (sym (ap lines_of is ∙ lines_again lines whole))
 
 pub text_joined : (lines : List (List ℕ)) (line : List ℕ) → text_of (lines ++ line ∷ []) ≡ text_of lines ++ (line ++ 10 ∷ [])
 text_joined [] line = append-nil (line ++ 10 ∷ [])

@@ -30,6 +30,10 @@ abbrev pub has_feed : List ℕ → Bool
 has_feed [] = false
 has_feed (byte ∷ text) = byte == 10 || has_feed text
 
+-- the last line ends with a line feed, so that what is put behind the text begins a line of its own
+abbrev pub EndsLines : List ℕ → Type 0
+EndsLines text = (behind : List ℕ) → lines_of (text ++ behind) ≡ lines_of text ++ lines_of behind
+
 -- the line is the text of a value
 pub record TellsLine (line : List ℕ) (d : Data) : Type 0 where
   pub is_text : IsUtf8 line

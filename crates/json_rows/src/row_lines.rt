@@ -12,7 +12,7 @@ ghost use Rattle.batch_columns.specs.Few.{columns_cells};
 ghost use Rattle.batch_cells.specs.CellViews.{cell_of as seen};
 ghost use Rattle.json_rows.specs.Cells.{TellsFields, forest_in};
 ghost use Rattle.json_rows.specs.Written.{HaveOwnNames, WritesMembers, WritesValue};
-ghost use Rattle.json_rows.specs.Lines.{IsOfSchema, TellsLine, TellsRows, TellsValues, WritesLine, WritesRows, cell_at, has_feed};
+ghost use Rattle.json_rows.specs.Lines.{EndsLines, IsOfSchema, TellsLine, TellsRows, TellsValues, WritesLine, WritesRows, cell_at, has_feed};
 
 use crate::fault::{CellFault, LineFault, RowsFault};
 use crate::names::have_own_names;
@@ -175,6 +175,7 @@ fn all_cells(alloc: Global, columns: &[Column]) -> Result<Vec<Vec<Cell>>, AllocE
 pub fn rows_text(alloc: Global, schema: &Schema, batch: &Batch) -> Result<Vec<u8>, RowsFault>
     ensures written { IfOk result (λ text. (values : List Data) × TellsValues text.items values
         × TellsRows (schema_of schema.now).fields values (rows_of batch.now)) }
+    ensures ends { IfOk result (λ text. EndsLines text.items) }
     ensures schema { IsErrOf result RowsFault.BadSchema → InProfile (schema_of schema.now)
         → IsBatchOf (schema_of schema.now) batch.now → ⊥ }
     ensures same { IsErrOf result RowsFault.SameNames → HaveOwnNames (schema_of schema.now).fields → ⊥ }

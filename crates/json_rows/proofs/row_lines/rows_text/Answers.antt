@@ -9,7 +9,7 @@ use Rattle.batch_columns.specs.Batches.{IsBatchOf}
 use Rattle.batch_columns.specs.Few.{columns_cells}
 use Rattle.json_rows.specs.Cells.{IsObjectOf, forest_in}
 use Rattle.json_rows.specs.Lines.{TellsLine, TellsColumns, lines_of}
-use Rattle.json_rows.proofs.Cut.{lines_again}
+use Rattle.json_rows.proofs.Cut.{ends_lines, lines_again}
 use Rattle.json_rows.proofs.Columns.{columns_counted, cells_long, columns_whole, all_same}
 use Rattle.json_rows.proofs.Told.{if_ok}
 use Rattle.json_rows.proofs.row_lines.rows_text.Goals as goal
@@ -60,3 +60,6 @@ returns-clause-written c =
             (subst (TellsColumns (forest_in c.as_slice-fields.result.now) w.values) whole w.told);
       },
     )) c.lines_text.ensures.written
+
+pub returns-clause-ends : goal.returns-clause-ends
+returns-clause-ends c = if_ok _ _ c.lines_text.result (λ text w. ends_lines text.items w.lines w.text_is w.whole) c.lines_text.ensures.written
