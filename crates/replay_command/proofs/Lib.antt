@@ -1,6 +1,2 @@
-pub mod Zipped
-pub mod Reading
-pub mod EventWords
-pub mod UploadValues
 pub mod Schedules
 pub mod Telling

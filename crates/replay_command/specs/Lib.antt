@@ -1,4 +1,2 @@
 pub mod Lines
-pub mod UploadValue
-pub mod ScheduleFile
 pub mod Replaying

@@ -9,7 +9,7 @@ use Rattle.schedule_runner.specs.Runs.{IsRunOf}
 use Rattle.replay_command.specs.declared.fault.ReplayFault.{ReplayFault}
 use Rattle.replay_command.specs.declared.fault.ReplayFault.TheVariants.{BadSchedule, OutOfMemory, Io}
 use Rattle.replay_command.specs.Lines.{lines_of}
-use Rattle.replay_command.specs.ScheduleFile.{MeansSchedule, MeansNothing}
+use Rattle.run_files.specs.ScheduleFile.{MeansSchedule, MeansNothing}
 
 -- the file tells a schedule, and this is a run of its events by nodes that keep to their rules
 pub record PlaysAs (file : List ℕ) (trace : Traced) : Type 0 where

@@ -6,11 +6,11 @@ ghost use Rattle.grpc_frames.specs.FrameFaults.{IsBeginning};
 ghost use Rattle.replay_command.specs.Lines.{line_of, lines_of};
 ghost use Rattle.replay_command.specs.Replaying.{Replays, ReplayFails, TellsAll, IsOfTelling};
 
-use crate::fault::{ReplayFault, ScheduleFault};
+use crate::fault::ReplayFault;
 use crate::lines::line_of;
-use crate::schedule_file::read_schedule;
 use crate::status::{FAILURE, SUCCESS};
 use grpc_frames::transfer::put;
+use run_files::{ScheduleFault, read_schedule};
 use schedule_runner::{RunFault, Step, Trace, run};
 use std::alloc::Global;
 use std::hash::RandomState;

@@ -1,0 +1,66 @@
+//! The value of JSON that a file is, and what stands in it.
+
+ghost use Rattle.std.specs.Prelude.{◌≡◌, ◌⊎◌, ℕ, List, Some, None, Ok, Err, option_map, IfOk, IfErr, IsUtf8};
+ghost use Rattle.std.specs.String.{string_bytes};
+ghost use Rattle.serde_json.specs.Data.{string};
+ghost use Rattle.serde_json.specs.Read.{read as read_text};
+ghost use Rattle.serde_json.specs.View.{view, items_view};
+ghost use Rattle.run_files.specs.declared.fault.ValueFault.TheVariants.{OutOfMemory};
+ghost use Rattle.run_files.specs.JsonValues.{whole, text_at, array_at};
+
+use crate::fault::ValueFault;
+use serde_json::Value;
+use std::alloc::Global;
+use std::str::from_utf8;
+
+/// The value that a file is.
+pub(crate) fn value_of(alloc: Global, file: &[u8]) -> Result<Value, ValueFault>
+    ensures read { IfOk result (λ value. IsUtf8 file.now × (read_text file.now ≡ Some (view value))) }
+    ensures err { IfErr result (λ fault. (fault ≡ OutOfMemory) ⊎ (IsUtf8 file.now → read_text file.now ≡ None)) }
+    ensures memory { result ≡ Err OutOfMemory → IsUtf8 file.now }
+{
+    let Ok(text) = from_utf8(file) else {
+        return Err(ValueFault::Unfit);
+    };
+    match Value::from_str(alloc, text) {
+        Ok(value) => Ok(value),
+        Err(error) if error.is_memory() => Err(ValueFault::OutOfMemory),
+        Err(_) => Err(ValueFault::Unfit),
+    }
+}
+
+/// The text at a name of an object.
+pub(crate) fn text_at<'a>(value: &'a Value, name: &str) -> Option<&'a str>
+    ensures { option_map (λ text. text.now) result ≡ text_at name.now (view value.now) }
+{
+    value.get(name).and_then(Value::as_str)
+}
+
+/// The items of the array at a name of an object.
+pub(crate) fn array_at<'a>(value: &'a Value, name: &str) -> Option<&'a Vec<Value>>
+    ensures { option_map (λ items. items_view items.now.items) result ≡ array_at name.now (view value.now) }
+{
+    value.get(name).and_then(Value::as_array)
+}
+
+/// A whole number of 64 bits.
+pub(crate) fn whole_of(value: &Value) -> Result<u64, ValueFault>
+    ensures read { IfOk result (λ number. view value.now ≡ whole number) }
+    ensures only { (number : ℕ) → view value.now ≡ whole number → result ≡ Ok number }
+{
+    match value.as_u64() {
+        Some(number) => Ok(number),
+        None => Err(ValueFault::Unfit),
+    }
+}
+
+/// A text, copied.
+pub(crate) fn text_of(alloc: Global, value: &Value) -> Result<String, ValueFault>
+    ensures read { IfOk result (λ text. view value.now ≡ string (string_bytes text)) }
+    ensures refused { (text : List ℕ) → view value.now ≡ string text → IfErr result (λ fault. fault ≡ OutOfMemory) }
+{
+    match value.as_str() {
+        Some(text) => Ok(String::from_str(alloc, text)?),
+        None => Err(ValueFault::Unfit),
+    }
+}

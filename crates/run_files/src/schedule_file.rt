@@ -1,0 +1,109 @@
+//! A schedule, read from the file that tells it.
+
+ghost use Rattle.std.specs.Prelude.{◌≡◌, ◌≤◌, ℕ, List, Some, Err, IfOk, IfSome, IsSome, MatchResult, IsUtf8, codes};
+ghost use Rattle.serde_json.specs.View.{view};
+ghost use Rattle.ballots.specs.Majority.{IsMembers};
+ghost use Rattle.node_events.specs.declared.event.Event.{Event as Happening};
+ghost use Rattle.schedule_runner.specs.declared.config.Config.{Config as Configured};
+ghost use Rattle.schedule_runner.specs.Limits.{most_slots};
+ghost use Rattle.run_files.specs.declared.fault.ScheduleFault.TheVariants.{OutOfMemory};
+ghost use Rattle.run_files.specs.declared.fault.ValueFault.TheVariants as values;
+ghost use Rattle.run_files.specs.JsonValues.{number_at};
+ghost use Rattle.run_files.specs.ScheduleFile.{MeansSchedule, TellsConfig};
+
+use crate::event_words::events_of;
+use crate::fault::{ScheduleFault, ValueFault};
+use crate::json_values::{array_at, value_of};
+use crate::upload_values::uploads_of;
+use ballots::{MAX_MEMBERS, Members};
+use schedule_runner::{Config, Event, MAX_JOURNAL_ENTRIES, MAX_SLOTS};
+use serde_json::Value;
+use std::alloc::Global;
+
+/// Events of nodes, and what the nodes have in common.
+#[derive(Debug, Drop)]
+pub struct Schedule {
+    /// How many nodes and slots there are.
+    pub config: Config,
+    /// The events, in order.
+    pub events: Vec<Event>,
+}
+
+fn members_of(value: &Value) -> Option<Members>
+    ensures read { IfSome result (λ members. (number_at (codes "members") (view value.now) ≡ Some members) × IsMembers members) }
+    ensures only { (members : ℕ) → number_at (codes "members") (view value.now) ≡ Some members → IsMembers members
+        → IsSome result }
+{
+    let count = value.get("members").and_then(Value::as_u64)?;
+    if count > u64::from(MAX_MEMBERS) {
+        return None;
+    }
+    Members::new(count as u8)
+}
+
+fn slot_limit_of(value: &Value) -> Option<u32>
+    ensures read { IfSome result (λ slots. (number_at (codes "slot_limit") (view value.now) ≡ Some slots)
+        × (1 ≤ slots) × (slots ≤ most_slots)) }
+    ensures only { (slots : ℕ) → number_at (codes "slot_limit") (view value.now) ≡ Some slots → 1 ≤ slots
+        → slots ≤ most_slots → IsSome result }
+{
+    let count = value.get("slot_limit").and_then(Value::as_u64)?;
+    if count == 0 || count > u64::from(MAX_SLOTS) {
+        return None;
+    }
+    Some(count as u32)
+}
+
+/// What the nodes have in common. A journal takes as many entries as it can have.
+fn config_of(value: &Value) -> Option<Config>
+    ensures read { IfSome result (TellsConfig (view value.now)) }
+    ensures only { (config : Configured) → TellsConfig (view value.now) config → IsSome result }
+{
+    Some(Config {
+        members: members_of(value)?,
+        slot_limit: slot_limit_of(value)?,
+        journal_limit: MAX_JOURNAL_ENTRIES,
+    })
+}
+
+/// The schedule in a file.
+fn schedule_in(alloc: Global, file: &[u8]) -> Result<Schedule, ValueFault>
+    ensures read { IfOk result (λ schedule. MeansSchedule file.now schedule.config schedule.events.items) }
+    ensures only { (config : Configured) (events : List Happening) → MeansSchedule file.now config events
+        → MatchResult result (λ schedule. (schedule.config ≡ config) × (schedule.events.items ≡ events))
+        (λ fault. fault ≡ values.OutOfMemory) }
+    ensures memory { result ≡ Err values.OutOfMemory → IsUtf8 file.now }
+{
+    let value = value_of(alloc, file)?;
+    let Some(config) = config_of(&value) else {
+        return Err(ValueFault::Unfit);
+    };
+    let (Some(uploads), Some(events)) = (array_at(&value, "uploads"), array_at(&value, "events"))
+    else {
+        return Err(ValueFault::Unfit);
+    };
+    let uploads = uploads_of(alloc, uploads)?;
+    let events = events_of(alloc, &uploads, events)?;
+    Ok(Schedule { config, events })
+}
+
+/// The schedule that a file tells.
+///
+/// The file is a JSON object (RFC 8259) with a whole number `members`, 1 to [`MAX_MEMBERS`], a whole number `slot_limit`,
+/// 1 to [`MAX_SLOTS`], an array `uploads` and an array `events`. docs/FORMATS.md has what these arrays hold. Other members
+/// of the object, and of an upload's, are passed over, and of two members of one name the last one counts. Such a file tells
+/// one schedule, and that is read. Any other file is a [`ScheduleFault::BadSchedule`], and no such file is. The only other
+/// fault is [`ScheduleFault::OutOfMemory`], and only of a file that is UTF-8.
+pub fn read_schedule(alloc: Global, file: &[u8]) -> Result<Schedule, ScheduleFault>
+    ensures read { IfOk result (λ schedule. MeansSchedule file.now schedule.config schedule.events.items) }
+    ensures only { (config : Configured) (events : List Happening) → MeansSchedule file.now config events
+        → MatchResult result (λ schedule. (schedule.config ≡ config) × (schedule.events.items ≡ events))
+        (λ fault. fault ≡ OutOfMemory) }
+    ensures memory { result ≡ Err OutOfMemory → IsUtf8 file.now }
+{
+    match schedule_in(alloc, file) {
+        Ok(schedule) => Ok(schedule),
+        Err(ValueFault::Unfit) => Err(ScheduleFault::BadSchedule),
+        Err(ValueFault::OutOfMemory) => Err(ScheduleFault::OutOfMemory),
+    }
+}
