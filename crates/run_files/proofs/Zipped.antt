@@ -35,6 +35,11 @@ pub is_empty_list : {A : Type 0} (xs : List A) → length xs < 1 → xs ≡ []
 is_empty_list [] lt = refl
 is_empty_list (x ∷ xs) lt = let no : ⊥ = omega arith in absurd no
 
+pub is_one_list : {A : Type 0} (xs : List A) (x : A) → length xs ≡ 1 → x ≡ get_or xs 0 x → xs ≡ x ∷ []
+is_one_list [] x len a = let no : ⊥ = omega arith in absurd no
+is_one_list (v ∷ []) x len a = cc
+is_one_list (v ∷ w ∷ xs) x len a = let no : ⊥ = omega arith in absurd no
+
 pub is_two_list : {A : Type 0} (xs : List A) (x y : A) → length xs ≡ 2 → x ≡ get_or xs 0 x → y ≡ get_or xs 1 y → xs ≡ x ∷ y ∷ []
 is_two_list [] x y len a b = let no : ⊥ = omega arith in absurd no
 is_two_list (v ∷ []) x y len a b = let no : ⊥ = omega arith in absurd no

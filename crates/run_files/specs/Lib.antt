@@ -1,3 +1,4 @@
 pub mod JsonValues
 pub mod UploadValue
 pub mod ScheduleFile
+pub mod ScriptFile

@@ -12,7 +12,7 @@ use Rattle.node_events.specs.declared.event.Event.{Event}
 use Rattle.node_events.specs.declared.event.Event.TheVariants.{Put, Tick, Deliver, TickCut, DeliverCut, Restart, Get, Info, Outcome}
 use Rattle.schedule_runner.specs.declared.config.Config.{Config}
 use Rattle.schedule_runner.specs.Limits.{IsWithinLimits, most_entries}
-use Rattle.run_files.specs.JsonValues.{whole, number_at, array_at}
+use Rattle.run_files.specs.JsonValues.{whole, words, number_at, array_at}
 use Rattle.run_files.specs.UploadValue.{MeansUpload}
 
 -- how many slots a tick of a schedule leaves to others at most
@@ -42,7 +42,7 @@ pub record TellsEvent (uploads : List (List ℕ)) (d : Data) (event : Event) : T
   pub word : List ℕ
   pub node : ℕ
   pub rest : List Data
-  pub items : as_array d ≡ Some (items_of (string word ∷ whole node ∷ rest))
+  pub items : as_array d ≡ Some (words word node rest)
   pub says : Says uploads word node rest event
 
 -- what the nodes of the schedule that a value tells have in common

@@ -11,7 +11,7 @@ ghost use Rattle.run_files.specs.JsonValues.{whole};
 ghost use Rattle.run_files.specs.ScheduleFile.{Says, TellsEvent, most_left};
 
 use crate::fault::ValueFault;
-use crate::json_values::{text_of, whole_of};
+use crate::json_values::{text_of, whole_of, words_of};
 use schedule_runner::{Event, TableText};
 use serde_json::Value;
 use std::alloc::Global;
@@ -143,16 +143,10 @@ pub(crate) fn event_of(
     ensures refused { (event : Happening) → TellsEvent uploads.now (view value.now) event
         → IfErr result (λ fault. fault ≡ OutOfMemory) }
 {
-    let Some(items) = value.as_array() else {
-        return Err(ValueFault::Unfit);
-    };
-    let [word, node, rest @ ..] = items.as_slice() else {
-        return Err(ValueFault::Unfit);
-    };
-    let (Some(word), Some(node)) = (word.as_str(), node.as_u64()) else {
-        return Err(ValueFault::Unfit);
-    };
-    event_of_parts(alloc, uploads, word, node, rest)
+    match words_of(value) {
+        Some(said) => event_of_parts(alloc, uploads, said.word, said.node, said.rest),
+        None => Err(ValueFault::Unfit),
+    }
 }
 
 /// The events that these values tell, in order.

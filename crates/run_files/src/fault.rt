@@ -14,6 +14,17 @@ pub enum ScheduleFault {
     OutOfMemory,
 }
 
+/// Why a file is not read as a script.
+#[derive(Clone, Copy, Debug, PartialEq, Eq, Error)]
+pub enum ScriptFault {
+    /// The file tells no script.
+    #[error("BadScript")]
+    BadScript,
+    /// Memory was refused.
+    #[error("OutOfMemory")]
+    OutOfMemory,
+}
+
 /// Why a value is not read as what is looked for.
 #[derive(Clone, Copy, Debug, PartialEq, Eq)]
 pub(crate) enum ValueFault {

@@ -1,12 +1,13 @@
 //! The value of JSON that a file is, and what stands in it.
 
-ghost use Rattle.std.specs.Prelude.{◌≡◌, ◌⊎◌, ℕ, List, Some, None, Ok, Err, option_map, IfOk, IfErr, IsUtf8};
+ghost use Rattle.std.specs.Prelude.{◌≡◌, ◌⊎◌, ℕ, List, Some, None, Ok, Err, map, option_map, IfOk, IfErr, IfSome, IsSome, IsUtf8};
 ghost use Rattle.std.specs.String.{string_bytes};
-ghost use Rattle.serde_json.specs.Data.{string};
+ghost use Rattle.serde_json.specs.Data.{Data, string};
+ghost use Rattle.serde_json.specs.Find.{as_array};
 ghost use Rattle.serde_json.specs.Read.{read as read_text};
 ghost use Rattle.serde_json.specs.View.{view, items_view};
 ghost use Rattle.run_files.specs.declared.fault.ValueFault.TheVariants.{OutOfMemory};
-ghost use Rattle.run_files.specs.JsonValues.{whole, text_at, array_at};
+ghost use Rattle.run_files.specs.JsonValues.{whole, words, text_at, array_at};
 
 use crate::fault::ValueFault;
 use serde_json::Value;
@@ -63,4 +64,33 @@ pub(crate) fn text_of(alloc: Global, value: &Value) -> Result<String, ValueFault
         Some(text) => Ok(String::from_str(alloc, text)?),
         None => Err(ValueFault::Unfit),
     }
+}
+
+/// The items of an array that tells of a node.
+#[derive(Clone, Copy)]
+pub(crate) struct Words<'a> {
+    /// The first item, a text.
+    pub(crate) word: &'a str,
+    /// The second one, the number of a node.
+    pub(crate) node: u64,
+    /// What stands behind them.
+    pub(crate) rest: &'a [Value],
+}
+
+/// The items of an array that tells of a node.
+pub(crate) fn words_of(value: &Value) -> Option<Words<'_>>
+    ensures read { IfSome result (λ said. as_array (view value.now)
+        ≡ Some (words said.word.now said.node (map view said.rest.now))) }
+    ensures only { (word : List ℕ) (node : ℕ) (rest : List Data) → as_array (view value.now) ≡ Some (words word node rest)
+        → IsSome result }
+{
+    let Some(items) = value.as_array() else {
+        return None;
+    };
+    let [word, node, rest @ ..] = items.as_slice() else {
+        return None;
+    };
+    let word = word.as_str()?;
+    let node = node.as_u64()?;
+    Some(Words { word, node, rest })
 }

@@ -1,7 +1,8 @@
-//! The files of whole runs: a schedule, which says what happens to the nodes of a cluster, event by event.
+//! The files of whole runs: a schedule, which says what happens to the nodes of a cluster, event by event, and a script, which
+//! says what clients ask of them, call by call.
 //!
-//! `read_schedule` reads one from a file's bytes. What a file means is defined in `specs/ScheduleFile`, apart from how it is
-//! read; such a file is read as what it means, and no other is.
+//! `read_schedule` and `read_script` read them from a file's bytes. What a file means is defined in `specs/ScheduleFile` and
+//! `ScriptFile`, apart from how it is read; such a file is read as what it means, and no other is.
 #![tactic(auto)]
 
 mod event_words;
@@ -9,7 +10,12 @@ mod fault;
 mod json_values;
 pub mod laws;
 mod schedule_file;
+mod script;
+mod script_file;
+mod script_words;
 mod upload_values;
 
-pub use fault::ScheduleFault;
+pub use fault::{ScheduleFault, ScriptFault};
 pub use schedule_file::{Schedule, read_schedule};
+pub use script::{Asked, Call, NodeCount, Script};
+pub use script_file::read_script;

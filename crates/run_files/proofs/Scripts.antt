@@ -1,0 +1,106 @@
+-- What an array says is asked is one call, and a file means one script.
+use Rattle.std.proofs.Common.{◌≡◌, ℕ, List, [], ◌∷◌, map, Some, refl, sym, ap, subst, ◌∙◌}
+use Rattle.std.specs.Prelude.{codes}
+use Rattle.std.specs.List.{AllZip}
+use Rattle.std.proofs.lemmas.Option.{same_Some}
+use Rattle.serde_json.specs.Data.{Data}
+use Rattle.serde_json.specs.Read.{read as read_text}
+use Rattle.serde_json.specs.Find.{as_array}
+use Rattle.serde_json.specs.View.{view, items_of}
+use Rattle.serde_json.specs.declared.value.Value.{Value}
+use Rattle.run_files.specs.declared.script.NodeCount.{NodeCount}
+use Rattle.run_files.specs.declared.script.NodeCount.TheVariants.{Three, Five}
+use Rattle.run_files.specs.declared.script.Asked.{Asked}
+use Rattle.run_files.specs.declared.script.Asked.TheVariants.{Put, Get, Info}
+use Rattle.run_files.specs.declared.script.Call.{Call}
+use Rattle.run_files.specs.JsonValues.{words, number_at, array_at}
+use Rattle.run_files.specs.UploadValue.{MeansUpload}
+use Rattle.run_files.specs.ScriptFile.{node_count, Asks, TellsCall, MeansScript}
+use Rattle.run_files.proofs.Reading.{items_are_one, zipped_are_one}
+use Rattle.run_files.proofs.Words.{differ, one_ticket, words_are_one}
+use Rattle.run_files.proofs.UploadValues.{upload_is_one}
+
+-- ---- what is asked
+
+one_of : (rest : List Data) (d e : Data) (x y : List ℕ) → rest ≡ d ∷ [] → rest ≡ e ∷ [] → MeansUpload d x → MeansUpload e y → x ≡ y
+one_of rest d e x y a b p q =
+    let same : d ≡ e = cc in
+    upload_is_one e x y (subst (λ (v : Data). MeansUpload v x) same p) q
+
+pub asked_is_one : (word : List ℕ) (rest : List Data) (a b : Asked) → Asks word rest a → Asks word rest b → a ≡ b
+asked_is_one w r (Put x) (Put y) p q = ap Put (one_of r p.1 q.1 x y p.2 q.2 p.3 q.3)
+asked_is_one w r (Get x) (Get y) p q =
+    let table : x.table ≡ y.table = cc in
+    let version : x.version ≡ y.version = cc in
+    ap Get (one_ticket x y table version)
+asked_is_one w r (Info x) (Info y) p q = let same : x ≡ y = cc in ap Info same
+asked_is_one w r a b p q = absurd (differ w _ _ p.0 q.0 refl)
+
+-- behind the word of an upload stands what means it
+pub put_said : (word : List ℕ) (d : Data) (a : Asked) → word ≡ codes "put" → Asks word (d ∷ []) a → (upload : List ℕ) × MeansUpload d upload
+put_said word d (Put upload) is says =
+    let same : d ≡ says.1 = cc in (upload, subst (λ (v : Data). MeansUpload v upload) (sym same) says.3)
+put_said word d (Get ticket) is says = absurd (differ word _ _ is says.0 refl)
+put_said word d (Info table) is says = absurd (differ word _ _ is says.0 refl)
+
+-- ---- the array that tells a call
+
+-- what it says of a node is what its words say
+pub call_said : (nodes : NodeCount) (d : Data) (word : List ℕ) (node : ℕ) (rest : List Data) (call : Call) → as_array d ≡ Some (words word node rest)
+    → TellsCall nodes d call → (call.node ≡ node) × Asks word rest call.asked
+call_said nodes d word node rest call is told =
+    let one = words_are_one d told.word word call.node node told.rest rest told.items is in (
+      one.1,
+      subst (λ (w : List ℕ). Asks w rest call.asked) one.0 (subst (λ (l : List Data). Asks told.word l call.asked) one.2 told.asks),
+    )
+
+one_call : (x y : Call) → x.node ≡ y.node → x.asked ≡ y.asked → x ≡ y
+one_call x y node asked =
+    let first : ℕ → Call = λ n. record { node = n; asked = x.asked } in
+    let second : Asked → Call = λ a. record { node = y.node; asked = a } in
+    ap first node ∙ ap second asked
+
+pub call_is_one : (nodes : NodeCount) (d : Data) (x y : Call) → TellsCall nodes d x → TellsCall nodes d y → x ≡ y
+call_is_one nodes d x y p q =
+    let said = call_said nodes d q.word y.node q.rest x q.items p in
+    one_call x y said.0 (asked_is_one q.word q.rest x.asked y.asked said.1 q.asks)
+
+-- ---- the file
+
+pub count_is_one : (n m : NodeCount) → node_count n ≡ node_count m → n ≡ m
+count_is_one Three Three h = refl
+count_is_one Five Five h = refl
+count_is_one Three Five h = absurd cc
+count_is_one Five Three h = absurd cc
+
+module _ (file : List ℕ) (d : Data) (nodes : NodeCount) (calls : List Call) (read : read_text file ≡ Some d) (h : MeansScript file nodes calls) where
+  same : h.value ≡ d
+  same = same_Some h.value d (sym h.read ∙ read)
+
+  pub count_said : number_at (codes "nodes") d ≡ Some (node_count nodes)
+  count_said = ap (number_at (codes "nodes")) (sym same) ∙ h.counted
+
+  -- so many nodes are read
+  pub nodes_said : (n : NodeCount) → number_at (codes "nodes") d ≡ Some (node_count n) → n ≡ nodes
+  nodes_said n is = count_is_one n nodes (same_Some (node_count n) (node_count nodes) (sym is ∙ count_said))
+
+  -- the calls that are told are those of the values at their name
+  pub calls_said : (n : NodeCount) (vs ws : List Value) → number_at (codes "nodes") d ≡ Some (node_count n) → ws ≡ vs
+      → Some (items_of (map view vs)) ≡ array_at (codes "calls") d → AllZip (TellsCall n) (map view ws) calls
+  calls_said n vs ws counted is is_there =
+      let values : h.call_values ≡ map view ws
+      = items_are_one h.call_values (map view vs) (same_Some (items_of h.call_values) (items_of (map view vs)) (sym h.calls_at ∙ ap (array_at (codes "calls")) same ∙ sym is_there))
+      ∙ ap (map view) (sym is) in
+      subst (λ (k : NodeCount). AllZip (TellsCall k) (map view ws) calls) (sym (nodes_said n counted))
+      (subst (λ (l : List Data). AllZip (TellsCall nodes) l calls) values h.calls_mean)
+
+pub one_script : (file : List ℕ) (n m : NodeCount) (s t : List Call) → MeansScript file n s → MeansScript file m t → (n ≡ m) × (s ≡ t)
+one_script file n m s t p q =
+    let value : p.value ≡ q.value = same_Some p.value q.value (sym p.read ∙ q.read) in
+    let count : n ≡ m = nodes_said file q.value m t q.read q n (ap (number_at (codes "nodes")) (sym value) ∙ p.counted) in
+    let values : p.call_values ≡ q.call_values
+    = items_are_one p.call_values q.call_values (same_Some (items_of p.call_values) (items_of q.call_values) (sym p.calls_at ∙ ap (array_at (codes "calls")) value ∙ q.calls_at)) in (
+      count,
+      zipped_are_one (TellsCall m) (call_is_one m) q.call_values s t
+          (subst (λ (k : NodeCount). AllZip (TellsCall k) q.call_values s) count (subst (λ (l : List Data). AllZip (TellsCall n) l s) values p.calls_mean)) q.calls_mean,
+    )
