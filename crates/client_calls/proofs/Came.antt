@@ -314,3 +314,13 @@ pub fault_stays : {S T : Type 0} (Gives : List (List ℕ) → S → Type 0) (IsR
 fault_stays Gives IsResult Further IsFurther None after fault h wider = tt
 fault_stays Gives IsResult Further IsFurther (Some here) None fault h wider = absurd h
 fault_stays Gives IsResult Further IsFurther (Some here) (Some after) fault h wider = fault_of_both Gives IsResult Further IsFurther here after fault h wider
+
+-- ---- the frames of the messages
+
+abbrev pub HoldsFrames : Vec ℕ Global → List (List ℕ) → Type 0
+HoldsFrames frames messages = frames.items ≡ messages_text messages
+
+pub one_frame_more : (frames next : Vec ℕ Global) (message : List ℕ) → next.items ≡ frames.items ++ in_frame message
+    → (messages : List (List ℕ)) → HoldsFrames frames messages → HoldsFrames next (messages ++ message ∷ [])
+one_frame_more frames next message is messages held =
+    is ∙ ap (λ (l : List ℕ). l ++ in_frame message) held ∙ flat_map_more in_frame [] messages message

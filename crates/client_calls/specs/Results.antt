@@ -8,6 +8,7 @@ use Rattle.proto_wire.specs.FlightValues.{info_values}
 use Rattle.proto_wire.specs.declared.flight.info.FlightInfo.{FlightInfo}
 use Rattle.table_types.specs.Tables.{Version}
 use Rattle.call_words.specs.Results.{put_result}
+use Rattle.call_words.specs.Texts.{messages_text}
 use Rattle.downloads.specs.declared.download.Download.{Download}
 use Rattle.downloads.specs.Downloads.{downloaded_of}
 use Rattle.downloads.specs.Taken.{downloaded_in}
@@ -21,6 +22,16 @@ GivesOne messages message = messages ≡ message.items ∷ []
 
 abbrev pub HasOne : List (List ℕ) → Type 0
 HasOne messages = (message : List ℕ) × (messages ≡ message ∷ [])
+
+-- ---- frames
+
+-- the frames of the messages, one behind the other
+abbrev pub GivesFrames : List (List ℕ) → Vec ℕ Global → Type 0
+GivesFrames messages frames = frames.items ≡ messages_text messages
+
+-- the messages of any answer have such
+abbrev pub HasFrames : List (List ℕ) → Type 0
+HasFrames messages = Unit {0}
 
 -- ---- what is told of a table
 

@@ -6,6 +6,7 @@
 #![tactic(auto)]
 
 mod client_fault;
+mod frames;
 mod getting;
 mod info;
 pub mod laws;
@@ -19,6 +20,7 @@ mod versions;
 
 pub use client_fault::ClientFault;
 pub use downloads::{Download, ServedUpload};
+pub use frames::call_get_frames;
 pub use getting::call_get;
 pub use info::call_info;
 pub use parts::MAX_ANSWER_FRAMES;

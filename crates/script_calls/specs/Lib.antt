@@ -1,0 +1,3 @@
+pub mod Informing
+pub mod Asking
+pub mod Lines
