@@ -1,7 +1,7 @@
 //! What adds to a log.
 
-ghost use Rattle.std.specs.Prelude.{◌≡◌, ◌<◌, ◌^◌, ◌∷◌, ◌++◌, [], length};
-ghost use Rattle.std.specs.Option.{IfSome};
+ghost use Rattle.std.specs.Prelude.{◌≡◌, ◌⊎◌, ◌<◌, ◌≤◌, ◌^◌, ◌∷◌, ◌++◌, [], length, IfOk, OnOk, IfErr};
+ghost use mathlib.Core.List.{IsPrefix};
 ghost use Rattle.growing_log.specs.Rules.{head_of};
 
 use crate::naming::Naming;
@@ -71,14 +71,16 @@ pub struct Head<E, J: Naming> {
 }
 
 impl<E, J: Naming> Head<E, J> {
-    /// Adds an entry behind those that were reached, and tells that these are reached now; `None` where the log had come
-    /// further, or has 2^62 entries, and then it stays as it is.
-    pub fn append(&self, reached: &Reached<E, J>, entry: &E) -> Option<Reached<E, J>>
-        ensures entry { IfSome result (λ more. more ≡ reached.now ++ entry.now ∷ []) }
-        ensures short { IfSome result (λ more. length reached.now < 2 ^ 62) }
+    /// Adds an entry behind those that were reached, and tells that these are reached now. Where the log had come further
+    /// it stays as it is, and the error is how far it has come; where it has 2^62 entries, the error is what was given.
+    pub fn append(&self, reached: &Reached<E, J>, entry: &E) -> Result<Reached<E, J>, Reached<E, J>>
+        ensures entry { IfOk result (λ more. more ≡ reached.now ++ entry.now ∷ []) }
+        ensures short { OnOk result (length reached.now < 2 ^ 62) }
+        ensures further { IfErr result (λ now. IsPrefix reached.now now
+            × ((length reached.now < length now) ⊎ (2 ^ 62 ≤ length reached.now))) }
     {
         if reached.count >= MOST_ENTRIES {
-            return None;
+            return Err(reached.again());
         }
         let mut seen = reached.seen.again();
         let mut offer: Offer<E, u64, Law, Nothing> = seen.plain::<Nothing, E, Add>(entry);
@@ -88,9 +90,13 @@ impl<E, J: Naming> Head<E, J> {
             .word
             .compare_exchange::<Add, Nothing>(count, count + 1, &mut seen, &mut offer, &mut pen);
         if found != count {
-            return None;
+            return Err(Reached {
+                count: found,
+                seen,
+                of: PhantomData,
+            });
         }
-        Some(Reached {
+        Ok(Reached {
             count: count + 1,
             seen,
             of: PhantomData,

@@ -65,7 +65,9 @@ impl<J: Naming> Progress<J> {
             reached,
             mut counts,
         } = self;
-        let more = head.append(&reached, entry)?;
+        let Ok(more) = head.append(&reached, entry) else {
+            return None;
+        };
         let node = entry.step.event.node();
         if node < u64::from(MAX_MEMBERS) {
             counts[node as usize] += 1;

@@ -12,7 +12,7 @@ overflow_add-counts g c =
     let node = c.node-node.result in
     let member : node < max_members = omega (arith, c.if-node-from.true, c.from.ensures) in
     let counted : slice_index_or c.self.inside.counts node 0 ≡ length (own_of node c.self.inside.reached) = c.self.invariant node member in
-    omega (arith, counted, fewer node c.self.inside.reached, c.in_ok-more.ensures.short)
+    omega (arith, counted, fewer node c.self.inside.reached, c.in-Ok.ensures.short)
 
 pub invariant_of-result : goal.invariant_of-result
 invariant_of-result g c =
@@ -25,4 +25,4 @@ invariant_of-result g c =
       | else-node-from w ↦ subst (λ (cs : List ℕ). AreCounted cs (log ++ c.args.entry.now ∷ [])) (sym w.counts-is)
           (counted_still c.self.inside.counts log c.args.entry.now (omega (arith, of, w.if-node-from.false, c.from.ensures)) c.self.invariant)
     ] in
-    subst (λ (es : List Entry). AreCounted c.if-node-from.counts es) (sym c.in_ok-more.ensures.entry) more
+    subst (λ (es : List Entry). AreCounted c.if-node-from.counts es) (sym c.in-Ok.ensures.entry) more
