@@ -19,8 +19,8 @@
 #
 # The instructions of an entry do not grow with the journal; its time does by 1.38 times up to 990,000 entries (plain Rust 1.69), since
 # no cache holds the journal. What is more than in plain Rust is the node itself, whose run alone has 1.9 times plain Rust's
-# instructions (bench/runs.sh). Seats, their own lists and the journal take 255 bytes an entry beside a run of the same events, plain
-# Rust's 162.
+# instructions (bench/runs.sh). Seats, their own lists and the journal took 255 bytes an entry beside a run of the same events, plain
+# Rust's 162; that was where each of a seat's own entries had 216 bytes beside its messages, which have 144 now.
 cd "$(dirname "${BASH_SOURCE[0]}")/.."
 source bench/programs.sh plain_runs
 

@@ -8,7 +8,6 @@ use Rattle.histories.specs.Event.{node_of}
 use Rattle.histories.specs.Following.{Seat}
 use Rattle.histories.specs.Owning.{Entry, is_question, entry_of}
 use Rattle.node_events.specs.declared.event.Event.{Event}
-use Rattle.node_events.specs.declared.event.Event.TheVariants as event
 use Rattle.node_events.specs.declared.event_result.EventResult.{EventResult}
 use Rattle.node_events.specs.Told.{event_of}
 use Rattle.node_seats.specs.State.{SeatState}

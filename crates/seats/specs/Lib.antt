@@ -1,5 +1,6 @@
 pub mod Inputs
 pub mod State
 pub mod Entries
+pub mod Compact
 pub mod Steps
 pub mod Walking

@@ -1,24 +1,17 @@
 //! Whether a node's own list is what a journal has of it.
 
-ghost use Rattle.std.specs.Prelude.{◌≡◌, ◌↔◌, true, IsTrue, take, drop};
+ghost use Rattle.std.specs.Prelude.{◌≡◌, ◌↔◌, IsTrue, take, drop};
 ghost use Rattle.std.specs.Option.{option_map};
-ghost use Rattle.node_events.specs.declared.event_result.EventResult.{EventResult as Given};
 ghost use Rattle.histories.specs.Owning.{concerns, number_in, is_turned_away, handed_in, sends_in, entry_of, own as own_entries};
 ghost use Rattle.node_events.specs.Told.{event_of, result_of};
 ghost use Rattle.schedule_runner.specs.Told.{step_of, steps_of};
 ghost use Rattle.seats.specs.Walking.{LeavesOwn};
 
+use crate::compact_entry::CompactEntry;
 use crate::messages::{same_handed, same_messages};
 use ballots::{Message, NodeId};
-use journal::OwnEntry;
-use node_events::laws::telling_loses_nothing;
 use node_events::{Event, EventResult, Reason};
 use schedule_runner::Step;
-
-// What is given is equal where it is one.
-fn equal_answers_are_one()
-    ensures { (a b : Given) → (⟦<EventResult as PartialEq>⟧.eq a b ≡ true) ↔ (a ≡ b) }
-{}
 
 // Whether the event is one of this node that may change it.
 fn is_of(me: NodeId, event: &Event) -> bool
@@ -85,26 +78,24 @@ fn part_of(sent: &[Message], first: u64, count: u64) -> &[Message]
 }
 
 // Whether the node has this step as its entry.
-fn is_entry(entry: &OwnEntry, sent: &[Message], step: &Step, recovered: bool) -> bool
+fn is_entry(entry: &CompactEntry, sent: &[Message], step: &Step, recovered: bool) -> bool
     ensures { IsTrue result ↔ (entry.now ≡ entry_of sent.now (step_of step.now) recovered) }
 {
-    equal_answers_are_one();
-    telling_loses_nothing();
-    entry.step.event.same_as(&step.event)
-        && entry.step.result == step.result
-        && entry.recovered == recovered
-        && same_handed(&entry.handed, handed(sent, step))
-        && same_messages(&entry.sends, sends(sent, &step.result))
+    entry.is_of(&step.event)
+        && entry.gave(&step.result)
+        && entry.recovered() == recovered
+        && same_handed(entry.handed(), handed(sent, step))
+        && same_messages(entry.sends(), sends(sent, &step.result))
 }
 
 // What is left of the node's own entries behind that of a step of the journal, `None` where they differ.
 fn left_behind<'a>(
-    own: &'a [OwnEntry],
+    own: &'a [CompactEntry],
     me: NodeId,
     sent: &[Message],
     step: &Step,
     recovered: bool,
-) -> Option<&'a [OwnEntry]>
+) -> Option<&'a [CompactEntry]>
     ensures { LeavesOwn me sent.now (step_of step.now) recovered own.now (option_map (λ left. left.now) result) }
 {
     if !is_of(me, &step.event) {
@@ -119,7 +110,7 @@ fn left_behind<'a>(
 /// Whether these are all entries of the node in these steps, each as it stands there. It takes time with the number of the
 /// steps.
 pub(crate) fn are_own(
-    own: &[OwnEntry],
+    own: &[CompactEntry],
     me: NodeId,
     sent: &[Message],
     steps: &[Step],

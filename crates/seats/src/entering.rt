@@ -9,6 +9,7 @@ ghost use Rattle.seats.specs.Inputs.{event_at, given_for, handed_by, IsCutAt};
 ghost use Rattle.seats.specs.Entries.{AreCopies, done_step, done_entry, cut_step, cut_entry};
 ghost use Rattle.seats.specs.Steps.{TellsEntry};
 
+use crate::compact_entry::CompactEntry;
 use crate::input::SeatInput;
 use ballots::{Message, NodeId};
 use growing_log::Naming;
@@ -106,7 +107,7 @@ fn cut_for(me: NodeId, input: &SeatInput) -> Option<Event>
 }
 
 // Puts an entry behind the node's own, where there is room for it.
-pub(crate) fn push_own(own: &mut Vec<OwnEntry>, entry: OwnEntry)
+pub(crate) fn push_own(own: &mut Vec<CompactEntry>, entry: CompactEntry)
     requires { vec_len own.old < vec_capacity own.old }
     ensures { own.new.items ≡ own.old.items ++ entry ∷ [] }
 {
@@ -120,7 +121,7 @@ pub(crate) fn push_own(own: &mut Vec<OwnEntry>, entry: OwnEntry)
 /// of the journal, and one of the node's own. There is room for both.
 pub(crate) fn enter_done<J: Naming>(
     me: NodeId,
-    own: &mut Vec<OwnEntry>,
+    own: &mut Vec<CompactEntry>,
     journal: &mut Journal<J>,
     input: SeatInput,
     copies: Copies,
@@ -172,7 +173,7 @@ pub(crate) fn enter_done<J: Naming>(
         sends: own_sends,
     };
     journal.enter(step, sends, false, Some(&entry));
-    push_own(own, entry);
+    push_own(own, CompactEntry::of(me, entry));
     receipt
 }
 
@@ -181,7 +182,7 @@ pub(crate) fn enter_done<J: Naming>(
 pub(crate) fn enter_cut<J: Naming>(
     alloc: Global,
     me: NodeId,
-    own: &mut Vec<OwnEntry>,
+    own: &mut Vec<CompactEntry>,
     journal: &mut Journal<J>,
     input: SeatInput,
 )
@@ -215,5 +216,5 @@ pub(crate) fn enter_cut<J: Naming>(
         result: EventResult::Done,
     };
     journal.enter(step, Vec::new(alloc), false, Some(&entry));
-    push_own(own, entry);
+    push_own(own, CompactEntry::of(me, entry));
 }

@@ -17,6 +17,7 @@
 #![tactic(auto)]
 
 mod agreeing;
+mod compact_entry;
 mod entering;
 mod fault;
 mod handing;

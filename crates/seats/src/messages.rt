@@ -66,8 +66,9 @@ pub(crate) fn same_message(one: &Message, other: &Message) -> bool
 }
 
 /// Whether the two are one message, or neither is any.
-pub(crate) fn same_handed(one: &Option<Message>, other: Option<&Message>) -> bool
-    ensures { IsTrue result ↔ (one.now ≡ option_map (λ message. message.now) other.entry) }
+pub(crate) fn same_handed(one: Option<&Message>, other: Option<&Message>) -> bool
+    ensures { IsTrue result ↔ (option_map (λ message. message.now) one.entry
+        ≡ option_map (λ message. message.now) other.entry) }
 {
     match (one, other) {
         (Some(x), Some(y)) => same_message(x, y),

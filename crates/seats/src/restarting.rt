@@ -7,6 +7,7 @@ ghost use Rattle.journal.specs.Journaled.{HasRoom, MayEnter, HasEntry, EntersOwn
 ghost use Rattle.seats.specs.Entries.{restart_step, restart_entry};
 ghost use Rattle.seats.specs.Steps.{TellsEntry, Counts, RestartGives, OthersAgree, IsFaultOf};
 
+use crate::compact_entry::CompactEntry;
 use crate::entering::push_own;
 use crate::fault::SeatFault;
 use crate::seat::Seat;
@@ -65,7 +66,7 @@ fn fault_for(fault: NodeFault) -> SeatFault
 fn enter_restart<J: Naming>(
     alloc: Global,
     me: NodeId,
-    own: &mut Vec<OwnEntry>,
+    own: &mut Vec<CompactEntry>,
     journal: &mut Journal<J>,
     recovered: bool,
 ) -> Receipt
@@ -86,7 +87,7 @@ fn enter_restart<J: Naming>(
         sends: Vec::new(alloc),
     };
     journal.enter(done(node), Vec::new(alloc), recovered, Some(&entry));
-    push_own(own, entry);
+    push_own(own, CompactEntry::of(me, entry));
     Receipt {
         number,
         event: Event::Restart(node),

@@ -21,6 +21,7 @@ ghost use Rattle.seats.specs.State.{Agrees, IsLedTo, IsLedNode};
 ghost use Rattle.seats.specs.Steps.{IsDown, StandsSame, PrepareGives, IsFaultFor};
 
 use crate::agreeing::are_own;
+use crate::compact_entry::CompactEntry;
 use crate::fault::SeatFault;
 use crate::handing::handed_over;
 use crate::input::{Prepared, SeatInput};
@@ -48,7 +49,7 @@ pub struct Seat<S: Stable, J: Naming = Brand> {
     pub(crate) me: NodeId,
     pub(crate) config: Config,
     pub(crate) node: NodeSeat<S>,
-    pub(crate) own: Vec<OwnEntry>,
+    pub(crate) own: Vec<CompactEntry>,
     /// What is known of the log of all nodes' own entries.
     pub(crate) known: Option<Reached<OwnEntry, J>>,
 }

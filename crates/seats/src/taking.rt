@@ -6,6 +6,7 @@ ghost use Rattle.seats.specs.Entries.{AreCopies};
 ghost use Rattle.seats.specs.Inputs.{IsSentIn};
 ghost use Rattle.seats.specs.Steps.{Admits, OpensFor, IsPreparedFor, Counts, TakeGives, OthersAgree};
 
+use crate::compact_entry::CompactEntry;
 use crate::entering::{Copies, enter_cut, enter_done};
 use crate::fault::SeatFault;
 use crate::input::{Prepared, SeatInput};
@@ -13,7 +14,7 @@ use crate::messages::same_message;
 use crate::seat::Seat;
 use ballots::{Message, NodeId};
 use growing_log::Naming;
-use journal::{Journal, OwnEntry, Receipt};
+use journal::{Journal, Receipt};
 use node_core::Refusal;
 use stable_records::Stable;
 use std::alloc::{AllocError, Global};
@@ -105,7 +106,7 @@ impl<S: Stable + Drop, J: Naming> Seat<S, J> {
 
 /// Room for an entry, in the journal and among the node's own, where so many messages go out.
 pub(crate) fn make_room<J: Naming>(
-    own: &mut Vec<OwnEntry>,
+    own: &mut Vec<CompactEntry>,
     journal: &mut Journal<J>,
     count: usize,
 ) -> Result<(), AllocError>
@@ -122,7 +123,7 @@ pub(crate) fn make_room<J: Naming>(
 fn made_ready<J: Naming>(
     alloc: Global,
     me: NodeId,
-    own: &mut Vec<OwnEntry>,
+    own: &mut Vec<CompactEntry>,
     journal: &mut Journal<J>,
     input: &SeatInput,
     sends: &[Message],
