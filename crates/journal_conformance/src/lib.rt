@@ -9,6 +9,8 @@ mod failing;
 #[cfg(test)]
 mod full;
 #[cfg(test)]
+mod hundred_thousand;
+#[cfg(test)]
 mod logged;
 #[cfg(test)]
 mod long;

@@ -2,7 +2,9 @@
 
 ghost use Rattle.std.specs.Prelude.{◌≡◌};
 
-use crate::support::{Gave, check, config, deliver, restart, seat, serve, take, ticket, upload};
+use crate::support::{
+    Gave, check, config, deliver, journal_with, restart, seat, serve, take, ticket, upload,
+};
 use ballots::NodeId;
 use growing_log::{Naming, Opened};
 use schedule_runner::Config;
@@ -14,20 +16,6 @@ use std::marker::Brand;
 use std::test::Fail;
 
 const STRANGE: Gave = Gave::Failed(SeatFault::Strange);
-
-// A journal with a log, of a configuration within its limits.
-fn journal_with<J: Naming>(
-    alloc: Global,
-    config: Config,
-    log: Opened<OwnEntry>,
-) -> Result<Box<Journal<J>>, Fail>
-    requires { log ≡ J.book }
-{
-    if !config.is_within_limits() {
-        return Err(Fail::from("no configuration"));
-    }
-    Ok(Box::new(alloc, Journal::with_log(alloc, config, log))?)
-}
 
 // A journal without a log, of a configuration within its limits.
 fn journal_without<J: Naming>(alloc: Global, config: Config) -> Result<Box<Journal<J>>, Fail> {

@@ -1,10 +1,12 @@
 //! Seats with their journal, and what is asked of them.
 
+ghost use Rattle.std.specs.Prelude.{◌≡◌};
+
 use ballots::{Members, NodeId};
-use growing_log::Naming;
+use growing_log::{Naming, Opened};
 use header_types::Schema;
 use schedule_runner::Config;
-use seats::{Journal, Query, Receipt, Seat, SeatFault, SeatInput};
+use seats::{Journal, OwnEntry, Query, Receipt, Seat, SeatFault, SeatInput};
 use stable_records::{MemoryStable, Stable};
 use std::alloc::Global;
 use std::hash::RandomState;
@@ -65,6 +67,20 @@ pub(crate) fn journal(alloc: Global, config: Config) -> Result<Box<Journal>, Fai
         return Err(Fail::from("no configuration"));
     }
     Ok(Box::new(alloc, Journal::<Brand>::new(alloc, config))?)
+}
+
+/// A journal without an entry, with this log.
+pub(crate) fn journal_with<J: Naming>(
+    alloc: Global,
+    config: Config,
+    log: Opened<OwnEntry>,
+) -> Result<Box<Journal<J>>, Fail>
+    requires { log ≡ J.book }
+{
+    if !config.is_within_limits() {
+        return Err(Fail::from("no configuration"));
+    }
+    Ok(Box::new(alloc, Journal::with_log(alloc, config, log))?)
 }
 
 /// What a call gave, in short.
