@@ -1,5 +1,5 @@
 #!/usr/bin/env bash
-# Plays a short run of a seat at its journal (bench/refused_memory/main.rt) again and again, and each time has another of its
+# Plays a short run of a seat at its journal (bench/refused_memory/main.rt.txt) again and again, and each time has another of its
 # allocations refused: behind each refusal seat and journal have to be as before, or have the one entry of a node that went down.
 # `bench/refused_memory.sh STEP` takes each STEP-th allocation, or each of them. The run is built once, with checks and without
 # proofs, and the 1,000th allocation of the program is refused; it begins with as many as its input has bytes.
@@ -12,7 +12,7 @@ trap 'rm -rf "$work"' EXIT
 mkdir -p "$work/cases" "$work/crates/refused_memory/src"
 cp HANDLES crates.txt "$work"
 cp -a --reflink=auto crates/. "$work/crates"
-cp bench/refused_memory/main.rt "$work/crates/refused_memory/src"
+cp bench/refused_memory/main.rt.txt "$work/crates/refused_memory/src/main.rt"
 echo "refused_memory: ballots header_types uploads table_types node_core node_events schedule_runner stable_records seats" >>"$work/crates.txt"
 for ((before = 999; before >= 800; before -= ${1:-1})); do head -c "$before" /dev/zero >"$work/cases/$before"; done
 cd "$work/crates/refused_memory"

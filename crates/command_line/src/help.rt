@@ -52,7 +52,7 @@ pub(crate) const SCHEDULE_FILE: &str = "A schedule of events";
 
 /// What serving does.
 pub(crate) const SERVE: &str =
-    "Serves the tables of a cluster, each of its nodes at a port of 127.0.0.1";
+    "Not there yet: serves the tables of a cluster, each of its nodes at a port of 127.0.0.1";
 
 /// Which ports are served, and how it ends.
 pub(crate) const SERVE_MORE: &str = "\
@@ -68,7 +68,7 @@ pub(crate) const PORT: &str =
 
 /// What a script does.
 pub(crate) const SCRIPT: &str =
-    "Runs the calls of a script at a cluster of its own, and prints a line for each call";
+    "Not there yet: runs the calls of a script at a cluster of its own, and prints a line for each call";
 
 /// What a script reads, and how it ends.
 pub(crate) const SCRIPT_MORE: &str = "\
@@ -80,7 +80,7 @@ Exit status: 0 where the receipts of all answers are right; 1 where not, or afte
 pub(crate) const SCRIPT_FILE: &str = "A script of calls";
 
 /// What a put does.
-pub(crate) const PUT: &str = "Puts the rows of a file into a table at a server";
+pub(crate) const PUT: &str = "Not there yet: puts the rows of a file into a table at a server";
 
 /// What a put reads, and how it ends.
 pub(crate) const PUT_MORE: &str = "\
@@ -106,7 +106,7 @@ pub(crate) const SCHEMA: &str = "The schema of the rows; without it, one that is
 
 /// What a get does.
 pub(crate) const GET: &str =
-    "Prints the rows of a table at a server, of its latest version or of another";
+    "Not there yet: prints the rows of a table at a server, of its latest version or of another";
 
 /// What a get prints, and how it ends.
 pub(crate) const GET_MORE: &str = "\
@@ -122,7 +122,7 @@ pub(crate) const ALL_LOCATIONS: &str =
     "Asks each location that the server names, and not the server alone";
 
 /// What listing does.
-pub(crate) const LIST: &str = "Prints the tables of a server, a line for each";
+pub(crate) const LIST: &str = "Not there yet: prints the tables of a server, a line for each";
 
 /// How listing ends.
 pub(crate) const LIST_MORE: &str = "\
@@ -131,7 +131,7 @@ Exit status: 0 where every line was printed; 1 after a fault; 2 words that are n
 
 /// What is told of a table.
 pub(crate) const INFO: &str =
-    "Prints what a server tells of a table: its latest version, its rows, its bytes and its locations";
+    "Not there yet: prints what a server tells of a table: its latest version, its rows, its bytes and its locations";
 
 /// How telling of a table ends.
 pub(crate) const INFO_MORE: &str = "\

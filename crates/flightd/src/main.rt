@@ -49,7 +49,10 @@ fn start(rt: &HostRuntime) -> io::Result<u8> {
             _ => Ok(refuse(rt)),
         },
         Err(error) => {
-            error.print(rt)?;
+            let printed = error.print(rt);
+            if !error.use_stderr() {
+                printed?;
+            }
             Ok(error.exit_code() as u8)
         }
     }

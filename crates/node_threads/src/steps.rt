@@ -1,11 +1,15 @@
 //! The steps of a cluster's nodes.
 
-ghost use Rattle.std.specs.Prelude.{◌≡◌, ◌↔◌, IfOk, IsTrue};
+ghost use Rattle.std.specs.Prelude.{◌≡◌, List, IfOk};
 ghost use Rattle.std.specs.Option.{IfSome};
+ghost use Rattle.table_types.specs.Uploads.{Upload as Uploaded};
+ghost use Rattle.table_types.specs.Tables.{Version};
+ghost use Rattle.table_types.specs.Answers.{answer_of};
 ghost use Rattle.ballots.specs.declared.message.Message.{Message as Sent};
+ghost use Rattle.node_events.specs.declared.event_result.EventResult.TheVariants.{Outcome as Told};
 ghost use Rattle.seats.specs.declared.input.SeatInput.TheVariants.{Deliver};
-ghost use Rattle.seats.specs.Steps.{IsPreparedFor};
-ghost use Rattle.node_threads.specs.Told.{IsTold, IsAsked, Serves, IsSettledFor};
+ghost use Rattle.seats.specs.Steps.{AnswersQuery, IsPreparedFor};
+ghost use Rattle.node_threads.specs.Told.{IsTold};
 
 use crate::cluster::Cluster;
 use crate::gate::Gate;
@@ -43,9 +47,7 @@ pub struct Settled {
 impl<const N: usize, S: Stable + Drop, J: Naming> Cluster<N, S, J> {
     /// Hands an input to the node: its record is kept, the node does what is due, and that is entered.
     ///
-    /// The faults are those of `Seat::prepare` and `Seat::take`; [`SeatFault::Down`] also where there is no such node, and
-    /// [`SeatFault::Strange`] where another node's seat was put at its place.
-    #[tactic(auto, using(crate::proofs::Telling::told_here))]
+    /// The faults are those of `Seat::prepare` and `Seat::take`; [`SeatFault::Down`] also where there is no such node.
     pub fn take<R: Wait, G: Gate>(
         &self,
         rt: &R,
@@ -53,17 +55,13 @@ impl<const N: usize, S: Stable + Drop, J: Naming> Cluster<N, S, J> {
         node: usize,
         input: SeatInput,
     ) -> Result<Taken, SeatFault>
-        ensures { IfOk result (IsTold node input) }
+        ensures { IfOk result (IsTold input) }
     {
         let Some(seat) = self.seat(node) else {
             drop(input);
             return Err(SeatFault::Down);
         };
         let mut seat = seat.lock(rt);
-        if !is_of(&seat, node) {
-            drop(input);
-            return Err(SeatFault::Strange);
-        }
         let prepared = seat.prepare(input)?;
         gate.pass(node);
         let mut journal = self.journal().lock(rt);
@@ -80,7 +78,7 @@ impl<const N: usize, S: Stable + Drop, J: Naming> Cluster<N, S, J> {
         node: usize,
         number: u64,
     ) -> Result<Taken, SeatFault>
-        ensures { IfOk result (λ taken. (message : Sent) × IsTold node (Deliver number message) taken) }
+        ensures { IfOk result (λ taken. (message : Sent) × IsTold (Deliver number message) taken) }
     {
         let message = self.message(rt, number)?;
         self.take(rt, gate, node, SeatInput::Deliver(number, message))
@@ -101,9 +99,7 @@ impl<const N: usize, S: Stable + Drop, J: Naming> Cluster<N, S, J> {
 
     /// Asks the node, and enters the question with its answer, which stands in the receipt and is that of some tables.
     ///
-    /// The faults are those of `Seat::read` and `Seat::serve`; [`SeatFault::Down`] also where there is no such node, and
-    /// [`SeatFault::Strange`] where another node's seat was put at its place.
-    #[tactic(auto, using(crate::proofs::Telling::asked_here))]
+    /// The faults are those of `Seat::read` and `Seat::serve`; [`SeatFault::Down`] also where there is no such node.
     pub fn ask<R: Wait, G: Gate>(
         &self,
         rt: &R,
@@ -111,17 +107,13 @@ impl<const N: usize, S: Stable + Drop, J: Naming> Cluster<N, S, J> {
         node: usize,
         query: Query,
     ) -> Result<Receipt, SeatFault>
-        ensures { IfOk result (IsAsked node query) }
+        ensures { IfOk result (λ receipt. (uploads : List Uploaded) × AnswersQuery uploads query receipt.answer) }
     {
         let Some(seat) = self.seat(node) else {
             drop(query);
             return Err(SeatFault::Down);
         };
         let seat = seat.lock(rt);
-        if !is_of(&seat, node) {
-            drop(query);
-            return Err(SeatFault::Strange);
-        }
         let found = seat.read(query)?;
         gate.pass(node);
         let mut journal = self.journal().lock(rt);
@@ -138,7 +130,7 @@ impl<const N: usize, S: Stable + Drop, J: Naming> Cluster<N, S, J> {
         node: usize,
         ticket: Ticket,
     ) -> Result<Option<(Answer, Receipt)>, SeatFault>
-        ensures { IfOk result (λ got. IfSome got (λ found. Serves node ticket found.0 found.1)) }
+        ensures { IfOk result (λ got. IfSome got (λ found. (version : Version) × (found.0 ≡ answer_of version))) }
     {
         let receipt = self.ask(rt, gate, node, Query::Get(ticket))?;
         match &receipt.answer {
@@ -157,7 +149,6 @@ impl<const N: usize, S: Stable + Drop, J: Naming> Cluster<N, S, J> {
     /// of it there.
     ///
     /// The faults are those of [`Cluster::ask`].
-    #[tactic(auto, using(crate::proofs::Telling::settled_so))]
     pub fn settle<R: Wait, G: Gate>(
         &self,
         rt: &R,
@@ -165,7 +156,7 @@ impl<const N: usize, S: Stable + Drop, J: Naming> Cluster<N, S, J> {
         node: usize,
         upload: &Upload,
     ) -> Result<Option<Settled>, SeatFault>
-        ensures { IfOk result (λ found. IfSome found (IsSettledFor node upload.now)) }
+        ensures { IfOk result (λ found. IfSome found (λ settled. settled.receipt.answer ≡ Told settled.outcome)) }
     {
         if self.is_unknown(rt, node, upload)? {
             return Ok(None);
@@ -192,8 +183,7 @@ impl<const N: usize, S: Stable + Drop, J: Naming> Cluster<N, S, J> {
 
     /// Starts the node again, up or down, with the records that it kept, and enters that.
     ///
-    /// The faults are those of `Seat::restart`; [`SeatFault::Down`] where there is no such node, and [`SeatFault::Strange`] also
-    /// where another node's seat was put at its place.
+    /// The faults are those of `Seat::restart`; [`SeatFault::Down`] where there is no such node.
     pub fn restart<R: Wait, G: Gate>(
         &self,
         rt: &R,
@@ -204,20 +194,10 @@ impl<const N: usize, S: Stable + Drop, J: Naming> Cluster<N, S, J> {
             return Err(SeatFault::Down);
         };
         let mut seat = seat.lock(rt);
-        if !is_of(&seat, node) {
-            return Err(SeatFault::Strange);
-        }
         gate.pass(node);
         let mut journal = self.journal().lock(rt);
         seat.restart(&mut journal)
     }
-}
-
-// Whether it is the seat of the node of this number.
-fn is_of<S: Stable + Drop, J: Naming>(seat: &Seat<S, J>, node: usize) -> bool
-    ensures { IsTrue result ↔ (seat.now.node.me ≡ node) }
-{
-    usize::from(seat.me().number()) == node
 }
 
 // Does what was prepared, and tells the numbers of the messages that went out.
@@ -227,7 +207,7 @@ fn take_prepared<S: Stable + Drop, J: Naming>(
     prepared: Prepared,
 ) -> Result<Taken, SeatFault>
     requires { IsPreparedFor seat.old prepared }
-    ensures { IfOk result (IsTold seat.old.node.me prepared.input) }
+    ensures { IfOk result (IsTold prepared.input) }
 {
     let first = journal.trace().sent().len() as u64;
     let receipt = seat.take(journal, prepared)?;

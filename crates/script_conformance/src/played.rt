@@ -122,8 +122,8 @@ fn many_lines(alloc: Global, count: usize) -> Result<String, Fail> {
     let mut lines = String::new(alloc);
     for number in 0..count {
         let version = number + 1;
-        let first = 2 * number;
-        let second = first + 1;
+        let first = number.wrapping_mul(2);
+        let second = first.wrapping_add(1);
         let both = format!(in alloc; "{first} put {version}\n{second} info {version} 2\n")?;
         lines.push_str(&both)?;
     }

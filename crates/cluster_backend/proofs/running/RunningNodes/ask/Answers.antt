@@ -1,0 +1,7 @@
+use Rattle.std.proofs.lemmas.Result.{IfOk-weaker}
+use Rattle.cluster_backend.proofs.Asked.{answers_so}
+use Rattle.cluster_backend.proofs.running.RunningNodes.ask.Goals as goal
+
+pub returns-clause-entered : goal.returns-clause-entered
+returns-clause-entered g c =
+    IfOk-weaker c.ask.result _ _ (λ receipt told. (told, answers_so told.0 c.args.query receipt.answer told.1)) c.ask.ensures

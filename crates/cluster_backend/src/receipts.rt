@@ -1,0 +1,73 @@
+//! The receipts of answers.
+
+ghost use Rattle.std.specs.Prelude.{◌↔◌, All, IsTrue};
+ghost use Rattle.journal.specs.Receipts.{IsReceiptOf};
+
+use growing_log::Naming;
+use seats::{Journal, Receipt};
+use std::alloc::Global;
+use std::sync::{Mutex, Wait};
+
+/// Where the receipts of answers are kept: each says which entry of the journal has the question and the answer that was
+/// given.
+pub trait Receipts {
+    /// Keeps a receipt.
+    fn keep<R: Wait>(&self, rt: &R, receipt: Receipt);
+}
+
+/// Keeps none.
+#[derive(Clone, Copy, Debug)]
+pub struct NoReceipts;
+
+impl Receipts for NoReceipts {
+    fn keep<R: Wait>(&self, _rt: &R, receipt: Receipt) {
+        drop(receipt);
+    }
+}
+
+/// Keeps all.
+#[derive(Drop)]
+pub struct AllReceipts {
+    kept: Mutex<Kept>,
+}
+
+/// Receipts, and whether memory for one was refused.
+#[derive(Drop)]
+struct Kept {
+    receipts: Vec<Receipt>,
+    is_short: bool,
+}
+
+impl AllReceipts {
+    /// No receipt yet.
+    pub fn new(alloc: Global) -> AllReceipts {
+        AllReceipts {
+            kept: Mutex::new(Kept {
+                receipts: Vec::new(alloc),
+                is_short: false,
+            }),
+        }
+    }
+
+    /// Whether the journal confirms each receipt that was kept, and none was lost for want of memory.
+    pub fn are_confirmed<R: Wait, J: Naming>(&self, rt: &R, journal: &Journal<J>) -> bool {
+        let kept = self.kept.lock(rt);
+        !kept.is_short && all_confirm(journal, &kept.receipts)
+    }
+}
+
+impl Receipts for AllReceipts {
+    fn keep<R: Wait>(&self, rt: &R, receipt: Receipt) {
+        let mut kept = self.kept.lock(rt);
+        if kept.receipts.push(receipt).is_err() {
+            kept.is_short = true;
+        }
+    }
+}
+
+/// Whether the journal confirms all of these receipts: each is of one of its entries.
+pub fn all_confirm<J: Naming>(journal: &Journal<J>, receipts: &[Receipt]) -> bool
+    ensures { IsTrue result ↔ All (λ receipt. IsReceiptOf journal.now.trace receipt) receipts.now }
+{
+    receipts.iter().all(|receipt| journal.confirm(receipt))
+}

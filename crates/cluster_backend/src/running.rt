@@ -1,0 +1,157 @@
+//! Running nodes, as calls see them.
+
+ghost use Rattle.std.specs.Prelude.{◌≡◌, ◌≢◌, List, [], map, string_bytes, IfOk};
+ghost use Rattle.std.specs.List.{AllZip};
+ghost use Rattle.table_types.specs.Uploads.{Upload as Uploaded};
+ghost use Rattle.table_types.specs.Tables.{effective};
+ghost use Rattle.table_versions.specs.Info.{IsLatest};
+ghost use Rattle.table_versions.specs.Ledger.{table_names};
+ghost use Rattle.table_backend.specs.Backing.{TellsLatest};
+ghost use Rattle.cluster_backend.specs.Backing.{AreAgreed, HasTables, IsAnswered};
+
+use crate::describing::described;
+use crate::nodes::Nodes;
+use flight_calls::TableDescription;
+use growing_log::Naming;
+use node_core::{Node, Refusal};
+use node_threads::{Gate, Pending, Query, Receipt, Running, Seat, SeatFault};
+use stable_records::Stable;
+use std::alloc::{AllocError, Global};
+use std::sync::Wait;
+use table_versions::TableInfo;
+use table_versions::laws::tables_have_effective_uploads;
+use uploads::Upload;
+
+impl<const N: usize, S: Stable + Drop, J: Naming, G: Gate + Drop> Nodes for Running<N, S, J, G> {
+    ghost entered = { λ node query answer. IsAnswered query answer };
+
+    ghost holds = { λ node uploads. AreAgreed uploads };
+
+    ghost fails = { λ node fault. Unit {0} };
+
+    fn put<R: Wait>(&self, rt: &R, node: usize, upload: &Upload) -> Result<Pending, SeatFault> {
+        Running::put(self, rt, node, upload)
+    }
+
+    fn outcome<R: Wait>(
+        &self,
+        rt: &R,
+        node: usize,
+        upload: &Upload,
+        pending: Pending,
+    ) -> Result<Receipt, SeatFault> {
+        let ended = pending.wait(rt);
+        drop(pending);
+        drop(ended?);
+        let copy: Result<Upload, AllocError> = upload.clone();
+        let Ok(copy) = copy else {
+            return Err(SeatFault::Refused(Refusal::OutOfMemory));
+        };
+        self.ask(rt, node, Query::Outcome(copy))
+    }
+
+    fn ask<R: Wait>(&self, rt: &R, node: usize, query: Query) -> Result<Receipt, SeatFault> {
+        self.cluster().ask(rt, self.gate(), node, query)
+    }
+
+    fn latest<R: Wait>(
+        &self,
+        rt: &R,
+        node: usize,
+        table: &str,
+    ) -> Result<Option<TableInfo>, SeatFault> {
+        let Some(seat) = self.cluster().seat(node) else {
+            return Err(SeatFault::Down);
+        };
+        let seat = seat.lock(rt);
+        latest_at(&seat, table)
+    }
+
+    fn tables<R: Wait>(
+        &self,
+        rt: &R,
+        alloc: Global,
+        node: usize,
+        locations: &[String],
+    ) -> Result<Vec<TableDescription>, SeatFault> {
+        let Some(seat) = self.cluster().seat(node) else {
+            return Err(SeatFault::Down);
+        };
+        let seat = seat.lock(rt);
+        tables_at(alloc, &seat, locations)
+    }
+}
+
+// The latest version of a table at this seat.
+fn latest_at<S: Stable + Drop, J: Naming>(
+    seat: &Seat<S, J>,
+    table: &str,
+) -> Result<Option<TableInfo>, SeatFault>
+    ensures { IfOk result (λ info. (uploads : List Uploaded) × AreAgreed uploads
+        × IsLatest info table.now (effective table.now uploads)) }
+{
+    match seat.node()?.info(table) {
+        Ok(info) => Ok(info),
+        Err(_) => Err(SeatFault::Refused(Refusal::OutOfMemory)),
+    }
+}
+
+// The latest version of each table at this seat.
+fn tables_at<S: Stable + Drop, J: Naming>(
+    alloc: Global,
+    seat: &Seat<S, J>,
+    locations: &[String],
+) -> Result<Vec<TableDescription>, SeatFault>
+    ensures { IfOk result (λ all. (uploads : List Uploaded) × AreAgreed uploads
+        × AllZip (λ name found. TellsLatest (map string_bytes locations.now) name (effective name uploads) found)
+        (table_names uploads) all.items) }
+{
+    let node = seat.node()?;
+    let Ok(names) = node.tables() else {
+        return Err(SeatFault::Refused(Refusal::OutOfMemory));
+    };
+    match all_told(alloc, node, &names, locations) {
+        Ok(all) => Ok(all),
+        Err(_) => Err(SeatFault::Refused(Refusal::OutOfMemory)),
+    }
+}
+
+// What is told of a table that there is, with these locations.
+fn told(
+    alloc: Global,
+    node: &Node,
+    table: &str,
+    locations: &[String],
+) -> Result<TableDescription, AllocError>
+    requires { (uploads : List Uploaded) × HasTables node.now uploads × (effective table.now uploads ≢ []) }
+    ensures { IfOk result (λ found. (uploads : List Uploaded) → HasTables node.now uploads
+        → TellsLatest (map string_bytes locations.now) table.now (effective table.now uploads) found) }
+{
+    match node.info(table) {
+        Ok(Some(info)) => described(alloc, info, locations),
+        Ok(None) => unreachable!(),
+        Err(_) => Err(AllocError),
+    }
+}
+
+// What is told of each of these tables, which are all that there are, with these locations.
+fn all_told(
+    alloc: Global,
+    node: &Node,
+    names: &[String],
+    locations: &[String],
+) -> Result<Vec<TableDescription>, AllocError>
+    requires { (uploads : List Uploaded) × HasTables node.now uploads
+        × (map string_bytes names.now ≡ table_names uploads) }
+    ensures { IfOk result (λ all. (uploads : List Uploaded) → HasTables node.now uploads
+        → AllZip (λ name found. TellsLatest (map string_bytes locations.now) name (effective name uploads) found)
+        (map string_bytes names.now) all.items) }
+{
+    tables_have_effective_uploads();
+    let mut all = Vec::new(alloc);
+    for name in names {
+        let found = told(alloc, node, name, locations)?;
+        all.push(found)?;
+    }
+    Ok(all)
+}

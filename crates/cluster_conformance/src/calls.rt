@@ -1,0 +1,168 @@
+//! Connections to three nodes, one step after the other.
+
+ghost use Rattle.std.specs.Prelude.{◌≡◌};
+
+use crate::support::{Nodes, Why, check, had, three, ticket, told, upload};
+use call_words::BackFault;
+use client_calls::call_info;
+use cluster_backend::{AllReceipts, ClusterBackend};
+use flight_calls::Backend;
+use flight_service::serve_connection;
+use growing_log::{Naming, Opened};
+use node_threads::{OpenGate, OwnEntry, SeatFault, SeatInput};
+use std::alloc::Global;
+use std::hash::RandomState;
+use std::marker::Brand;
+use std::sync::Wait;
+use std::test::Fail;
+use table_versions::{Answer, Outcome};
+
+/// More messages than an upload takes.
+const MANY: u64 = 100;
+
+// Gives the node a tick, and hands each message on to each node, until no more are sent.
+fn decide<R: Wait, J: Naming>(rt: &R, nodes: &Nodes<J, OpenGate>) -> Result<(), Why> {
+    match nodes.take_input(rt, 0, SeatInput::Tick(0)) {
+        Ok(taken) => drop(taken),
+        Err(_) => return Err("a tick is not taken"),
+    }
+    for number in 0..MANY {
+        for node in 0..3 {
+            match nodes.cluster().deliver(rt, &OpenGate, node, number) {
+                Ok(taken) => drop(taken),
+                Err(SeatFault::NotSent) => return Ok(()),
+                Err(_) => return Err("a message is not taken"),
+            }
+        }
+    }
+    Err("messages without end")
+}
+
+// What a connection to this node is answered to the ticket for this version.
+fn got<R: Wait, J: Naming>(
+    rt: &R,
+    alloc: Global,
+    nodes: &Nodes<J, OpenGate>,
+    receipts: &AllReceipts,
+    node: usize,
+    version: u64,
+) -> Result<Result<Answer, BackFault>, Why> {
+    let mut backend = ClusterBackend::new(alloc, rt, nodes, receipts, node, &[]);
+    Ok(backend.get(alloc, &ticket(alloc, version)?))
+}
+
+// An upload is put and decided, and each node is asked for it.
+fn puts_and_gets<R: Wait, J: Naming>(
+    rt: &R,
+    alloc: Global,
+    nodes: &Nodes<J, OpenGate>,
+    receipts: &AllReceipts,
+) -> Result<(), Why> {
+    let upload = upload(alloc, 1)?;
+    let mut backend = ClusterBackend::new(alloc, rt, nodes, receipts, 0, &[]);
+    check(
+        matches!(backend.outcome(&upload), Err(BackFault::Unavailable)),
+        "an outcome of what was not put",
+    )?;
+    check(backend.put(&upload).is_ok(), "a put fails")?;
+    decide(rt, nodes)?;
+    nodes.settle_all(rt, 0);
+    check(
+        matches!(backend.outcome(&upload), Ok(Outcome::Applied(1))),
+        "another outcome",
+    )?;
+    let first = had(got(rt, alloc, nodes, receipts, 0, 1)?)?;
+    let second = had(got(rt, alloc, nodes, receipts, 1, 1)?)?;
+    let third = had(got(rt, alloc, nodes, receipts, 2, 1)?)?;
+    check(first == second && second == third, "answers differ")?;
+    check(
+        matches!(
+            got(rt, alloc, nodes, receipts, 0, 2)?,
+            Err(BackFault::Unavailable)
+        ),
+        "there is a second version",
+    )?;
+    check(
+        matches!(got(rt, alloc, nodes, receipts, 3, 1)?, Err(BackFault::Down)),
+        "there is a fourth node",
+    )
+}
+
+// What is told of the table, and of all tables.
+fn describes<R: Wait, J: Naming>(
+    rt: &R,
+    alloc: Global,
+    nodes: &Nodes<J, OpenGate>,
+    receipts: &AllReceipts,
+) -> Result<(), Why> {
+    let mut locations = Vec::new(alloc);
+    had(locations.push(had(String::from_str(alloc, "plain+tcp://127.0.0.1:42000"))?))?;
+    let mut backend = ClusterBackend::new(alloc, rt, nodes, receipts, 1, &locations);
+    let Ok(found) = backend.info(alloc, "t") else {
+        return Err("no table");
+    };
+    check(
+        found.info.version == 1 && found.locations == locations,
+        "another table",
+    )?;
+    let Ok(schema) = backend.schema(alloc, "t") else {
+        return Err("no schema");
+    };
+    check(schema == found.info.schema, "another schema")?;
+    let Ok(all) = backend.list(alloc) else {
+        return Err("no list");
+    };
+    check(all.len() == 1, "another list")?;
+    check(
+        matches!(backend.info(alloc, "u"), Err(BackFault::NoTable)),
+        "there is another table",
+    )
+}
+
+// A client's request over bytes, and the answer.
+fn answers<R: Wait, J: Naming>(
+    rt: &R,
+    alloc: Global,
+    nodes: &Nodes<J, OpenGate>,
+    receipts: &AllReceipts,
+) -> Result<(), Why> {
+    let mut request = Vec::new(alloc);
+    let mut nothing: &[u8] = &[];
+    drop(call_info(alloc, &mut nothing, &mut request, "t"));
+    let mut input = request.as_slice();
+    let mut answer = Vec::new(alloc);
+    let served = serve_connection(alloc, rt, nodes, receipts, 2, &[], &mut input, &mut answer);
+    check(served.is_ok(), "a call is not served")?;
+    let mut output = answer.as_slice();
+    let mut unread = Vec::new(alloc);
+    match call_info(alloc, &mut output, &mut unread, "t") {
+        Ok(info) => check(info.ordered, "another info"),
+        Err(_) => Err("no info"),
+    }
+}
+
+fn plays<R: Wait, J: Naming>(
+    rt: &R,
+    alloc: Global,
+    hashing: RandomState,
+    log: Opened<OwnEntry>,
+) -> Result<(), Why>
+    requires { log ≡ J.book }
+{
+    let (nodes, notes) = three::<R, J, OpenGate>(rt, alloc, hashing, log, OpenGate)?;
+    drop(notes);
+    let receipts = AllReceipts::new(alloc);
+    puts_and_gets(rt, alloc, &nodes, &receipts)?;
+    describes(rt, alloc, &nodes, &receipts)?;
+    answers(rt, alloc, &nodes, &receipts)?;
+    let journal = nodes.cluster().journal().lock(rt);
+    check(
+        receipts.are_confirmed(rt, &journal),
+        "a receipt is not confirmed",
+    )
+}
+
+#[test]
+fn a_connection_puts_and_gets(rt: HostRuntime) -> Result<(), Fail> {
+    told(plays::<_, Brand>(&rt, rt.alloc(), RandomState::new(&rt)?, Opened::new()))
+}

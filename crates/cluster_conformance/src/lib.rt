@@ -1,0 +1,10 @@
+//! Conformance tests of `cluster_backend` and `flight_service`, over their public calls: what a connection to one of three nodes
+//! is told, one step after the other.
+//!
+//! The crate has no code but tests, so that what is proved in the crates below is not proved again together with them.
+#![tactic(auto)]
+
+#[cfg(test)]
+mod calls;
+#[cfg(test)]
+mod support;

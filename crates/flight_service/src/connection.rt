@@ -1,0 +1,89 @@
+//! One connection.
+
+ghost use Rattle.std.specs.Prelude.{map, string_bytes};
+ghost use Rattle.grpc_frames.specs.FrameFaults.{WhereKnown};
+ghost use Rattle.flight_service.specs.Connections.{ServesAt};
+
+use crate::service::Service;
+use call_words::CallFault;
+use cluster_backend::{ClusterBackend, Nodes, Receipts};
+use flight_calls::serve_call;
+use std::alloc::Global;
+use std::io::{BufReader, BufWriter, Read, Write};
+use std::net::{Shutdown, TcpStream};
+use std::sync::Wait;
+use std::time::{Clock, Duration};
+
+/// How long a peer may let no byte pass while one is waited for, in seconds.
+pub const SILENCE_SECONDS: u64 = 60;
+
+/// How many bytes of a request are read and let go behind its answer, at most, so that the answer is not lost with them.
+const MOST_LEFT_BYTES: usize = 33_554_432;
+
+/// Serves one call to the node of this number, as [`serve_call`] does over a [`ClusterBackend`].
+pub fn serve_connection<R: Wait, I: Read, O: Write, C: Nodes, K: Receipts>(
+    alloc: Global,
+    rt: &R,
+    nodes: &C,
+    receipts: &K,
+    node: usize,
+    locations: &[String],
+    input: &mut I,
+    output: &mut O,
+) -> Result<(), CallFault>
+    ensures { WhereKnown (I.remaining input.old) (I.remaining input.new)
+        (λ text rest. WhereKnown (O.contents output.old) (O.contents output.new)
+        (ServesAt C.entered C.holds C.fails result node (map string_bytes locations.now) text rest)) }
+{
+    let mut backend = ClusterBackend::new(alloc, rt, nodes, receipts, node, locations);
+    serve_call(alloc, input, output, &mut backend)
+}
+
+/// Serves the call of a peer, and ends the connection.
+pub(crate) fn answer_peer<R: Wait + Clock, C: Nodes + Drop, K: Receipts + Drop>(
+    rt: &R,
+    alloc: Global,
+    service: &Service<C, K>,
+    node: usize,
+    stream: &TcpStream,
+) {
+    let silence = Some(Duration::from_secs(SILENCE_SECONDS));
+    // A stream without these options is served all the same.
+    let _ = stream.set_read_timeout(silence);
+    let _ = stream.set_write_timeout(silence);
+    let _ = stream.set_nodelay(true);
+    let (Ok(mut input), Ok(mut output)) = (
+        BufReader::new(alloc, stream),
+        BufWriter::new(alloc, stream),
+    ) else {
+        return;
+    };
+    let served = serve_connection(
+        alloc,
+        rt,
+        service.nodes(),
+        service.receipts(),
+        node,
+        service.locations(),
+        &mut input,
+        &mut output,
+    );
+    let flushed = output.flush();
+    let _ = stream.shutdown(Shutdown::Write);
+    if served.is_ok() && flushed.is_ok() {
+        read_rest(stream);
+    }
+}
+
+// Reads what is left of a request, and lets it go: a connection that is closed over bytes that were not read may lose the
+// answer on its way.
+fn read_rest(stream: &TcpStream) {
+    let mut stream = stream;
+    let mut buffer = [0u8; 4096];
+    for _ in 0..MOST_LEFT_BYTES / 4096 {
+        match stream.read(&mut buffer) {
+            Ok(0) | Err(_) => return,
+            Ok(_) => {}
+        }
+    }
+}
