@@ -8,7 +8,6 @@ use Rattle.std.proofs.lemmas.Grind.{flat_map-append}
 use Rattle.std.proofs.lemmas.List.{append-nil}
 use Rattle.std.proofs.lemmas.List.Sums.{sum_by-append}
 use Rattle.header_types.specs.Fields.{SchemaTree}
-use Rattle.header_types.specs.Views.{schema_of}
 use Rattle.table_types.specs.Uploads.{Upload}
 use Rattle.table_types.specs.Served.{in_frame, upload_messages, schema_message}
 use Rattle.table_types.specs.Answers.{answer_of}
@@ -38,7 +37,8 @@ table_opened table number part u opened is =
     let answer = answer_push u.schema [] u in
     let whole = ap length answer in
     record {
-      schema = ap schema_of opened.schema ∙ is.schema;
+      schema = opened.schema ∙ is.schema;
+      shape = opened.shape ∙ is.shape;
       schema_frame = opened.schema_frame ∙ is.schema_frame;
       version = opened.version;
       records = omega (arith, opened.records, is.records);
@@ -57,7 +57,8 @@ table_opened table number part u opened is =
 pub table_grown : (old new : Table) (records bytes : ℕ) (first u : Upload) (counted : List Upload) → IsGrown old new records bytes → records ≡ rows_of_upload u
     → bytes ≡ length (frames_text u) → IsTableOf old first counted → IsTableOf new first (counted ++ u ∷ [])
 table_grown old new records bytes first u counted grown rows long is = record {
-  schema = ap schema_of grown.schema ∙ is.schema;
+  schema = grown.schema ∙ is.schema;
+  shape = grown.shape ∙ is.shape;
   schema_frame = grown.schema_frame ∙ is.schema_frame;
   version = omega (arith, grown.version, is.version, length-append counted (u ∷ []));
   records = omega (arith, grown.records_are, is.records, rows, sum_by-append rows_of_upload counted (u ∷ []));

@@ -1,6 +1,5 @@
 -- A schema that can be written can be written without its metadata.
-use Rattle.std.proofs.Common.{◌≡◌, refl, sym, ap, ap₂, subst, ◌∙◌, ℕ, suc, ◌+◌, ◌≤◌, max, true, List, [], length, arith}
-use Rattle.std.specs.Str.{bytes_eq}
+use Rattle.std.proofs.Common.{◌≡◌, refl, sym, ap, ap₂, subst, ℕ, suc, ◌+◌, ◌≤◌, max, List, [], length, arith}
 use Rattle.header_types.specs.Fields.{Entry, FieldHead, Tree, tree, Forest, no_more, more, width, SchemaTree}
 use Rattle.header_types.specs.Header.{schema_header}
 use Rattle.header_types.specs.Limits.{tree_sum, forest_sum, tree_depth, forest_depth, field_bytes, entry_bytes}
@@ -11,8 +10,7 @@ use Rattle.header_writing.specs.Written.{FitsTree, FitsForest, FitsSchema}
 use Rattle.flatbuf_meta.specs.Writable.{IsWritable}
 use Rattle.table_types.specs.Uploads.{Upload}
 use Rattle.table_types.specs.Valid.{IsUpload}
-use Rattle.table_types.specs.Tables.{bare_schema, shape_text, has_shape}
-use Rattle.table_versions.proofs.Growing.{same_bytes, bytes_same}
+use Rattle.table_types.specs.Tables.{bare_schema, shape_text}
 
 bare_width : (f : Forest) → width (bare_forest f) ≡ width f
 bare_width no_more = refl
@@ -55,7 +53,7 @@ module _ (weight : FieldHead → List Entry → ℕ) (least : (field : FieldHead
     forest_lighter no_more = omega arith
     forest_lighter (more t rest) = omega (arith, tree_lighter t, forest_lighter rest)
 
-bare_profile : (s : SchemaTree) → InProfile s → InProfile (bare_schema s)
+pub bare_profile : (s : SchemaTree) → InProfile s → InProfile (bare_schema s)
 bare_profile s is = record {
   not_deep = omega (arith, is.not_deep, forest_depth_same s.fields);
   within = record {
@@ -82,14 +80,3 @@ bare_writable u valid = (bare_profile u.schema valid.profile, bare_fits u.schema
 abbrev pub ShapesApart : Type 0
 ShapesApart = (x y : Upload) → IsWritable (schema_header (bare_schema x.schema)) → IsWritable (schema_header (bare_schema y.schema))
     → shape_text x ≡ shape_text y → SameShape x.schema y.schema
-
-abbrev pub ShapesSame : Type 0
-ShapesSame = (x y : Upload) → SameShape x.schema y.schema → shape_text x ≡ shape_text y
-
-module _ (same : ShapesSame) (apart : ShapesApart) (head u : Upload) (head_valid : IsUpload head) (valid : IsUpload u) where
-  pub like_it : SameShape head.schema u.schema → has_shape (shape_text head) u ≡ true
-  like_it is = ap (bytes_eq (shape_text u)) (same head u is) ∙ same_bytes (shape_text u)
-
-  pub is_like : has_shape (shape_text head) u ≡ true → SameShape head.schema u.schema
-  is_like is =
-      apart head u (bare_writable head head_valid) (bare_writable u valid) (sym (bytes_same (shape_text u) (shape_text head) is))

@@ -3,6 +3,7 @@ pub mod Values
 pub mod Taking
 pub mod Adding
 pub mod Ledgers
+pub mod BareFields
 pub mod BareSchemas
 pub mod Sizes
 pub mod Taken

@@ -1,17 +1,12 @@
 -- What is told of tables.
-use Rattle.std.proofs.Common.{◌≡◌, ◌≢◌, refl, sym, ap, subst, ◌∙◌, ℕ, zero, suc, Option, Some, None, List, [], ◌∷◌, ◌++◌, length, map, take, slice_get, String, string_bytes}
-use Rattle.std.specs.List.{AllByRecursion}
+use Rattle.std.proofs.Common.{◌≡◌, ◌≢◌, refl, ap, subst, ◌∙◌, ℕ, zero, suc, Option, Some, None, List, [], ◌∷◌, ◌++◌, length, map, take, slice_get, String, string_bytes}
 use Rattle.std.specs.declared.alloc.Global.{Global}
-use Rattle.header_types.specs.Profile.{InProfile}
-use Rattle.header_types.specs.Views.{schema_of}
-use Rattle.table_types.specs.Uploads.{Upload, schema_text}
-use Rattle.table_types.specs.Valid.{IsUpload}
+use Rattle.table_types.specs.Uploads.{Upload}
 use Rattle.table_types.specs.Tables.{effective}
 use Rattle.table_versions.specs.declared.info.TableInfo.{TableInfo}
 use Rattle.table_versions.specs.declared.table.Table.{Table}
 use Rattle.table_versions.specs.Info.{IsInfoOf, IsLatest, Describes}
 use Rattle.table_versions.specs.Ledger.{FirstEntries, TableEntries, FrameEntries, table_in, names_in, IsTableOf, IsTable, IsLedger}
-use Rattle.table_versions.proofs.Sizes.{all_effective}
 
 -- ---- one table
 
@@ -22,7 +17,7 @@ info_is name table info first counted told is = record {
   version = told.version ∙ is.version;
   records = told.records ∙ is.records;
   total_bytes = told.total_bytes ∙ is.total_bytes;
-  schema = told.schema ∙ ap schema_text is.schema;
+  schema = told.schema ∙ is.schema;
 }
 
 module _ (firsts : FirstEntries) (tables : TableEntries) (frames : FrameEntries) (uploads : List Upload) (ledger : IsLedger firsts tables frames uploads) (name : List ℕ) where
@@ -42,14 +37,6 @@ module _ (firsts : FirstEntries) (tables : TableEntries) (frames : FrameEntries)
 
   pub latest_some : (table : Table) (info : TableInfo) → table_in tables name ≡ Some table → Describes name table info → IsLatest (Some info) name (effective name uploads)
   latest_some table info some told = info_of table info (effective name uploads) told (counted_of (Some table) some)
-
-  profile_of : (table : Table) (counted : List Upload) → IsTable (Some table) counted → AllByRecursion IsUpload counted → InProfile (schema_of table.schema)
-  profile_of table [] is valid = absurd is
-  profile_of table (first ∷ rest) is valid = subst InProfile (sym is.schema) valid.0.profile
-
-  pub latest_profile : (table : Table) → table_in tables name ≡ Some table → InProfile (schema_of table.schema)
-  latest_profile table some =
-      profile_of table (effective name uploads) (counted_of (Some table) some) (all_effective IsUpload name uploads ledger.valid)
 
   not_none : (table : Table) (counted : List Upload) → IsTable (Some table) counted → counted ≢ []
   not_none table [] is none = is

@@ -1,9 +1,8 @@
 -- An upload that is ready is taken as the definitions say.
-use Rattle.std.proofs.Common.{◌≡◌, refl, sym, ap, ap₂, subst, ◌∙◌, ◌<◌, ◌≤◌, Bool, true, false, true≢false, Option, Some, None, is_some, List, [], ◌∷◌, ◌++◌, length, string_bytes, arith}
+use Rattle.std.proofs.Common.{◌≡◌, ◌≢◌, refl, sym, ap, ap₂, subst, ◌∙◌, ◌<◌, ◌≤◌, Bool, true, false, true≢false, Option, Some, None, is_some, List, [], ◌∷◌, ◌++◌, length, string_bytes, arith}
 use Rattle.std.specs.List.{AllByRecursion}
 use Rattle.std.specs.Option.{option_map}
-use Rattle.header_types.specs.SameShape.{SameShape}
-use Rattle.header_types.specs.Views.{schema_of}
+use Rattle.std.specs.Str.{bytes_eq}
 use Rattle.table_types.specs.Uploads.{Upload, upload_text}
 use Rattle.table_types.specs.Valid.{IsUpload}
 use Rattle.table_types.specs.Served.{schema_message}
@@ -17,7 +16,7 @@ use Rattle.table_versions.specs.Ledger.{seen_first, told_of_first, FirstEntries,
 use Rattle.table_versions.specs.Steps.{PutsFirst}
 use Rattle.table_versions.specs.Steps.{HasRoomToGrow, Places}
 use Rattle.table_versions.proofs.Taking.{OutcomesStay}
-use Rattle.table_versions.proofs.BareSchemas.{ShapesApart, ShapesSame, like_it, is_like}
+use Rattle.table_versions.proofs.Growing.{same_bytes, bytes_same}
 use Rattle.table_versions.proofs.Sizes.{framed, frames_long, rows_few, records_few, answer_few, all_effective, few_effective}
 use Rattle.table_versions.proofs.Ledgers.{ledger_repeat, ledger_unlike, ledger_open, ledger_add}
 
@@ -84,7 +83,7 @@ module _ (firsts : FirstEntries) (tables : TableEntries) (frames : FrameEntries)
 
 -- ---- it is taken
 
-module _ (stay : OutcomesStay) (same : ShapesSame) (apart : ShapesApart) (firsts new : FirstEntries) (tables more : TableEntries) (frames served : FrameEntries) (uploads : List Upload)
+module _ (stay : OutcomesStay) (firsts new : FirstEntries) (tables more : TableEntries) (frames served : FrameEntries) (uploads : List Upload)
     (prepared : Prepared) (u : Upload) (ledger : IsLedger firsts tables frames uploads) (ready : IsPrepared prepared u) where
   pub taken_repeat : is_some (first_in firsts prepared.id) ≡ true → IsLedger firsts tables frames (uploads ++ u ∷ [])
   taken_repeat come =
@@ -121,31 +120,24 @@ module _ (stay : OutcomesStay) (same : ShapesSame) (apart : ShapesApart) (firsts
       first_of : (first : Upload) × (rest : List Upload) × (effective u.table uploads ≡ first ∷ rest) × IsTableOf old first (first ∷ rest)
       first_of = table_here firsts tables frames uploads ledger u old there
 
-      head_valid : IsUpload first_of.0
-      head_valid = (subst (AllByRecursion IsUpload) first_of.2 (all_effective IsUpload u.table uploads ledger.valid)).0
-
-      to_program : SameShape first_of.0.schema u.schema → SameShape (schema_of old.schema) (schema_of prepared.part.schema)
+      to_program : has_shape (shape_text first_of.0) u ≡ true → old.shape ≡ prepared.part.shape
       to_program like =
-          subst (λ s. SameShape s (schema_of prepared.part.schema)) (sym first_of.3.schema)
-          (subst (SameShape first_of.0.schema) (sym ready.part.schema) like)
+          first_of.3.shape ∙ sym (bytes_same (shape_text u) (shape_text first_of.0) like) ∙ sym ready.part.shape
 
-      from_program : SameShape (schema_of old.schema) (schema_of prepared.part.schema) → SameShape first_of.0.schema u.schema
+      from_program : old.shape ≡ prepared.part.shape → has_shape (shape_text first_of.0) u ≡ true
       from_program like =
-          subst (λ s. SameShape s u.schema) first_of.3.schema
-          (subst (SameShape (schema_of old.schema)) ready.part.schema like)
+          ap (bytes_eq (shape_text u)) (sym first_of.3.shape ∙ like ∙ ready.part.shape) ∙ same_bytes (shape_text u)
 
       by_shape : (b : Bool) → has_shape (shape_text first_of.0) u ≡ b → IsLedger new more served (uploads ++ u ∷ [])
       by_shape true like =
-          let o = places.like old there (to_program (is_like same apart first_of.0 u head_valid ready.valid like)) in
+          let o = places.like old there (to_program like) in
           let adds = o.1 in
           let grows = adds.grows in
           ledger_add stay firsts tables frames uploads ledger u ready.valid named new more served entry old grows.grown prepared.part adds.place first_of.0 first_of.1
           puts grows.grows adds.serves first_of.2 like adds.names there grows.is_grown ready.part grows.place_table grows.place_version
           (seen (applied grows.grown.version) (o.2 ∙ ap applied (adds.version_is ∙ grows.place_version)))
       by_shape false unlike =
-          let differ : SameShape (schema_of old.schema) (schema_of prepared.part.schema) → ⊥ =
-          λ like. true≢false (sym (like_it same apart first_of.0 u head_valid ready.valid (from_program like)) ∙ unlike)
-          in
+          let differ : old.shape ≢ prepared.part.shape = λ like. true≢false (sym (from_program like) ∙ unlike) in
           let o = places.unlike old there differ in
           subst (λ t. IsLedger new t served (uploads ++ u ∷ [])) (sym o.0.tables_stay)
           (subst (λ f. IsLedger new tables f (uploads ++ u ∷ [])) (sym o.0.frames_stay)

@@ -2,7 +2,6 @@
 use Rattle.std.specs.Prelude.{◌≡◌, ℕ, Option, None, Some, List, [], ◌∷◌, length, string_bytes}
 use Rattle.table_types.specs.Uploads.{Upload, schema_text}
 use Rattle.table_types.specs.Answers.{answer_of}
-use Rattle.header_types.specs.Views.{schema_of}
 use Rattle.table_versions.specs.declared.info.TableInfo.{TableInfo}
 use Rattle.table_versions.specs.declared.table.Table.{Table}
 use Rattle.table_versions.specs.Ledger.{records_of}
@@ -27,7 +26,7 @@ pub record Describes (name : List ℕ) (table : Table) (info : TableInfo) : Type
   pub version : info.version ≡ table.version
   pub records : info.records ≡ table.records
   pub total_bytes : info.total_bytes ≡ table.total_bytes
-  pub schema : info.schema.items ≡ schema_text (schema_of table.schema)
+  pub schema : info.schema.items ≡ table.schema
 
 -- the two say the same
 pub record SaysSame (one other : TableInfo) : Type 0 where

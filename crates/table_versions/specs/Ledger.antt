@@ -8,12 +8,11 @@ use Rattle.std.specs.Map.{lookup, keys_of}
 use Rattle.std.specs.Option.{option_map}
 use Rattle.std.specs.Str.{bytes_eq}
 use Rattle.header_types.specs.Fields.{SchemaTree}
-use Rattle.header_types.specs.Views.{schema_of}
-use Rattle.table_types.specs.Uploads.{Upload, upload_text}
+use Rattle.table_types.specs.Uploads.{Upload, upload_text, schema_text}
 use Rattle.table_types.specs.Valid.{IsUpload}
 use Rattle.table_types.specs.Served.{in_frame, upload_messages, schema_message}
 use Rattle.table_types.specs.Answers.{answer_of}
-use Rattle.table_types.specs.Tables.{Outcome, is_to, effective, firsts, first_named, outcome_of}
+use Rattle.table_types.specs.Tables.{Outcome, is_to, shape_text, effective, firsts, first_named, outcome_of}
 use Rattle.table_versions.specs.declared.first.First.{First}
 use Rattle.table_versions.specs.declared.place.Place.{Place}
 use Rattle.table_versions.specs.declared.table.Table.{Table}
@@ -92,7 +91,8 @@ told_of_first uploads first = (upload_text first, outcome_of uploads first)
 
 -- a table with these effective uploads, of which this is the first
 pub record IsTableOf (table : Table) (first : Upload) (counted : List Upload) : Type 0 where
-  pub schema : schema_of table.schema ≡ first.schema
+  pub schema : table.schema ≡ schema_text first.schema
+  pub shape : table.shape ≡ shape_text first
   pub schema_frame : table.schema_frame ≡ schema_frame_of first.schema
   pub version : table.version ≡ length counted
   pub records : table.records ≡ records_of counted
@@ -127,7 +127,8 @@ pub record IsLedger (first_uploads : FirstEntries) (tables : TableEntries) (fram
 
 -- what an upload adds to its table
 pub record IsPartOf (part : Part) (upload : Upload) : Type 0 where
-  pub schema : schema_of part.schema ≡ upload.schema
+  pub schema : part.schema ≡ schema_text upload.schema
+  pub shape : part.shape ≡ shape_text upload
   pub schema_frame : part.schema_frame ≡ schema_frame_of upload.schema
   pub frames : part.frames ≡ frames_of upload
   pub bytes : part.bytes ≡ length (frames_text upload)

@@ -1,10 +1,7 @@
 -- What the steps change in what is kept, by which an upload whose name is new is taken.
-use Rattle.std.specs.Prelude.{◌≡◌, ◌↔◌, ℕ, suc, ◌+◌, ◌^◌, ◌<◌, IsTrue, Bool, false, Option, None, Some, List, [], ◌∷◌}
+use Rattle.std.specs.Prelude.{◌≡◌, ◌≢◌, ◌↔◌, ℕ, suc, ◌+◌, ◌^◌, ◌<◌, IsTrue, Bool, false, Option, None, Some, List, [], ◌∷◌}
 use Rattle.std.specs.Prelude.{◌++◌, length}
 use Rattle.std.specs.Str.{bytes_eq}
-use Rattle.header_types.specs.SameShape.{SameShape}
-use Rattle.header_types.specs.Views.{schema_of}
-use Rattle.header_types.specs.declared.schema.Schema.{Schema}
 use Rattle.table_types.specs.Tables.{Outcome, applied, mismatched}
 use Rattle.table_versions.specs.declared.first.First.{First}
 use Rattle.table_versions.specs.declared.place.Place.{Place}
@@ -33,6 +30,7 @@ pub record PutsFrames (old new : FrameEntries) (place : Place) (frames : List (L
 pub record IsOpened (table : Table) (number : ℕ) (part : Part) : Type 0 where
   pub number_is : table.number ≡ number
   pub schema : table.schema ≡ part.schema
+  pub shape : table.shape ≡ part.shape
   pub schema_frame : table.schema_frame ≡ part.schema_frame
   pub version : table.version ≡ 1
   pub records : table.records ≡ part.records
@@ -42,6 +40,7 @@ pub record IsOpened (table : Table) (number : ℕ) (part : Part) : Type 0 where
 pub record IsGrown (old new : Table) (records bytes : ℕ) : Type 0 where
   pub number_is : new.number ≡ old.number
   pub schema : new.schema ≡ old.schema
+  pub shape : new.shape ≡ old.shape
   pub schema_frame : new.schema_frame ≡ old.schema_frame
   pub version : new.version ≡ suc old.version
   pub records_are : new.records ≡ old.records + records
@@ -54,11 +53,11 @@ HasRoomToGrow (Some table) part =
     (table.version + 1 < 2 ^ 64) × (table.records + part.records < 2 ^ 64)
     × (table.total_bytes + part.bytes < 2 ^ 64)
 
--- whether the table is of this schema's shape was told, and nothing where there is no table
-abbrev pub TellsShape : Option Table → Schema → Option Bool → Type 0
-TellsShape None schema like = like ≡ None
-TellsShape (Some table) schema None = ⊥
-TellsShape (Some table) schema (Some like) = IsTrue like ↔ SameShape (schema_of table.schema) (schema_of schema)
+-- whether the table is of this shape was told, and nothing where there is no table
+abbrev pub TellsShape : Option Table → List ℕ → Option Bool → Type 0
+TellsShape None shape like = like ≡ None
+TellsShape (Some table) shape None = ⊥
+TellsShape (Some table) shape (Some like) = IsTrue like ↔ (table.shape ≡ shape)
 
 -- a table grew by one upload, and the version that this makes stands at the place
 pub record Grows (tables more : TableEntries) (name : List ℕ) (old : Table) (records bytes : ℕ) (place : Place)
@@ -99,8 +98,8 @@ pub record ChangesNothing (tables more : TableEntries) (frames served : FrameEnt
 pub record Places (tables more : TableEntries) (frames served : FrameEntries) (name : List ℕ) (part : Part)
     (outcome : Outcome) : Type 0 where
   pub first : table_in tables name ≡ None → OpensTable tables more frames served name part × (outcome ≡ applied 1)
-  pub like : (old : Table) → table_in tables name ≡ Some old → SameShape (schema_of old.schema) (schema_of part.schema)
+  pub like : (old : Table) → table_in tables name ≡ Some old → old.shape ≡ part.shape
       → (version : ℕ) × AddsVersion tables more frames served name part old version × (outcome ≡ applied version)
   pub unlike : (old : Table) → table_in tables name ≡ Some old
-      → (SameShape (schema_of old.schema) (schema_of part.schema) → ⊥)
+      → old.shape ≢ part.shape
       → ChangesNothing tables more frames served × (outcome ≡ mismatched)

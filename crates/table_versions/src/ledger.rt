@@ -11,7 +11,7 @@ use crate::placing::place;
 use crate::prepared::Prepared;
 use crate::steps::{Firsts, Frames, NamedTables, has_come, put_first};
 use std::collections::VecDeque;
-use table_types::laws::{shapes_are_without_metadata, tables_grow};
+use table_types::laws::tables_grow;
 
 /// Takes an upload behind those that were taken: one whose name has come changes nothing.
 pub(crate) fn take(
@@ -34,7 +34,6 @@ pub(crate) fn take(
     ensures frame_room { spare frames.old ≤ spare frames.new + 1 }
 {
     tables_grow();
-    shapes_are_without_metadata();
     let Prepared {
         id,
         text,

@@ -36,6 +36,7 @@ mod placing;
 mod prepared;
 mod preparing;
 mod ready;
+mod shape;
 mod steps;
 mod table;
 mod tables;

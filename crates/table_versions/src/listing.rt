@@ -1,8 +1,6 @@
 //! What is told of tables.
 
 ghost use Rattle.std.specs.Prelude.{◌≡◌, ◌≢◌, ◌<◌, [], List, Some, length, map, slice_get, string_bytes, IfOk, OnErr};
-ghost use Rattle.header_types.specs.Profile.{InProfile};
-ghost use Rattle.header_types.specs.Views.{schema_of};
 ghost use Rattle.table_types.specs.Uploads.{Upload};
 ghost use Rattle.table_types.specs.Tables.{effective};
 ghost use Rattle.table_versions.specs.Info.{IsLatest, Describes};
@@ -12,16 +10,14 @@ use crate::info::TableInfo;
 use crate::steps::NamedTables;
 use crate::table::Table;
 use ballots::OutOfMemory;
-use header_writing::write_schema;
 use std::alloc::Global;
 
 /// What is told of a table.
 fn info_of(alloc: Global, name: &str, table: &Table) -> Result<TableInfo, OutOfMemory>
-    requires { InProfile (schema_of table.now.schema) }
     ensures { IfOk result (Describes name.now table.now) }
 {
     let mut schema = Vec::new(alloc);
-    write_schema(&table.schema, &mut schema)?;
+    schema.extend_from_slice(table.schema.as_slice())?;
     let name = String::from_str(alloc, name)?;
     Ok(TableInfo {
         table: name,

@@ -12,13 +12,12 @@ use crate::outcome::Outcome;
 use crate::place::Place;
 use crate::prepared::Part;
 use crate::steps::{Frames, NamedTables, grow, opened, put_frames, put_table};
-use header_types::Schema;
 
-/// Whether the table is of this schema's shape, `None` where there is no table of the name.
-fn is_of_shape(tables: &NamedTables, name: &str, schema: &Schema) -> Option<bool>
-    ensures { TellsShape (table_in tables.now.entries name.now) schema.now result }
+/// Whether the table is of this shape, `None` where there is no table of the name.
+fn is_of_shape(tables: &NamedTables, name: &str, shape: &[u8]) -> Option<bool>
+    ensures { TellsShape (table_in tables.now.entries name.now) shape.now result }
 {
-    Some(tables.get(name)?.schema.same_shape(schema))
+    Some(tables.get(name)?.shape.as_slice() == shape)
 }
 
 /// Lets a table grow by one upload with so many rows and bytes.
@@ -87,7 +86,7 @@ pub(crate) fn place(
     ensures table_room { spare tables.old ≤ spare tables.new + 1 }
     ensures frame_room { spare frames.old ≤ spare frames.new + 1 }
 {
-    match is_of_shape(tables, name.as_str(), &part.schema) {
+    match is_of_shape(tables, name.as_str(), part.shape.as_slice()) {
         Some(true) => Outcome::Applied(add_version(tables, frames, name.as_str(), part)),
         Some(false) => Outcome::SchemaMismatch,
         None => {

@@ -2,13 +2,14 @@
 
 use crate::upload_frames::UploadFrames;
 use bytes::Bytes;
-use header_types::Schema;
 
 /// What an upload adds to its table.
 #[derive(Debug, Drop)]
 pub(crate) struct Part {
-    /// Its schema.
-    pub(crate) schema: Schema,
+    /// The message with its schema.
+    pub(crate) schema: Bytes,
+    /// This message without any metadata.
+    pub(crate) shape: Bytes,
     /// The frame with its schema.
     pub(crate) schema_frame: Bytes,
     /// The frames that are served of it.

@@ -12,6 +12,7 @@ ghost use Rattle.table_versions.specs.Serving.{IsWrittenHead, IsServed};
 use crate::answer::bytes_in;
 use crate::framing::data_frame;
 use crate::prepared::{Part, Prepared};
+use crate::shape::shape_of;
 use crate::upload_frames::UploadFrames;
 use ballots::OutOfMemory;
 use bytes::Bytes;
@@ -71,12 +72,14 @@ fn part_of(alloc: Global, upload: &Upload) -> Result<Part, OutOfMemory>
     ensures { (uploaded : Uploaded) → IsUpload uploaded → upload_text uploaded ≡ upload.now
         → IfOk result (λ part. IsPartOf part uploaded) }
 {
-    let schema = upload.schema(alloc)?;
+    let schema = Bytes::copy_from_slice(alloc, upload.schema_bytes())?;
+    let shape = shape_of(alloc, upload.schema(alloc)?)?;
     let schema_frame = data_frame(alloc, upload.schema_bytes(), &[], &[])?;
     let served = served(alloc, upload)?;
     let bytes = bytes_in(served.frames.as_slice()) as u64;
     Ok(Part {
         schema,
+        shape,
         schema_frame,
         frames: UploadFrames::new(served.frames),
         bytes,

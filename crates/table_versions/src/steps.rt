@@ -75,6 +75,7 @@ pub(crate) fn opened(number: usize, part: Part) -> (Table, UploadFrames)
     let table = Table {
         number,
         schema: part.schema,
+        shape: part.shape,
         schema_frame: part.schema_frame,
         version: 1,
         records: part.records,

@@ -14,13 +14,13 @@ place-outcome-requires-clause-numbers c =
 
 pub returns-then-has_come-clause-takes : goal.returns-then-has_come-clause-takes
 returns-then-has_come-clause-takes c = λ uploads upload ledger ready.
-    taken_repeat c.tables_grow.ensures.outcomes c.shapes_are_without_metadata.ensures.same c.shapes_are_without_metadata.ensures.apart
+    taken_repeat c.tables_grow.ensures.outcomes
     c.args.firsts.now.entries c.args.firsts.now.entries c.args.tables.now.entries c.args.tables.now.entries c.args.frames.now.entries c.args.frames.now.entries uploads
     c.args.prepared upload ledger ready (sym c.has_come.ensures ∙ c.if-has_come.true)
 
 pub returns-clause-takes : goal.returns-clause-takes
 returns-clause-takes c = λ uploads upload ledger ready.
-    taken_new c.tables_grow.ensures.outcomes c.shapes_are_without_metadata.ensures.same c.shapes_are_without_metadata.ensures.apart
+    taken_new c.tables_grow.ensures.outcomes
     c.args.firsts.now.entries c.put_first.new.firsts.entries c.args.tables.now.entries c.place-outcome.new.tables.entries c.args.frames.now.entries
     c.place-outcome.new.frames.entries uploads
     c.args.prepared upload ledger ready (sym c.has_come.ensures ∙ c.if-has_come.false)

@@ -1,6 +1,4 @@
 use Rattle.std.proofs.Common.{◌≡◌, refl, sym, ap, subst, ◌∙◌, Some, string_bytes}
-use Rattle.header_types.specs.SameShape.{SameShape}
-use Rattle.header_types.specs.Views.{schema_of}
 use Rattle.table_versions.specs.Ledger.{table_in}
 use Rattle.table_versions.specs.Steps.{AddsVersion}
 use Rattle.table_versions.proofs.Placed.{some_is, none_is_some, tells_some, room_some}
@@ -9,7 +7,7 @@ use Rattle.table_versions.proofs.placing.place.Goals as goal
 pub add_version-requires-clause-there : goal.add_version-requires-clause-there
 add_version-requires-clause-there c =
     let entries = c.args.tables.now.entries in
-    let told = tells_some (table_in c.args.tables.now.entries c.as_str.result.now) c.args.part.schema c.in-Some-true.field-0 c.in-Some-true.ensures in
+    let told = tells_some (table_in c.args.tables.now.entries c.as_str.result.now) c.as_slice.result.now c.in-Some-true.field-0 c.in-Some-true.ensures in
     let named : table_in c.args.tables.now.entries (string_bytes c.args.name) ≡ Some told.0 =
     ap (table_in c.args.tables.now.entries) (sym c.as_str.ensures.value) ∙ told.1
     in (
@@ -20,7 +18,7 @@ add_version-requires-clause-there c =
 
 pub returns-in-Some-true-clause-places : goal.returns-in-Some-true-clause-places
 returns-in-Some-true-clause-places c =
-    let told = tells_some (table_in c.args.tables.now.entries c.as_str.result.now) c.args.part.schema c.in-Some-true.field-0 c.in-Some-true.ensures in
+    let told = tells_some (table_in c.args.tables.now.entries c.as_str.result.now) c.as_slice.result.now c.in-Some-true.field-0 c.in-Some-true.ensures in
     let named : table_in c.args.tables.now.entries (string_bytes c.args.name) ≡ Some told.0 =
     ap (table_in c.args.tables.now.entries) (sym c.as_str.ensures.value) ∙ told.1
     in
@@ -35,5 +33,5 @@ returns-in-Some-true-clause-places c =
       );
       unlike = λ old there differ.
           let same : told.0 ≡ old = some_is told.0 old (sym named ∙ there) in
-          absurd (differ (subst (λ t. SameShape (schema_of t.schema) (schema_of c.args.part.schema)) same (told.2.0 c.in-Some-true.field-0-test)));
+          absurd (differ (subst (λ t. t.shape ≡ c.args.part.shape) same (told.2.0 c.in-Some-true.field-0-test ∙ c.as_slice.ensures)));
     }
