@@ -6,3 +6,4 @@ pub mod Batches
 pub mod Told
 pub mod Apart
 pub mod Served
+pub mod Listed

@@ -17,6 +17,10 @@ use Rattle.client_calls.specs.declared.parts.AnswerPart.{AnswerPart}
 use Rattle.client_calls.specs.declared.parts.AnswerPart.TheVariants as parts
 use Rattle.client_calls.specs.declared.one.Kept.{Kept}
 use Rattle.client_calls.specs.declared.one.Kept.TheVariants as kept
+use Rattle.proto_wire.specs.declared.flight.info.FlightInfo.{FlightInfo}
+use Rattle.client_calls.specs.declared.listing.Listing.{Listing}
+use Rattle.client_calls.specs.declared.listing.Listing.TheVariants as listing
+use Rattle.client_calls.specs.Results.{GivesInfos, HasInfos}
 
 -- ---- frames
 
@@ -93,6 +97,35 @@ abbrev pub KeepsOne : Kept → Result (Vec ℕ Global) ClientFault → Type 0
 KeepsOne (kept.One message) result = result ≡ Ok message
 KeepsOne kept.Nothing result = result ≡ Err faults.BadAnswer
 KeepsOne kept.Several result = result ≡ Err faults.BadAnswer
+
+-- each message that came tells of one of these tables; or one tells of none
+abbrev pub IsListed : Listing → List (List ℕ) → Type 0
+IsListed (listing.Told infos) messages = GivesInfos messages infos
+IsListed listing.Spoiled messages = ¬ HasInfos messages
+
+-- the tables with this one more
+abbrev pub AddsInfo : Vec FlightInfo Global → FlightInfo → Listing → Type 0
+AddsInfo infos info (listing.Told more) = more.items ≡ infos.items ++ info ∷ []
+AddsInfo infos info listing.Spoiled = ⊥
+
+-- what is left where a message could not be read
+abbrev pub listing_without : WireFault → Result Listing ClientFault
+listing_without wires.OutOfMemory = Err (faults.Call calls.OutOfMemory)
+listing_without wires.BadVarint = Ok listing.Spoiled
+listing_without wires.BadKey = Ok listing.Spoiled
+listing_without wires.BadWireType = Ok listing.Spoiled
+listing_without wires.CutShort = Ok listing.Spoiled
+listing_without wires.NotUtf8 = Ok listing.Spoiled
+
+-- this is kept of the messages and one more, or memory was refused
+abbrev pub ListsMore : List (List ℕ) → List ℕ → Result Listing ClientFault → Type 0
+ListsMore messages message (Ok next) = IsListed next (messages ++ message ∷ [])
+ListsMore messages message (Err fault) = fault ≡ faults.Call calls.OutOfMemory
+
+-- all tables, where each message tells of one
+abbrev pub ListsAll : Listing → Result (Vec FlightInfo Global) ClientFault → Type 0
+ListsAll (listing.Told infos) result = result ≡ Ok infos
+ListsAll listing.Spoiled result = result ≡ Err faults.BadAnswer
 
 -- memory was refused, or else the message is none of an answer
 abbrev pub fault_of_wire : WireFault → ClientFault

@@ -2,7 +2,7 @@
 -- and Request Patterns". How tables and uploads are named in a descriptor is this service's own.
 use Rattle.std.specs.Prelude.{ℕ, List, [], ◌∷◌, map, Some}
 use Rattle.proto_messages.specs.Canonical.{canonical}
-use Rattle.proto_wire.specs.Flight.{flight_descriptor_descriptor, ticket_descriptor, data_descriptor}
+use Rattle.proto_wire.specs.Flight.{flight_descriptor_descriptor, criteria_descriptor, ticket_descriptor, data_descriptor}
 use Rattle.header_types.specs.Fields.{SchemaTree}
 use Rattle.batch_types.specs.Cells.{Rows}
 use Rattle.batch_types.specs.Canonical.{canonical_body}
@@ -22,6 +22,15 @@ table_message table = canonical flight_descriptor_descriptor (table_descriptor t
 
 abbrev pub info_request : List ℕ → List ℕ
 info_request table = call_text (path_text methods.GetFlightInfo) (table_message table ∷ [])
+
+-- ---- what is told of all tables
+
+-- the one message: criteria without an expression, which all tables meet
+abbrev pub criteria_message : List ℕ
+criteria_message = canonical criteria_descriptor ([], tt)
+
+abbrev pub list_request : List ℕ
+list_request = call_text (path_text methods.ListFlights) (criteria_message ∷ [])
 
 -- ---- the batches of a version
 

@@ -1,6 +1,6 @@
 -- What the messages of an answer say: Apache Arrow, "Flight.proto", `FlightInfo` and `PutResult`. What a PutResult has as its
 -- metadata is this service's own.
-use Rattle.std.specs.Prelude.{◌≡◌, ◌≤◌, ◌<◌, ◌^◌, ℕ, List, [], ◌∷◌, Vec, Result, Ok, Err}
+use Rattle.std.specs.Prelude.{◌≡◌, ◌≤◌, ◌<◌, ◌^◌, ℕ, List, [], ◌∷◌, map, Vec, Result, Ok, Err}
 use Rattle.std.specs.declared.alloc.Global.{Global}
 use Rattle.proto_messages.specs.Descriptor.{Values, IsMessage}
 use Rattle.proto_wire.specs.Flight.{info_descriptor}
@@ -44,6 +44,21 @@ GivesInfo messages info = MeansInfo messages (info_values info)
 
 abbrev pub HasInfo : List (List ℕ) → Type 0
 HasInfo messages = (values : Values info_descriptor) × MeansInfo messages values
+
+-- ---- what is told of all tables
+
+-- there are as many messages as there are values, and each means those at its place, in whatever encoding
+abbrev pub MeanInfos : List (List ℕ) → List (Values info_descriptor) → Type 0
+MeanInfos [] [] = Unit {0}
+MeanInfos [] (values ∷ all) = ⊥
+MeanInfos (message ∷ messages) [] = ⊥
+MeanInfos (message ∷ messages) (values ∷ all) = IsMessage info_descriptor message values × MeanInfos messages all
+
+abbrev pub GivesInfos : List (List ℕ) → Vec FlightInfo Global → Type 0
+GivesInfos messages infos = MeanInfos messages (map info_values infos.items)
+
+abbrev pub HasInfos : List (List ℕ) → Type 0
+HasInfos messages = (all : List (Values info_descriptor)) × MeanInfos messages all
 
 -- ---- what is told of an upload
 

@@ -37,8 +37,8 @@ fn with_message(
     }
 }
 
-/// Reads the answer to a ticket.
-fn read_download<R: Read>(alloc: Global, r: &mut R) -> Result<Download, ClientFault>
+/// Reads the answer to a ticket, as [`call_get`] does behind its request.
+pub fn read_download<R: Read>(alloc: Global, r: &mut R) -> Result<Download, ClientFault>
     ensures { WhereKnown (R.remaining r.old) (R.remaining r.new) (Receives GivesDownload HasDownload result) }
 {
     no_frame_begins_another();

@@ -6,13 +6,13 @@ ghost use Rattle.proto_wire.specs.FlightValues.{descriptor_values};
 ghost use Rattle.call_words.specs.Methods.{path_text};
 ghost use Rattle.call_words.specs.Names.{table_descriptor};
 ghost use Rattle.call_words.specs.Texts.{call_text};
-ghost use Rattle.client_calls.specs.Requests.{table_message, info_request, ticket_message, get_request};
+ghost use Rattle.client_calls.specs.Requests.{table_message, info_request, criteria_message, list_request, ticket_message, get_request};
 ghost use Rattle.client_calls.specs.Sending.{Sends, IsText};
 
 use crate::sending::{path_of, send_end, send_message};
 use call_words::{CallFault, Method};
 use proto_messages::ProtoMessage;
-use proto_wire::{DescriptorType, FlightDescriptor, Ticket as TicketMessage};
+use proto_wire::{Criteria, DescriptorType, FlightDescriptor, Ticket as TicketMessage};
 use std::alloc::{AllocError, Global};
 use std::io::Write;
 use table_types::Ticket;
@@ -89,6 +89,31 @@ pub(crate) fn send_info_request<W: Write>(
         Err(fault) => return Err(fault),
     };
     send_request(alloc, w, Method::GetFlightInfo, &message)
+}
+
+/// The message that asks for all tables.
+fn criteria_message(alloc: Global) -> Result<Vec<u8>, CallFault>
+    ensures { IsText criteria_message result }
+{
+    let criteria = Criteria {
+        expression: Vec::new(alloc),
+    };
+    let mut message = Vec::new(alloc);
+    match criteria.encode(&mut message) {
+        Ok(()) => Ok(message),
+        Err(_) => Err(CallFault::OutOfMemory),
+    }
+}
+
+/// Writes the request for what is told of all tables.
+pub(crate) fn send_list_request<W: Write>(alloc: Global, w: &mut W) -> Result<(), CallFault>
+    ensures { WhereKnown (W.contents w.old) (W.contents w.new) (Sends result list_request) }
+{
+    let message = match criteria_message(alloc) {
+        Ok(message) => message,
+        Err(fault) => return Err(fault),
+    };
+    send_request(alloc, w, Method::ListFlights, &message)
 }
 
 /// The message that asks for a version of a table.

@@ -1,0 +1,36 @@
+use Rattle.std.proofs.Common.{◌≡◌, List, [], arith, rules, refl}
+use Rattle.proto_wire.specs.declared.flight.info.FlightInfo.{FlightInfo}
+use Rattle.client_calls.specs.declared.listing.Listing.TheVariants as listing
+use Rattle.client_calls.specs.Results.{GivesInfos, HasInfos}
+use Rattle.client_calls.specs.Parts.{IsListed}
+use Rattle.client_calls.proofs.Came.{none_came, more_came, fault_came, too_many_came}
+use Rattle.client_calls.proofs.Listed.{list_ends}
+use Rattle.client_calls.proofs.listing.read_infos.Goals as goal
+
+pub loop-count-init : goal.loop-count-init
+loop-count-init g c =
+    let none : IsListed (listing.Told c.new.result) [] = search rules in
+    none_came (IsListed (listing.Told c.new.result)) (g.R.Read.remaining c.args.r.now) none
+
+pub loop-count-preserved : goal.loop-count-preserved
+loop-count-preserved g c =
+    more_came (IsListed c.loop-count.listing) (IsListed c.in-Ok.next) c.loop-count._count (g.R.Read.remaining c.args.r.now) (g.R.Read.remaining c.loop-count.r)
+    (g.R.Read.remaining c.next_part.new.r) c.in-Ok-Message.message c.loop-count.invariant (rw c.in-Ok-Message.field-0-is at c.in-Ok-Message.ensures)
+    (rw c.deref.ensures.value at c.in-Ok.ensures.listed)
+
+pub returns-in-Ok-End : goal.returns-in-Ok-End
+returns-in-Ok-End g c =
+    list_ends c.no_frame_begins_another.ensures c.loop-count.listing c.all.result c.loop-count._count (g.R.Read.remaining c.args.r.now) (g.R.Read.remaining c.loop-count.r)
+    (g.R.Read.remaining c.next_part.new.r) c.loop-count-test.true c.loop-count.invariant (rw c.in-Ok-End.field-0-is at c.in-Ok-End.ensures) c.all.ensures
+
+pub returns-in-Err : goal.returns-in-Err
+returns-in-Err g c =
+    fault_came c.no_frame_begins_another.ensures GivesInfos HasInfos (IsListed c.loop-count.listing) c.loop-count._count (g.R.Read.remaining c.args.r.now) (g.R.Read.remaining c.loop-count.r)
+    (g.R.Read.remaining c.next_part.new.r) c.in-Err.fault c.loop-count-test.true c.loop-count.invariant c.in-Err.ensures
+
+pub returns : goal.returns
+returns g c =
+    let most = c.loop-count.auto._count-end in
+    let least = c.loop-count-test.false in
+    too_many_came c.no_frame_begins_another.ensures GivesInfos HasInfos (IsListed c.loop-count.listing) c.loop-count._count (g.R.Read.remaining c.args.r.now) (g.R.Read.remaining c.loop-count.r)
+    (omega (arith, most, least)) c.loop-count.invariant
