@@ -3,10 +3,10 @@
 use crate::fault::ServiceFault;
 use crate::service::Service;
 use ballots::NodeId;
-use cluster_backend::{Nodes, Receipts};
+use cluster_backend::{AllReceipts, Nodes, Receipts};
 use crossbeam_channel::Receiver;
 use growing_log::Naming;
-use node_threads::{Note, OpenGate, Pace, Running};
+use node_threads::{Gate, Note, Pace, Running};
 use stable_records::MemoryStable;
 use std::alloc::{AllocError, Global};
 use std::sync::{Arc, Wait};
@@ -21,9 +21,13 @@ pub trait Works: Nodes + Send + Sync {
 
     /// Tells all workers to stop.
     fn stop<R: Wait>(&self, rt: &R);
+
+    /// Whether the nodes' journal confirms each receipt that was kept, and none was lost for want of memory.
+    fn confirm_all<R: Wait>(&self, rt: &R, receipts: &AllReceipts) -> bool;
 }
 
-impl<const N: usize, J: Naming + Send + Sync> Works for Running<N, MemoryStable, J, OpenGate> {
+impl<const N: usize, J: Naming + Send + Sync, G: Gate + Drop + Send + Sync> Works
+    for Running<N, MemoryStable, J, G> {
     fn work<R: Wait + Clock>(&self, rt: &R, node: usize, notes: &Receiver<Note>) {
         let members = self.cluster().journal().lock(rt).config().members;
         let Ok(number) = u8::try_from(node) else {
@@ -37,6 +41,11 @@ impl<const N: usize, J: Naming + Send + Sync> Works for Running<N, MemoryStable,
 
     fn stop<R: Wait>(&self, rt: &R) {
         Running::stop(self, rt);
+    }
+
+    fn confirm_all<R: Wait>(&self, rt: &R, receipts: &AllReceipts) -> bool {
+        let journal = self.cluster().journal().lock(rt);
+        receipts.are_confirmed(rt, &journal)
     }
 }
 
