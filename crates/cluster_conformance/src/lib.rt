@@ -1,5 +1,6 @@
 //! Conformance tests of `cluster_backend` and `flight_service`, over their public calls: what a connection to one of three nodes
-//! is told, one step after the other.
+//! is told, one step after the other; callers in threads beside the nodes' workers, while a node is started again; and a call that is
+//! held at one node while another answers.
 //!
 //! The crate has no code but tests, so that what is proved in the crates below is not proved again together with them.
 #![tactic(auto)]
@@ -7,4 +8,12 @@
 #[cfg(test)]
 mod calls;
 #[cfg(test)]
+mod flag;
+#[cfg(test)]
+mod gates;
+#[cfg(test)]
 mod support;
+#[cfg(test)]
+mod tested;
+#[cfg(test)]
+mod threads;

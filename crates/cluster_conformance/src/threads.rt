@@ -1,0 +1,253 @@
+//! Workers in threads: two callers put uploads at two nodes, while a third is started again and again.
+
+ghost use Rattle.std.specs.Prelude.{◌≡◌};
+
+use crate::support::{Why, check, had, three, ticket, told, upload};
+use crate::tested::Tested;
+use client_calls::{Download, call_get};
+use cluster_backend::{AllReceipts, ClusterBackend, Nodes};
+use crossbeam_channel::Receiver;
+use flight_calls::Backend;
+use flight_service::{Service, join_all, serve_connection, start_workers};
+use growing_log::{Naming, Opened};
+use node_threads::{Note, OpenGate, OwnEntry};
+use std::alloc::Global;
+use std::hash::RandomState;
+use std::marker::Brand;
+use std::sync::{Arc, Wait};
+use std::test::Fail;
+use std::thread;
+use std::thread::{JoinHandle, Threads};
+use std::time::{Clock, Duration};
+use table_versions::Outcome;
+
+/// How many uploads each caller puts.
+const PUTS: u64 = 10;
+
+/// How often the third node is started again.
+const RESTARTS: u32 = 5;
+
+/// How often a version is asked for that a node has not learned, 1 ms apart.
+const TRIES: u32 = 10_000;
+
+/// The numbers of uploads, with the versions that they made.
+type Versions = Vec<(u64, u64)>;
+
+/// What threads share here.
+type Shared<C> = Arc<Service<C, AllReceipts>, Global>;
+
+// Puts an upload at a node, and gives the version that it made.
+fn put_one<R: Wait, C: Nodes + Drop>(
+    rt: &R,
+    alloc: Global,
+    service: &Service<C, AllReceipts>,
+    node: usize,
+    number: u64,
+) -> Result<u64, Why> {
+    let upload = upload(alloc, number)?;
+    let mut backend = ClusterBackend::new(
+        alloc,
+        rt,
+        service.nodes(),
+        service.receipts(),
+        node,
+        &[],
+    );
+    check(backend.put(&upload).is_ok(), "a put fails")?;
+    match backend.outcome(&upload) {
+        Ok(Outcome::Applied(version)) => Ok(version),
+        _ => Err("a put has no version"),
+    }
+}
+
+// Puts the uploads of a caller, one after the other.
+fn put_all<R: Wait, C: Nodes + Drop>(
+    rt: &R,
+    alloc: Global,
+    service: &Service<C, AllReceipts>,
+    node: usize,
+) -> Result<Versions, Why> {
+    let mut versions = Vec::new(alloc);
+    let first = node as u64 * PUTS;
+    for number in first..first + PUTS {
+        let version = put_one(rt, alloc, service, node, number)?;
+        had(versions.push((number, version)))?;
+    }
+    Ok(versions)
+}
+
+// A thread for a caller.
+fn start_caller<R: Threads + Wait + Copy + Send + 'static, C: Tested + Drop + 'static>(
+    rt: R,
+    alloc: Global,
+    service: Shared<C>,
+    node: usize,
+) -> Result<JoinHandle<Result<Versions, Why>>, Why> {
+    let job = move || put_all(&rt, alloc, &*service, node);
+    had(thread::spawn(&rt, job))
+}
+
+// What a connection to a node is answered to the ticket for this version, once the node has learned it.
+fn got<R: Threads + Wait + Clock, C: Nodes + Drop>(
+    rt: &R,
+    alloc: Global,
+    service: &Service<C, AllReceipts>,
+    node: usize,
+    version: u64,
+) -> Result<Vec<u8>, Why> {
+    let mut backend = ClusterBackend::new(
+        alloc,
+        rt,
+        service.nodes(),
+        service.receipts(),
+        node,
+        &[],
+    );
+    let ticket = ticket(alloc, version)?;
+    for _ in 0..TRIES {
+        if let Ok(answer) = backend.get(alloc, &ticket) {
+            return had(answer.to_vec(alloc));
+        }
+        let _ = thread::sleep(rt, Duration::from_millis(1));
+    }
+    Err("a version is not served")
+}
+
+// A version, as a client reads it of a node.
+fn downloaded<R: Wait, C: Nodes + Drop>(
+    rt: &R,
+    alloc: Global,
+    service: &Service<C, AllReceipts>,
+    node: usize,
+    version: u64,
+) -> Result<Download, Why> {
+    let ticket = ticket(alloc, version)?;
+    let (mut request, mut answer, mut unread) = (Vec::new(alloc), Vec::new(alloc), Vec::new(alloc));
+    let mut nothing: &[u8] = &[];
+    drop(call_get(alloc, &mut nothing, &mut request, &ticket));
+    let mut input = request.as_slice();
+    let (nodes, receipts) = (service.nodes(), service.receipts());
+    let served = serve_connection(
+        alloc,
+        rt,
+        nodes,
+        receipts,
+        node,
+        &[],
+        &mut input,
+        &mut answer,
+    );
+    check(served.is_ok(), "a call is not served")?;
+    let mut output = answer.as_slice();
+    match call_get(alloc, &mut output, &mut unread, &ticket) {
+        Ok(download) => Ok(download),
+        Err(_) => Err("no download"),
+    }
+}
+
+// Whether each of these uploads stands at its version.
+fn stand_there(download: &Download, versions: &[(u64, u64)]) -> Result<(), Why> {
+    for (number, version) in versions {
+        let id = u128::from(*number).to_be_bytes();
+        let Some(upload) = download.uploads.get(*version as usize - 1) else {
+            return Err("a version is not there");
+        };
+        check(upload.id == id, "another upload stands there")?;
+    }
+    Ok(())
+}
+
+// All nodes serve all uploads, each once and where its caller was told.
+fn serve_all<R: Threads + Wait + Clock, C: Nodes + Drop>(
+    rt: &R,
+    alloc: Global,
+    service: &Service<C, AllReceipts>,
+    first: &[(u64, u64)],
+    second: &[(u64, u64)],
+) -> Result<(), Why> {
+    let answer = got(rt, alloc, service, 0, 2 * PUTS)?;
+    check(
+        got(rt, alloc, service, 1, 2 * PUTS)? == answer,
+        "answers differ",
+    )?;
+    check(
+        got(rt, alloc, service, 2, 2 * PUTS)? == answer,
+        "one that was started again differs",
+    )?;
+    let download = downloaded(rt, alloc, service, 2, 2 * PUTS)?;
+    check(
+        download.uploads.len() as u64 == 2 * PUTS,
+        "another number of uploads",
+    )?;
+    stand_there(&download, first)?;
+    stand_there(&download, second)
+}
+
+// Starts the third node again, a few times.
+fn start_again<R: Threads + Wait + Clock, C: Tested + Drop>(rt: &R, nodes: &C) -> Result<(), Why> {
+    for _ in 0..RESTARTS {
+        let _ = thread::sleep(rt, Duration::from_millis(20));
+        check(nodes.start_again(rt, 2), "a node does not start again")?;
+    }
+    Ok(())
+}
+
+// Two callers put their uploads beside the restarts.
+fn call_twice<R: Threads + Wait + Clock + Copy + Send + 'static, C: Tested + Drop + 'static>(
+    rt: R,
+    alloc: Global,
+    service: &Shared<C>,
+) -> Result<(), Why> {
+    let first = start_caller(rt, alloc, had(Arc::try_clone(service))?, 0)?;
+    let second = start_caller(rt, alloc, had(Arc::try_clone(service))?, 1)?;
+    let started = start_again(&rt, service.nodes());
+    let first = first.join(&rt);
+    let second = second.join(&rt);
+    started?;
+    serve_all(&rt, alloc, &**service, &first?, &second?)
+}
+
+// The nodes work, and two callers call.
+fn work<R: Threads + Wait + Clock + Copy + Send + 'static, C: Tested + Drop + 'static>(
+    rt: R,
+    alloc: Global,
+    nodes: C,
+    notes: Vec<Receiver<Note>>,
+) -> Result<(), Why> {
+    let receipts = AllReceipts::new(alloc);
+    let service = had(Service::new(alloc, nodes, receipts, 42_000, 3))?;
+    let service = had(Arc::new(alloc, service))?;
+    let Ok(workers) = start_workers(rt, alloc, &service, notes) else {
+        return Err("no workers");
+    };
+    let called = call_twice(rt, alloc, &service);
+    service.nodes().stop(&rt);
+    join_all(&rt, workers);
+    called?;
+    check(
+        service.nodes().confirm_all(&rt, service.receipts()),
+        "a receipt is not confirmed",
+    )?;
+    check(
+        service.nodes().is_lawful(&rt),
+        "what was sent is not lawful",
+    )
+}
+
+fn plays<R: Threads + Wait + Clock + Copy + Send + 'static, J: Naming + Send + Sync + 'static>(
+    rt: R,
+    alloc: Global,
+    hashing: RandomState,
+    log: Opened<OwnEntry>,
+) -> Result<(), Why>
+    requires { log ≡ J.book }
+{
+    let (nodes, notes) = three::<R, J, OpenGate>(&rt, alloc, hashing, log, OpenGate)?;
+    work(rt, alloc, nodes, notes)
+}
+
+#[test]
+fn callers_put_beside_restarts(rt: HostRuntime) -> Result<(), Fail> {
+    let hashing = RandomState::new(&rt)?;
+    told(plays::<_, Brand>(rt, rt.alloc(), hashing, Opened::new()))
+}
