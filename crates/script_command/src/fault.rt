@@ -1,0 +1,43 @@
+//! What keeps a script from being played.
+
+use call_words::CallFault;
+use flight_service::ServiceFault;
+use script_calls::Unanswered;
+use thiserror::Error;
+
+/// What kept a script from being played to its end, or its lines from being written.
+#[derive(Clone, Copy, Debug, PartialEq, Eq, Error)]
+pub enum PlayFault {
+    /// The file tells no script. No port was opened.
+    #[error("BadScript")]
+    BadScript,
+    /// A port of the cluster can't be had.
+    #[error("Bind")]
+    Bind,
+    /// Memory or a thread was refused.
+    #[error("OutOfMemory")]
+    OutOfMemory,
+    /// A line could not be written, or a connection failed.
+    #[error("Io")]
+    Io,
+    /// What a node answered is no answer to the call.
+    #[error("BadAnswer")]
+    BadAnswer,
+}
+
+/// The fault of a script whose cluster could not be served.
+pub(crate) fn not_served(fault: ServiceFault) -> PlayFault {
+    match fault {
+        ServiceFault::Bind => PlayFault::Bind,
+        ServiceFault::Members | ServiceFault::OutOfMemory => PlayFault::OutOfMemory,
+    }
+}
+
+/// The fault of a script with a call to which nothing was answered.
+pub(crate) fn not_answered(fault: Unanswered) -> PlayFault {
+    match fault {
+        Unanswered::BadAnswer => PlayFault::BadAnswer,
+        Unanswered::Call(CallFault::OutOfMemory) => PlayFault::OutOfMemory,
+        Unanswered::Call(_) => PlayFault::Io,
+    }
+}

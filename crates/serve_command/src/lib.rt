@@ -1,0 +1,16 @@
+//! `flightd serve`, a function over any writers.
+//!
+//! `serve_run` opens a port for each node of a cluster, starts their workers, says where each node is served, and serves
+//! until it is ended from outside. It gives the exit status, and reports a fault in a line. The nodes keep their records in
+//! memory.
+#![tactic(auto)]
+
+mod addresses;
+mod fault;
+mod serving;
+mod status;
+
+pub use addresses::tell_addresses;
+pub use fault::ServeFault;
+pub use serving::{serve, serve_run};
+pub use status::{FAILURE, SUCCESS};
