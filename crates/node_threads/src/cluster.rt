@@ -1,5 +1,6 @@
 //! A cluster.
 
+use crate::locks::Locks;
 use growing_log::Naming;
 use seats::{Journal, Seat};
 use stable_records::Stable;
@@ -40,6 +41,12 @@ impl<const N: usize, S: Stable + Drop, J: Naming> Cluster<N, S, J> {
     /// The journal. Whoever holds its lock takes no other.
     pub fn journal(&self) -> &Mutex<Journal<J>> {
         &self.journal
+    }
+
+    /// The locks that the calls of this node take, `None` where there is no such node.
+    pub(crate) fn locks(&self, node: usize) -> Option<Locks<'_, S, J>> {
+        let seat = self.seats.get(node)?;
+        Some(Locks::new(node, seat, &self.journal))
     }
 }
 

@@ -15,15 +15,20 @@
 #![tactic(auto)]
 
 mod cluster;
+mod desk;
+mod faults;
 mod gate;
-mod pace;
+mod locks;
 mod running;
 mod steps;
+mod stopwatch;
 mod worker;
+mod workplace;
 
 pub use cluster::Cluster;
+pub use desk::Ending;
 pub use gate::{Gate, OpenGate};
-pub use pace::{LONGEST_WAIT_MILLISECONDS, LOOK_MILLISECONDS, Pace};
-pub use running::{Ending, Note, Pending, Running};
+pub use node_work::{LONGEST_WAIT_MILLISECONDS, LOOK_MILLISECONDS, Note, Pace};
+pub use running::{Pending, Running};
 pub use seats::{Found, Journal, OwnEntry, Prepared, Query, Receipt, Seat, SeatFault, SeatInput};
 pub use steps::{Settled, Taken};

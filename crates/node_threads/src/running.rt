@@ -6,49 +6,23 @@ ghost use Rattle.table_types.specs.Tables.{Version};
 ghost use Rattle.table_types.specs.Answers.{answer_of};
 
 use crate::cluster::Cluster;
+use crate::desk::{Desk, Ending};
+use crate::faults::fault_of;
 use crate::gate::Gate;
-use crate::steps::{Settled, Taken};
-use crossbeam_channel::{Receiver, Sender, unbounded};
+use crate::steps::Taken;
+use crate::workplace::NodeWorkplace;
+use crossbeam_channel::{Receiver, unbounded};
 use growing_log::Naming;
 use node_core::Refusal;
+use node_work::{Note, PutId, end_each, end_of, look_at_each};
 use seats::{Receipt, SeatFault, SeatInput};
-use slab::Slab;
 use stable_records::Stable;
 use std::alloc::{AllocError, Global};
 use std::ops::Range;
-use std::sync::{Mutex, Wait};
+use std::sync::Wait;
 use table_types::Ticket;
 use table_versions::Answer;
 use uploads::Upload;
-
-/// What the worker of a node hears.
-#[derive(Clone, Copy, Debug, PartialEq, Eq)]
-pub enum Note {
-    /// The message of this number in the journal was sent.
-    Message(u64),
-    /// An upload waits.
-    Look,
-    /// The work is over.
-    Stop,
-}
-
-/// How a put that waits ends.
-pub type Ending = Result<Settled, SeatFault>;
-
-/// A put whose outcome is not known yet, and where it is told.
-#[derive(Drop)]
-struct Waiting {
-    number: u64,
-    upload: Upload,
-    reply: Sender<Ending>,
-}
-
-/// The puts that wait at a node, numbered as they came.
-#[derive(Drop)]
-struct Puts {
-    next: u64,
-    waiting: Slab<Waiting>,
-}
 
 /// A put that a node took. What becomes of the upload is told once it is known there.
 #[derive(Drop)]
@@ -65,13 +39,6 @@ impl Pending {
             Err(_) => Err(SeatFault::Down),
         }
     }
-}
-
-/// What belongs to one node besides its seat: where its worker hears, and the puts that wait for it.
-#[derive(Drop)]
-struct Desk {
-    notes: Sender<Note>,
-    puts: Mutex<Puts>,
 }
 
 /// A cluster whose nodes have a worker each.
@@ -94,13 +61,7 @@ impl<const N: usize, S: Stable + Drop, J: Naming, G: Gate + Drop> Running<N, S, 
         let mut receivers = Vec::new(alloc);
         for _ in 0..N {
             let (notes, receiver) = unbounded(alloc)?;
-            desks.push(Desk {
-                notes,
-                puts: Mutex::new(Puts {
-                    next: 0,
-                    waiting: Slab::new(alloc),
-                }),
-            })?;
+            desks.push(Desk::new(alloc, notes))?;
             receivers.push(receiver)?;
         }
         let running = Running {
@@ -122,30 +83,43 @@ impl<const N: usize, S: Stable + Drop, J: Naming, G: Gate + Drop> Running<N, S, 
         &self.gate
     }
 
-    /// Hands an upload to the node, and has it wait there until its outcome is known.
+    /// Where the worker of this node works, `None` where there is no such node.
+    pub(crate) fn workplace<'a, R: Wait>(
+        &'a self,
+        rt: &'a R,
+        node: usize,
+    ) -> Option<NodeWorkplace<'a, N, R, S, J, G>> {
+        let locks = self.cluster.locks(node)?;
+        let desk = self.desks.get(node)?;
+        Some(NodeWorkplace::new(rt, &self.gate, locks, desk, &self.desks))
+    }
+
+    /// Hands an upload to the node, and has it wait there until its outcome is known. Its worker is told to look.
     pub fn put<R: Wait>(&self, rt: &R, node: usize, upload: &Upload) -> Result<Pending, SeatFault> {
         let Some(desk) = self.desks.get(node) else {
             return Err(SeatFault::Down);
         };
-        let Ok((copy, waiting, ending)) = waiting_for(self.alloc, upload) else {
+        let Ok((copy, kept)) = two_of(upload) else {
             return Err(SeatFault::Refused(Refusal::OutOfMemory));
         };
         // It waits before the node takes it, so that a restart in between ends it.
-        let number = desk.begin(rt, waiting)?;
+        let Ok((put, pending)) = begin(rt, self.alloc, desk, kept) else {
+            return Err(SeatFault::Refused(Refusal::OutOfMemory));
+        };
         match self.take_input(rt, node, SeatInput::Put(copy)) {
             Ok(taken) => {
                 drop(taken);
-                let _ = desk.notes.send(rt, Note::Look);
-                Ok(Pending { ending })
+                desk.tell(rt, Note::Look);
+                Ok(pending)
             }
             Err(fault) => {
-                desk.leave(rt, number);
+                drop(desk.leave(rt, put));
                 Err(fault)
             }
         }
     }
 
-    /// Hands an input to the node.
+    /// Hands an input to the node. Its worker is told nothing of it.
     pub fn take_input<R: Wait>(
         &self,
         rt: &R,
@@ -171,7 +145,7 @@ impl<const N: usize, S: Stable + Drop, J: Naming, G: Gate + Drop> Running<N, S, 
     pub fn send<R: Wait>(&self, rt: &R, numbers: Range<u64>) {
         for number in numbers {
             for desk in &self.desks {
-                let _ = desk.notes.send(rt, Note::Message(number));
+                desk.tell(rt, Note::Message(number));
             }
         }
     }
@@ -179,96 +153,69 @@ impl<const N: usize, S: Stable + Drop, J: Naming, G: Gate + Drop> Running<N, S, 
     /// Ends the work of all nodes, and with it the puts that wait.
     pub fn stop<R: Wait>(&self, rt: &R) {
         for desk in &self.desks {
-            let _ = desk.notes.send(rt, Note::Stop);
+            desk.tell(rt, Note::Stop);
         }
     }
 
     /// Starts the node again, with the records that it kept, and enters that. The puts that wait at it end as
-    /// [`SeatFault::Down`]: a node that starts again has no upload that waits.
+    /// [`SeatFault::Down`]: a node that starts again has no upload that waits. Its worker is told to look.
     pub fn restart<R: Wait>(&self, rt: &R, node: usize) -> Result<Receipt, SeatFault> {
         let receipt = self.cluster.restart(rt, &self.gate, node)?;
         self.end_all(rt, node, SeatFault::Down);
+        if let Some(desk) = self.desks.get(node) {
+            desk.tell(rt, Note::Look);
+        }
         Ok(receipt)
     }
 
     /// Whether an upload waits at the node.
     pub fn waits<R: Wait>(&self, rt: &R, node: usize) -> bool {
         match self.desks.get(node) {
-            Some(desk) => !desk.puts.lock(rt).waiting.is_empty(),
+            Some(desk) => desk.waits(rt),
             None => false,
         }
     }
 
-    /// Looks at all puts that wait at the node: whose outcome is known is told it, and waits no more.
+    /// Looks at all puts that wait at the node: whose outcome is known is told it once it is entered, and waits no more.
     pub fn settle_all<R: Wait>(&self, rt: &R, node: usize) {
-        let Some(desk) = self.desks.get(node) else {
-            return;
-        };
-        let mut puts = desk.puts.lock(rt);
-        puts.waiting.retain(|_, put| -> bool {
-            match self.cluster.settle(rt, &self.gate, node, &put.upload) {
-                Ok(Some(settled)) => {
-                    let _ = put.reply.send(rt, Ok(settled));
-                    false
-                }
-                Ok(None) => true,
-                Err(fault) => {
-                    let _ = put.reply.send(rt, Err(fault));
-                    false
-                }
-            }
-        });
-    }
-
-    /// Ends all puts that wait at the node, with this fault.
-    pub fn end_all<R: Wait>(&self, rt: &R, node: usize, fault: SeatFault) {
-        let Some(desk) = self.desks.get(node) else {
-            return;
-        };
-        let mut puts = desk.puts.lock(rt);
-        puts.waiting.retain(|_, put| -> bool {
-            let _ = put.reply.send(rt, Err(fault));
-            false
-        });
-    }
-}
-
-impl Desk {
-    // Has the put wait, and gives its number here.
-    fn begin<R: Wait>(&self, rt: &R, mut waiting: Waiting) -> Result<u64, SeatFault> {
-        let mut puts = self.puts.lock(rt);
-        let number = puts.next;
-        puts.next = number.wrapping_add(1);
-        waiting.number = number;
-        match puts.waiting.insert(waiting) {
-            Ok(_) => Ok(number),
-            Err(refused) => {
-                drop(refused);
-                Err(SeatFault::Refused(Refusal::OutOfMemory))
-            }
+        if let Some(mut place) = self.workplace(rt, node) {
+            look_at_each(&mut place);
         }
     }
 
-    // The put of this number waits no more.
-    fn leave<R: Wait>(&self, rt: &R, number: u64) {
-        let mut puts = self.puts.lock(rt);
-        puts.waiting
-            .retain(|_, put| -> bool { put.number != number });
+    /// Ends all puts that wait at the node, where the node's later inputs meet this fault too. [`SeatFault::Strange`] and
+    /// [`SeatFault::Lost`] are told as a store's.
+    pub fn end_all<R: Wait>(&self, rt: &R, node: usize, fault: SeatFault) {
+        let Some(end) = end_of(fault_of(fault)) else {
+            return;
+        };
+        if let Some(mut place) = self.workplace(rt, node) {
+            end_each(&mut place, end);
+        }
     }
 }
 
-// A copy of the upload, what waits for it, and where its end is told.
-fn waiting_for(
+// The upload twice.
+fn two_of(upload: &Upload) -> Result<(Upload, Upload), AllocError> {
+    let first = upload.clone()?;
+    let second = upload.clone()?;
+    Ok((first, second))
+}
+
+// Has an upload wait at a node's desk, and whoever handed it in.
+fn begin<R: Wait>(
+    rt: &R,
     alloc: Global,
-    upload: &Upload,
-) -> Result<(Upload, Waiting, Receiver<Ending>), AllocError> {
-    let copy = upload.clone()?;
-    let kept = upload.clone()?;
-    let (reply, ending) = unbounded(alloc)?;
-    let waiting = Waiting {
-        number: 0,
-        upload: kept,
-        reply,
+    desk: &Desk,
+    upload: Upload,
+) -> Result<(PutId, Pending), AllocError> {
+    let (reply, ending) = match unbounded(alloc) {
+        Ok(channel) => channel,
+        Err(refused) => {
+            drop(upload);
+            return Err(refused);
+        }
     };
-    Ok((copy, waiting, ending))
+    let put = desk.begin(rt, upload, reply)?;
+    Ok((put, Pending { ending }))
 }

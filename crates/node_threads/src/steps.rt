@@ -8,16 +8,17 @@ ghost use Rattle.table_types.specs.Answers.{answer_of};
 ghost use Rattle.ballots.specs.declared.message.Message.{Message as Sent};
 ghost use Rattle.node_events.specs.declared.event_result.EventResult.TheVariants.{Outcome as Told};
 ghost use Rattle.seats.specs.declared.input.SeatInput.TheVariants.{Deliver};
-ghost use Rattle.seats.specs.Steps.{AnswersQuery, IsPreparedFor};
+ghost use Rattle.seats.specs.Steps.{AnswersQuery};
 ghost use Rattle.node_threads.specs.Told.{IsTold};
 
 use crate::cluster::Cluster;
 use crate::gate::Gate;
+use crate::locks::message_in;
 use ballots::Message;
 use growing_log::Naming;
 use node_core::Refusal;
 use node_events::EventResult;
-use seats::{Journal, Prepared, Query, Receipt, Seat, SeatFault, SeatInput};
+use seats::{Query, Receipt, SeatFault, SeatInput};
 use stable_records::Stable;
 use std::alloc::AllocError;
 use std::ops::Range;
@@ -57,15 +58,13 @@ impl<const N: usize, S: Stable + Drop, J: Naming> Cluster<N, S, J> {
     ) -> Result<Taken, SeatFault>
         ensures { IfOk result (IsTold input) }
     {
-        let Some(seat) = self.seat(node) else {
-            drop(input);
-            return Err(SeatFault::Down);
-        };
-        let mut seat = seat.lock(rt);
-        let prepared = seat.prepare(input)?;
-        gate.pass(node);
-        let mut journal = self.journal().lock(rt);
-        take_prepared(&mut seat, &mut journal, prepared)
+        match self.locks(node) {
+            Some(locks) => locks.take(rt, gate, input),
+            None => {
+                drop(input);
+                Err(SeatFault::Down)
+            }
+        }
     }
 
     /// Hands the message of this number to the node.
@@ -86,15 +85,7 @@ impl<const N: usize, S: Stable + Drop, J: Naming> Cluster<N, S, J> {
 
     /// A copy of the message of this number; [`SeatFault::NotSent`] where none was sent.
     pub fn message<R: Wait>(&self, rt: &R, number: u64) -> Result<Message, SeatFault> {
-        let journal = self.journal().lock(rt);
-        let Some(message) = journal.message(number) else {
-            return Err(SeatFault::NotSent);
-        };
-        let copy: Result<Message, AllocError> = message.clone();
-        match copy {
-            Ok(copy) => Ok(copy),
-            Err(_) => Err(SeatFault::Refused(Refusal::OutOfMemory)),
-        }
+        message_in(rt, self.journal(), number)
     }
 
     /// Asks the node, and enters the question with its answer, which stands in the receipt and is that of some tables.
@@ -109,15 +100,13 @@ impl<const N: usize, S: Stable + Drop, J: Naming> Cluster<N, S, J> {
     ) -> Result<Receipt, SeatFault>
         ensures { IfOk result (λ receipt. (uploads : List Uploaded) × AnswersQuery uploads query receipt.answer) }
     {
-        let Some(seat) = self.seat(node) else {
-            drop(query);
-            return Err(SeatFault::Down);
-        };
-        let seat = seat.lock(rt);
-        let found = seat.read(query)?;
-        gate.pass(node);
-        let mut journal = self.journal().lock(rt);
-        seat.serve(&mut journal, found)
+        match self.locks(node) {
+            Some(locks) => locks.ask(rt, gate, query),
+            None => {
+                drop(query);
+                Err(SeatFault::Down)
+            }
+        }
     }
 
     /// What the node answers to a ticket, entered: the frames of a version, or `None` where it has none.
@@ -158,27 +147,10 @@ impl<const N: usize, S: Stable + Drop, J: Naming> Cluster<N, S, J> {
     ) -> Result<Option<Settled>, SeatFault>
         ensures { IfOk result (λ found. IfSome found (λ settled. settled.receipt.answer ≡ Told settled.outcome)) }
     {
-        if self.is_unknown(rt, node, upload)? {
-            return Ok(None);
+        match self.locks(node) {
+            Some(locks) => locks.settle(rt, gate, upload),
+            None => Err(SeatFault::Down),
         }
-        let copy: Result<Upload, AllocError> = upload.clone();
-        let Ok(copy) = copy else {
-            return Err(SeatFault::Refused(Refusal::OutOfMemory));
-        };
-        let receipt = self.ask(rt, gate, node, Query::Outcome(copy))?;
-        match receipt.answer {
-            EventResult::Outcome(outcome) => Ok(Some(Settled { outcome, receipt })),
-            _ => Ok(None),
-        }
-    }
-
-    // Whether nothing is known of the upload at the node.
-    fn is_unknown<R: Wait>(&self, rt: &R, node: usize, upload: &Upload) -> Result<bool, SeatFault> {
-        let Some(seat) = self.seat(node) else {
-            return Err(SeatFault::Down);
-        };
-        let seat = seat.lock(rt);
-        Ok(seat.node()?.outcome(upload) == Outcome::Unknown)
     }
 
     /// Starts the node again, up or down, with the records that it kept, and enters that.
@@ -190,30 +162,9 @@ impl<const N: usize, S: Stable + Drop, J: Naming> Cluster<N, S, J> {
         gate: &G,
         node: usize,
     ) -> Result<Receipt, SeatFault> {
-        let Some(seat) = self.seat(node) else {
-            return Err(SeatFault::Down);
-        };
-        let mut seat = seat.lock(rt);
-        gate.pass(node);
-        let mut journal = self.journal().lock(rt);
-        seat.restart(&mut journal)
+        match self.locks(node) {
+            Some(locks) => locks.restart(rt, gate),
+            None => Err(SeatFault::Down),
+        }
     }
-}
-
-// Does what was prepared, and tells the numbers of the messages that went out.
-fn take_prepared<S: Stable + Drop, J: Naming>(
-    seat: &mut Seat<S, J>,
-    journal: &mut Journal<J>,
-    prepared: Prepared,
-) -> Result<Taken, SeatFault>
-    requires { IsPreparedFor seat.old prepared }
-    ensures { IfOk result (IsTold prepared.input) }
-{
-    let first = journal.trace().sent().len() as u64;
-    let receipt = seat.take(journal, prepared)?;
-    let next = journal.trace().sent().len() as u64;
-    Ok(Taken {
-        receipt,
-        sent: first..next,
-    })
 }

@@ -1,20 +1,19 @@
 //! The worker of a node.
 
 use crate::gate::Gate;
-use crate::pace::{LOOK_MILLISECONDS, Pace};
-use crate::running::{Note, Running};
-use crate::steps::Taken;
+use crate::running::Running;
+use crate::stopwatch::Stopwatch;
 use crossbeam_channel::{Receiver, RecvTimeoutError};
 use growing_log::Naming;
-use node_core::Refusal;
-use seats::{SeatFault, SeatInput};
+use node_work::{LOOK_MILLISECONDS, Next, Note, Pace, step};
 use stable_records::Stable;
 use std::sync::Wait;
 use std::time::{Clock, Duration};
 
 impl<const N: usize, S: Stable + Drop, J: Naming, G: Gate + Drop> Running<N, S, J, G> {
-    /// Does the work of this node, until it is told to stop: hands it each message that was sent, tells
-    /// all others of those that it sends, gives it a tick when one is due, and ends the puts whose outcome is known.
+    /// Does the work of this node, one [`step`] after the other, until it is told to stop or nobody is left who could tell it:
+    /// hands it each message that was sent, tells all others of those that it sends, gives it a tick when one is due, and ends
+    /// the puts whose outcome is known. Returns at once where there is no such node.
     pub fn work<R: Wait + Clock>(
         &self,
         rt: &R,
@@ -22,75 +21,31 @@ impl<const N: usize, S: Stable + Drop, J: Naming, G: Gate + Drop> Running<N, S, 
         mut pace: Pace,
         notes: &Receiver<Note>,
     ) {
+        let Some(mut place) = self.workplace(rt, node) else {
+            return;
+        };
+        let mut watch = Stopwatch::start(rt);
         for _ in rt.forever() {
-            let note = notes.recv_timeout(rt, Duration::from_millis(LOOK_MILLISECONDS));
-            match note {
-                Ok(Note::Message(number)) => self.hear(rt, node, &mut pace, number),
-                Ok(Note::Look) => pace.hear_event(),
-                Err(RecvTimeoutError::Timeout) => pace.pass(LOOK_MILLISECONDS),
-                Ok(Note::Stop) | Err(RecvTimeoutError::Disconnected) => {
-                    self.end_all(rt, node, SeatFault::Down);
-                    return;
-                }
-            }
-            self.settle_all(rt, node);
-            if pace.is_due(self.waits(rt, node)) {
-                self.tick(rt, node, &mut pace);
-            }
-        }
-    }
-
-    // The message of this number comes to the node.
-    fn hear<R: Wait>(&self, rt: &R, node: usize, pace: &mut Pace, number: u64) {
-        let Ok(message) = self.cluster().message(rt, number) else {
-            return;
-        };
-        pace.hear(&message);
-        let _ = self.take(rt, node, SeatInput::Deliver(number, message));
-    }
-
-    // Time has passed.
-    fn tick<R: Wait>(&self, rt: &R, node: usize, pace: &mut Pace) {
-        let Some(taken) = self.take(rt, node, SeatInput::Tick(pace.left())) else {
-            pace.tick(None);
-            return;
-        };
-        match self.cluster().message(rt, taken.sent.start) {
-            Ok(message) if !taken.sent.is_empty() => pace.tick(Some(&message)),
-            _ => pace.tick(None),
-        }
-    }
-
-    // The node takes the input, and all are told what it sent. A fault that the node's later inputs meet too ends the puts that
-    // wait there.
-    fn take<R: Wait>(&self, rt: &R, node: usize, input: SeatInput) -> Option<Taken> {
-        match self.take_input(rt, node, input) {
-            Ok(taken) => {
-                self.send(rt, taken.sent.start..taken.sent.end);
-                Some(taken)
-            }
-            Err(fault) => {
-                if ends_all(fault) {
-                    self.end_all(rt, node, fault);
-                }
-                None
+            let (waited, note) = next_note(rt, &mut watch, notes);
+            if step(&mut place, &mut pace, waited, note) == Next::End {
+                return;
             }
         }
     }
 }
 
-// Whether no put that waits at a node is decided by it behind this fault.
-fn ends_all(fault: SeatFault) -> bool {
-    match fault {
-        SeatFault::NotSent => false,
-        SeatFault::Refused(refusal) => match refusal {
-            Refusal::SlotsSpent | Refusal::RoundsSpent => true,
-            Refusal::OutOfRange | Refusal::OutOfMemory => false,
-        },
-        SeatFault::Down
-        | SeatFault::Strange
-        | SeatFault::JournalFull
-        | SeatFault::Store(_)
-        | SeatFault::Lost => true,
+// Waits for a note, [`LOOK_MILLISECONDS`] at most: how many milliseconds have passed since it was waited before, and the note. Where
+// the clock can't be read, only a wait without a note counts.
+fn next_note<R: Wait + Clock>(
+    rt: &R,
+    watch: &mut Stopwatch,
+    notes: &Receiver<Note>,
+) -> (u64, Option<Note>) {
+    let heard = notes.recv_timeout(rt, Duration::from_millis(LOOK_MILLISECONDS));
+    let passed = watch.lap(rt);
+    match heard {
+        Ok(note) => (passed.unwrap_or(0), Some(note)),
+        Err(RecvTimeoutError::Timeout) => (passed.unwrap_or(LOOK_MILLISECONDS), None),
+        Err(RecvTimeoutError::Disconnected) => (passed.unwrap_or(0), Some(Note::Stop)),
     }
 }

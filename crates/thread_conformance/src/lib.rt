@@ -1,9 +1,6 @@
-//! Conformance tests of nodes behind locks, over the public calls of `node_threads`: three nodes, one step after the other, and when
-//! ticks are due.
+//! Conformance tests of nodes behind locks, over the public calls of `node_threads`: three nodes, one step after the other.
 #![tactic(auto)]
 
-#[cfg(test)]
-mod paces;
 #[cfg(test)]
 mod steps;
 #[cfg(test)]

@@ -2,7 +2,7 @@ use Rattle.std.proofs.Common.{List, length, ap, ◌∙◌}
 use Rattle.ballots.specs.declared.message.Message.{Message}
 use Rattle.schedule_runner.specs.Traced.{Traced}
 use Rattle.node_threads.proofs.Telling.{told_so}
-use Rattle.node_threads.proofs.steps.take_prepared.Goals as goal
+use Rattle.node_threads.proofs.locks.take_prepared.Goals as goal
 
 pub returns : goal.returns
 returns g c =

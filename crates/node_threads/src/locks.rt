@@ -1,0 +1,171 @@
+//! The two locks of a node's calls.
+
+ghost use Rattle.std.specs.Prelude.{◌≡◌, List, IfOk};
+ghost use Rattle.std.specs.Option.{IfSome};
+ghost use Rattle.table_types.specs.Uploads.{Upload as Uploaded};
+ghost use Rattle.node_events.specs.declared.event_result.EventResult.TheVariants.{Outcome as Told};
+ghost use Rattle.seats.specs.Steps.{AnswersQuery, IsPreparedFor};
+ghost use Rattle.node_threads.specs.Told.{IsTold};
+
+use crate::gate::Gate;
+use crate::steps::{Settled, Taken};
+use ballots::Message;
+use growing_log::Naming;
+use node_core::Refusal;
+use node_events::EventResult;
+use seats::{Journal, Prepared, Query, Receipt, Seat, SeatFault, SeatInput};
+use stable_records::Stable;
+use std::alloc::AllocError;
+use std::sync::{Mutex, Wait};
+use table_versions::Outcome;
+use uploads::Upload;
+
+/// The locks that the calls of one node take: always its seat's first, and then the journal's. Between the two each call
+/// passes its gate.
+#[derive(Drop)]
+pub(crate) struct Locks<'a, S: Stable + Drop, J: Naming> {
+    node: usize,
+    seat: &'a Mutex<Seat<S, J>>,
+    journal: &'a Mutex<Journal<J>>,
+}
+
+impl<'a, S: Stable + Drop, J: Naming> Locks<'a, S, J> {
+    /// The locks of the node of this number.
+    pub(crate) fn new(
+        node: usize,
+        seat: &'a Mutex<Seat<S, J>>,
+        journal: &'a Mutex<Journal<J>>,
+    ) -> Locks<'a, S, J> {
+        Locks {
+            node,
+            seat,
+            journal,
+        }
+    }
+
+    /// Hands an input to the node: its record is kept, the node does what is due, and that is entered.
+    ///
+    /// The faults are those of `Seat::prepare` and `Seat::take`.
+    pub(crate) fn take<R: Wait, G: Gate>(
+        &self,
+        rt: &R,
+        gate: &G,
+        input: SeatInput,
+    ) -> Result<Taken, SeatFault>
+        ensures { IfOk result (IsTold input) }
+    {
+        let mut seat = self.seat.lock(rt);
+        let prepared = seat.prepare(input)?;
+        gate.pass(self.node);
+        let mut journal = self.journal.lock(rt);
+        take_prepared(&mut seat, &mut journal, prepared)
+    }
+
+    /// A copy of the message of this number; [`SeatFault::NotSent`] where none was sent.
+    pub(crate) fn message<R: Wait>(&self, rt: &R, number: u64) -> Result<Message, SeatFault> {
+        message_in(rt, self.journal, number)
+    }
+
+    /// Asks the node, and enters the question with its answer, which stands in the receipt and is that of some tables.
+    ///
+    /// The faults are those of `Seat::read` and `Seat::serve`.
+    pub(crate) fn ask<R: Wait, G: Gate>(
+        &self,
+        rt: &R,
+        gate: &G,
+        query: Query,
+    ) -> Result<Receipt, SeatFault>
+        ensures { IfOk result (λ receipt. (uploads : List Uploaded) × AnswersQuery uploads query receipt.answer) }
+    {
+        let seat = self.seat.lock(rt);
+        self.ask_at(rt, gate, &seat, query)
+    }
+
+    // Asks the node at its seat, whose lock is held.
+    fn ask_at<R: Wait, G: Gate>(
+        &self,
+        rt: &R,
+        gate: &G,
+        seat: &Seat<S, J>,
+        query: Query,
+    ) -> Result<Receipt, SeatFault>
+        ensures { IfOk result (λ receipt. (uploads : List Uploaded) × AnswersQuery uploads query receipt.answer) }
+    {
+        let found = seat.read(query)?;
+        gate.pass(self.node);
+        let mut journal = self.journal.lock(rt);
+        seat.serve(&mut journal, found)
+    }
+
+    /// What has become of an upload, by the node's tables, entered: or `None`, and nothing is entered, where nothing is known
+    /// of it there.
+    ///
+    /// The faults are those of [`Locks::ask`].
+    pub(crate) fn settle<R: Wait, G: Gate>(
+        &self,
+        rt: &R,
+        gate: &G,
+        upload: &Upload,
+    ) -> Result<Option<Settled>, SeatFault>
+        ensures { IfOk result (λ found. IfSome found (λ settled. settled.receipt.answer ≡ Told settled.outcome)) }
+    {
+        let seat = self.seat.lock(rt);
+        if seat.node()?.outcome(upload) == Outcome::Unknown {
+            return Ok(None);
+        }
+        let copy: Result<Upload, AllocError> = upload.clone();
+        let Ok(copy) = copy else {
+            return Err(SeatFault::Refused(Refusal::OutOfMemory));
+        };
+        let receipt = self.ask_at(rt, gate, &seat, Query::Outcome(copy))?;
+        match receipt.answer {
+            EventResult::Outcome(outcome) => Ok(Some(Settled { outcome, receipt })),
+            _ => Ok(None),
+        }
+    }
+
+    /// Starts the node again, up or down, with the records that it kept, and enters that.
+    ///
+    /// The faults are those of `Seat::restart`.
+    pub(crate) fn restart<R: Wait, G: Gate>(&self, rt: &R, gate: &G) -> Result<Receipt, SeatFault> {
+        let mut seat = self.seat.lock(rt);
+        gate.pass(self.node);
+        let mut journal = self.journal.lock(rt);
+        seat.restart(&mut journal)
+    }
+}
+
+/// A copy of the journal's message of this number; [`SeatFault::NotSent`] where none was sent.
+pub(crate) fn message_in<R: Wait, J: Naming>(
+    rt: &R,
+    journal: &Mutex<Journal<J>>,
+    number: u64,
+) -> Result<Message, SeatFault> {
+    let journal = journal.lock(rt);
+    let Some(message) = journal.message(number) else {
+        return Err(SeatFault::NotSent);
+    };
+    let copy: Result<Message, AllocError> = message.clone();
+    match copy {
+        Ok(copy) => Ok(copy),
+        Err(_) => Err(SeatFault::Refused(Refusal::OutOfMemory)),
+    }
+}
+
+// Does what was prepared, and tells the numbers of the messages that went out.
+fn take_prepared<S: Stable + Drop, J: Naming>(
+    seat: &mut Seat<S, J>,
+    journal: &mut Journal<J>,
+    prepared: Prepared,
+) -> Result<Taken, SeatFault>
+    requires { IsPreparedFor seat.old prepared }
+    ensures { IfOk result (IsTold prepared.input) }
+{
+    let first = journal.trace().sent().len() as u64;
+    let receipt = seat.take(journal, prepared)?;
+    let next = journal.trace().sent().len() as u64;
+    Ok(Taken {
+        receipt,
+        sent: first..next,
+    })
+}
