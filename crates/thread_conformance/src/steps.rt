@@ -2,15 +2,18 @@
 
 ghost use Rattle.std.specs.Prelude.{◌≡◌};
 
-use crate::support::{Nodes, Why, check, three, ticket, told, upload};
+use crate::support::{Nodes, Why, check, members, three, ticket, told, upload};
+use ballots::NodeId;
+use crossbeam_channel::Receiver;
 use growing_log::{Naming, Opened};
-use node_threads::{OpenGate, OwnEntry, Pending, Receipt, SeatFault, SeatInput};
+use node_threads::{Note, OpenGate, OwnEntry, Pace, Pending, Receipt, SeatFault, SeatInput};
 use schedule_runner::audit;
 use std::alloc::Global;
 use std::hash::RandomState;
 use std::marker::Brand;
 use std::sync::Wait;
 use std::test::Fail;
+use std::time::Clock;
 use table_versions::{Answer, Outcome};
 
 /// More messages than an upload takes.
@@ -124,7 +127,28 @@ fn starts_again<R: Wait, J: Naming>(
     check(nodes.restart(rt, 3).is_err(), "a fourth node")
 }
 
-fn plays<R: Wait, J: Naming>(
+// The worker of a node at which an upload waits gives it a tick, and ends the put once it is told to stop.
+fn stops<R: Wait + Clock, J: Naming>(
+    rt: &R,
+    alloc: Global,
+    nodes: &Nodes<J, OpenGate>,
+    notes: &[Receiver<Note>],
+) -> Result<(), Why> {
+    let pending = put(rt, alloc, nodes, 1, 3)?;
+    let before = nodes.cluster().journal().lock(rt).trace().sent().len();
+    nodes.stop(rt);
+    let pace = Pace::new(NodeId::new(1).ok_or("no node")?, members()?);
+    nodes.work(rt, 1, pace, notes.get(1).ok_or("no notes")?);
+    let after = nodes.cluster().journal().lock(rt).trace().sent().len();
+    check(before < after, "no tick is given")?;
+    check(!nodes.waits(rt, 1), "it waits behind the end")?;
+    check(
+        matches!(pending.wait(rt), Err(SeatFault::Down)),
+        "another end",
+    )
+}
+
+fn plays<R: Wait + Clock, J: Naming>(
     rt: &R,
     alloc: Global,
     hashing: RandomState,
@@ -133,12 +157,14 @@ fn plays<R: Wait, J: Naming>(
     requires { log ≡ J.book }
 {
     let (nodes, notes) = three::<R, J, OpenGate>(rt, alloc, hashing, log, OpenGate)?;
-    drop(notes);
     let decided = decides(rt, alloc, &nodes);
     let started = starts_again(rt, alloc, &nodes);
+    let stopped = stops(rt, alloc, &nodes, &notes);
+    drop(notes);
     drop(nodes);
     decided?;
-    started
+    started?;
+    stopped
 }
 
 #[test]
