@@ -12,10 +12,15 @@ use Rattle.node_events.specs.Told.{result_of}
 use Rattle.journal.specs.declared.receipt.Receipt.{Receipt}
 use Rattle.journal.specs.Journaled.{Journaled}
 use Rattle.seats.specs.declared.input.Prepared.{Prepared}
-use Rattle.seats.specs.Inputs.{given_for}
+use Rattle.seats.specs.declared.input.SeatInput.{SeatInput}
+use Rattle.seats.specs.Inputs.{event_at, given_for}
 use Rattle.seats.specs.State.{RunningSeat}
 use Rattle.seats.specs.Steps.{IsTaken}
+use Rattle.node_work.specs.declared.workplace.Input.{Input}
+use Rattle.node_work.specs.declared.workplace.Sent.{Sent}
+use Rattle.node_threads.specs.declared.steps.Taken.{Taken}
 use Rattle.node_threads.specs.Told.{IsTold}
+use Rattle.node_threads.specs.Working.{seat_input, IsHanded}
 
 -- an answer is the text of a version
 same_bytes : (x y : List ℕ) → results.Answer x ≡ results.Answer y → x ≡ y
@@ -42,3 +47,20 @@ told_so old new before after prepared receipt first next taken begins ends =
       forth = omega (arith, begins, ends, grown, added);
       answer_is = taken.answer_is ∙ (ap (λ (k : ℕ). given_for prepared.input k (length taken.plan.sends)) (sym begins) ∙ ap (λ (k : ℕ). given_for prepared.input first k) (sym count));
     }
+
+-- and so it is told by a worker's input and the numbers of its messages
+pub handed_so : (input : Input) (given : SeatInput) (taken : Taken) (sent : Sent) → given ≡ seat_input input → IsTold given taken
+    → sent.first ≡ taken.sent.start → sent.next ≡ taken.sent.end → IsHanded input sent
+handed_so input given taken sent same told first next =
+    let count : taken.sent.end - taken.sent.start ≡ sent.next - sent.first = omega (arith, first, next) in (
+      taken.receipt,
+      record {
+        me = told.me;
+        event_is = told.event_is ∙ ap (λ (i : SeatInput). event_at told.me i) same;
+        forth = omega (arith, told.forth, first, next);
+        answer_is =
+            told.answer_is ∙ (ap (λ (i : SeatInput). given_for i taken.sent.start (taken.sent.end - taken.sent.start)) same
+            ∙ (ap (λ (k : ℕ). given_for (seat_input input) k (taken.sent.end - taken.sent.start)) (sym first)
+            ∙ ap (λ (k : ℕ). given_for (seat_input input) sent.first k) count));
+      },
+    )

@@ -1,12 +1,12 @@
 -- What a node's worker may rely on at its workplace. Workers are this service's own.
 use Rattle.std.specs.Prelude.{◌≡◌, ℕ, Option, Some, None, Result, Ok, Err}
-use Rattle.ballots.specs.declared.message.Message.{Message}
 use Rattle.journal.specs.declared.receipt.Receipt.{Receipt}
 use Rattle.node_events.specs.declared.event_result.EventResult.TheVariants.{Outcome}
 use Rattle.seats.specs.declared.input.SeatInput.{SeatInput}
 use Rattle.seats.specs.declared.input.SeatInput.TheVariants as seat
 use Rattle.node_work.specs.declared.workplace.Input.{Input}
 use Rattle.node_work.specs.declared.workplace.Input.TheVariants as worker
+use Rattle.node_work.specs.declared.workplace.Sent.{Sent}
 use Rattle.node_work.specs.Deeds.{Deed, Read, Handed, Told, Counted, Found, Entered, Answered, Looked}
 use Rattle.node_threads.specs.declared.steps.Settled.{Settled}
 use Rattle.node_threads.specs.Told.{IsTold}
@@ -16,12 +16,16 @@ abbrev pub seat_input : Input → SeatInput
 seat_input (worker.Deliver number message) = seat.Deliver number message
 seat_input (worker.Tick left) = seat.Tick left
 
+-- the node took this input: of its entry there is a receipt, which tells just these messages
+abbrev pub IsHanded : Input → Sent → Type 0
+IsHanded input sent =
+    (receipt : Receipt) × IsTold (seat_input input) (record { receipt = receipt; sent = record { start = sent.first; end = sent.next } })
+
 -- An input that a node took has an entry, with just the messages that went out; a put is found at its place; and an outcome is
 -- what the receipt has. Of all else nothing is claimed: what another thread did meanwhile no contract says.
 abbrev pub IsDone : Deed Settled → Type 0
 IsDone (Read number message) = Unit {0}
-IsDone (Handed input (Ok sent)) =
-    (receipt : Receipt) × IsTold (seat_input input) (record { receipt = receipt; sent = record { start = sent.first; end = sent.next } })
+IsDone (Handed input (Ok sent)) = IsHanded input sent
 IsDone (Handed input (Err why)) = Unit {0}
 IsDone (Told node number) = Unit {0}
 IsDone (Counted places) = Unit {0}

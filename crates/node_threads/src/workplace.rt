@@ -1,7 +1,8 @@
 //! Where the worker of a node works.
 
-ghost use Rattle.std.specs.Prelude.{◌≡◌, IfOk};
-ghost use Rattle.node_threads.specs.Working.{seat_input};
+ghost use Rattle.std.specs.Prelude.{◌≡◌};
+ghost use Rattle.node_work.specs.Deeds.{Answered};
+ghost use Rattle.node_threads.specs.Working.{seat_input, IsDone};
 
 use crate::desk::Desk;
 use crate::faults::{fault_of, told_as};
@@ -57,8 +58,6 @@ impl<'a, const N: usize, R: Wait, S: Stable + Drop, J: Naming, G: Gate> NodeWork
 
 impl<'a, const N: usize, R: Wait, S: Stable + Drop, J: Naming, G: Gate> Workplace
     for NodeWorkplace<'a, N, R, S, J, G> {
-    ghost use Rattle.node_threads.specs.Working.{IsDone};
-
     type Settled = Settled;
 
     ghost nodes = { N };
@@ -110,7 +109,9 @@ impl<'a, const N: usize, R: Wait, S: Stable + Drop, J: Naming, G: Gate> Workplac
         }
     }
 
-    fn answer(&mut self, put: PutId, ending: Result<Settled, End>) {
+    fn answer(&mut self, put: PutId, ending: Result<Settled, End>)
+        ensures { IsDone (Answered put ending) }
+    {
         let Some(reply) = self.desk.leave(self.rt, put) else {
             drop(ending);
             return;
