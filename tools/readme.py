@@ -1,14 +1,16 @@
 #!/usr/bin/env python3
 """Runs every command of README.md as it stands there, from the top of the repository, and compares what it prints with what the
-README shows. ./test is the gate itself, and is not run again here. The first run proves and builds the program, which takes
-more than half an hour on four cores."""
+README shows. A server is ended once it has said where it is served; one that is started in the background, behind the commands of its
+block. ./test is the gate itself, and is not run again here. The first run proves and builds the program, which takes more than half an
+hour on four cores."""
+import contextlib
 import re
 import subprocess
 import sys
 from pathlib import Path
 
 TOP = Path(__file__).resolve().parent.parent
-GATE = "./test"
+GATE, SERVER = "./test", "./flightd serve"
 
 
 def blocks(text, kind):
@@ -17,10 +19,10 @@ def blocks(text, kind):
 
 
 def commands(text):
-    """Each command, with the lines that it is shown to print, or None where nothing is shown."""
+    """Each command, with the lines that it is shown to print, or None where nothing is shown; and None behind each block."""
     for lines in blocks(text, "sh"):
         for line in lines:
-            yield line.partition(" #")[0].rstrip(), None
+            yield line.partition("  #")[0].rstrip(), None
     for lines in blocks(text, "text"):
         command, shown = None, []
         for line in [*lines, "$ "]:
@@ -30,6 +32,18 @@ def commands(text):
             if command:
                 yield command, shown
             command, shown = line[2:], []
+        yield None, None
+
+
+@contextlib.contextmanager
+def started(command, shown):
+    """A server, and whether it prints these lines at first, or any line where none are shown."""
+    with subprocess.Popen(["bash", "-c", f"exec {command}"], cwd=TOP, stdout=subprocess.PIPE, text=True) as server:
+        try:
+            first = [server.stdout.readline().rstrip("\n") for _ in shown or [None]]
+            yield first == shown if shown else bool(first[0])
+        finally:
+            server.terminate()
 
 
 def runs_as_shown(command, shown):
@@ -42,12 +56,21 @@ def runs_as_shown(command, shown):
 
 def main():
     status = 0
-    for command, shown in commands((TOP / "README.md").read_text(encoding="utf-8")):
-        if command == GATE:
-            continue
-        well = runs_as_shown(command, shown)
-        print(f"readme: {command}: {'as shown' if well else 'NOT AS SHOWN'}", flush=True)
-        status |= not well
+    with contextlib.ExitStack() as servers:
+        for command, shown in commands((TOP / "README.md").read_text(encoding="utf-8")):
+            if command is None:
+                servers.close()
+            if command in (None, GATE):
+                continue
+            if command == SERVER:
+                with started(command, shown) as well:
+                    pass
+            elif command.endswith(" &"):
+                well = servers.enter_context(started(command[:-2], shown))
+            else:
+                well = runs_as_shown(command, shown)
+            print(f"readme: {command}: {'as shown' if well else 'NOT AS SHOWN'}", flush=True)
+            status |= not well
     return status
 
 
