@@ -37,7 +37,7 @@ front_means [] message all h = ([], tt)
 front_means (one ∷ messages) message [] h = absurd h
 front_means (one ∷ messages) message (first ∷ all) h =
     let front = front_means messages message all h.1 in
-    (first ∷ front.0, h.0, front.1)
+    (first ∷ front.0, (h.0, front.1))
 
 -- and so does the last one
 last_means : (messages : List (List ℕ)) (message : List ℕ) (all : List (Values info_descriptor)) → MeanInfos (messages ++ message ∷ []) all
