@@ -1,5 +1,4 @@
-use Rattle.std.proofs.Common.{◌≡◌, List, [], arith, rules, refl}
-use Rattle.proto_wire.specs.declared.flight.info.FlightInfo.{FlightInfo}
+use Rattle.std.proofs.Common.{[], arith, rules}
 use Rattle.client_calls.specs.declared.listing.Listing.TheVariants as listing
 use Rattle.client_calls.specs.Results.{GivesInfos, HasInfos}
 use Rattle.client_calls.specs.Parts.{IsListed}
