@@ -1,5 +1,5 @@
 -- What a node's worker may rely on at its workplace. Workers are this service's own.
-use Rattle.std.specs.Prelude.{◌≡◌, ℕ, Option, Some, None, Result, Ok, Err}
+use Rattle.std.specs.Prelude.{◌≡◌, Some, None, Ok, Err}
 use Rattle.journal.specs.declared.receipt.Receipt.{Receipt}
 use Rattle.node_events.specs.declared.event_result.EventResult.TheVariants.{Outcome}
 use Rattle.seats.specs.declared.input.SeatInput.{SeatInput}
