@@ -52,11 +52,12 @@ pub(crate) const SCHEDULE_FILE: &str = "A schedule of events";
 
 /// What serving does.
 pub(crate) const SERVE: &str =
-    "Not there yet: serves the tables of a cluster, each of its nodes at a port of 127.0.0.1";
+    "Serves the tables of a cluster, each of its nodes at a port of 127.0.0.1, until it is ended by a signal";
 
 /// Which ports are served, and how it ends.
 pub(crate) const SERVE_MORE: &str = "\
 Example: flightd serve --nodes 5 --port 42000 serves nodes 0 to 4 at the ports 42000 to 42004.
+Output: once all ports are open, a line for each node with its address. Records are in memory.
 Exit status: 1 after a fault; 2 words that are no call.";
 
 /// How many nodes are served.
@@ -68,7 +69,7 @@ pub(crate) const PORT: &str =
 
 /// What a script does.
 pub(crate) const SCRIPT: &str =
-    "Not there yet: runs the calls of a script at a cluster of its own, and prints a line for each call";
+    "Makes the calls of a script at a cluster of its own, and prints a line for each call";
 
 /// What a script reads, and how it ends.
 pub(crate) const SCRIPT_MORE: &str = "\

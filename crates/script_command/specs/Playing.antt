@@ -1,5 +1,5 @@
 -- What is written of a script: the line of each of its calls, and whether what was answered is confirmed.
-use Rattle.std.specs.Prelude.{◌≡◌, ℕ, zero, suc, Option, List, ◌∷◌, codes}
+use Rattle.std.specs.Prelude.{ℕ, zero, suc, Option, List, codes}
 use Rattle.std.specs.Io.KnownBytes.{Appends, Keeps}
 use Rattle.script_calls.specs.declared.told.Told.{Told}
 use Rattle.script_calls.specs.Lines.{line_of}

@@ -1,5 +1,5 @@
 -- What a server says of its nodes: a line each, with the address and the decimal number of its port.
-use Rattle.std.specs.Prelude.{ℕ, zero, suc, ◌+◌, List, [], ◌∷◌, ◌++◌, codes, decimal}
+use Rattle.std.specs.Prelude.{ℕ, zero, suc, ◌+◌, List, [], ◌++◌, codes, decimal}
 
 abbrev pub address_line : ℕ → ℕ → List ℕ
 address_line first node =
