@@ -55,13 +55,18 @@ fn ask<R: Wait, C: Nodes>(rt: &R, alloc: Global, nodes: &C, node: usize) -> Resu
     )
 }
 
+// Whether a node answers so.
+fn answers<R: Wait, C: Nodes>(rt: &R, alloc: Global, nodes: &C, node: usize) -> bool {
+    ask(rt, alloc, nodes, node).is_ok()
+}
+
 // A thread that asks node 0.
 fn start_asking<R: Threads + Wait + Copy + Send + 'static, C: Tested + Drop + 'static>(
     rt: R,
     alloc: Global,
     nodes: Arc<C, Global>,
-) -> Result<JoinHandle<Result<(), Why>>, Why> {
-    let job = move || ask(&rt, alloc, &*nodes, 0);
+) -> Result<JoinHandle<bool>, Why> {
+    let job = move || answers(&rt, alloc, &*nodes, 0);
     had(thread::spawn(&rt, job))
 }
 
@@ -71,10 +76,10 @@ fn start_waiting<R: Threads + Wait + Copy + Send + 'static, C: Tested + Drop + '
     alloc: Global,
     nodes: Arc<C, Global>,
     flags: Arc<Flags, Global>,
-) -> Result<JoinHandle<Result<(), Why>>, Why> {
+) -> Result<JoinHandle<bool>, Why> {
     let job = move || {
         flags.held.wait(&rt);
-        ask(&rt, alloc, &*nodes, 0)
+        answers(&rt, alloc, &*nodes, 0)
     };
     had(thread::spawn(&rt, job))
 }
@@ -92,7 +97,7 @@ fn answer_beside_the_gate<R: Threads + Wait + Copy + Send + 'static, C: Tested +
     flags.released.raise(&rt);
     let asked = asking.join(&rt);
     answered?;
-    asked
+    check(asked, "the call at the gate has another answer")
 }
 
 // A call waits for the seat of node 0 until node 1 has answered another.
@@ -111,7 +116,7 @@ fn answer_beside_the_seat<R: Threads + Wait + Copy + Send + 'static, C: Tested +
     let answered = nodes.answers_beside(&rt, &flags.held, ticket(alloc, 1)?);
     let waited = waiting.join(&rt);
     check(answered, "another node waits for the seat")?;
-    waited
+    check(waited, "the call that waits has another answer")
 }
 
 // Both, one after the other.

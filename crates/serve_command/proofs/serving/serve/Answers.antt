@@ -7,13 +7,13 @@ use Rattle.serve_command.proofs.serving.serve.Goals as goal
 pub returns-in-3-clause-part : goal.returns-in-3-clause-part
 returns-in-3-clause-part g c =
     subst (λ nodes. OnErr c.serve_three.result ((written : List ℕ) × IsBeginning written (addresses_text c.args.first_port nodes)
-            × Appends (g.W.Write.contents c.args.w.now) (g.W.Write.contents c.serve_three.new.w) written))
-        (sym c.in-3.is)
-        c.serve_three.ensures.part
+    × Appends (g.W.Write.contents c.args.w.now) (g.W.Write.contents c.serve_three.new.w) written))
+    (sym c.in-3.is)
+    c.serve_three.ensures.part
 
 pub returns-in-5-clause-part : goal.returns-in-5-clause-part
 returns-in-5-clause-part g c =
     subst (λ nodes. OnErr c.serve_five.result ((written : List ℕ) × IsBeginning written (addresses_text c.args.first_port nodes)
-            × Appends (g.W.Write.contents c.args.w.now) (g.W.Write.contents c.serve_five.new.w) written))
-        (sym c.in-5.is)
-        c.serve_five.ensures.part
+    × Appends (g.W.Write.contents c.args.w.now) (g.W.Write.contents c.serve_five.new.w) written))
+    (sym c.in-5.is)
+    c.serve_five.ensures.part
