@@ -4,7 +4,7 @@ use crate::flag::Flag;
 use crate::support::Nodes;
 use flight_service::Works;
 use growing_log::Naming;
-use node_threads::Gate;
+use node_threads::OpenGate;
 use schedule_runner::audit;
 use std::sync::Wait;
 use table_types::Ticket;
@@ -21,7 +21,7 @@ pub(crate) trait Tested: Works {
     fn answers_beside<R: Wait>(&self, rt: &R, held: &Flag, ticket: Ticket) -> bool;
 }
 
-impl<J: Naming + Send + Sync, G: Gate + Drop + Send + Sync> Tested for Nodes<J, G> {
+impl<J: Naming + Send + Sync> Tested for Nodes<J, OpenGate> {
     fn start_again<R: Wait>(&self, rt: &R, node: usize) -> bool {
         self.restart(rt, node).is_ok()
     }

@@ -60,16 +60,16 @@ fn put_one<R: Wait, C: Nodes + Drop>(
     }
 }
 
-// Puts the uploads of a caller, one after the other.
+// Puts the uploads of a caller from this number on, one after the other.
 fn put_all<R: Wait, C: Nodes + Drop>(
     rt: &R,
     alloc: Global,
     service: &Service<C, AllReceipts>,
     node: usize,
+    first: u64,
 ) -> Result<Versions, Why> {
     let mut versions = Vec::new(alloc);
-    let first = node as u64 * PUTS;
-    for number in first..first + PUTS {
+    for number in first..first.saturating_add(PUTS) {
         let version = put_one(rt, alloc, service, node, number)?;
         had(versions.push((number, version)))?;
     }
@@ -82,8 +82,9 @@ fn all_put<R: Wait, C: Nodes + Drop>(
     alloc: Global,
     service: &Service<C, AllReceipts>,
     node: usize,
+    first: u64,
 ) -> Option<Versions> {
-    match put_all(rt, alloc, service, node) {
+    match put_all(rt, alloc, service, node, first) {
         Ok(versions) => Some(versions),
         Err(_) => None,
     }
@@ -95,8 +96,9 @@ fn start_caller<R: Threads + Wait + Copy + Send + 'static, C: Tested + Drop + 's
     alloc: Global,
     service: Shared<C>,
     node: usize,
+    first: u64,
 ) -> Result<JoinHandle<Option<Versions>>, Why> {
-    let job = move || all_put(&rt, alloc, &*service, node);
+    let job = move || all_put(&rt, alloc, &*service, node, first);
     had(thread::spawn(&rt, job))
 }
 
@@ -158,14 +160,20 @@ fn downloaded<R: Wait, C: Nodes + Drop>(
     }
 }
 
+// The own name of the upload at this version.
+fn id_at(download: &Download, version: u64) -> Option<[u8; 16]> {
+    let place = usize::try_from(version.checked_sub(1)?).ok()?;
+    Some(download.uploads.get(place)?.id)
+}
+
 // Whether each of these uploads stands at its version.
 fn stand_there(download: &Download, versions: &[(u64, u64)]) -> Result<(), Why> {
     for (number, version) in versions {
         let id = u128::from(*number).to_be_bytes();
-        let Some(upload) = download.uploads.get(*version as usize - 1) else {
-            return Err("a version is not there");
-        };
-        check(upload.id == id, "another upload stands there")?;
+        check(
+            id_at(download, *version) == Some(id),
+            "another upload stands there",
+        )?;
     }
     Ok(())
 }
@@ -211,8 +219,8 @@ fn call_twice<R: Threads + Wait + Clock + Copy + Send + 'static, C: Tested + Dro
     alloc: Global,
     service: &Shared<C>,
 ) -> Result<(), Why> {
-    let first = start_caller(rt, alloc, had(Arc::try_clone(service))?, 0)?;
-    let second = start_caller(rt, alloc, had(Arc::try_clone(service))?, 1)?;
+    let first = start_caller(rt, alloc, had(Arc::try_clone(service))?, 0, 0)?;
+    let second = start_caller(rt, alloc, had(Arc::try_clone(service))?, 1, PUTS)?;
     let started = start_again(&rt, service.nodes());
     let first = first.join(&rt);
     let second = second.join(&rt);

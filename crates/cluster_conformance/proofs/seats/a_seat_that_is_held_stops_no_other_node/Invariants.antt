@@ -1,4 +1,4 @@
-use Rattle.cluster_conformance.proofs.gates.a_gate_holds_one_node_of_two.Given as goal
+use Rattle.cluster_conformance.proofs.seats.a_seat_that_is_held_stops_no_other_node.Given as goal
 
 -- the log that was just opened
 abbrev pub ghosts-plays : goal.ghosts-plays
