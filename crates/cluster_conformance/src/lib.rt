@@ -10,7 +10,7 @@ mod calls;
 #[cfg(test)]
 mod flag;
 #[cfg(test)]
-mod seats;
+mod held;
 #[cfg(test)]
 mod support;
 #[cfg(test)]
