@@ -1,0 +1,113 @@
+#!/usr/bin/env python3
+"""Measures a server: acknowledged puts of one row each, by 1, 16 and 64 callers at once, and gets of 64 MiB.
+
+    bench/serve.py [PROGRAM]
+
+It starts `PROGRAM serve` (crates/flightd/out/flightd, which the gate builds) with three nodes for each number of callers. Callers are
+processes, each with the library in clients/python, and call the nodes in turn; the time of a put is theirs. A get is read from a
+socket as bytes that nobody looks at, beside as many bytes that another process of Python sends. Records are in memory."""
+import multiprocessing
+import socket
+import subprocess
+import sys
+import time
+from pathlib import Path
+
+TOP = Path(__file__).resolve().parent.parent
+sys.dont_write_bytecode = True
+sys.path += [str(TOP / "clients" / "python"), str(TOP / "tools")]
+
+import felzoren
+from serving import CALL_SECONDS, PROGRAM, server
+
+CALLERS, PUTS = (1, 16, 64), 1_280
+# Six uploads of some 11 MiB in frames below 4 MiB.
+UPLOADS, BATCHES, ROWS = 6, 3, 480_000
+GETS = 5
+
+
+def put_rows(port, caller, count, start, times):
+    """Puts so many rows, and gives how long each took, in milliseconds."""
+    client = felzoren.connect(f"127.0.0.1:{port}", timeout=CALL_SECONDS)
+    start.wait()
+    taken = []
+    for number in range(count):
+        before = time.perf_counter()
+        client.put("rows", {"row": [caller * count + number]}, schema={"row": "int64"})
+        taken.append(1000 * (time.perf_counter() - before))
+    times.put(taken)
+
+
+def puts(program, callers):
+    """Puts a second by so many callers, and the middle and the 99th hundredth of how long they took."""
+    times, start = multiprocessing.Queue(), multiprocessing.Event()
+    with server(program, 3) as (_, port):
+        each = PUTS // callers
+        processes = [multiprocessing.Process(target=put_rows, args=(port + it % 3, it, each, start, times)) for it in range(callers)]
+        for process in processes:
+            process.start()
+        time.sleep(1)
+        before = time.perf_counter()
+        start.set()
+        taken = sorted(it for _ in processes for it in times.get())
+        seconds = time.perf_counter() - before
+        for process in processes:
+            process.join()
+    return len(taken) / seconds, taken[len(taken) // 2], taken[len(taken) * 99 // 100]
+
+
+def read_all(peer):
+    """How many bytes come until the peer ends."""
+    count, room = 0, bytearray(1 << 20)
+    while got := peer.recv_into(room):
+        count += got
+    return count
+
+
+def gets(program):
+    """Mebibytes a second of a version of some 64 MiB, the best of a few gets, and how many it has."""
+    with server(program, 3) as (clients, port):
+        batch = {"row": list(range(ROWS))}
+        for _ in range(UPLOADS):
+            version = clients[0].put_batches("rows", [batch] * BATCHES, {"row": "int64"}).version
+        request = felzoren.request("DoGet", [felzoren.bytes_field(1, felzoren.Ticket("rows", version).encode())])
+        best = 0.0
+        for _ in range(GETS):
+            before = time.perf_counter()
+            with socket.create_connection(("127.0.0.1", port), CALL_SECONDS) as peer:
+                peer.sendall(request)
+                count = read_all(peer)
+            best = max(best, count / (1 << 20) / (time.perf_counter() - before))
+    return best, count
+
+
+def send_all(listener, text):
+    peer, _ = listener.accept()
+    with peer:
+        peer.sendall(text)
+
+
+def raw(count):
+    """Mebibytes a second of as many bytes over a plain socket, the best of a few."""
+    best, text = 0.0, bytes(count)
+    for _ in range(GETS):
+        with socket.create_server(("127.0.0.1", 0)) as listener:
+            sender = multiprocessing.Process(target=send_all, args=(listener, text))
+            sender.start()
+            before = time.perf_counter()
+            with socket.create_connection(listener.getsockname(), CALL_SECONDS) as peer:
+                read_all(peer)
+            best = max(best, count / (1 << 20) / (time.perf_counter() - before))
+            sender.join()
+    return best
+
+
+def main(program):
+    for callers in CALLERS:
+        print("{} callers: {:.0f} puts a second, {:.1f} ms in the middle, {:.1f} ms at most of 99 of 100".format(callers, *puts(program, callers)))
+    rate, count = gets(program)
+    print(f"a get of {count / (1 << 20):.0f} MiB: {rate:.0f} MiB/s, beside {raw(count):.0f} MiB/s of a plain socket")
+
+
+if __name__ == "__main__":
+    main(sys.argv[1] if len(sys.argv) > 1 else str(PROGRAM))
