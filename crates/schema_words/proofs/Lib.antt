@@ -1,0 +1,3 @@
+mod Gathering
+mod Unique
+mod Wording
