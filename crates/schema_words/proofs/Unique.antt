@@ -103,6 +103,7 @@ type_is_one t u words one other = some_is t u
     whole : Option DataType → DataType
     whole (Some it) = it
     whole None = t
+
     some_is : (t u : DataType) → Some t ≡ Some u → t ≡ u
     some_is t u same = ap whole same
 
@@ -126,8 +127,10 @@ field_is_one part one other told again =
   where
     name : one.name ≡ other.name
     name = trimmed_is_one (before_first is_colon part) one.name other.name told.name again.name
+
     said : told.said ≡ again.said
     said = trimmed_is_one (after_first is_colon part) told.said again.said told.behind again.behind
+
     same : (one.data_type ≡ other.data_type) × (one.nullable ≡ other.nullable)
     same = said_is_one again.said one.data_type other.data_type one.nullable other.nullable
         (subst (λ (it : Text). SpellsType it one.data_type one.nullable) said told.type_said) again.type_said
