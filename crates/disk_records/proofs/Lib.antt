@@ -1,0 +1,8 @@
+pub mod CallerLemmas
+mod Blocks
+mod Readings
+mod Runs
+mod Keeping
+mod Stores
+mod Recovering
+mod MemoryDisks
