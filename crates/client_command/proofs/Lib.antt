@@ -1,0 +1,9 @@
+pub mod Endpoints
+pub mod Called
+pub mod Joined
+pub mod Told
+pub mod Put
+pub mod Got
+pub mod Visited
+pub mod Redeemed
+pub mod Statuses

@@ -1,0 +1,19 @@
+use Rattle.std.proofs.Common.{Vec}
+use Rattle.std.specs.declared.alloc.Global.{Global}
+use Rattle.proto_wire.specs.declared.flight.info.FlightInfo.{FlightInfo}
+use Rattle.client_calls.specs.Results.{GivesInfos, HasInfos}
+use Rattle.client_calls.specs.Requests.{list_request}
+use Rattle.client_command.proofs.Called.{called, called_in_vain}
+use Rattle.client_command.proofs.asking.list_at.Goals as goal
+
+pub returns-in-Ok-told : goal.returns-in-Ok-told
+returns-in-Ok-told g c =
+    called {T = Vec FlightInfo Global} c.args.address list_request GivesInfos HasInfos (g.C.Connect.log c.args.connect.now) (g.C.Connect.log c.open.new.self) (g.C.Connect.log c.close.new.self)
+    (g.C.Input.Read.remaining c.in-Ok.ends.0) (g.C.Input.Read.remaining c.call_list-told.new.r) (g.C.Output.Write.contents c.in-Ok.ends.1) (g.C.Output.Write.contents c.call_list-told.new.w)
+    c.in-Ok.ensures.opened c.close.ensures c.in-Ok-told.infos c.in-Ok-told.ensures.sent c.in-Ok-told.ensures.told
+
+pub returns-in-Err-told : goal.returns-in-Err-told
+returns-in-Err-told g c =
+    called_in_vain {T = Vec FlightInfo Global} c.args.address list_request GivesInfos HasInfos (g.C.Connect.log c.args.connect.now) (g.C.Connect.log c.open.new.self) (g.C.Connect.log c.close.new.self)
+    (g.C.Input.Read.remaining c.in-Ok.ends.0) (g.C.Input.Read.remaining c.call_list-told.new.r) (g.C.Output.Write.contents c.in-Ok.ends.1) (g.C.Output.Write.contents c.call_list-told.new.w)
+    c.in-Ok.ensures.opened c.close.ensures c.in-Err-told.fault c.in-Err-told.ensures.sent c.in-Err-told.ensures.told

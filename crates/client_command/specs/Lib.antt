@@ -1,0 +1,12 @@
+pub mod Faults
+pub mod Words
+pub mod Calls
+pub mod Latest
+pub mod Tables
+pub mod Writing
+pub mod Visiting
+pub mod Printed
+pub mod Puts
+pub mod Gets
+pub mod Tellings
+pub mod Everywhere

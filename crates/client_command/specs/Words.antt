@@ -1,0 +1,30 @@
+-- What the words of a client name, and what is told of words that name nothing.
+use Rattle.std.specs.Prelude.{◌≡◌, ◌≢◌, ℕ, List, Option, Some, None, Result, Ok, Err}
+use Rattle.std.specs.declared.net.socket_addr.SocketAddrV4.{SocketAddrV4}
+use Rattle.table_types.specs.Valid.{IsId}
+use Rattle.table_types.specs.Ticket.{TableVersion, IsTableVersion}
+use Rattle.call_words.specs.Names.{id_text}
+use Rattle.client_connections.specs.Addresses.{NamesNone, NamesServer}
+use Rattle.client_command.specs.declared.fault.CommandFault.{CommandFault}
+use Rattle.client_command.specs.declared.fault.CommandFault.TheVariants.{BadAddress, BadId, BadTable, OutOfMemory}
+
+-- the address of a server
+abbrev pub AddressBy : List ℕ → Result SocketAddrV4 CommandFault → Type 0
+AddressBy word (Ok address) = NamesServer word address
+AddressBy word (Err fault) = (fault ≡ BadAddress) × NamesNone word
+
+-- an upload's own name, in hexadecimal; where there is no word, the other one
+abbrev pub IdBy : Option (List ℕ) → List ℕ → Result (List ℕ) CommandFault → Type 0
+IdBy (Some word) other (Ok id) = IsId id × (word ≡ id_text id)
+IdBy (Some word) other (Err fault) = (fault ≡ BadId) × ((id : List ℕ) → IsId id → word ≢ id_text id)
+IdBy None other (Ok id) = id ≡ other
+IdBy None other (Err fault) = ⊥
+
+abbrev pub version_of : List ℕ → ℕ → TableVersion
+version_of table version = record { table = table; version = version }
+
+-- a version of a table; no word is at fault where memory was refused
+abbrev pub TicketBy : List ℕ → ℕ → Result TableVersion CommandFault → Type 0
+TicketBy table version (Ok ticket) = (ticket ≡ version_of table version) × IsTableVersion ticket
+TicketBy table version (Err BadTable) = ¬ IsTableVersion (version_of table version)
+TicketBy table version (Err fault) = fault ≡ OutOfMemory

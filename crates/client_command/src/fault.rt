@@ -1,0 +1,78 @@
+//! Why a client's word was not done.
+
+ghost use Rattle.std.specs.Prelude.{◌≡◌};
+ghost use Rattle.client_command.specs.Faults.{fault_of_rows, status_of_fault};
+
+use crate::status::{FAILURE, NO_CALL};
+use client_calls::ClientFault;
+use client_connections::ConnectFault;
+use json_rows::RowsFault;
+use row_calls::RowCallFault;
+use thiserror::Error;
+use uploads::UploadFault;
+
+/// Why a client's word was not done. The text of each is its name in the line that is printed.
+#[derive(Debug, PartialEq, Eq, Drop, Error)]
+pub enum CommandFault {
+    /// The address is not HOST:PORT, with an IPv4 address or `localhost` as the host and a port from 1 to 65535.
+    #[error("BadAddress")]
+    BadAddress,
+    /// The upload's own name is not 32 lower-case hexadecimal digits.
+    #[error("BadId")]
+    BadId,
+    /// The name is none of a table: 1 to 64 of A-Z, a-z, 0-9, `_`, `.` and `-`. It is told too of the version 0, which
+    /// no table has.
+    #[error("BadTable")]
+    BadTable,
+    /// There is no connection.
+    #[error("{0}")]
+    Connect(ConnectFault),
+    /// A call has no answer: the service refused it, with a status and a text, or what came is none, or a read or a
+    /// write failed.
+    #[error("{0}")]
+    Call(ClientFault),
+    /// The lines tell no rows of the schema, or the rows have no lines.
+    #[error("{0}")]
+    Rows(RowsFault),
+    /// The rows make no upload.
+    #[error("{0}")]
+    Upload(UploadFault),
+    /// What was told could not be written.
+    #[error("Io")]
+    Io,
+    /// Memory was refused.
+    #[error("OutOfMemory")]
+    OutOfMemory,
+    /// What the service tells of a table is at no location of its kind.
+    #[error("BadLocation")]
+    BadLocation,
+    /// Not all locations give the same bytes.
+    #[error("Differs")]
+    Differs,
+}
+
+impl CommandFault {
+    /// Why rows were not put, or not printed.
+    pub(crate) fn of_rows(fault: RowCallFault) -> CommandFault
+        ensures { result ≡ fault_of_rows fault }
+    {
+        match fault {
+            RowCallFault::Call(fault) => CommandFault::Call(fault),
+            RowCallFault::Rows(fault) => CommandFault::Rows(fault),
+            RowCallFault::Upload(fault) => CommandFault::Upload(fault),
+            RowCallFault::Output => CommandFault::Io,
+        }
+    }
+
+    /// The exit status of the fault, which is never 0: that of the service where it refused the call, [`NO_CALL`] of
+    /// words that are none, and else [`FAILURE`].
+    pub fn status(&self) -> u8
+        ensures { result ≡ status_of_fault self.now }
+    {
+        match self {
+            CommandFault::BadAddress | CommandFault::BadId | CommandFault::BadTable => NO_CALL,
+            CommandFault::Call(ClientFault::Status(status, _)) => (*status).max(FAILURE),
+            _ => FAILURE,
+        }
+    }
+}

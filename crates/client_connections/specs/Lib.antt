@@ -1,0 +1,3 @@
+pub mod Addresses
+pub mod Events
+pub mod Conversations
