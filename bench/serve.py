@@ -5,7 +5,8 @@
 
 It starts `PROGRAM serve` (crates/flightd/out/flightd, which the gate builds) with three nodes for each number of callers. Callers are
 processes, each with the library in clients/python, and call the nodes in turn; the time of a put is theirs. A get is read from a
-socket as bytes that nobody looks at, beside as many bytes that another process of Python sends. Records are in memory."""
+socket as bytes that nobody looks at, beside as many bytes that another process of Python sends. Records are kept in files of a folder for
+temporary files (TMPDIR), each synced before its node answers."""
 import multiprocessing
 import socket
 import subprocess

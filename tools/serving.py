@@ -5,16 +5,21 @@
 
 It plays the scripts of examples/scripts, and compares the lines with those beside them. Then it starts `PROGRAM serve`
 (crates/flightd/out/flightd) with three nodes and then with five, at ports that it finds free, and looks at what a user sees: the lines with the nodes' addresses, an upload that is put at one node and got at each, what comes of it when it is
-put again or its id is another's, puts of several callers at once, calls that are cut off in their midst, peers that stay silent, and a
-port that can't be had. The status is 1 where anything is not as it has to be."""
+put again or its id is another's, puts of several callers at once, calls that are cut off in their midst, peers that stay silent, a
+port that can't be had, the words of a client, and the files that the nodes keep their records in: which it takes, and that each upload that was acknowledged
+stands there at most nodes, also where the server is killed while it takes others. The status is 1 where anything is not as it has to be."""
 import concurrent.futures
 import contextlib
 import os
 import random
+import resource
+import signal
 import socket
 import struct
 import subprocess
 import sys
+import tempfile
+import threading
 import time
 from pathlib import Path
 
@@ -58,21 +63,39 @@ def free_port(count):
     raise Wrong("no ports are free")
 
 
-@contextlib.contextmanager
-def server(program, nodes):
-    """The clients of so many nodes that are served."""
+def file_limit(count):
+    """Has the files of a process started so stay within so many bytes, as on a full disk."""
+
+    def limit():
+        resource.setrlimit(resource.RLIMIT_FSIZE, (count, count))
+        signal.signal(signal.SIGXFSZ, signal.SIG_IGN)
+
+    return limit
+
+
+def started(program, nodes, folder, limit=None):
+    """A server of so many nodes with their records in this folder, its clients, and the port of its first node."""
     port = free_port(nodes)
-    words = [program, "serve", "--nodes", str(nodes), "--port", str(port)]
-    process = subprocess.Popen(words, stdout=subprocess.PIPE, stderr=subprocess.PIPE, text=True)
-    try:
-        for number in range(nodes):
-            want(process.stdout.readline(), f"node {number} at 127.0.0.1:{port + number}\n")
-        yield [felzoren.connect(f"127.0.0.1:{port + number}", timeout=CALL_SECONDS) for number in range(nodes)], port
-        want(process.poll(), None)
-    finally:
-        process.terminate()
-        _, told = process.communicate(timeout=CALL_SECONDS)
-    want(told, "")
+    words = [program, "serve", "--nodes", str(nodes), "--port", str(port), "--data", folder]
+    process = subprocess.Popen(words, stdout=subprocess.PIPE, stderr=subprocess.PIPE, text=True, preexec_fn=limit)
+    for number in range(nodes):
+        want(process.stdout.readline(), f"node {number} at 127.0.0.1:{port + number}\n")
+    return process, [felzoren.connect(f"127.0.0.1:{port + number}", timeout=CALL_SECONDS) for number in range(nodes)], port
+
+
+@contextlib.contextmanager
+def server(program, nodes, folder=None, limit=None):
+    """The clients of so many nodes that are served, with their records in this folder, or in one that is taken away afterwards."""
+    with contextlib.ExitStack() as stack:
+        folder = folder or stack.enter_context(tempfile.TemporaryDirectory())
+        process, clients, port = started(program, nodes, folder, limit)
+        try:
+            yield clients, port
+            want(process.poll(), None)
+        finally:
+            process.terminate()
+            _, told = process.communicate(timeout=CALL_SECONDS)
+        want(told, "")
 
 
 def got(client, table, version):
@@ -198,18 +221,183 @@ def silent_peers(clients, port):
             want(waiting.result(CALL_SECONDS), ROWS)
 
 
+def not_served(program, folder, name, port=None, stdout=subprocess.PIPE, limit=None):
+    """A server with its records in this folder, which does not start and says why."""
+    words = [program, "serve", "--port", str(port or free_port(3)), "--data", folder]
+    ran = subprocess.run(
+        words, stdout=stdout, stderr=subprocess.PIPE, text=True, timeout=CALL_SECONDS, check=False, preexec_fn=limit
+    )
+    want((ran.returncode, ran.stdout or "", ran.stderr), (1, "", f"flightd: {name}\n"))
+
+
 def taken_port(program, port):
     """A port that another has."""
-    ran = subprocess.run([program, "serve", "--port", str(port - 1)], capture_output=True, text=True, timeout=CALL_SECONDS, check=False)
-    want((ran.returncode, ran.stdout, ran.stderr), (1, "", "flightd: Bind\n"))
+    with tempfile.TemporaryDirectory() as folder:
+        not_served(program, folder, "Bind", port - 1)
 
 
 def full_output(program):
     """Where the nodes are served can't be written."""
-    with open("/dev/full", "w", encoding="utf-8") as full:
-        words = [program, "serve", "--port", str(free_port(3))]
-        ran = subprocess.run(words, stdout=full, stderr=subprocess.PIPE, text=True, timeout=CALL_SECONDS, check=False)
-    want((ran.returncode, ran.stderr), (1, "flightd: Io\n"))
+    with open("/dev/full", "w", encoding="utf-8") as full, tempfile.TemporaryDirectory() as folder:
+        not_served(program, folder, "Io", stdout=full)
+
+
+# ---- the words of a client
+
+ID = "101112131415161718191a1b1c1d1e1f"
+LINES = '{"shop":"Bern","sold":3}\n{"shop":"Zürich","sold":null}\n'
+
+
+def told(program, words, given=""):
+    """What a call of the program ends with, prints and reports."""
+    ran = subprocess.run([program, *words], input=given, capture_output=True, text=True, timeout=CALL_SECONDS, check=False)
+    return ran.returncode, ran.stdout, ran.stderr
+
+
+def latest(program, address, table, rows):
+    """The rows of the latest version, once a node has learned it."""
+    end = time.monotonic() + LEARN_SECONDS
+    while told(program, ["get", address, table]) != (0, rows, ""):
+        if time.monotonic() > end:
+            raise Wrong(f"not the rows {rows!r}")
+        time.sleep(0.05)
+
+
+def client_words(program, clients, port):
+    """Rows are put and got by the words of a client, and tables are listed and described."""
+    here = [f"127.0.0.1:{port + number}" for number in range(len(clients))]
+    put = ["put", here[0], "words", "-", "--id", ID]
+    want(told(program, put, LINES), (0, f"{ID} 1\n", ""))
+    want(told(program, put, LINES), (0, f"{ID} 1\n", ""))
+    want(told(program, put, LINES[:25]), (6, "", "flightd: Conflict\n"))
+    for address in here:
+        latest(program, address, "words", LINES)
+    with tempfile.TemporaryDirectory() as folder:
+        file = Path(folder) / "rows.jsonl"
+        file.write_text(LINES, encoding="utf-8")
+        status, line, error = told(program, ["put", f"localhost:{port + 1}", "words", str(file)])
+    want((status, line[32:], error), (0, " 2\n", ""))
+    for address in here:
+        latest(program, address, "words", LINES + LINES)
+    want(told(program, ["get", here[1], "words", "1"]), (0, LINES, ""))
+    locations = [f"plain+tcp://{address}" for address in here]
+    everywhere = "".join(f"{it} same\n" for it in locations)
+    want(told(program, ["get", here[0], "words", "--all-locations"]), (0, LINES + LINES, everywhere))
+    info = clients[0].info("words")
+    want(told(program, ["list", here[0]])[1].splitlines()[-1], f"words 2 4 {info.total_bytes}")
+    told_of = "".join(f"{it}\n" for it in ["version 2", "rows 4", f"bytes {info.total_bytes}", *(f"location {it}" for it in locations)])
+    want(told(program, ["info", here[0], "words"]), (0, told_of, ""))
+    typed = ["put", here[0], "typed", "-", "--schema", "small: int8 not null, day: date32"]
+    want(told(program, typed, '{"small":1,"day":2}\n')[0], 0)
+    want(str(clients[0].schema("typed")), "small: int8 not null\nday: date32")
+    for words, given, status, name in (
+        (typed, '{"small":1000,"day":2}\n', 1, "line 1, field 0: OutOfRange"),
+        (["get", here[0], "words", "9"], "", 14, "Unavailable"),
+        (["get", here[0], "none"], "", 5, "NoTable"),
+        (["info", here[0], "none"], "", 5, "NoTable"),
+        (["list", f"127.0.0.1:{free_port(1)}"], "", 1, "Connect"),
+        (["put", here[0], "words", "/no/such/file"], "", 1, "Io"),
+        (["put", here[0], "words", "-"], "", 1, "NoRows"),
+    ):
+        want(told(program, words, given), (status, "", f"flightd: {name}\n"))
+
+
+# ---- the files of records
+
+
+def records_in(file):
+    """The records of a node's file: its text is a closed gate, or an open one, a length, a record and what follows from the next gate."""
+    text, at, found = Path(file).read_bytes(), 0, []
+    while text[at] == 1:
+        (length,) = struct.unpack_from("<I", text, at + 1)
+        found.append(text[at + 5 : at + 5 + length])
+        at += 5 + length
+    return found
+
+
+def uploads_kept(folder, nodes, ids):
+    """Each of these uploads stands in a record of most nodes."""
+    files = [b"".join(records_in(f"{folder}/node-{number}.rec")) for number in range(nodes)]
+    for name in ids:
+        want(2 * sum(name in file for file in files) > nodes, True)
+
+
+def show_records(program, file):
+    """The lines of a file's records, a line each, and where the file is damaged once its end is cut off."""
+    status, lines, error = told(program, ["records", file])
+    want((status, len(lines.splitlines()), error), (0, len(records_in(file)), ""))
+    want([line.split()[0] for line in lines.splitlines()], [str(number) for number in range(len(records_in(file)))])
+    *front, last = records_in(file)
+    place = sum(5 + len(record) for record in front)
+    Path(file).write_bytes(Path(file).read_bytes()[: place + 5 + len(last) - 1])
+    damage = f"byte {place}: no whole record stands behind this gate, which is open\n"
+    want(told(program, ["records", file]), (1, "", "flightd: Damaged\n" + damage))
+
+
+def old_and_locked_files(program, nodes):
+    """Files that have records are not taken again, and not while another server has them."""
+    with tempfile.TemporaryDirectory() as top:
+        folder = f"{top}/made/here"
+        with server(program, nodes, folder) as (clients, _):
+            acks = [client.put("kept", ROWS) for client in clients]
+            not_served(program, folder, "Locked")
+        uploads_kept(folder, nodes, [bytes.fromhex(ack.id) for ack in acks])
+        not_served(program, folder, "OldRecords")
+        show_records(program, f"{folder}/node-0.rec")
+
+
+def bad_files(program):
+    """Files that are damaged, that can't be written, and a folder that can't be one."""
+    with tempfile.TemporaryDirectory() as folder:
+        Path(f"{folder}/node-1.rec").write_bytes(bytes.fromhex("0104000000080118"))
+        not_served(program, folder, "Damaged")
+    with tempfile.TemporaryDirectory() as folder:
+        not_served(program, folder, "Device", limit=file_limit(0))
+    with tempfile.TemporaryDirectory() as folder:
+        os.mkdir(f"{folder}/node-0.rec")
+        not_served(program, folder, "Open")
+        Path(f"{folder}/file").write_bytes(b"")
+        not_served(program, f"{folder}/file", "Open")
+        not_served(program, f"{folder}/file/below", "Open")
+
+
+def full_later(program):
+    """Files that are full once some uploads were taken: the put that finds it ends as Store, its node is down, and what was acknowledged is
+    served by the others."""
+    with tempfile.TemporaryDirectory() as folder, server(program, 3, folder, file_limit(8_000)) as (clients, _):
+        acks = []
+        with contextlib.suppress(felzoren.Refused):
+            while True:
+                acks.append(clients[0].put("full", ROWS))
+        want(len(acks) > 0, True)
+        want(refusal(clients[0].put, "full", ROWS), ("Down", 14))
+        want(got(clients[1], "full", len(acks)), ROWS * len(acks))
+        uploads_kept(folder, 3, [bytes.fromhex(ack.id) for ack in acks])
+
+
+def killed(program, nodes, seconds):
+    """A server that is killed while callers put: each upload that was acknowledged stands at most nodes."""
+    acknowledged = []
+
+    def puts(client):
+        with contextlib.suppress(OSError, felzoren.Refused, felzoren.BadAnswer):
+            while True:
+                acknowledged.append(client.put("killed", ROWS).id)
+
+    with tempfile.TemporaryDirectory() as folder:
+        process, clients, _ = started(program, nodes, folder)
+        callers = [threading.Thread(target=puts, args=(client,)) for client in clients for _ in range(2)]
+        for caller in callers:
+            caller.start()
+        time.sleep(seconds)
+        process.kill()
+        process.communicate(timeout=CALL_SECONDS)
+        for caller in callers:
+            caller.join(CALL_SECONDS)
+        want(len(acknowledged) > 0, True)
+        uploads_kept(folder, nodes, [bytes.fromhex(name) for name in acknowledged])
+        not_served(program, folder, "OldRecords")
+    return len(acknowledged)
 
 
 def scripts(program):
@@ -228,12 +416,18 @@ def main(program):
             puts_and_gets(clients)
             describes(clients, port)
             first_upload(clients)
+            client_words(program, clients, port)
             several_callers(clients)
             cut_calls(clients, port)
             silent_peers(clients, port)
             taken_port(program, port)
         print(f"{nodes} nodes: puts at one are got at all, by several callers at once, beside calls that are cut off and peers that stay silent")
+        old_and_locked_files(program, nodes)
     full_output(program)
+    bad_files(program)
+    full_later(program)
+    counts = [killed(program, nodes, seconds) for nodes in (3, 5) for seconds in (1, 2)]
+    print(f"{sum(counts)} uploads were acknowledged by servers that were then killed, and each stands in the files of most nodes")
 
 
 if __name__ == "__main__":

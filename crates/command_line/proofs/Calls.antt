@@ -9,7 +9,7 @@ use Rattle.clap.specs.Words.{is_simple, is_simple_and_free, new_app, subcommand_
 use Rattle.clap.specs.declared.parser.matches.ArgMatches.{ArgMatches}
 use Rattle.clap.proofs.OnLiterals.{clap_on_literals}
 use Rattle.command_line.specs.Calls.{AreParts, AsksFor, Calls, IsCall, Part, under, values_in, words_of}
-use Rattle.command_line.specs.CommandLine.{Asked, Command, acceptor, accepting, asked_by, asks, audit_for, auditing, command_line, command_named, get, getting, info, informing, is_yes, list, listing, name_of, put, putting, replay, replaying, script, scripting, serve, serving, takes_of, value_of}
+use Rattle.command_line.specs.CommandLine.{Asked, Command, acceptor, accepting, asked_by, asks, audit_for, auditing, command_line, command_named, get, getting, info, informing, is_yes, list, listing, name_of, put, putting, records, replay, replaying, script, scripting, serve, serving, showing, takes_of, value_of}
 use Rattle.command_line.proofs.Enters.{Enters, rows_are, takes_is}
 use Rattle.command_line.proofs.Rows.{flag_under, given_rows, is_no, is_other, value_under}
 use Rattle.command_line.proofs.Walks.{Reads, parts_pass, rows_end}
@@ -34,6 +34,7 @@ enters auditing = record { simple = refl; named_first = refl; meets = refl; pass
 enters replaying = record { simple = refl; named_first = refl; meets = refl; passes = refl; found = refl; named = refl; defaults = refl; valid = refl }
 enters serving = record { simple = refl; named_first = refl; meets = refl; passes = refl; found = refl; named = refl; defaults = refl; valid = refl }
 enters scripting = record { simple = refl; named_first = refl; meets = refl; passes = refl; found = refl; named = refl; defaults = refl; valid = refl }
+enters showing = record { simple = refl; named_first = refl; meets = refl; passes = refl; found = refl; named = refl; defaults = refl; valid = refl }
 enters putting = record { simple = refl; named_first = refl; meets = refl; passes = refl; found = refl; named = refl; defaults = refl; valid = refl }
 enters getting = record { simple = refl; named_first = refl; meets = refl; passes = refl; found = refl; named = refl; defaults = refl; valid = refl }
 enters listing = record { simple = refl; named_first = refl; meets = refl; passes = refl; found = refl; named = refl; defaults = refl; valid = refl }
@@ -64,12 +65,19 @@ reads replaying = record {
 }
 reads serving = record {
   operands = tt;
-  options = (record { mark = refl; long = refl; joined_mark = λ _. refl; joined_long = λ _. refl; by_long = refl; by_id = refl }, (record { mark = refl; long = refl; joined_mark = λ _. refl; joined_long = λ _. refl; by_long = refl; by_id = refl }, tt));
+  options = (record { mark = refl; long = refl; joined_mark = λ _. refl; joined_long = λ _. refl; by_long = refl; by_id = refl }, (record { mark = refl; long = refl; joined_mark = λ _. refl; joined_long = λ _. refl; by_long = refl; by_id = refl }, (record { mark = refl; long = refl; joined_mark = λ _. refl; joined_long = λ _. refl; by_long = refl; by_id = refl }, tt)));
   flags = tt;
   defaults = refl;
   valid = λ rows given. given;
 }
 reads scripting = record {
+  operands = ((true, refl, refl), tt);
+  options = tt;
+  flags = tt;
+  defaults = refl;
+  valid = λ rows given. given;
+}
+reads showing = record {
   operands = ((true, refl, refl), tt);
   options = tt;
   flags = tt;
@@ -133,8 +141,10 @@ module _ (values : List (Text × Text)) where
   asks_same serving =
       let nodes = same_value serving (codes "nodes") refl in
       let port = same_value serving (codes "port") refl in
-      λ i. serve (nodes i) (port i)
+      let folder = same_value serving (codes "data") refl in
+      λ i. serve (nodes i) (port i) (folder i)
   asks_same scripting = ap (λ (file : Option Text). script (value_of file)) (same_value scripting (codes "FILE") refl)
+  asks_same showing = ap (λ (file : Option Text). records (value_of file)) (same_value showing (codes "FILE") refl)
   asks_same putting =
       let address = same_value putting (codes "ADDRESS") refl in
       let table = same_value putting (codes "TABLE") refl in

@@ -17,6 +17,7 @@ pub data Command : Type 0 where
   replaying : Command
   serving : Command
   scripting : Command
+  showing : Command
   putting : Command
   getting : Command
   listing : Command
@@ -29,6 +30,7 @@ name_of auditing = codes "audit"
 name_of replaying = codes "replay"
 name_of serving = codes "serve"
 name_of scripting = codes "script"
+name_of showing = codes "records"
 name_of putting = codes "put"
 name_of getting = codes "get"
 name_of listing = codes "list"
@@ -41,6 +43,7 @@ command_named name =
     else if bytes_eq name (codes "replay") then replaying
     else if bytes_eq name (codes "serve") then serving
     else if bytes_eq name (codes "script") then scripting
+    else if bytes_eq name (codes "records") then showing
     else if bytes_eq name (codes "put") then putting
     else if bytes_eq name (codes "get") then getting
     else if bytes_eq name (codes "list") then listing
@@ -65,8 +68,9 @@ abbrev pub takes_of : Command → Takes
 takes_of accepting = operands_alone []
 takes_of auditing = record (operands_alone (codes "FILE" ∷ [])) { flags = codes "explain" ∷ [] }
 takes_of replaying = operands_alone (codes "FILE" ∷ [])
-takes_of serving = record (operands_alone []) { options = codes "nodes" ∷ codes "port" ∷ [] }
+takes_of serving = record (operands_alone []) { options = codes "nodes" ∷ codes "port" ∷ codes "data" ∷ [] }
 takes_of scripting = operands_alone (codes "FILE" ∷ [])
+takes_of showing = operands_alone (codes "FILE" ∷ [])
 takes_of putting =
     record (operands_alone (codes "ADDRESS" ∷ codes "TABLE" ∷ codes "FILE" ∷ [])) { options = codes "id" ∷ codes "schema" ∷ [] }
 takes_of getting =
@@ -104,7 +108,7 @@ with_command a command = with_subcommand a (app_for command).top
 
 -- the commands that ask no server, and then those that ask one
 abbrev pub local_commands : App → App
-local_commands a = fold with_command a (accepting ∷ auditing ∷ replaying ∷ serving ∷ scripting ∷ [])
+local_commands a = fold with_command a (accepting ∷ auditing ∷ replaying ∷ serving ∷ scripting ∷ showing ∷ [])
 
 -- the program's words: its version, and its commands
 abbrev pub command_line : App
@@ -112,8 +116,8 @@ command_line = fold with_command (local_commands (with_version (new_app (codes "
 
 -- ---- what is asked for
 
--- the acceptor; the audit of a file, its audit with the explanation, or its replay; a cluster, with the number of its nodes and
--- its first port, as far as these are told; the script of a file; a put, with its address, table, file, upload's name and
+-- the acceptor; the audit of a file, its audit with the explanation, or its replay; a cluster, with the number of its nodes,
+-- its first port and its folder, as far as these are told; the script of a file; the records of a file; a put, with its address, table, file, upload's name and
 -- schema; a get, with its address, table, version, and whether all locations are asked; the tables at an address; or what is
 -- told of one of them
 pub data Asked : Type 0 where
@@ -121,8 +125,9 @@ pub data Asked : Type 0 where
   audit : Text → Asked
   explain : Text → Asked
   replay : Text → Asked
-  serve : Option Text → Option Text → Asked
+  serve : Option Text → Option Text → Option Text → Asked
   script : Text → Asked
+  records : Text → Asked
   put : Text → Text → Text → Option Text → Option Text → Asked
   get : Text → Text → Option Text → Bool → Asked
   list : Text → Asked
@@ -137,8 +142,9 @@ asked_of declared.Acceptor = acceptor
 asked_of (declared.Audit file) = audit file.now
 asked_of (declared.Explain file) = explain file.now
 asked_of (declared.Replay file) = replay file.now
-asked_of (declared.Serve nodes port) = serve (text_of nodes) (text_of port)
+asked_of (declared.Serve nodes port folder) = serve (text_of nodes) (text_of port) (text_of folder)
 asked_of (declared.Script file) = script file.now
+asked_of (declared.Records file) = records file.now
 asked_of (declared.Put address table file id schema) = put address.now table.now file.now (text_of id) (text_of schema)
 asked_of (declared.Get address table version all_locations) = get address.now table.now (text_of version) all_locations
 asked_of (declared.List address) = list address.now
@@ -162,8 +168,9 @@ abbrev pub asks : Command → (Text → Option Text) → Asked
 asks accepting under = acceptor
 asks auditing under = audit_for (is_yes (under (codes "explain"))) (value_of (under (codes "FILE")))
 asks replaying under = replay (value_of (under (codes "FILE")))
-asks serving under = serve (under (codes "nodes")) (under (codes "port"))
+asks serving under = serve (under (codes "nodes")) (under (codes "port")) (under (codes "data"))
 asks scripting under = script (value_of (under (codes "FILE")))
+asks showing under = records (value_of (under (codes "FILE")))
 asks putting under =
     put (value_of (under (codes "ADDRESS"))) (value_of (under (codes "TABLE"))) (value_of (under (codes "FILE"))) (under (codes "id")) (under (codes "schema"))
 asks getting under =

@@ -1,5 +1,5 @@
--- The numbers among the words.
-use Rattle.std.specs.Prelude.{◌≡◌, ◌⊎◌, ◌<◌, ◌≤◌, ◌^◌, ℕ, Option, Some, None, Result, Ok, Err}
+-- The numbers among the words, and the folder of a cluster.
+use Rattle.std.specs.Prelude.{◌≡◌, ◌≢◌, ◌⊎◌, [], ◌<◌, ◌≤◌, ◌^◌, ℕ, Option, Some, None, Result, Ok, Err}
 use Rattle.std.specs.Str.Parse.{IsNumeral, digits_value}
 use Rattle.clap.specs.Words.{Text}
 use Rattle.command_line.specs.declared.numbers.Served.{Served}
@@ -23,12 +23,19 @@ IsNodes n = (n ≡ 3) ⊎ (n ≡ 5)
 abbrev pub IsPort : ℕ → Type 0
 IsPort n = (1024 ≤ n) × (n ≤ 65000)
 
--- what the values of two options, of the nodes and of the port, ask for, and why they ask for nothing
-abbrev pub ServedBy : Option Text → Option Text → Result Served WordsFault → Type 0
-ServedBy nodes port (Ok served) = Gives 3 nodes served.nodes × IsNodes served.nodes × Gives 42000 port served.port × IsPort served.port
-ServedBy nodes port (Err fault.Nodes) = (n : ℕ) → Gives 3 nodes n → ¬ IsNodes n
-ServedBy nodes port (Err fault.Port) = ((n : ℕ) × Gives 3 nodes n × IsNodes n) × ((n : ℕ) → Gives 42000 port n → ¬ IsPort n)
-ServedBy nodes port (Err fault.Version) = ⊥
+-- the folder that an option's value names, which has a name
+abbrev pub HasFolder : Option Text → Text → Type 0
+HasFolder folder text = (folder ≡ Some text) × (text ≢ [])
+
+-- what the values of three options, of the nodes, of the port and of the folder, ask for, and why they ask for nothing
+abbrev pub ServedBy : Option Text → Option Text → Option Text → Result Served WordsFault → Type 0
+ServedBy nodes port folder (Ok served) =
+    Gives 3 nodes served.nodes × IsNodes served.nodes × Gives 42000 port served.port × IsPort served.port × HasFolder folder served.folder.now
+ServedBy nodes port folder (Err fault.Nodes) = (n : ℕ) → Gives 3 nodes n → ¬ IsNodes n
+ServedBy nodes port folder (Err fault.Port) = ((n : ℕ) × Gives 3 nodes n × IsNodes n) × ((n : ℕ) → Gives 42000 port n → ¬ IsPort n)
+ServedBy nodes port folder (Err fault.Folder) =
+    ((n : ℕ) × Gives 3 nodes n × IsNodes n) × ((n : ℕ) × Gives 42000 port n × IsPort n) × ((text : Text) → ¬ HasFolder folder text)
+ServedBy nodes port folder (Err fault.Version) = ⊥
 
 -- the versions of a table have numbers from 1 on, of 64 bits
 abbrev pub IsVersion : ℕ → Type 0
@@ -40,3 +47,4 @@ VersionBy text (Ok n) = Writes text n × IsVersion n
 VersionBy text (Err fault.Version) = (n : ℕ) → Writes text n → ¬ IsVersion n
 VersionBy text (Err fault.Nodes) = ⊥
 VersionBy text (Err fault.Port) = ⊥
+VersionBy text (Err fault.Folder) = ⊥

@@ -2,7 +2,7 @@
 
 ghost use Rattle.std.specs.Prelude.{◌≡◌, false, codes, IfOk};
 ghost use Rattle.clap.specs.Words.{app_of, new_app, new_rule, rule_of, with_subcommand};
-ghost use Rattle.command_line.specs.CommandLine.{accepting, app_for, auditing, command_line, flag_rule, getting, informing, listing, local_commands, operand_rule, option_rule, putting, replaying, scripting, serving, with_version};
+ghost use Rattle.command_line.specs.CommandLine.{accepting, app_for, auditing, command_line, flag_rule, getting, informing, listing, local_commands, operand_rule, option_rule, putting, replaying, scripting, serving, showing, with_version};
 
 use crate::help;
 use clap::{Arg, ArgAction, Command};
@@ -30,7 +30,7 @@ fn with_local<'a>(alloc: Global, program: Command<'a>) -> Result<Command<'a>, Al
     ensures { IfOk result (λ made. app_of made ≡ local_commands (app_of program.entry)) }
 {
     let program = with_replay(alloc, with_audit(alloc, with_acceptor(alloc, program)?)?)?;
-    with_script(alloc, with_serve(alloc, program)?)
+    with_records(alloc, with_script(alloc, with_serve(alloc, program)?)?)
 }
 
 fn with_acceptor<'a>(alloc: Global, program: Command<'a>) -> Result<Command<'a>, AllocError>
@@ -70,7 +70,8 @@ fn with_serve<'a>(alloc: Global, program: Command<'a>) -> Result<Command<'a>, Al
         .about(help::SERVE)
         .after_help(help::SERVE_MORE)
         .arg(option(alloc, "nodes", "N", help::NODES))?
-        .arg(option(alloc, "port", "P", help::PORT))?;
+        .arg(option(alloc, "port", "P", help::PORT))?
+        .arg(option(alloc, "data", "DIR", help::DATA))?;
     program.subcommand(serve)
 }
 
@@ -82,6 +83,16 @@ fn with_script<'a>(alloc: Global, program: Command<'a>) -> Result<Command<'a>, A
         .after_help(help::SCRIPT_MORE)
         .arg(operand(alloc, "FILE", help::SCRIPT_FILE))?;
     program.subcommand(script)
+}
+
+fn with_records<'a>(alloc: Global, program: Command<'a>) -> Result<Command<'a>, AllocError>
+    ensures { IfOk result (λ made. app_of made ≡ with_subcommand (app_of program.entry) (app_for showing).top) }
+{
+    let records = Command::new(alloc, "records")
+        .about(help::RECORDS)
+        .after_help(help::RECORDS_MORE)
+        .arg(operand(alloc, "FILE", help::RECORDS_FILE))?;
+    program.subcommand(records)
 }
 
 fn with_put<'a>(alloc: Global, program: Command<'a>) -> Result<Command<'a>, AllocError>

@@ -56,8 +56,8 @@ pub(crate) const SERVE: &str =
 
 /// Which ports are served, and how it ends.
 pub(crate) const SERVE_MORE: &str = "\
-Example: flightd serve --nodes 5 --port 42000 serves nodes 0 to 4 at the ports 42000 to 42004.
-Output: once all ports are open, a line for each node with its address. Records are in memory.
+Example: flightd serve --data records --nodes 5 --port 42000 serves nodes 0 to 4 at the ports 42000 to 42004.
+Output: once all ports are open, a line for each node with its address. Node k keeps its records in DIR/node-k.rec.
 Exit status: 1 after a fault; 2 words that are no call.";
 
 /// How many nodes are served.
@@ -66,6 +66,10 @@ pub(crate) const NODES: &str = "How many nodes the cluster has: 3, the default, 
 /// Where they are served.
 pub(crate) const PORT: &str =
     "The port of node 0, from 1024 to 65000, where 42000 is the default; node k is k above it";
+
+/// Where the nodes keep their records.
+pub(crate) const DATA: &str =
+    "The folder of the nodes' records, which has none yet; it is made where it is missing. It has to be named";
 
 /// What a script does.
 pub(crate) const SCRIPT: &str =
@@ -80,14 +84,27 @@ Exit status: 0 where the receipts of all answers are right; 1 where not, or afte
 /// What the file of a script is.
 pub(crate) const SCRIPT_FILE: &str = "A script of calls";
 
+/// What showing records does.
+pub(crate) const RECORDS: &str = "Prints the records that a node keeps in a file, a line for each";
+
+/// What is shown, and how it ends.
+pub(crate) const RECORDS_MORE: &str = "\
+Example: flightd records data/node-0.rec
+Input: FILE, the file of a node that was served (docs/FORMATS.md).
+Exit status: 0 where all was printed; 1 after a fault, as a file that is damaged; 2 words that are no call.";
+
+/// What the file of records is.
+pub(crate) const RECORDS_FILE: &str = "A node's file of records";
+
 /// What a put does.
-pub(crate) const PUT: &str = "Not there yet: puts the rows of a file into a table at a server";
+pub(crate) const PUT: &str =
+    "Puts the rows of a file into a table at a server, and prints the upload's id and the version that it made";
 
 /// What a put reads, and how it ends.
 pub(crate) const PUT_MORE: &str = "\
 Example: flightd put 127.0.0.1:42000 cities cities.jsonl --id 000102030405060708090a0b0c0d0e0f
 Input: FILE, rows as lines of JSON (docs/FORMATS.md).
-Exit status: 0 where the server has them; 1 after a fault; 2 words that are no call.";
+Exit status: 0 where the server has them; the status of a refusal, where the server refuses (docs/FORMATS.md); 1 after another fault; 2 words that are no call.";
 
 /// Where a server is.
 pub(crate) const ADDRESS: &str = "Where the server is, as HOST:PORT";
@@ -100,20 +117,21 @@ pub(crate) const ROWS_FILE: &str = "A file of rows, or - for standard input";
 
 /// What names an upload.
 pub(crate) const ID: &str =
-    "The upload's own name, 32 lower-case hexadecimal digits: what is put again by one name stands once";
+    "The upload's id, 32 lower-case hexadecimal digits, drawn where it is not told: what is put again by one id stands once";
 
 /// What the schema of a put is.
-pub(crate) const SCHEMA: &str = "The schema of the rows; without it, one that is made of them";
+pub(crate) const SCHEMA: &str =
+    "The schema of the rows, as \"shop: utf8 not null, sold: int64\"; without it, one that is made of them";
 
 /// What a get does.
 pub(crate) const GET: &str =
-    "Not there yet: prints the rows of a table at a server, of its latest version or of another";
+    "Prints the rows of a table at a server, of its latest version or of another";
 
 /// What a get prints, and how it ends.
 pub(crate) const GET_MORE: &str = "\
 Example: flightd get 127.0.0.1:42000 cities 2
 Output: rows as lines of JSON (docs/FORMATS.md).
-Exit status: 0 where every row was printed; 1 after a fault; 2 words that are no call.";
+Exit status: 0 where every row was printed; the status of a refusal, where the server refuses (docs/FORMATS.md); 1 after another fault; 2 words that are no call.";
 
 /// Which version is got.
 pub(crate) const VERSION: &str = "The version's number, from 1 on; without it, the latest version";
@@ -123,18 +141,18 @@ pub(crate) const ALL_LOCATIONS: &str =
     "Asks each location that the server names, and not the server alone";
 
 /// What listing does.
-pub(crate) const LIST: &str = "Not there yet: prints the tables of a server, a line for each";
+pub(crate) const LIST: &str = "Prints the tables of a server, a line for each";
 
 /// How listing ends.
 pub(crate) const LIST_MORE: &str = "\
 Example: flightd list 127.0.0.1:42000
-Exit status: 0 where every line was printed; 1 after a fault; 2 words that are no call.";
+Exit status: 0 where every line was printed; the status of a refusal, where the server refuses (docs/FORMATS.md); 1 after another fault; 2 words that are no call.";
 
 /// What is told of a table.
 pub(crate) const INFO: &str =
-    "Not there yet: prints what a server tells of a table: its latest version, its rows, its bytes and its locations";
+    "Prints what a server tells of a table: its latest version, its rows, its bytes and its locations";
 
 /// How telling of a table ends.
 pub(crate) const INFO_MORE: &str = "\
 Example: flightd info 127.0.0.1:42000 cities
-Exit status: 0 where it was printed; 1 after a fault; 2 words that are no call.";
+Exit status: 0 where it was printed; the status of a refusal, where the server refuses (docs/FORMATS.md); 1 after another fault; 2 words that are no call.";

@@ -1,7 +1,7 @@
 //! The words that the program is called with.
 //!
 //! `parse` reads them, and `asked_by` says what they ask for: the acceptor, the audit of a file, with its explanation or
-//! without, or its replay; a cluster that is served, or one that a script is run at; or a call of a server. A caller prints
+//! without, or its replay; a cluster that is served, or one that a script is run at; a node's records; or a call of a server. A caller prints
 //! the error of words that are refused, and of the help and the version, and exits with its status. The numbers among the
 //! words are read by `served_by` and `version_by`.
 #![tactic(auto)]

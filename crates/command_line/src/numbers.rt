@@ -1,7 +1,8 @@
-//! The numbers among the words.
+//! The numbers among the words, and the folder of a cluster.
 
 ghost use Rattle.std.specs.Prelude.{◌≡◌, ◌<◌, ◌≤◌, ◌^◌, ℕ, MatchOption, option_map};
-ghost use Rattle.command_line.specs.Numbers.{IsNodes, IsPort, Writes, Gives, ServedBy, VersionBy};
+ghost use Rattle.clap.specs.Words.{Text};
+ghost use Rattle.command_line.specs.Numbers.{HasFolder, IsNodes, IsPort, Writes, Gives, ServedBy, VersionBy};
 
 use thiserror::Error;
 
@@ -19,14 +20,16 @@ pub const LAST_PORT: u16 = 65_000;
 
 /// A cluster that is served.
 #[derive(Clone, Copy, Debug, PartialEq, Eq)]
-pub struct Served {
+pub struct Served<'a> {
     /// How many nodes it has, 3 or 5.
     pub nodes: u8,
     /// The port of node 0; node k has the port that is k more.
     pub port: u16,
+    /// The folder of the nodes' records.
+    pub folder: &'a str,
 }
 
-/// What is wrong with a number among the words. Its text says what is allowed.
+/// What is wrong with a number among the words, or with the folder. Its text says what is allowed.
 #[derive(Clone, Copy, Debug, PartialEq, Eq, Error)]
 pub enum WordsFault {
     /// The value of `--nodes` is neither 3 nor 5.
@@ -35,22 +38,36 @@ pub enum WordsFault {
     /// The value of `--port` is no port that the first node may have.
     #[error("--port takes a number from 1024 to 65000")]
     Port,
+    /// There is no value of `--data`, or an empty one.
+    #[error("--data names the folder of the nodes' records")]
+    Folder,
     /// The version of a table is no number that one has.
     #[error("VERSION is a decimal number from 1 on")]
     Version,
 }
 
-/// The cluster that the values of `--nodes` and `--port` ask for, where each has its default where it is not there.
+/// The cluster that the values of `--nodes`, `--port` and `--data` ask for, where each of the first two has its default where it
+/// is not there.
 ///
-/// [`WordsFault::Nodes`] is told exactly where the first is no decimal number that is 3 or 5; and [`WordsFault::Port`]
-/// exactly where it is, and the other is no decimal number from [`LEAST_PORT`] to [`LAST_PORT`]. A decimal number is
-/// digits alone.
-pub fn served_by(nodes: Option<&str>, port: Option<&str>) -> Result<Served, WordsFault>
-    ensures { ServedBy (option_map (λ text. text.now) nodes.entry) (option_map (λ text. text.now) port.entry) result }
+/// [`WordsFault::Nodes`] is told exactly where the first is no decimal number that is 3 or 5; [`WordsFault::Port`] exactly
+/// where it is, and the second is no decimal number from [`LEAST_PORT`] to [`LAST_PORT`]; and [`WordsFault::Folder`] exactly
+/// where both are, and the third is not there or is empty. A decimal number is digits alone.
+pub fn served_by<'a>(
+    nodes: Option<&str>,
+    port: Option<&str>,
+    folder: Option<&'a str>,
+) -> Result<Served<'a>, WordsFault>
+    ensures { ServedBy (option_map (λ text. text.now) nodes.entry) (option_map (λ text. text.now) port.entry)
+        (option_map (λ text. text.now) folder.entry) result }
 {
     let nodes = nodes_of(nodes).ok_or(WordsFault::Nodes)?;
     let port = port_of(port).ok_or(WordsFault::Port)?;
-    Ok(Served { nodes, port })
+    let folder = folder_of(folder).ok_or(WordsFault::Folder)?;
+    Ok(Served {
+        nodes,
+        port,
+        folder,
+    })
 }
 
 /// The version's number that this text writes in decimal digits. It is [`WordsFault::Version`] exactly where it writes none,
@@ -90,6 +107,16 @@ fn port_of(text: Option<&str>) -> Option<u16>
         Some(port)
     } else {
         None
+    }
+}
+
+fn folder_of<'a>(text: Option<&'a str>) -> Option<&'a str>
+    ensures { MatchOption result ((name : Text) → ¬ HasFolder (option_map (λ text. text.now) text.entry) name)
+        (λ folder. HasFolder (option_map (λ text. text.now) text.entry) folder.now) }
+{
+    match text {
+        Some(folder) if !folder.is_empty() => Some(folder),
+        _ => None,
     }
 }
 

@@ -28,9 +28,13 @@ pub enum Asked<'a> {
         nodes: Option<&'a str>,
         /// The port of the first of them.
         port: Option<&'a str>,
+        /// The folder of their records.
+        folder: Option<&'a str>,
     },
     /// The calls of the script that this file tells, at a cluster of their own.
     Script(&'a str),
+    /// The records that a node's file has.
+    Records(&'a str),
     /// The rows of a file, put into a table at a server.
     Put {
         /// Where the server is.
@@ -74,8 +78,9 @@ pub enum Asked<'a> {
 /// | `acceptor` | | |
 /// | `audit` | `FILE` | `--explain` |
 /// | `replay` | `FILE` | |
-/// | `serve` | | `--nodes N`, `--port P` |
+/// | `serve` | | `--nodes N`, `--port P`, `--data DIR` |
 /// | `script` | `FILE` | |
+/// | `records` | `FILE` | |
 /// | `put` | `ADDRESS TABLE FILE` | `--id ID`, `--schema SCHEMA` |
 /// | `get` | `ADDRESS TABLE`, and perhaps `VERSION` | `--all-locations` |
 /// | `list` | `ADDRESS` | |
@@ -142,8 +147,10 @@ fn asked_of<'a>(name: &str, found: &ArgMatches<'a>) -> Asked<'a>
         "serve" => Asked::Serve {
             nodes: found.get_str("nodes"),
             port: found.get_str("port"),
+            folder: found.get_str("data"),
         },
         "script" => Asked::Script(operand(found, "FILE")),
+        "records" => Asked::Records(operand(found, "FILE")),
         "put" => put_of(found),
         "get" => get_of(found),
         "list" => Asked::List(operand(found, "ADDRESS")),

@@ -1,23 +1,26 @@
-//! Clusters whose records are in memory.
+//! Clusters whose nodes have no records yet.
+//!
+//! What makes the seats of a cluster is written for one kind of store each time, since the size of an array of seats has to be known.
 
 ghost use Rattle.std.specs.Prelude.{◌≡◌};
 
-use crate::fault::ServiceFault;
+use crate::fault::{ServiceFault, store_fault};
 use ballots::{Members, NodeId};
 use crossbeam_channel::Receiver;
 use growing_log::{Naming, Opened};
 use node_threads::{Cluster, Journal, Note, OpenGate, OwnEntry, Running, Seat};
 use schedule_runner::{Config, MAX_JOURNAL_ENTRIES, MAX_SLOTS};
-use stable_records::MemoryStable;
+use stable_records::{MemoryStable, Stable};
 use std::alloc::Global;
 use std::hash::RandomState;
 use std::sync::{Mutex, Wait};
 
 /// So many nodes that run, and what the worker of each reads.
-pub type Started<const N: usize, J> = (Running<N, MemoryStable, J, OpenGate>, Vec<Receiver<Note>>);
+pub type Started<const N: usize, S, J> = (Running<N, S, J, OpenGate>, Vec<Receiver<Note>>);
 
-// As many slots and entries of the journal as there may be.
-fn config_of(count: u8) -> Result<Config, ServiceFault> {
+/// The configuration of so many nodes, with as many slots and entries of the journal as there may be. [`ServiceFault::Members`] says that
+/// there can't be so many nodes.
+pub fn config_of(count: u8) -> Result<Config, ServiceFault> {
     let Some(members) = Members::new(count) else {
         return Err(ServiceFault::Members);
     };
@@ -28,78 +31,95 @@ fn config_of(count: u8) -> Result<Config, ServiceFault> {
     })
 }
 
-// The node of this number, with nothing.
-fn seat<J: Naming>(
+/// The node of this number, with nothing, over its store, which is to have no records: a journal lives as long as its process, and it says
+/// nothing of what was kept before.
+///
+/// [`ServiceFault::OldRecords`] says that the store has records; [`ServiceFault::Damaged`] that what stands in it means none, and
+/// [`ServiceFault::Device`] that it could not be read or written; [`ServiceFault::OutOfMemory`] that memory was refused; and
+/// [`ServiceFault::Members`] that the node is none of the configuration.
+pub fn open_seat<S: Stable + Drop, J: Naming>(
     alloc: Global,
     hashing: RandomState,
     number: u8,
     config: Config,
-) -> Result<Mutex<Seat<MemoryStable, J>>, ServiceFault> {
+    store: S,
+) -> Result<Mutex<Seat<S, J>>, ServiceFault> {
     let Some(me) = NodeId::new(number) else {
         return Err(ServiceFault::Members);
     };
     if !config.is_within_limits() || !config.members.have(me) {
         return Err(ServiceFault::Members);
     }
-    match Seat::open(alloc, hashing, me, config, MemoryStable::new(alloc)) {
+    match Seat::open(alloc, hashing, me, config, store) {
         Ok(Some(seat)) => Ok(Mutex::new(seat)),
-        Ok(None) | Err(_) => Err(ServiceFault::OutOfMemory),
+        Ok(None) => Err(ServiceFault::OldRecords),
+        Err(fault) => Err(store_fault(fault)),
     }
 }
 
-// The cluster of these nodes.
-fn started<R: Wait, J: Naming, const N: usize>(
+/// The cluster of these nodes, and what the worker of each reads. [`ServiceFault::Members`] says that they are none.
+pub fn start_nodes<R: Wait, S: Stable + Drop, J: Naming, const N: usize>(
     rt: &R,
     alloc: Global,
-    seats: [Mutex<Seat<MemoryStable, J>>; N],
+    seats: [Mutex<Seat<S, J>>; N],
     journal: Journal<J>,
-) -> Result<Started<N, J>, ServiceFault> {
+) -> Result<Started<N, S, J>, ServiceFault> {
     let Some(cluster) = Cluster::new(rt, seats, journal) else {
         return Err(ServiceFault::Members);
     };
     Ok(Running::new(alloc, cluster, OpenGate)?)
 }
 
-/// Three nodes. [`ServiceFault::OutOfMemory`] says that memory was refused.
+// The node of this number, over a store in memory.
+fn in_memory<J: Naming>(
+    alloc: Global,
+    hashing: RandomState,
+    number: u8,
+    config: Config,
+) -> Result<Mutex<Seat<MemoryStable, J>>, ServiceFault> {
+    open_seat(alloc, hashing, number, config, MemoryStable::new(alloc))
+}
+
+/// Three nodes whose records are in memory. [`ServiceFault::OutOfMemory`] says that memory was refused.
 pub fn three_nodes<R: Wait, J: Naming>(
     rt: &R,
     alloc: Global,
     hashing: RandomState,
     log: Opened<OwnEntry>,
-) -> Result<Started<3, J>, ServiceFault>
+) -> Result<Started<3, MemoryStable, J>, ServiceFault>
     requires { log ≡ J.book }
 {
     let config = config_of(3)?;
     let seats = [
-        seat(alloc, hashing, 0, config)?,
-        seat(alloc, hashing, 1, config)?,
-        seat(alloc, hashing, 2, config)?,
+        in_memory(alloc, hashing, 0, config)?,
+        in_memory(alloc, hashing, 1, config)?,
+        in_memory(alloc, hashing, 2, config)?,
     ];
     if !config.is_within_limits() {
         return Err(ServiceFault::Members);
     }
-    started(rt, alloc, seats, Journal::with_log(alloc, config, log))
+    start_nodes(rt, alloc, seats, Journal::with_log(alloc, config, log))
 }
 
-/// Five nodes. [`ServiceFault::OutOfMemory`] says that memory was refused.
+/// Five nodes whose records are in memory. [`ServiceFault::OutOfMemory`] says that memory was refused.
 pub fn five_nodes<R: Wait, J: Naming>(
     rt: &R,
     alloc: Global,
     hashing: RandomState,
     log: Opened<OwnEntry>,
-) -> Result<Started<5, J>, ServiceFault>
+) -> Result<Started<5, MemoryStable, J>, ServiceFault>
     requires { log ≡ J.book }
 {
     let config = config_of(5)?;
     let seats = [
-        seat(alloc, hashing, 0, config)?,
-        seat(alloc, hashing, 1, config)?,
-        seat(alloc, hashing, 2, config)?,
-        seat(alloc, hashing, 3, config)?,
-        seat(alloc, hashing, 4, config)?,
+        in_memory(alloc, hashing, 0, config)?,
+        in_memory(alloc, hashing, 1, config)?,
+        in_memory(alloc, hashing, 2, config)?,
+        in_memory(alloc, hashing, 3, config)?,
+        in_memory(alloc, hashing, 4, config)?,
     ];
     if !config.is_within_limits() {
         return Err(ServiceFault::Members);
     }
-    started(rt, alloc, seats, Journal::with_log(alloc, config, log))
+    start_nodes(rt, alloc, seats, Journal::with_log(alloc, config, log))
 }

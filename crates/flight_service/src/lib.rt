@@ -24,7 +24,7 @@ mod places;
 mod service;
 mod works;
 
-pub use cluster::{Started, five_nodes, three_nodes};
+pub use cluster::{Started, config_of, five_nodes, open_seat, start_nodes, three_nodes};
 pub use connection::{SILENCE_SECONDS, serve_connection};
 pub use fault::ServiceFault;
 pub use listening::{bind_all, start_listening};

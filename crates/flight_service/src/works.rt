@@ -7,7 +7,7 @@ use cluster_backend::{AllReceipts, Nodes, Receipts};
 use crossbeam_channel::Receiver;
 use growing_log::Naming;
 use node_threads::{Gate, Note, Pace, Running};
-use stable_records::MemoryStable;
+use stable_records::Stable;
 use std::alloc::{AllocError, Global};
 use std::sync::{Arc, Wait};
 use std::thread;
@@ -26,8 +26,12 @@ pub trait Works: Nodes + Send + Sync {
     fn confirm_all<R: Wait>(&self, rt: &R, receipts: &AllReceipts) -> bool;
 }
 
-impl<const N: usize, J: Naming + Send + Sync, G: Gate + Drop + Send + Sync> Works
-    for Running<N, MemoryStable, J, G> {
+impl<
+    const N: usize,
+    S: Stable + Drop + Send,
+    J: Naming + Send + Sync,
+    G: Gate + Drop + Send + Sync,
+> Works for Running<N, S, J, G> {
     fn work<R: Wait + Clock>(&self, rt: &R, node: usize, notes: &Receiver<Note>) {
         let members = self.cluster().journal().lock(rt).config().members;
         let Ok(number) = u8::try_from(node) else {

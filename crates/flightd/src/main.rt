@@ -3,20 +3,27 @@
 //! `flightd acceptor`, or no word at all, answers Paxos messages as node 0 of three, with nothing kept. `flightd audit
 //! FILE` says whether a recorded run of such messages is one that correct nodes may have sent, and `flightd audit --explain
 //! FILE` also why it is not. `flightd replay FILE` plays a schedule, and prints a line for each of its events. `flightd serve`
-//! serves a cluster, and `flightd script FILE` makes a script's calls of a cluster of its own. The words are read by
+//! serves a cluster, and `flightd script FILE` makes a script's calls of a cluster of its own; `flightd records FILE` prints what a
+//! node of a cluster keeps. `flightd put`, `get`, `list` and `info` are a client's calls of a server. The words are read by
 //! `command_line`, and each command is one function over any reader and writers, with its contract, of a library of its own;
-//! `main` gives it the real ones. What else the words may ask for is not there yet.
+//! `main` gives it the real ones.
 #![tactic(auto)]
 
 use acceptor_command::acceptor_run;
 use audit_command::{AuditFault, FAILURE, audit_run, explain_run};
-use command_line::{Asked, Served, asked_by, parse, served_by};
+use client_command::{get_everywhere_run, get_run, info_run, list_run, put_run};
+use client_connections::{Sockets, address_of};
+use command_line::{Asked, asked_by, parse, served_by, version_by};
+use records_command::records_run;
 use replay_command::replay_run;
+use schema_words::{SchemaWordsFault, schema_of_words};
 use script_command::script_run;
 use serve_command::serve_run;
+use std::fmt::Display;
 use std::hash::RandomState;
-use std::io::{BufReader, BufWriter};
+use std::io::{BufReader, BufWriter, Read};
 use std::process::ExitCode;
+use std::random::RandomSource;
 use std::{fs, io};
 
 /// The exit status of words that are no call.
@@ -26,8 +33,13 @@ const NO_CALL: u8 = 2;
 enum Left {
     /// Nothing: the command has ended with this status.
     Nothing(u8),
-    /// A cluster is to be served, with these keys for its look-ups.
-    Serve(Served, RandomState),
+    /// A cluster is to be served, with its records in this folder, with these keys for its look-ups.
+    Serve {
+        nodes: u8,
+        port: u16,
+        folder: String,
+        hashing: RandomState,
+    },
     /// The script that these bytes are is to be played, at a cluster with these keys for its look-ups.
     Script(Vec<u8>, RandomState),
 }
@@ -35,12 +47,20 @@ enum Left {
 fn main(rt: HostRuntime) -> ExitCode {
     let status = match start(&rt) {
         Ok(Left::Nothing(status)) => status,
-        Ok(Left::Serve(Served { nodes, port }, hashing)) => serve_run(
+        Ok(
+            Left::Serve {
+                nodes,
+                port,
+                folder,
+                hashing,
+            },
+        ) => serve_run(
             rt,
             rt.alloc(),
             hashing,
             nodes,
             port,
+            folder.as_str(),
             &mut rt.stdout(),
             &mut rt.stderr(),
         ),
@@ -88,31 +108,55 @@ fn follow(rt: &HostRuntime, asked: Asked) -> io::Result<Left> {
         Asked::Audit(file) => judge(rt, file)?,
         Asked::Explain(file) => explain(rt, file)?,
         Asked::Replay(file) => play(rt, file)?,
-        Asked::Serve { nodes, port } => return serve(rt, nodes, port),
+        Asked::Serve {
+            nodes,
+            port,
+            folder,
+        } => return serve(rt, nodes, port, folder),
         Asked::Script(file) => {
             return Ok(Left::Script(fs::read(rt, file)?, RandomState::new(rt)?));
         }
-        _ => refuse(rt),
+        Asked::Records(file) => show(rt, file)?,
+        Asked::Put {
+            address,
+            table,
+            file,
+            id,
+            schema,
+        } => put(rt, address, table, file, id, schema)?,
+        Asked::Get {
+            address,
+            table,
+            version,
+            all_locations,
+        } => get(rt, address, table, version, all_locations)?,
+        Asked::List(address) => list(rt, address)?,
+        Asked::Info { address, table } => tell(rt, address, table)?,
     };
     Ok(Left::Nothing(status))
 }
 
 // The cluster that is to be served.
-fn serve(rt: &HostRuntime, nodes: Option<&str>, port: Option<&str>) -> io::Result<Left> {
-    match served_by(nodes, port) {
-        Ok(served) => Ok(Left::Serve(served, RandomState::new(rt)?)),
-        Err(fault) => {
-            // Where this fails, the status alone tells.
-            let _ = eprintln!(rt; "flightd: {fault}");
-            Ok(Left::Nothing(NO_CALL))
-        }
+fn serve(
+    rt: &HostRuntime,
+    nodes: Option<&str>,
+    port: Option<&str>,
+    folder: Option<&str>,
+) -> io::Result<Left> {
+    match served_by(nodes, port, folder) {
+        Ok(served) => Ok(Left::Serve {
+            nodes: served.nodes,
+            port: served.port,
+            folder: String::from_str(rt.alloc(), served.folder)?,
+            hashing: RandomState::new(rt)?,
+        }),
+        Err(fault) => Ok(Left::Nothing(refuse(rt, fault))),
     }
 }
 
-// What is asked for is not there yet, and ends as words that are no call do.
-fn refuse(rt: &HostRuntime) -> u8 {
-    // Where this fails, the status alone tells.
-    let _ = eprintln!(rt; "flightd: Unsupported");
+// Says what is wrong with words that are no call. Where that can't be written, the status alone tells.
+fn refuse<F: Display + Drop>(rt: &HostRuntime, fault: F) -> u8 {
+    let _ = eprintln!(rt; "flightd: {fault}");
     NO_CALL
 }
 
@@ -139,4 +183,126 @@ fn play(rt: &HostRuntime, path: &str) -> io::Result<u8> {
     let hashing = RandomState::new(rt)?;
     let mut output = BufWriter::new(alloc, rt.stdout())?;
     Ok(replay_run(alloc, hashing, &file, &mut output, &mut rt.stderr()))
+}
+
+// Puts the rows of a file, which is read where the address is one.
+fn put(
+    rt: &HostRuntime,
+    address: &str,
+    table: &str,
+    file: &str,
+    id: Option<&str>,
+    schema: Option<&str>,
+) -> io::Result<u8> {
+    let alloc = rt.alloc();
+    let schema = match schema.map(|words| schema_of_words(alloc, words)) {
+        None => None,
+        Some(Ok(schema)) => Some(schema),
+        Some(Err(SchemaWordsFault::OutOfMemory)) => return Err(io::ErrorKind::OutOfMemory.into()),
+        Some(Err(fault)) => return Ok(refuse(rt, fault)),
+    };
+    let text = match address_of(address) {
+        Some(_) => rows_in(rt, file)?,
+        None => Vec::new(alloc),
+    };
+    let mut random = [0; 16];
+    rt.fill_bytes(&mut random)?;
+    let mut output = BufWriter::new(alloc, rt.stdout())?;
+    Ok(put_run(
+        alloc,
+        &mut Sockets::new(rt),
+        address,
+        table,
+        id,
+        random,
+        &text,
+        schema.as_ref(),
+        &mut output,
+        &mut rt.stderr(),
+    ))
+}
+
+// The bytes of a file, or of standard input where it is `-`.
+fn rows_in(rt: &HostRuntime, file: &str) -> io::Result<Vec<u8>> {
+    if file != "-" {
+        return fs::read(rt, file);
+    }
+    let mut text = Vec::new(rt.alloc());
+    rt.stdin().read_to_end(&mut text)?;
+    Ok(text)
+}
+
+// Prints the rows of a version, of one location or of all.
+fn get(
+    rt: &HostRuntime,
+    address: &str,
+    table: &str,
+    version: Option<&str>,
+    all_locations: bool,
+) -> io::Result<u8> {
+    let alloc = rt.alloc();
+    let version = match version {
+        None => None,
+        Some(text) => match version_by(text) {
+            Ok(version) => Some(version),
+            Err(fault) => return Ok(refuse(rt, fault)),
+        },
+    };
+    let mut output = BufWriter::new(alloc, rt.stdout())?;
+    let mut sockets = Sockets::new(rt);
+    let mut errors = rt.stderr();
+    Ok(if all_locations {
+        get_everywhere_run(
+            alloc,
+            &mut sockets,
+            address,
+            table,
+            version,
+            &mut output,
+            &mut errors,
+        )
+    } else {
+        get_run(
+            alloc,
+            &mut sockets,
+            address,
+            table,
+            version,
+            &mut output,
+            &mut errors,
+        )
+    })
+}
+
+fn list(rt: &HostRuntime, address: &str) -> io::Result<u8> {
+    let alloc = rt.alloc();
+    let mut output = BufWriter::new(alloc, rt.stdout())?;
+    Ok(list_run(
+        alloc,
+        &mut Sockets::new(rt),
+        address,
+        &mut output,
+        &mut rt.stderr(),
+    ))
+}
+
+// Prints what is told of a table.
+fn tell(rt: &HostRuntime, address: &str, table: &str) -> io::Result<u8> {
+    let alloc = rt.alloc();
+    let mut output = BufWriter::new(alloc, rt.stdout())?;
+    Ok(info_run(
+        alloc,
+        &mut Sockets::new(rt),
+        address,
+        table,
+        &mut output,
+        &mut rt.stderr(),
+    ))
+}
+
+fn show(rt: &HostRuntime, path: &str) -> io::Result<u8> {
+    let alloc = rt.alloc();
+    let file = fs::read(rt, path)?;
+    let mut output = BufWriter::new(alloc, rt.stdout())?;
+    Ok(records_run(alloc, &file, &mut output, &mut rt.stderr()))
 }

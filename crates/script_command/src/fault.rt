@@ -29,7 +29,8 @@ pub enum PlayFault {
 pub(crate) fn not_served(fault: ServiceFault) -> PlayFault {
     match fault {
         ServiceFault::Bind => PlayFault::Bind,
-        ServiceFault::Members | ServiceFault::OutOfMemory => PlayFault::OutOfMemory,
+        // Its nodes are three or five, and their records are in memory.
+        _ => PlayFault::OutOfMemory,
     }
 }
 

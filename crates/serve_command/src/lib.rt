@@ -2,11 +2,12 @@
 //!
 //! `serve_run` opens a port for each node of a cluster, starts their workers, says where each node is served, and serves
 //! until it is ended from outside. It gives the exit status, and reports a fault in a line. The nodes keep their records in
-//! memory.
+//! the files of a folder, so that a process that ends at any moment loses none that a node answered for.
 #![tactic(auto)]
 
 mod addresses;
 mod fault;
+mod folder;
 mod serving;
 mod status;
 

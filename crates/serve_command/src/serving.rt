@@ -7,13 +7,16 @@ ghost use Rattle.serve_command.specs.Addresses.{addresses_text};
 
 use crate::addresses::tell_addresses;
 use crate::fault::{ServeFault, fault_of};
+use crate::folder::{five_nodes, open_disks, three_nodes};
 use crate::status::{FAILURE, SUCCESS};
 use cluster_backend::NoReceipts;
 use crossbeam_channel::Receiver;
-use flight_service::{Works, five_nodes, join_all, open_service, three_nodes};
+use file_disk::FileDisk;
+use flight_service::{Works, join_all, open_service};
 use growing_log::{Naming, Opened};
 use node_threads::{Note, OwnEntry};
-use std::alloc::Global;
+use std::alloc::{Alloc, Global};
+use std::fs::{File, Files};
 use std::hash::RandomState;
 use std::io::Write;
 use std::marker::Brand;
@@ -24,16 +27,21 @@ use std::time::Clock;
 
 /// `flightd serve`: serves a cluster of 3 or 5 nodes, node k at the port of 127.0.0.1 that is k more than the first, until it
 /// is ended from outside. Once all ports are open a line for each node goes to `w`, which is flushed ([`tell_addresses`]).
-/// `hashing` has the random keys that keep look-ups fast whatever names clients choose.
+/// `hashing` has the random keys that keep look-ups fast whatever names clients choose. Node k keeps its records in the file `node-k.rec`
+/// of `folder`, which is made where it is missing; no file may have records yet.
 ///
 /// A fault's line goes to `e`: `flightd: Bind` where a port can't be had, `flightd: Members` where the cluster would have
-/// another number of nodes, `flightd: OutOfMemory` where memory or a thread is refused, `flightd: Io` where `w` fails. Where
-/// that can't be written, the status alone tells.
+/// another number of nodes, `flightd: Open` where the folder or a file can't be opened or made, `flightd: Locked` where another
+/// process has a file, `flightd: OldRecords` where a file has records, `flightd: Damaged` where what stands in one means no records,
+/// `flightd: Device` where one can't be read or written, `flightd: OutOfMemory` where memory or a thread is refused, `flightd: Io` where
+/// `w` fails. Where that can't be written, the status alone tells.
 pub fn serve_run<
     R: Net<Listener = TcpListener, Stream = TcpStream>
         + Threads
         + Wait
         + Clock
+        + Files<File = File>
+        + Alloc
         + Copy
         + Send
         + 'static,
@@ -45,6 +53,7 @@ pub fn serve_run<
     hashing: RandomState,
     nodes: u8,
     first_port: u16,
+    folder: &str,
     w: &mut W,
     e: &mut E,
 ) -> u8
@@ -54,7 +63,7 @@ pub fn serve_run<
     ensures failed { result ≡ 1 → (written : List ℕ) × IsBeginning written (addresses_text first_port nodes)
         × Appends (W.contents w.old) (W.contents w.new) written }
 {
-    match serve(rt, alloc, hashing, nodes, first_port, w) {
+    match serve_from(rt, alloc, hashing, nodes, first_port, folder, w) {
         Ok(()) => SUCCESS,
         Err(fault) => {
             // Where this fails too, the status alone tells.
@@ -65,7 +74,41 @@ pub fn serve_run<
     }
 }
 
-/// Serves a cluster as [`serve_run`] does, and gives the fault itself.
+// Serves a cluster with its records in the files of a folder, and gives the fault itself.
+fn serve_from<
+    R: Net<Listener = TcpListener, Stream = TcpStream>
+        + Threads
+        + Wait
+        + Clock
+        + Files<File = File>
+        + Alloc
+        + Copy
+        + Send
+        + 'static,
+    W: Write,
+>(
+    rt: R,
+    alloc: Global,
+    hashing: RandomState,
+    nodes: u8,
+    first_port: u16,
+    folder: &str,
+    w: &mut W,
+) -> Result<(), ServeFault>
+    ensures all { OnOk result (Appends (W.contents w.old) (W.contents w.new) (addresses_text first_port nodes)) }
+    ensures part { OnErr result ((written : List ℕ) × IsBeginning written (addresses_text first_port nodes)
+        × Appends (W.contents w.old) (W.contents w.new) written) }
+{
+    if nodes != 3 && nodes != 5 {
+        return Err(ServeFault::Members);
+    }
+    match open_disks(&rt, alloc, nodes, folder) {
+        Ok(disks) => serve(rt, alloc, hashing, nodes, first_port, disks, w),
+        Err(fault) => Err(fault),
+    }
+}
+
+/// Serves a cluster as [`serve_run`] does, over the files of its nodes, the last node's first, and gives the fault itself.
 pub fn serve<
     R: Net<Listener = TcpListener, Stream = TcpStream>
         + Threads
@@ -81,6 +124,7 @@ pub fn serve<
     hashing: RandomState,
     nodes: u8,
     first_port: u16,
+    disks: Vec<FileDisk>,
     w: &mut W,
 ) -> Result<(), ServeFault>
     ensures all { OnOk result (Appends (W.contents w.old) (W.contents w.new) (addresses_text first_port nodes)) }
@@ -88,8 +132,8 @@ pub fn serve<
         × Appends (W.contents w.old) (W.contents w.new) written) }
 {
     match nodes {
-        3 => serve_three::<R, W, Brand>(rt, alloc, hashing, first_port, w, Opened::new()),
-        5 => serve_five::<R, W, Brand>(rt, alloc, hashing, first_port, w, Opened::new()),
+        3 => serve_three::<R, W, Brand>(rt, alloc, hashing, first_port, disks, w, Opened::new()),
+        5 => serve_five::<R, W, Brand>(rt, alloc, hashing, first_port, disks, w, Opened::new()),
         _ => Err(ServeFault::Members),
     }
 }
@@ -110,6 +154,7 @@ fn serve_three<
     alloc: Global,
     hashing: RandomState,
     first_port: u16,
+    disks: Vec<FileDisk>,
     w: &mut W,
     log: Opened<OwnEntry>,
 ) -> Result<(), ServeFault>
@@ -118,9 +163,9 @@ fn serve_three<
     ensures part { OnErr result ((written : List ℕ) × IsBeginning written (addresses_text first_port 3)
         × Appends (W.contents w.old) (W.contents w.new) written) }
 {
-    match three_nodes::<R, J>(&rt, alloc, hashing, log) {
+    match three_nodes::<R, J>(&rt, alloc, hashing, disks, log) {
         Ok((nodes, notes)) => serve_nodes(rt, alloc, nodes, notes, first_port, 3, w),
-        Err(fault) => Err(fault_of(fault)),
+        Err(fault) => Err(fault),
     }
 }
 
@@ -140,6 +185,7 @@ fn serve_five<
     alloc: Global,
     hashing: RandomState,
     first_port: u16,
+    disks: Vec<FileDisk>,
     w: &mut W,
     log: Opened<OwnEntry>,
 ) -> Result<(), ServeFault>
@@ -148,9 +194,9 @@ fn serve_five<
     ensures part { OnErr result ((written : List ℕ) × IsBeginning written (addresses_text first_port 5)
         × Appends (W.contents w.old) (W.contents w.new) written) }
 {
-    match five_nodes::<R, J>(&rt, alloc, hashing, log) {
+    match five_nodes::<R, J>(&rt, alloc, hashing, disks, log) {
         Ok((nodes, notes)) => serve_nodes(rt, alloc, nodes, notes, first_port, 5, w),
-        Err(fault) => Err(fault_of(fault)),
+        Err(fault) => Err(fault),
     }
 }
 

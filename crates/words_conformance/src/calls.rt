@@ -29,6 +29,9 @@ fn takes_the_commands_without_a_server(rt: HostRuntime) -> Result<(), Fail> {
         ),
         ("flightd list [::1]:42000", Asked::List("[::1]:42000")),
         ("list list list", Asked::List("list")),
+        ("flightd records node-0.rec", Asked::Records("node-0.rec")),
+        ("flightd records records", Asked::Records("records")),
+        ("flightd records -", Asked::Records("-")),
     ] {
         let words = words_in(alloc, call)?;
         assert!(rt; asks_for(alloc, &words, wanted), "{call}");
@@ -39,46 +42,54 @@ fn takes_the_commands_without_a_server(rt: HostRuntime) -> Result<(), Fail> {
 #[test]
 fn takes_a_cluster(rt: HostRuntime) -> Result<(), Fail> {
     let alloc = rt.alloc();
-    for (call, nodes, port) in [
-        ("flightd serve", None, None),
-        ("flightd serve --", None, None),
-        ("flightd serve --nodes 5", Some("5"), None),
-        ("flightd serve --nodes=5", Some("5"), None),
-        ("flightd serve --port 9000", None, Some("9000")),
-        ("flightd serve --port=9000", None, Some("9000")),
+    for (call, nodes, port, folder) in [
+        ("flightd serve", None, None, None),
+        ("flightd serve --", None, None, None),
+        ("flightd serve --nodes 5", Some("5"), None, None),
+        ("flightd serve --nodes=5", Some("5"), None, None),
+        ("flightd serve --port 9000", None, Some("9000"), None),
+        ("flightd serve --port=9000", None, Some("9000"), None),
+        ("flightd serve --data d", None, None, Some("d")),
+        ("flightd serve --data=a/b", None, None, Some("a/b")),
         (
-            "flightd serve --nodes 3 --port 9000",
+            "flightd serve --nodes 3 --port 9000 --data d",
             Some("3"),
             Some("9000"),
+            Some("d"),
         ),
         (
-            "flightd serve --port 9000 --nodes 3",
+            "flightd serve --port=9000 --data=d --nodes 3",
             Some("3"),
             Some("9000"),
+            Some("d"),
         ),
         (
-            "flightd serve --port=9000 --nodes 3",
+            "flightd serve --data d --port 9000 --nodes=3",
             Some("3"),
             Some("9000"),
-        ),
-        (
-            "flightd serve --port 9000 --nodes=3",
-            Some("3"),
-            Some("9000"),
+            Some("d"),
         ),
         // Which numbers these are is not looked at here.
         (
             "flightd serve --nodes seven --port=-1",
             Some("seven"),
             Some("-1"),
+            None,
         ),
-        ("flightd serve --nodes= --port -", Some(""), Some("-")),
+        (
+            "flightd serve --nodes= --port - --data=",
+            Some(""),
+            Some("-"),
+            Some(""),
+        ),
     ] {
         let words = words_in(alloc, call)?;
-        assert!(rt;
-            asks_for(alloc, &words, Asked::Serve { nodes, port }),
-            "{call}"
-        );
+        let wanted = Asked::Serve {
+            nodes,
+            port,
+            folder,
+        };
+        assert!(rt; asks_for(alloc, &words, wanted), "{call}");
     }
     Ok(())
 }

@@ -9,7 +9,7 @@ const NO_CALLS: [(ErrorKind, &str); 6] = [
     // No such word, option or operand.
     (
         ErrorKind::UnknownArgument,
-        "flightd serve a;flightd serve --data d;flightd script a b;flightd put a t f g;flightd get a t 1 2;flightd list a b;\
+        "flightd serve a;flightd serve --folder d;flightd script a b;flightd records a b;flightd put a t f g;flightd get a t 1 2;flightd list a b;\
          flightd info a t 1;flightd serve -p 9000;flightd serve --node 3;flightd serve --Port 9000;flightd list --id 7;\
          flightd put -id 7 a t f;flightd get a t --all;flightd get a t --all-location;flightd info --all-locations a t;\
          flightd script --explain f;flightd --nodes 3 serve;flightd get -a t",
@@ -21,18 +21,18 @@ const NO_CALLS: [(ErrorKind, &str); 6] = [
     // An operand or a value is missing.
     (
         ErrorKind::MissingRequiredArgument,
-        "flightd script;flightd put;flightd put a;flightd put a t;flightd put --id 7 a t;flightd get;flightd get a;\
+        "flightd script;flightd records;flightd put;flightd put a;flightd put a t;flightd put --id 7 a t;flightd get;flightd get a;\
          flightd get --all-locations a;flightd list;flightd list --;flightd info;flightd info a;flightd put --schema s --id 7",
     ),
     (
         ErrorKind::InvalidValue,
-        "flightd serve --nodes;flightd serve --port;flightd serve --nodes --port 9000;flightd put a t f --id;\
+        "flightd serve --nodes;flightd serve --port;flightd serve --data;flightd serve --nodes --port 9000;flightd put a t f --id;\
          flightd put a t f --schema;flightd put --id -- a t f;flightd put --id --schema s a t f",
     ),
     // An option stands twice.
     (
         ErrorKind::ArgumentConflict,
-        "flightd serve --nodes 3 --nodes 3;flightd serve --port=1 --nodes 3 --port 2;flightd put --id 7 a t f --id 7;\
+        "flightd serve --nodes 3 --nodes 3;flightd serve --data a --data b;flightd serve --port=1 --nodes 3 --port 2;flightd put --id 7 a t f --id 7;\
          flightd put --schema=s --schema=s a t f;flightd get --all-locations a t --all-locations",
     ),
     // An option without a value has one.
@@ -57,7 +57,7 @@ fn refuses_what_is_no_call(rt: HostRuntime) -> Result<(), Fail> {
 fn answers_calls_for_help(rt: HostRuntime) -> Result<(), Fail> {
     let alloc = rt.alloc();
     for command in [
-        "acceptor", "audit", "replay", "serve", "script", "put", "get", "list", "info",
+        "acceptor", "audit", "replay", "serve", "script", "records", "put", "get", "list", "info",
     ] {
         for call in [
             "flightd help COMMAND",

@@ -1,14 +1,15 @@
-//! The numbers of a cluster and of a version.
+//! The numbers of a cluster, its folder, and the number of a version.
 
 use command_line::{Served, WordsFault, served_by, version_by};
 
 #[test]
 fn takes_three_or_five_nodes(rt: HostRuntime) {
     assert!(rt;
-        served_by(None, None)
+        served_by(None, None, Some("d"))
             == Ok(Served {
                 nodes: 3,
-                port: 42_000
+                port: 42_000,
+                folder: "d"
             })
     );
     for (text, nodes) in [
@@ -18,10 +19,11 @@ fn takes_three_or_five_nodes(rt: HostRuntime) {
         ("0000000000000000000000005", 5),
     ] {
         assert!(rt;
-            served_by(Some(text), None)
+            served_by(Some(text), None, Some("a/b"))
                 == Ok(Served {
                     nodes,
-                    port: 42_000
+                    port: 42_000,
+                    folder: "a/b"
                 }),
             "{text}"
         );
@@ -48,12 +50,12 @@ fn takes_three_or_five_nodes(rt: HostRuntime) {
         "\u{663}",
     ] {
         assert!(rt;
-            served_by(Some(text), None) == Err(WordsFault::Nodes),
+            served_by(Some(text), None, None) == Err(WordsFault::Nodes),
             "{text}"
         );
         // The nodes are judged before the port.
         assert!(rt;
-            served_by(Some(text), Some("0")) == Err(WordsFault::Nodes),
+            served_by(Some(text), Some("0"), None) == Err(WordsFault::Nodes),
             "{text}"
         );
     }
@@ -68,11 +70,21 @@ fn takes_a_port_with_room_behind_it(rt: HostRuntime) {
         ("0042000", 42_000),
     ] {
         assert!(rt;
-            served_by(None, Some(text)) == Ok(Served { nodes: 3, port }),
+            served_by(None, Some(text), Some("d"))
+                == Ok(Served {
+                    nodes: 3,
+                    port,
+                    folder: "d"
+                }),
             "{text}"
         );
         assert!(rt;
-            served_by(Some("5"), Some(text)) == Ok(Served { nodes: 5, port }),
+            served_by(Some("5"), Some(text), Some("d"))
+                == Ok(Served {
+                    nodes: 5,
+                    port,
+                    folder: "d"
+                }),
             "{text}"
         );
     }
@@ -95,10 +107,16 @@ fn takes_a_port_with_room_behind_it(rt: HostRuntime) {
         "port",
     ] {
         assert!(rt;
-            served_by(Some("5"), Some(text)) == Err(WordsFault::Port),
+            served_by(Some("5"), Some(text), None) == Err(WordsFault::Port),
             "{text}"
         );
     }
+}
+
+#[test]
+fn wants_a_folder(rt: HostRuntime) {
+    assert!(rt; served_by(None, None, None) == Err(WordsFault::Folder));
+    assert!(rt; served_by(Some("5"), Some("9000"), Some("")) == Err(WordsFault::Folder));
 }
 
 #[test]
