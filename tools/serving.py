@@ -375,8 +375,9 @@ def full_later(program):
         uploads_kept(folder, 3, [bytes.fromhex(ack.id) for ack in acks])
 
 
-def killed(program, nodes, seconds):
-    """A server that is killed while callers put: each upload that was acknowledged stands at most nodes."""
+def killed(program, nodes, seconds, look=None, least=1):
+    """A server that is killed while callers put: each upload that was acknowledged stands at most nodes, of which there are at least so
+    many. The files are looked at too, where this is asked for."""
     acknowledged = []
 
     def puts(client):
@@ -394,9 +395,14 @@ def killed(program, nodes, seconds):
         process.communicate(timeout=CALL_SECONDS)
         for caller in callers:
             caller.join(CALL_SECONDS)
-        want(len(acknowledged) > 0, True)
+        want(len(acknowledged) >= least, True)
+        files = [f"{folder}/node-{number}.rec" for number in range(nodes)]
         uploads_kept(folder, nodes, [bytes.fromhex(name) for name in acknowledged])
-        not_served(program, folder, "OldRecords")
+        if look:
+            look(files)
+        # A server that was killed at once may have kept nothing, and its files are new ones.
+        if any(records_in(file) for file in files):
+            not_served(program, folder, "OldRecords")
     return len(acknowledged)
 
 

@@ -1,0 +1,150 @@
+#!/usr/bin/env python3
+"""Loads a server with calls, half of them cut off, and looks at what it answers and holds afterwards.
+
+    bench/load.py [SECONDS [PROGRAM]]
+
+It starts `PROGRAM serve` (crates/flightd/out/flightd, which the gate builds) with three nodes and their records in a folder for temporary files. 200
+callers at once, each a thread with the library in clients/python, make calls for so many seconds (60), each over a connection of its own
+to a node that is drawn: puts of one row, gets of a version that was acknowledged, questions about a table, lists. Half of the connections
+are requests that end before any of their bytes, some with a reset. Afterwards each upload that was acknowledged has to stand once, in its
+version's place, at each node. It says how many connections, calls and refusals there were, how long calls took, and what the server held in
+memory before the load, at its end and 5 seconds behind it. The status is 1 where an upload is not as it was acknowledged."""
+import collections
+import random
+import socket
+import struct
+import sys
+import tempfile
+import threading
+import time
+from pathlib import Path
+
+TOP = Path(__file__).resolve().parent.parent
+sys.dont_write_bytecode = True
+sys.path += [str(TOP / "clients" / "python"), str(TOP / "tools")]
+
+import felzoren
+from serving import CALL_SECONDS, PROGRAM, Recorder, Wrong, got, started, want
+
+CALLERS, SEED, TABLES, NODES = 200, 20261127, 4, 3
+QUIET_SECONDS = 5
+
+
+def resident(process):
+    """What a process holds in memory, in MiB, and how many threads it has."""
+    text = Path(f"/proc/{process.pid}/status").read_text(encoding="utf-8")
+    fields = dict(line.split(":", 1) for line in text.splitlines())
+    return int(fields["VmRSS"].split()[0]) / 1024, int(fields["Threads"])
+
+
+class Load:
+    """What the callers share: the server, the uploads that were acknowledged, and what came of the calls."""
+
+    def __init__(self, port):
+        self.port, self.lock = port, threading.Lock()
+        self.acknowledged = {f"t{number}": {} for number in range(TABLES)}
+        self.counts, self.times, self.number = collections.Counter(), [], 0
+
+    def client(self, drawn):
+        return felzoren.connect(f"127.0.0.1:{self.port + drawn.randrange(NODES)}", timeout=CALL_SECONDS)
+
+    def put(self, drawn, table):
+        with self.lock:
+            self.number += 1
+            number = self.number
+        version = self.client(drawn).put(table, {"row": [number]}, schema={"row": "int64"}).version
+        with self.lock:
+            if self.acknowledged[table].setdefault(version, number) != number:
+                raise Wrong(f"two uploads made version {version}")
+
+    def get(self, drawn, table):
+        with self.lock:
+            known = self.acknowledged[table]
+            version = drawn.choice(list(known)) if known else 1
+        self.client(drawn).get(table, min(version, 200))
+
+    def ask(self, drawn, table):
+        client = self.client(drawn)
+        drawn.choice((lambda: client.info(table), lambda: client.schema(table), client.list))()
+
+    def call(self, drawn):
+        """One call, and how long it took."""
+        name, act = drawn.choice((("put", self.put), ("get", self.get), ("ask", self.ask)))
+        before = time.perf_counter()
+        try:
+            act(drawn, f"t{drawn.randrange(TABLES)}")
+        except felzoren.Refused as refused:
+            name = f"{name}: {refused.name}"
+        with self.lock:
+            self.counts[name] += 1
+            self.times.append(1000 * (time.perf_counter() - before))
+
+    def cut(self, drawn):
+        """A request that ends before any of its bytes."""
+        recorder = Recorder()
+        client = felzoren.Client(lambda: recorder)
+        try:
+            drawn.choice((lambda: client.put("t0", {"row": [0]}, schema={"row": "int64"}), lambda: client.get("t0", 1)))()
+        except felzoren.BadAnswer:
+            pass
+        text = recorder.written
+        with socket.create_connection(("127.0.0.1", self.port + drawn.randrange(NODES)), CALL_SECONDS) as peer:
+            peer.sendall(text[: drawn.randrange(len(text))])
+            if drawn.randrange(2):
+                peer.setsockopt(socket.SOL_SOCKET, socket.SO_LINGER, struct.pack("ii", 1, 0))
+        with self.lock:
+            self.counts["cut off"] += 1
+
+    def caller(self, number, end):
+        drawn = random.Random(SEED + number)
+        while time.monotonic() < end:
+            try:
+                drawn.choice((self.call, self.cut))(drawn)
+            except (OSError, felzoren.BadAnswer) as error:
+                with self.lock:
+                    self.counts[f"no answer: {type(error).__name__}"] += 1
+
+
+def check(load, clients):
+    """Each upload that was acknowledged stands once, in its place, at each node."""
+    for table, known in load.acknowledged.items():
+        if known:
+            for client in clients:
+                rows = [row["row"] for row in got(client, table, max(known))]
+                want(len(set(rows)), len(rows))
+                for version, number in known.items():
+                    want(rows[version - 1], number)
+
+
+def main(seconds, program):
+    with tempfile.TemporaryDirectory() as folder:
+        process, clients, port = started(program, NODES, folder)
+        try:
+            load, held = Load(port), [resident(process)]
+            end = time.monotonic() + seconds
+            callers = [threading.Thread(target=load.caller, args=(number, end)) for number in range(CALLERS)]
+            for caller in callers:
+                caller.start()
+            for caller in callers:
+                caller.join()
+            held.append(resident(process))
+            time.sleep(QUIET_SECONDS)
+            held.append(resident(process))
+            check(load, clients)
+            want(process.poll(), None)
+        finally:
+            process.terminate()
+            process.communicate()
+    times = sorted(load.times)
+    print(f"{sum(load.counts.values())} connections in {seconds} s, by {CALLERS} callers at once: {dict(load.counts.most_common())}")
+    print(f"{sum(map(len, load.acknowledged.values()))} uploads were acknowledged, and each stands once, in its place, at each node")
+    print(f"a call took {times[len(times) // 2]:.0f} ms in the middle, {times[99 * len(times) // 100]:.0f} ms at 99 of 100, {times[-1]:.0f} ms at most")
+    for when, (memory, threads) in zip(("before", "at the end", f"{QUIET_SECONDS} s later"), held):
+        print(f"{when}: {memory:.1f} MiB, {threads} threads")
+
+
+if __name__ == "__main__":
+    try:
+        main(float(sys.argv[1]) if len(sys.argv) > 1 else 60, sys.argv[2] if len(sys.argv) > 2 else str(PROGRAM))
+    except (Wrong, OSError, felzoren.Refused, felzoren.BadAnswer) as error:
+        sys.exit(f"bench/load.py: {error}")
