@@ -1,0 +1,12 @@
+//! Conformance tests of `disk_records`, over its public calls: files that are cut off and files with other bytes, long files, and stops at
+//! each call of the disk in a run of recalls and keeps, under each of three crashes.
+//!
+//! The crate has no code but tests, so that what is proved in the crate below is not proved again together with them.
+#![tactic(auto)]
+
+#[cfg(test)]
+mod files;
+#[cfg(test)]
+mod stops;
+#[cfg(test)]
+mod support;
