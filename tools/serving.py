@@ -285,7 +285,8 @@ def client_words(program, clients, port):
     want(told(program, ["get", here[0], "words", "--all-locations"]), (0, LINES + LINES, everywhere))
     info = clients[0].info("words")
     want(told(program, ["list", here[0]])[1].splitlines()[-1], f"words 2 4 {info.total_bytes}")
-    told_of = "".join(f"{it}\n" for it in ["version 2", "rows 4", f"bytes {info.total_bytes}", *(f"location {it}" for it in locations)])
+    served = [*(f"location {it}" for it in locations), "field shop: utf8", "field sold: int64"]
+    told_of = "".join(f"{it}\n" for it in ["version 2", "rows 4", f"bytes {info.total_bytes}", *served])
     want(told(program, ["info", here[0], "words"]), (0, told_of, ""))
     typed = ["put", here[0], "typed", "-", "--schema", "small: int8 not null, day: date32"]
     want(told(program, typed, '{"small":1,"day":2}\n')[0], 0)

@@ -13,6 +13,7 @@ use Rattle.proto_wire.specs.declared.flight.endpoint.FlightEndpoint.{FlightEndpo
 use Rattle.proto_wire.specs.declared.flight.info.FlightInfo.{FlightInfo}
 use Rattle.call_words.specs.Names.{NamesTable}
 use Rattle.client_command.specs.declared.fault.CommandFault.{CommandFault}
+use Rattle.client_command.specs.Fields.{HasSchema, SchemaSays}
 use Rattle.client_command.specs.Latest.{IsLatest, LatestSays}
 use Rattle.client_command.specs.Tables.{NoText, TellsInfo, TellsTable, TellsTables, endpoint_locations, location_line, locations_text}
 
@@ -109,9 +110,15 @@ nothing_told values descriptor table fault described named says = elim says [
   )
 ]
 
--- nothing is told of the table that was asked about
-pub nothing_informed : (values : Values info_descriptor) (table : List ℕ) (fault : CommandFault) → LatestSays table values (Err fault) → NoText (TellsInfo table) values fault
-nothing_informed values table fault says = elim says [
+-- nothing is told of the table that was asked about, whose version or schema is not told
+pub no_version : (values : Values info_descriptor) (table : List ℕ) (fault : CommandFault) → LatestSays table values (Err fault) → NoText (TellsInfo table) values fault
+no_version values table fault says = elim says [
   | inl memory ↦ inl memory
   | inr bad ↦ inr (bad.0, λ text t. bad.1 t.latest t.is_latest)
+]
+
+pub no_schema : (values : Values info_descriptor) (table bytes : List ℕ) (fault : CommandFault) → bytes ≡ values.0 → SchemaSays bytes (Err fault) → NoText (TellsInfo table) values fault
+no_schema values table bytes fault same says = elim says [
+  | inl memory ↦ inl memory
+  | inr bad ↦ inr (bad.0, λ text t. bad.1 t.schema (subst (λ (l : List ℕ). HasSchema l t.schema) (sym same) t.has_schema))
 ]

@@ -1,6 +1,7 @@
 pub mod Endpoints
 pub mod Called
 pub mod Joined
+pub mod Shown
 pub mod Told
 pub mod Put
 pub mod Got

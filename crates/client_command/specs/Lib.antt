@@ -2,6 +2,7 @@ pub mod Faults
 pub mod Words
 pub mod Calls
 pub mod Latest
+pub mod Fields
 pub mod Tables
 pub mod Writing
 pub mod Visiting

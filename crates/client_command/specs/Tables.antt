@@ -4,6 +4,7 @@ use Rattle.std.specs.Prelude.{◌≡◌, ◌⊎◌, ℕ, ℤ, List, [], ◌∷�
 use Rattle.std.specs.declared.alloc.Global.{Global}
 use Rattle.std.specs.Fmt.{signed_decimal}
 use Rattle.std.specs.List.{flat_map}
+use Rattle.header_types.specs.Fields.{SchemaTree}
 use Rattle.proto_messages.specs.Descriptor.{Values}
 use Rattle.proto_wire.specs.Flight.{info_descriptor, endpoint_descriptor, location_descriptor, flight_descriptor_descriptor}
 use Rattle.table_types.specs.Ticket.{TableVersion}
@@ -11,6 +12,7 @@ use Rattle.call_words.specs.Names.{NamesTable}
 use Rattle.client_calls.specs.declared.client_fault.ClientFault.TheVariants.{BadAnswer}
 use Rattle.client_command.specs.declared.fault.CommandFault.{CommandFault}
 use Rattle.client_command.specs.declared.fault.CommandFault.TheVariants.{Call, OutOfMemory}
+use Rattle.client_command.specs.Fields.{HasSchema, fields_text}
 use Rattle.client_command.specs.Latest.{IsLatest}
 
 -- ---- of all tables, a line each
@@ -55,11 +57,18 @@ endpoint_locations endpoint = endpoint.1.0
 abbrev pub locations_text : List (Values endpoint_descriptor) → List ℕ
 locations_text endpoints = flat_map (λ (endpoint : Values endpoint_descriptor). flat_map location_line (endpoint_locations endpoint)) endpoints
 
--- this is what is told of the table
+-- the lines of this version of a table that has this schema
+abbrev pub info_text : ℕ → Values info_descriptor → SchemaTree → List ℕ
+info_text version values schema =
+    numbers_text version values.1.1.1.0 values.1.1.1.1.0 ++ (locations_text values.1.1.0 ++ fields_text schema.fields)
+
+-- this is what is told of the table: the lines of its latest version and of the schema that the bytes show
 pub record TellsInfo (table : List ℕ) (values : Values info_descriptor) (text : List ℕ) : Type 0 where
   pub latest : TableVersion
   pub is_latest : IsLatest table latest values
-  pub is : text ≡ numbers_text latest.version values.1.1.1.0 values.1.1.1.1.0 ++ locations_text values.1.1.0
+  pub schema : SchemaTree
+  pub has_schema : HasSchema values.0 schema
+  pub is : text ≡ info_text latest.version values schema
 
 -- ---- what making a text gives
 

@@ -54,8 +54,10 @@ fn info_asked<C: Connect, O: Write>(
 
 /// `flightd info HOST:PORT TABLE`: asks the server at this address ([`client_connections::address_of`]) what it tells
 /// of this table, as [`client_calls::call_info`] does, and prints its lines to `out`: `version V`, the latest version;
-/// `rows N` and `bytes N`, how many of them that has, -1 where the server does not know; and `location URI` for each
-/// location where it is served. The writer is flushed.
+/// `rows N` and `bytes N`, how many of them that has, -1 where the server does not know; `location URI` for each
+/// location where it is served; and `field NAME: TYPE` for each field of the table's schema, in order, by
+/// [`schema_words::field_words`]. The writer is flushed. An answer whose schema can't be read is no answer
+/// ([`client_calls::ClientFault::BadAnswer`]).
 ///
 /// The exit status is [`SUCCESS`] where every line was printed. Else a line, `flightd: ` and the fault's name, goes to
 /// `err`, and the status is that of the service, where the service refused the call, [`NO_CALL`] of

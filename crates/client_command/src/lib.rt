@@ -10,6 +10,7 @@
 mod asking;
 mod everywhere;
 mod fault;
+mod fields;
 mod getting;
 mod informing;
 mod latest;

@@ -2,14 +2,17 @@
 
 ghost use Rattle.std.specs.Prelude.{◌≡◌, ◌++◌, IfErr, IfOk, OnOk, map, string_bytes};
 ghost use Rattle.std.specs.List.{flat_map};
+ghost use Rattle.header_types.specs.Views.{schema_of};
 ghost use Rattle.proto_wire.specs.FlightValues.{endpoint_values, info_values};
 ghost use Rattle.client_command.specs.declared.fault.CommandFault.TheVariants.{OutOfMemory};
-ghost use Rattle.client_command.specs.Tables.{TellsInfo, TellsTable, TellsTables, TextSays, endpoint_locations, location_line, locations_text, numbers_text, table_line};
+ghost use Rattle.client_command.specs.Tables.{TellsInfo, TellsTable, TellsTables, TextSays, endpoint_locations, info_text, location_line, locations_text, numbers_text, table_line};
 
 use crate::fault::CommandFault;
+use crate::fields::{push_fields, schema_in};
 use crate::latest::latest_in;
 use call_words::table_in;
 use client_calls::ClientFault;
+use header_types::Schema;
 use proto_wire::{FlightEndpoint, FlightInfo};
 use std::alloc::{AllocError, Global};
 use table_types::Ticket;
@@ -103,6 +106,21 @@ fn push_endpoints(text: &mut String, endpoints: &[FlightEndpoint]) -> Result<(),
     Ok(())
 }
 
+/// The lines of this version of a table, which has this schema.
+fn version_text(
+    alloc: Global,
+    version: u64,
+    info: &FlightInfo,
+    schema: &Schema,
+) -> Result<String, AllocError>
+    ensures { IfOk result (λ text. string_bytes text ≡ info_text version (info_values info.now) (schema_of schema.now)) }
+{
+    let mut text = numbers_text(alloc, version, info.total_records, info.total_bytes)?;
+    push_endpoints(&mut text, &info.endpoint)?;
+    push_fields(alloc, &mut text, &schema.fields)?;
+    Ok(text)
+}
+
 /// The lines of what is told of this table.
 pub(crate) fn info_text(
     alloc: Global,
@@ -115,12 +133,12 @@ pub(crate) fn info_text(
         Ok(latest) => latest,
         Err(fault) => return Err(fault),
     };
-    let version = latest.version();
-    let Ok(mut text) = numbers_text(alloc, version, info.total_records, info.total_bytes) else {
-        return Err(CommandFault::OutOfMemory);
+    let schema = match schema_in(alloc, &info.schema) {
+        Ok(schema) => schema,
+        Err(fault) => return Err(fault),
     };
-    match push_endpoints(&mut text, &info.endpoint) {
-        Ok(()) => Ok(text),
+    match version_text(alloc, latest.version(), info, &schema) {
+        Ok(text) => Ok(text),
         Err(_) => Err(CommandFault::OutOfMemory),
     }
 }

@@ -16,6 +16,14 @@ const THIRD: &str = "\
 /// The same without what names the table.
 const UNNAMED: &str = "1a100a070a050a0174100312050a03783a31200528ffffffffffffffffff01";
 
+/// The schema of a table with the fields `shop: utf8` and `sold: int64 not null`, in an encapsulated message.
+const SCHEMA: &str = "\
+0af801fffffffff0000000100000000c00180004000600080010000c00000004000100200000000000000000000000000000000000000000\
+000a000c000000040000000a0000000800000000000000020000002000000064000000000000000000120018000400080009000c00000010\
+0000001200000014000000010500001c0000001c000000000000000400000073686f70000000000400040004000000000000000000000000\
+00120018000400080009000c00000010000000120000001400000000020000240000002c0000000000000004000000736f6c640000000000\
+00000008000c000400080008000000400000000100000000000000";
+
 /// An answer with this message as often.
 fn answer(alloc: Global, message: &str, count: usize) -> Result<String, Fail> {
     let length = message.len() / 2;
@@ -70,16 +78,20 @@ fn lists_tables(rt: HostRuntime) -> Result<(), Fail> {
     Ok(())
 }
 
-/// The lines of one table, and of what tells of none or of another.
+/// The lines of one table, and of what tells of none, of another, or of no schema.
 #[test]
 fn tells_of_a_table(rt: HostRuntime) -> Result<(), Fail> {
     let alloc = rt.alloc();
-    let lines = "0 version 3\nrows 5\nbytes -1\nlocation x:1\n";
+    let lines =
+        "0 version 3\nrows 5\nbytes -1\nlocation x:1\nfield shop: utf8\nfield sold: int64 not null\n";
     let none = "1 flightd: BadAnswer\n";
-    assert!(rt; informed(alloc, "t", &answer(alloc, THIRD, 1)?)?.as_str() == lines);
-    assert!(rt; informed(alloc, "t", &answer(alloc, UNNAMED, 1)?)?.as_str() == lines);
-    assert!(rt; informed(alloc, "u", &answer(alloc, THIRD, 1)?)?.as_str() == none);
-    assert!(rt; informed(alloc, "t", &answer(alloc, THIRD, 2)?)?.as_str() == none);
+    let third = format!(in alloc; "{SCHEMA}{THIRD}")?;
+    let unnamed = format!(in alloc; "{SCHEMA}{UNNAMED}")?;
+    assert!(rt; informed(alloc, "t", &answer(alloc, &third, 1)?)?.as_str() == lines);
+    assert!(rt; informed(alloc, "t", &answer(alloc, &unnamed, 1)?)?.as_str() == lines);
+    assert!(rt; informed(alloc, "u", &answer(alloc, &third, 1)?)?.as_str() == none);
+    assert!(rt; informed(alloc, "t", &answer(alloc, &third, 2)?)?.as_str() == none);
+    assert!(rt; informed(alloc, "t", &answer(alloc, THIRD, 1)?)?.as_str() == none);
     Ok(())
 }
 
