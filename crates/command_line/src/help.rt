@@ -150,7 +150,7 @@ Exit status: 0 where every line was printed; the status of a refusal, where the 
 
 /// What is told of a table.
 pub(crate) const INFO: &str =
-    "Prints what a server tells of a table: its latest version, its rows, its bytes and its locations";
+    "Prints what a server tells of a table: its latest version, its rows, its bytes, its locations and its fields";
 
 /// How telling of a table ends.
 pub(crate) const INFO_MORE: &str = "\
