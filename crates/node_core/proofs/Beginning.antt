@@ -8,7 +8,7 @@ use Rattle.ballots.specs.Limits.{max_round}
 use Rattle.ballots.specs.declared.value.Value.{Value}
 use Rattle.ballots.specs.declared.value.Value.TheVariants.{Noop, Upload as UploadValue}
 use Rattle.proposer.specs.Attempting.{next_ballot}
-use Rattle.agreement_rules.specs.Views.{Config, Views, IsFreeAfter, HasPrefix, HasGap}
+use Rattle.agreement_rules.specs.Views.{Config, Views, HasPrefix, HasGap}
 use Rattle.ballots.specs.Message.{message}
 use Rattle.ballots.specs.declared.message.Body.TheVariants.{Ask}
 use Rattle.agreement_rules.specs.Due.{Aim, Attempts, AsksFrom, IsAim, AimIsDue, TickIsDue, Plan, Plans, most_left, begins}
@@ -21,7 +21,7 @@ use Rattle.agreement.specs.Step.{AttemptGives, AskGives, CanTake, plan_of}
 use Rattle.node_core.specs.declared.plan.Planned.TheVariants.{Steps}
 use Rattle.node_core.specs.State.{NodeState, NodeHas}
 use Rattle.node_core.proofs.Messages.{grows_by_none}
-use Rattle.node_core.specs.Plans.{IsPlanned, CanCommit, TickGives, IsRefused, HasRoundLeft, CannotBegin, IsSlotLeft}
+use Rattle.node_core.specs.Plans.{IsPlanned, CanCommit, TickGives, HasRoundLeft, CannotBegin, IsSlotLeft}
 
 -- the attempt for this slot is what a tick is for
 abbrev pub AimsAt : NodeState → ℕ → Value → ℕ → Type 0

@@ -1,11 +1,11 @@
 -- Which slots are free, counted by what a learner holds.
-use Rattle.std.proofs.Common.{◌≡◌, inl, inr, ℕ, zero, suc, ◌+◌, ◌-◌, ◌<◌, ◌≤◌, ◌↔◌, Bool, true, false, if◌then◌else◌, IsTrue, Option, None, Some, List, length, slice_get, refl, sym, ap, subst, ◌∙◌, arith}
+use Rattle.std.proofs.Common.{◌≡◌, inl, inr, ℕ, zero, suc, ◌+◌, ◌-◌, ◌<◌, ◌≤◌, ◌↔◌, Bool, true, false, if◌then◌else◌, IsTrue, Option, None, Some, List, length, refl, sym, ap, subst, ◌∙◌, arith}
 use Rattle.std.proofs.lemmas.Option.{slice_get_cases}
 use Rattle.ballots.specs.Majority.{tally}
 use Rattle.ballots.specs.declared.value.Value.{Value}
 use Rattle.learner.specs.Calls.{Call as LearnerCall, IsLearned}
 use Rattle.learner.specs.State.{decided_at}
-use Rattle.agreement_rules.specs.Views.{Config, Views, IsFree, IsFreeAfter, HasPrefix}
+use Rattle.agreement_rules.specs.Views.{Views, IsFree, HasPrefix}
 use Rattle.agreement.specs.State.{AgreementState, Has}
 use Rattle.node_core.specs.Plans.{IsSlotLeft}
 use Rattle.node_core.proofs.Within.{HeldIsLearned, free_behind}

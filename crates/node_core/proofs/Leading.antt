@@ -1,5 +1,5 @@
 -- A node that does what was planned stands where the plan leads.
-use Rattle.std.proofs.Common.{◌≡◌, ℕ, ◌<◌, Option, List, [], ◌∷◌, ◌++◌, map, refl, sym, ap, subst, ◌∙◌}
+use Rattle.std.proofs.Common.{◌≡◌, ℕ, List, [], ◌∷◌, ◌++◌, map, sym, ap, subst, ◌∙◌}
 use Rattle.std.proofs.lemmas.List.{append-nil}
 use Rattle.ballots.specs.Message.{value_bytes}
 use Rattle.ballots.specs.declared.value.Value.{Value}
@@ -11,7 +11,7 @@ use Rattle.histories.specs.Due.{AreStillWaiting}
 use Rattle.table_versions.specs.State.{TablesState, HasTaken, ReadyState, IsReadyFor}
 use Rattle.table_versions.specs.Values.{AreUploadsIn}
 use Rattle.agreement.specs.State.{AgreementState, Has}
-use Rattle.agreement.specs.Step.{left_by, learner_calls_with, Grows}
+use Rattle.agreement.specs.Step.{left_by, learner_calls_with}
 use Rattle.agreement.specs.declared.step.Step.{Step}
 use Rattle.node_core.specs.declared.plan.Planned.TheVariants.{Waits, Steps, Learns}
 use Rattle.waiting_uploads.specs.Waiting.{Waiting}

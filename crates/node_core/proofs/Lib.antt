@@ -8,3 +8,4 @@ pub mod Beginning
 pub mod Free
 pub mod Putting
 pub mod Starting
+pub mod Crashing

@@ -1,17 +1,14 @@
 -- What is due to a message that makes the node's part in agreement take a step.
-use Rattle.std.proofs.Common.{◌≡◌, inl, inr, arith, ℕ, suc, ◌+◌, ◌≤◌, length, slice_get, ◌==◌, Bool, true, false, Option, None, Some, List, [], ◌∷◌, ◌++◌, map, refl, sym, ap, subst, ◌∙◌}
+use Rattle.std.proofs.Common.{◌≡◌, arith, ℕ, suc, ◌+◌, ◌≤◌, length, slice_get, ◌==◌, Bool, true, false, None, Some, List, [], ◌∷◌, ◌++◌, map, refl, sym, ap, subst, ◌∙◌}
 use Rattle.std.proofs.Math.Dec.{eqb-suc-zero}
 use Rattle.std.proofs.lemmas.List.{append-nil, map-append}
-use Rattle.std.specs.List.{AllByRecursion}
 use Rattle.ballots.specs.Limits.{max_slot}
 use Rattle.ballots.specs.Message.{value_bytes}
 use Rattle.ballots.specs.declared.value.Value.{Value}
-use Rattle.ballots.specs.declared.record.Record.{Record}
 use Rattle.ballots.specs.declared.message.Message.{Message}
 use Rattle.ballots.specs.declared.message.Body.{Body}
 use Rattle.ballots.specs.declared.message.Body.TheVariants as body
 use Rattle.learner.specs.Calls.{Call as LearnerCall}
-use Rattle.learner.specs.Calls as learner_call
 use Rattle.table_types.specs.Uploads.{Upload}
 use Rattle.table_types.specs.Texts.{AreUploadsOf}
 use Rattle.agreement_rules.specs.Views.{Config, Views, with_waiting, HasPrefix}

@@ -1,5 +1,5 @@
 -- What is due to an upload that a client hands in.
-use Rattle.std.proofs.Common.{◌≡◌, ◌↔◌, inl, inr, ℕ, ◌<◌, Bool, true, false, IsTrue, Option, None, Some, List, length, Result, Ok, Err, refl, sym, subst, ◌∙◌}
+use Rattle.std.proofs.Common.{◌≡◌, ◌↔◌, inl, inr, ℕ, ◌<◌, Bool, true, false, IsTrue, Option, None, Some, List, length, refl, sym, subst, ◌∙◌}
 use Rattle.std.specs.List.{Contains}
 use Rattle.std.specs.Option.{MatchOption, is_some}
 use Rattle.ballots.specs.declared.value.Value.{Value}
@@ -11,11 +11,10 @@ use Rattle.table_versions.specs.declared.outcome.Outcome.TheVariants.{Applied, S
 use Rattle.table_versions.specs.Outcomes.{told}
 use Rattle.table_versions.specs.State.{HasTaken}
 use Rattle.table_versions.specs.Values.{AreUploadsIn}
-use Rattle.agreement_rules.specs.Views.{Config, Views, HasPrefix}
+use Rattle.agreement_rules.specs.Views.{Views, HasPrefix}
 use Rattle.histories.specs.Texts.{HasUploads}
 use Rattle.agreement_rules.specs.Due.{quietly}
 use Rattle.histories.specs.Due.{Put, waits_too}
-use Rattle.agreement.specs.declared.refusal.Refusal.{Refusal}
 use Rattle.agreement.specs.declared.refusal.Refusal.TheVariants.{SlotsSpent, OutOfMemory}
 use Rattle.agreement.specs.State.{Has}
 use Rattle.node_core.specs.declared.plan.Planned.TheVariants.{Stays, Waits}

@@ -1,13 +1,12 @@
 -- A node that starts with its records and nothing else.
-use Rattle.std.proofs.Common.{◌≡◌, ℕ, List, [], ◌∷◌, ◌++◌, refl, sym, subst}
-use Rattle.ballots.specs.declared.value.Value.{Value}
+use Rattle.std.proofs.Common.{◌≡◌, ℕ, List, [], ◌∷◌, ◌++◌, refl}
 use Rattle.ballots.specs.declared.record.Record.{Record}
-use Rattle.learner.specs.Calls.{Call as LearnerCall, IsLearned}
-use Rattle.agreement_rules.specs.Views.{Config, Views, started_with, HasPrefix}
+use Rattle.learner.specs.Calls.{Call as LearnerCall}
+use Rattle.agreement_rules.specs.Views.{started_with, HasPrefix}
 use Rattle.table_versions.specs.State.{TablesState, HasTaken}
 use Rattle.waiting_uploads.specs.Waiting.{Waiting}
 use Rattle.agreement.specs.State.{AgreementState, Has}
-use Rattle.node_core.specs.State.{NodeState, NodeHas}
+use Rattle.node_core.specs.State.{NodeHas}
 use Rattle.node_core.proofs.Leading.{node_of}
 
 no_call : (before : List LearnerCall) (call : LearnerCall) (after : List LearnerCall) → [] ≡ before ++ call ∷ after → ⊥

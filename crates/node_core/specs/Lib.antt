@@ -1,3 +1,4 @@
 pub mod State
 pub mod Inputs
 pub mod Plans
+pub mod Reopening

@@ -14,19 +14,22 @@
 //! ```
 //!
 //! Between `plan` and `commit` of one input the node takes no other. A node that starts again is opened from its records,
-//! with nothing else. Neither `plan` nor `commit` costs more with slots that are decided or uploads that the tables hold,
+//! with nothing else: [`Node::reopen`] asks its store for them. What a crash in the midst of a step leaves there is what a
+//! cut of the step leaves in a history (`laws`). Neither `plan` nor `commit` costs more with slots that are decided or uploads that the tables hold,
 //! and a put costs no more with uploads that wait; a tick passes over what was learned behind the first gap.
 #![tactic(auto)]
 
 mod attempts;
 mod deliveries;
 mod input;
+pub mod laws;
 mod node;
 mod opening;
 mod plan;
 mod planning;
 mod puts;
 mod questions;
+mod reopening;
 mod slots;
 mod ticks;
 
@@ -34,3 +37,4 @@ pub use agreement::{Config, Refusal};
 pub use input::Input;
 pub use node::Node;
 pub use plan::Plan;
+pub use reopening::OpenFault;

@@ -1,5 +1,5 @@
 //! Conformance tests of nodes and of their runs, over the public calls of `node_core` and `schedule_runner`, of which rows
-//! cannot tell: nodes that have lost a record, refused memory, and the limits of a configuration.
+//! cannot tell: nodes that have lost a record, nodes whose disks crash, refused memory, and the limits of a configuration.
 //!
 //! The crate has no code but tests, so that what is proved in the crates below is not proved again together with them.
 //! Rows are told as stories, in `run_stories`, and long runs by `tools/sweeps.py`, which the same program plays.
@@ -17,5 +17,7 @@ mod lost_records;
 mod nodes;
 #[cfg(test)]
 mod refused_memory;
+#[cfg(test)]
+mod reopened;
 #[cfg(test)]
 mod support;

@@ -11,10 +11,15 @@ use std::test::Fail;
 /// How many slots there are.
 const SLOTS: u32 = 4;
 
-// The node in a box: a test that held it as it is would be proved long.
-fn boxed(alloc: Global, node: Node) -> Result<Box<Node>, Fail> {
+/// The node in a box: a test that held it as it is would be proved long.
+pub(crate) fn boxed(alloc: Global, node: Node) -> Result<Box<Node>, Fail> {
     let node = Box::new(alloc, node)?;
     Ok(node)
+}
+
+/// Three members, and so many slots.
+pub(crate) fn config() -> Result<Config, Fail> {
+    Ok(Config::new(members(3)?, SLOTS).ok_or("no config")?)
 }
 
 /// Node 0, 1 or 2 of three, as these records left it.
@@ -25,8 +30,7 @@ pub(crate) fn node(
     records: &[Record],
 ) -> Result<Box<Node>, Fail> {
     let me = NodeId::new(number).ok_or("no node")?;
-    let config = Config::new(members(3)?, SLOTS).ok_or("no config")?;
-    match Node::open(alloc, hashing, me, config, records) {
+    match Node::open(alloc, hashing, me, config()?, records) {
         Ok(node) => boxed(alloc, node),
         Err(Refusal::OutOfMemory) => Err(Fail::from("OutOfMemory")),
         Err(_) => Err(Fail::from("no node is opened")),

@@ -1,8 +1,7 @@
-use Rattle.std.proofs.Common.{rules, arith, ◌≡◌, ℕ, ◌+◌, ◌<◌, ◌≤◌, List, length, refl, sym, subst, ◌∙◌}
+use Rattle.std.proofs.Common.{rules, arith, ◌≡◌, ◌+◌, ◌≤◌, List, length, sym, subst}
 use Rattle.ballots.specs.declared.value.Value.{Value as Held}
 use Rattle.agreement_rules.specs.Views.{Views, HasPrefix}
 use Rattle.agreement.specs.State.{Has}
-use Rattle.node_core.specs.Plans.{IsSlotLeft}
 use Rattle.node_core.proofs.Free.{Passed, none_passed, goes_past, stays_past, this_one, past_all}
 use Rattle.node_core.proofs.slots.slot_left.Goals.{in-Some, in-None, then-is_free+else-passed-left, else-is_free}
 use Rattle.node_core.proofs.slots.slot_left.Goals as goal

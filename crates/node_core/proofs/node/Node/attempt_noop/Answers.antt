@@ -1,7 +1,5 @@
-use Rattle.std.proofs.Common.{◌≡◌, ℕ, ◌≤◌, [], Err, sym, subst}
+use Rattle.std.proofs.Common.{◌≡◌, [], sym, subst}
 use Rattle.ballots.specs.declared.value.Value.TheVariants.{Noop}
-use Rattle.agreement_rules.specs.Due.{most_left}
-use Rattle.agreement.specs.declared.step.Step.{Step}
 use Rattle.node_core.specs.State.{NodeState}
 use Rattle.node_core.specs.Plans.{TickGives}
 use Rattle.node_core.proofs.Beginning.{RequiresGap, CanAttempt, RoundIsLeft, handed_on, none_begins, attempt_gives, aims_there, noop_aims}

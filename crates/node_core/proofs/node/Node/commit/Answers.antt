@@ -1,6 +1,6 @@
-use Rattle.std.proofs.Common.{◌≡◌, sym, ap, subst, ◌∙◌}
+use Rattle.std.proofs.Common.{sym, ap, subst, ◌∙◌}
 use Rattle.node_core.specs.declared.plan.Planned.{Planned}
-use Rattle.node_core.specs.declared.plan.Planned.TheVariants.{Waits, Steps, Learns}
+use Rattle.node_core.specs.declared.plan.Planned.TheVariants.{Waits, Steps}
 use Rattle.node_core.specs.Plans.{LeadsTo}
 use Rattle.node_core.proofs.Leading.{leads_as}
 use Rattle.node_core.proofs.node.Node.commit.Goals as goal

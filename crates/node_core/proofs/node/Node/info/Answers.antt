@@ -1,5 +1,5 @@
 use Rattle.std.proofs.Common.{◌≢◌, List, [], IfOk, OnErr, subst}
-use Rattle.std.proofs.lemmas.Result.{on_err_weaker, IfOk-weaker}
+use Rattle.std.proofs.lemmas.Result.{on_err_weaker}
 use Rattle.table_types.specs.Uploads.{Upload}
 use Rattle.table_types.specs.Tables.{effective}
 use Rattle.table_versions.specs.Info.{IsLatest}

@@ -1,7 +1,5 @@
-use Rattle.std.proofs.Common.{◌≡◌, true, false, inl, refl, sym, subst}
-use Rattle.agreement_rules.specs.Views.{Views}
-use Rattle.node_core.specs.State.{NodeState, NodeHas}
-use Rattle.node_core.specs.Plans.{TellsKnown}
+use Rattle.std.proofs.Common.{true, false, subst}
+use Rattle.node_core.specs.State.{NodeState}
 use Rattle.node_core.proofs.Leading.{node_of}
 use Rattle.node_core.proofs.Putting.{Knows, is_unknown, is_known}
 use Rattle.node_core.proofs.node.Node.knows.Goals as goal

@@ -1,4 +1,4 @@
-use Rattle.std.proofs.Common.{◌≡◌, sym, subst}
+use Rattle.std.proofs.Common.{sym, subst}
 use Rattle.agreement_rules.specs.Views.{Views}
 use Rattle.node_core.specs.declared.plan.Planned.TheVariants.{Learns}
 use Rattle.node_core.specs.State.{NodeState, NodeHas}

@@ -1,6 +1,5 @@
-use Rattle.std.proofs.Common.{◌≡◌, ℕ, ◌<◌, IsTrue, true, subst}
+use Rattle.std.proofs.Common.{ℕ, ◌<◌, subst}
 use Rattle.agreement_rules.specs.Views.{started_with}
-use Rattle.node_core.specs.State.{Starts}
 use Rattle.node_core.proofs.Starting.{starts}
 use Rattle.node_core.proofs.node.Node.open.Goals as goal
 

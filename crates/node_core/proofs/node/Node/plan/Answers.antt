@@ -1,5 +1,4 @@
-use Rattle.std.proofs.Common.{◌≡◌, sym, subst}
-use Rattle.agreement_rules.specs.Views.{Views}
+use Rattle.std.proofs.Common.{sym, subst}
 use Rattle.node_core.specs.State.{NodeState, NodeHas}
 use Rattle.node_core.specs.Inputs.{input_of}
 use Rattle.node_core.specs.Plans.{IsPlanned}

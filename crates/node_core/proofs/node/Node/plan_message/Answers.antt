@@ -1,14 +1,11 @@
-use Rattle.std.proofs.Common.{◌≡◌, ℕ, ◌+◌, ◌≤◌, List, [], length, Ok, Err, refl, sym, subst}
+use Rattle.std.proofs.Common.{◌+◌, ◌≤◌, List, length, Ok, refl, sym, subst}
 use Rattle.agreement_rules.specs.Views.{Views}
-use Rattle.agreement_rules.specs.Due.{IsMessageOf}
 use Rattle.histories.specs.Due.{Deliver}
 use Rattle.ballots.specs.declared.value.Value.{Value}
 use Rattle.table_versions.specs.State.{values_limit, IsReadyFor}
-use Rattle.agreement.specs.declared.refusal.Refusal.TheVariants.{OutOfMemory}
 use Rattle.node_core.specs.declared.plan.Planned.TheVariants.{Steps, Learns}
 use Rattle.node_core.specs.State.{NodeState, NodeHas}
 use Rattle.node_core.specs.Plans.{PlanGives}
-use Rattle.node_core.proofs.Beginning.{handed_on}
 use Rattle.node_core.proofs.Leading.{node_of}
 use Rattle.node_core.proofs.Standing.{stands_on, same_as_it_is, can_commit}
 use Rattle.node_core.proofs.Messages.{step_planned, learning_planned, ready_fits, no_items, some_items}

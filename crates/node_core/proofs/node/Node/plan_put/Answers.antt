@@ -1,10 +1,9 @@
-use Rattle.std.proofs.Common.{◌≡◌, true, false, refl, sym, subst}
+use Rattle.std.proofs.Common.{refl, sym, subst}
 use Rattle.agreement_rules.specs.Views.{Views}
-use Rattle.histories.specs.Due.{Put, waits_too}
-use Rattle.node_core.specs.declared.plan.Planned.TheVariants.{Stays, Waits}
-use Rattle.agreement.specs.declared.refusal.Refusal.TheVariants.{SlotsSpent, OutOfMemory}
+use Rattle.histories.specs.Due.{Put}
+use Rattle.agreement.specs.declared.refusal.Refusal.TheVariants.{OutOfMemory}
 use Rattle.node_core.specs.State.{NodeState, NodeHas}
-use Rattle.node_core.specs.Plans.{IsPlanned, IsRefused, PlanGives}
+use Rattle.node_core.specs.Plans.{PlanGives}
 use Rattle.node_core.proofs.Beginning.{handed_on}
 use Rattle.node_core.proofs.Leading.{node_of}
 use Rattle.node_core.proofs.Standing.{stands_on, same_as_it_is}

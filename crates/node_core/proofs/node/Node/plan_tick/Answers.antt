@@ -1,9 +1,4 @@
-use Rattle.std.proofs.Common.{◌≡◌, refl, sym, subst}
-use Rattle.histories.specs.Due.{Tick}
-use Rattle.agreement.specs.Step.{plan_of}
-use Rattle.node_core.specs.declared.plan.Planned.TheVariants.{Steps}
-use Rattle.node_core.specs.State.{NodeState}
-use Rattle.node_core.specs.Plans.{CanCommit}
+use Rattle.std.proofs.Common.{subst}
 use Rattle.node_core.proofs.Beginning.{StandsSomehow, tick_planned, tick_can}
 use Rattle.node_core.proofs.node.Node.plan_tick.Goals as goal
 

@@ -1,10 +1,8 @@
-use Rattle.std.proofs.Common.{◌≡◌, ◌↔◌, ℕ, IsTrue, List, [], length, Ok, Err, false, true, sym, subst, ◌∙◌}
-use Rattle.ballots.specs.declared.value.Value.{Value}
-use Rattle.agreement_rules.specs.Views.{Views, HasPrefix, HasGap}
+use Rattle.std.proofs.Common.{Ok, sym, subst}
 use Rattle.agreement.specs.declared.refusal.Refusal.TheVariants.{OutOfMemory}
-use Rattle.node_core.specs.State.{NodeState, NodeHas}
+use Rattle.node_core.specs.State.{NodeState}
 use Rattle.node_core.specs.Plans.{TickGives}
-use Rattle.node_core.proofs.Beginning.{RequiresGap, HasNoGap, handed_on, gap_told, no_gap_told, question_due, question_refused}
+use Rattle.node_core.proofs.Beginning.{RequiresGap, handed_on, gap_told, no_gap_told, question_due, question_refused}
 use Rattle.node_core.proofs.Leading.{node_of}
 use Rattle.node_core.proofs.node.Node.step_of_tick.Goals as goal
 
