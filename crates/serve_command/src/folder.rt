@@ -10,13 +10,40 @@ use growing_log::{Naming, Opened};
 use node_threads::{Journal, OwnEntry, Seat};
 use schedule_runner::Config;
 use std::alloc::{Alloc, Global};
-use std::fs::{File, Files, create_dir_all};
+use std::fs::{File, Files, canonicalize, create_dir_all};
 use std::hash::RandomState;
 use std::io;
 use std::sync::{Mutex, Wait};
 
 /// The store of a node on a disk.
 pub(crate) type FileStore = DiskStable<FileDisk>;
+
+// More folders than stand above one another in a path, which has 4,096 bytes at most (Linux, `PATH_MAX`).
+const MOST_FOLDERS: usize = 2048;
+
+// Syncs the folders above this one, up to one that can't be opened: that was there before.
+fn sync_above<R: Files<File = File> + Alloc>(files: &R, folder: &str) -> io::Result<()> {
+    let mut path = canonicalize(files, folder)?;
+    for _ in 0..MOST_FOLDERS {
+        if !path.pop() {
+            break;
+        }
+        let Ok(above) = File::open(files, path.as_str()) else {
+            break;
+        };
+        above.sync_all()?;
+    }
+    Ok(())
+}
+
+// Makes the folder where it is missing, and its name stand in the folder above it, as each name on the way to it.
+fn make_folder<R: Files<File = File> + Alloc>(files: &R, folder: &str) -> io::Result<()> {
+    if files.metadata(folder).is_ok() {
+        return Ok(());
+    }
+    create_dir_all(files, folder)?;
+    sync_above(files, folder)
+}
 
 // The fault of a node whose file can't be had.
 fn open_fault(error: &io::Error) -> ServeFault {
@@ -50,8 +77,8 @@ pub(crate) fn open_disks<R: Files<File = File> + Alloc>(
     count: u8,
     folder: &str,
 ) -> Result<Vec<FileDisk>, ServeFault> {
-    if create_dir_all(files, folder).is_err() {
-        return Err(ServeFault::Open);
+    if let Err(error) = make_folder(files, folder) {
+        return Err(open_fault(&error));
     }
     let mut disks = Vec::new(alloc);
     for before in 0..count {
