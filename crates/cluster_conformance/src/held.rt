@@ -18,8 +18,8 @@ use std::test::Fail;
 use std::thread;
 use std::thread::{JoinHandle, Threads};
 
-// Whether a node says of a version that nobody has put that it is unavailable.
-fn answers<R: Wait, C: Nodes>(rt: &R, alloc: Global, nodes: &C, node: usize) -> bool {
+/// Whether a node says of a version that nobody has put that it is unavailable.
+pub(crate) fn answers<R: Wait, C: Nodes>(rt: &R, alloc: Global, nodes: &C, node: usize) -> bool {
     let Ok(ticket) = ticket(alloc, 1) else {
         return false;
     };

@@ -1,6 +1,6 @@
 //! Conformance tests of `cluster_backend` and `flight_service`, over their public calls: what a connection to one of three nodes
 //! is told, one step after the other; callers in threads beside the nodes' workers, while a node is started again; and a call that
-//! waits for one node while another answers.
+//! waits for one node, at its seat or at the gate, while another answers.
 //!
 //! The crate has no code but tests, so that what is proved in the crates below is not proved again together with them.
 #![tactic(auto)]
@@ -11,6 +11,8 @@ mod calls;
 mod flag;
 #[cfg(test)]
 mod held;
+#[cfg(test)]
+mod holding;
 #[cfg(test)]
 mod support;
 #[cfg(test)]
