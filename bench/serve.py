@@ -21,29 +21,32 @@ sys.path += [str(TOP / "clients" / "python"), str(TOP / "tools")]
 import felzoren
 from serving import CALL_SECONDS, PROGRAM, server
 
-CALLERS, PUTS = (1, 16, 64), 1_280
+CALLERS, PUTS, PUT_SECONDS = (1, 16, 64), 1_280, 600
 # Six uploads of some 11 MiB in frames below 4 MiB.
 UPLOADS, BATCHES, ROWS = 6, 3, 480_000
 GETS = 5
 
 
 def put_rows(port, caller, count, start, times):
-    """Puts so many rows, and gives how long each took, in milliseconds."""
-    client = felzoren.connect(f"127.0.0.1:{port}", timeout=CALL_SECONDS)
+    """Puts so many rows, and gives how long each took, in milliseconds; or nothing, where one of them failed."""
+    client, taken = felzoren.connect(f"127.0.0.1:{port}", timeout=PUT_SECONDS), []
     start.wait()
-    taken = []
-    for number in range(count):
-        before = time.perf_counter()
-        client.put("rows", {"row": [caller * count + number]}, schema={"row": "int64"})
-        taken.append(1000 * (time.perf_counter() - before))
+    try:
+        for number in range(count):
+            before = time.perf_counter()
+            client.put("rows", {"row": [caller * count + number]}, schema={"row": "int64"})
+            taken.append(1000 * (time.perf_counter() - before))
+    except (OSError, felzoren.Refused, felzoren.BadAnswer) as fault:
+        print(f"bench/serve.py: caller {caller}, put {number}: {fault}", file=sys.stderr)
+        taken = []
     times.put(taken)
 
 
-def puts(program, callers):
+def puts(program, callers, count=PUTS):
     """Puts a second by so many callers, and the middle and the 99th hundredth of how long they took."""
     times, start = multiprocessing.Queue(), multiprocessing.Event()
     with server(program, 3) as (_, port):
-        each = PUTS // callers
+        each = count // callers
         processes = [multiprocessing.Process(target=put_rows, args=(port + it % 3, it, each, start, times)) for it in range(callers)]
         for process in processes:
             process.start()
@@ -54,6 +57,8 @@ def puts(program, callers):
         seconds = time.perf_counter() - before
         for process in processes:
             process.join()
+    if len(taken) < each * callers:
+        sys.exit("bench/serve.py: puts failed")
     return len(taken) / seconds, taken[len(taken) // 2], taken[len(taken) * 99 // 100]
 
 
