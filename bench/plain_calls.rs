@@ -9,9 +9,9 @@ use std::sync::Arc;
 
 #[allow(dead_code)]
 #[path = "plain_tables.rs"]
-mod plain_tables;
+pub(crate) mod plain_tables;
 
-const PATH: &str = "/arrow.flight.protocol.FlightService/";
+pub(crate) const PATH: &str = "/arrow.flight.protocol.FlightService/";
 const MAX_PAYLOAD: usize = 4_194_304;
 const LOCATIONS: [&str; 3] = [
     "plain+tcp://127.0.0.1:42000",
@@ -21,7 +21,7 @@ const LOCATIONS: [&str; 3] = [
 
 // ---- frames
 
-fn wrong() -> io::Error {
+pub(crate) fn wrong() -> io::Error {
     io::Error::from(io::ErrorKind::InvalidData)
 }
 
@@ -30,7 +30,7 @@ fn some<T>(found: Option<T>) -> io::Result<T> {
 }
 
 /// The payload of a message, or nothing at the end of a call.
-fn next_message(input: &mut impl Read) -> io::Result<Option<Vec<u8>>> {
+pub(crate) fn next_message(input: &mut impl Read) -> io::Result<Option<Vec<u8>>> {
     let mut head = [0; 5];
     input.read_exact(&mut head)?;
     let length = u32::from_be_bytes([head[1], head[2], head[3], head[4]]) as usize;
@@ -45,7 +45,7 @@ fn next_message(input: &mut impl Read) -> io::Result<Option<Vec<u8>>> {
     }
 }
 
-fn put_framed(output: &mut impl Write, flag: u8, payload: &[u8]) -> io::Result<()> {
+pub(crate) fn put_framed(output: &mut impl Write, flag: u8, payload: &[u8]) -> io::Result<()> {
     output.write_all(&[flag])?;
     output.write_all(&(payload.len() as u32).to_be_bytes())?;
     output.write_all(payload)
@@ -96,7 +96,7 @@ fn path_of(descriptor: &[u8]) -> Option<Vec<&str>> {
     found.all(3).map(|it| std::str::from_utf8(it).ok()).collect()
 }
 
-fn put_number(out: &mut Vec<u8>, field: u64, number: u64) {
+pub(crate) fn put_number(out: &mut Vec<u8>, field: u64, number: u64) {
     if number > 0 {
         put_varint(out, 8 * field);
         put_varint(out, number);
@@ -111,7 +111,7 @@ fn id_of(digits: &str) -> Option<[u8; 16]> {
 // ---- calls
 
 /// Reads an upload message by message into its one encoding.
-fn read_upload(input: &mut impl Read) -> io::Result<([u8; 16], Vec<u8>)> {
+pub(crate) fn read_upload(input: &mut impl Read) -> io::Result<([u8; 16], Vec<u8>)> {
     let first = some(next_message(input)?)?;
     let parts = some(fields(&first))?;
     let (id, mut text, schema) = some(opened(&parts))?;
@@ -155,12 +155,16 @@ fn put_batch(text: &mut Vec<u8>, schema: &Schema, header: &[u8], body: &[u8]) ->
 fn put(tables: &mut Tables, input: &mut impl Read, output: &mut impl Write) -> io::Result<()> {
     let (id, text) = read_upload(input)?;
     tables.take(&Arc::from(text));
-    let Some((_, Outcome::Applied(version))) = tables.firsts.get(&id) else {
-        return Err(wrong());
-    };
+    match tables.firsts.get(&id) {
+        Some((_, Outcome::Applied(version))) => put_result(output, &id, *version),
+        _ => Err(wrong()),
+    }
+}
+
+pub(crate) fn put_result(output: &mut impl Write, id: &[u8; 16], version: u64) -> io::Result<()> {
     let (mut told, mut result) = (Vec::new(), Vec::new());
-    put_bytes(&mut told, 1, &id);
-    put_number(&mut told, 2, *version);
+    put_bytes(&mut told, 1, id);
+    put_number(&mut told, 2, version);
     put_bytes(&mut result, 1, &told);
     put_framed(output, 0, &result)
 }

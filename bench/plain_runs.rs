@@ -22,18 +22,18 @@ const MAX_SLOTS: Slot = 1_000_000;
 const MOST_LEFT: u8 = 7;
 const MAX_ASKED: usize = 16;
 
-type Slot = u32;
+pub(crate) type Slot = u32;
 
 #[derive(Clone, Copy, PartialEq, Eq, PartialOrd, Ord, Hash)]
-struct Ballot {
-    round: u32,
-    node: u8,
+pub(crate) struct Ballot {
+    pub(crate) round: u32,
+    pub(crate) node: u8,
 }
 
 /// An upload's encoding, which was checked.
 #[derive(Clone, PartialEq)]
-struct Upload {
-    text: Arc<[u8]>,
+pub(crate) struct Upload {
+    pub(crate) text: Arc<[u8]>,
 }
 
 impl Upload {
@@ -42,7 +42,7 @@ impl Upload {
         Some(Upload { text })
     }
 
-    fn id(&self) -> [u8; 16] {
+    pub(crate) fn id(&self) -> [u8; 16] {
         let mut text = &self.text[..];
         take_bytes(&mut text, 1);
         take_bytes(&mut text, 2).and_then(|id| id.try_into().ok()).expect("an upload has a name")
@@ -52,19 +52,19 @@ impl Upload {
 // ---- messages and records
 
 #[derive(Clone)]
-enum Value {
+pub(crate) enum Value {
     Noop,
     Upload(Arc<[u8]>),
 }
 
 #[derive(Clone)]
-struct Acceptance {
-    ballot: Ballot,
-    value: Value,
+pub(crate) struct Acceptance {
+    pub(crate) ballot: Ballot,
+    pub(crate) value: Value,
 }
 
 #[derive(Clone)]
-enum Body {
+pub(crate) enum Body {
     Prepare(Ballot),
     Promise(Ballot, Option<Acceptance>),
     Nack { ballot: Ballot, promised: Ballot },
@@ -75,13 +75,13 @@ enum Body {
 }
 
 #[derive(Clone)]
-struct Message {
-    sender: u8,
-    slot: Slot,
-    body: Body,
+pub(crate) struct Message {
+    pub(crate) sender: u8,
+    pub(crate) slot: Slot,
+    pub(crate) body: Body,
 }
 
-enum Record {
+pub(crate) enum Record {
     Began(Ballot),
     Promised(Slot, Ballot),
     Accepted(Slot, Acceptance),
@@ -101,10 +101,10 @@ impl Body {
 
 /// A set of members, a bit for each.
 #[derive(Clone, Copy, Default)]
-struct NodeSet(u8);
+pub(crate) struct NodeSet(u8);
 
 impl NodeSet {
-    fn with(self, node: u8) -> NodeSet {
+    pub(crate) fn with(self, node: u8) -> NodeSet {
         NodeSet(self.0 | 1 << node)
     }
 
@@ -112,7 +112,7 @@ impl NodeSet {
         self.0 & 1 << node != 0
     }
 
-    fn is_majority_of(self, members: u8) -> bool {
+    pub(crate) fn is_majority_of(self, members: u8) -> bool {
         2 * self.0.count_ones() > u32::from(members)
     }
 }
@@ -301,7 +301,7 @@ impl DecidedLog {
 // ---- a node
 
 #[derive(Clone, Copy)]
-enum Reason {
+pub(crate) enum Reason {
     OutOfRange,
     SlotsSpent,
     RoundsSpent,
@@ -310,7 +310,7 @@ enum Reason {
 }
 
 #[derive(Clone, Copy)]
-enum Told {
+pub(crate) enum Told {
     Applied(u64),
     SchemaMismatch,
     Conflict,
@@ -319,18 +319,18 @@ enum Told {
 
 /// What all nodes have in common.
 #[derive(Clone, Copy)]
-struct Config {
-    members: u8,
-    slots: Slot,
+pub(crate) struct Config {
+    pub(crate) members: u8,
+    pub(crate) slots: Slot,
 }
 
-enum Input<'a> {
+pub(crate) enum Input<'a> {
     Put(&'a Upload),
     Tick(u8),
     Deliver(Message),
 }
 
-struct Node {
+pub(crate) struct Node {
     me: u8,
     config: Config,
     seen_round: u32,
@@ -338,11 +338,11 @@ struct Node {
     proposer: Proposer,
     learner: Learner,
     log: DecidedLog,
-    tables: Tables,
+    pub(crate) tables: Tables,
     waiting: Vec<Upload>,
 }
 
-fn told_by(tables: &Tables, upload: &Upload) -> Told {
+pub(crate) fn told_by(tables: &Tables, upload: &Upload) -> Told {
     match tables.firsts.get(&upload.id()) {
         None => Told::Unknown,
         Some((text, _)) if *text != upload.text => Told::Conflict,
@@ -353,7 +353,7 @@ fn told_by(tables: &Tables, upload: &Upload) -> Told {
 
 impl Node {
     /// The node as its records left it.
-    fn open(me: u8, config: Config, records: &[Record]) -> Node {
+    pub(crate) fn open(me: u8, config: Config, records: &[Record]) -> Node {
         let mut node = Node {
             me,
             config,
@@ -375,7 +375,7 @@ impl Node {
     }
 
     /// Does what is due: gives the record of it, and puts the messages behind those that were sent.
-    fn take(&mut self, input: Input, sent: &mut Vec<Message>) -> Result<Option<Record>, Reason> {
+    pub(crate) fn take(&mut self, input: Input, sent: &mut Vec<Message>) -> Result<Option<Record>, Reason> {
         match input {
             Input::Put(upload) => self.put(upload).map(|()| None),
             Input::Tick(left) => self.tick(left, sent),
@@ -522,7 +522,7 @@ impl Node {
 // ---- a run
 
 #[derive(Clone)]
-enum Event {
+pub(crate) enum Event {
     Put(u64, Upload),
     Tick(u64, u8),
     Deliver(u64, u64),
@@ -535,7 +535,7 @@ enum Event {
 }
 
 #[derive(Clone)]
-enum Gave {
+pub(crate) enum Gave {
     Sent { first: u64, count: u64 },
     Done,
     Answer(Vec<u8>),
@@ -546,14 +546,14 @@ enum Gave {
     Refused(Reason),
 }
 
-struct Step {
-    event: Event,
-    gave: Gave,
+pub(crate) struct Step {
+    pub(crate) event: Event,
+    pub(crate) gave: Gave,
 }
 
-struct Trace {
-    sent: Vec<Message>,
-    steps: Vec<Step>,
+pub(crate) struct Trace {
+    pub(crate) sent: Vec<Message>,
+    pub(crate) steps: Vec<Step>,
 }
 
 impl Event {
@@ -636,19 +636,19 @@ fn run(config: Config, events: &[Event]) -> Trace {
 
 /// What a node did itself: the event, what it gave, the message that it was handed and those that it sent.
 #[allow(dead_code)]
-struct OwnEntry {
-    event: Event,
-    gave: Gave,
-    handed: Option<Message>,
-    sends: Vec<Message>,
+pub(crate) struct OwnEntry {
+    pub(crate) event: Event,
+    pub(crate) gave: Gave,
+    pub(crate) handed: Option<Message>,
+    pub(crate) sends: Vec<Message>,
 }
 
 /// What whoever took a step has of it.
 #[allow(dead_code)]
-struct Receipt {
-    number: u64,
-    event: Event,
-    gave: Gave,
+pub(crate) struct Receipt {
+    pub(crate) number: u64,
+    pub(crate) event: Event,
+    pub(crate) gave: Gave,
 }
 
 /// A node with what it did itself, which agrees with a journal unasked.
