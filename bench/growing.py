@@ -1,0 +1,138 @@
+#!/usr/bin/env python3
+"""Measures whether a put costs the same however many uploads a table has: 50,000 small ones to one table, by one caller and by 16.
+
+    bench/growing.py [--uploads COUNT] [PROGRAM]
+
+It starts `PROGRAM serve` (crates/flightd/out/flightd, which the gate builds) with three nodes for each number of callers. Callers are
+processes that make their request once and change its upload's name alone, and call the nodes in turn. For each tenth of the uploads it
+prints puts a second, how long a put took the server's processors, and what the server then holds in memory; and at the end what the last
+tenth cost to the first, which is to be within 1.2. Where a put is refused it says which, and ends with what came before. Records are kept in
+memory (/dev/shm), where a sync costs nothing, so that a disk does not hide what grows; where there is no such folder, in one for temporary
+files."""
+import argparse
+import io
+import multiprocessing
+import os
+import secrets
+import socket
+import sys
+import tempfile
+import time
+from pathlib import Path
+
+TOP = Path(__file__).resolve().parent.parent
+sys.dont_write_bytecode = True
+sys.path += [str(TOP / "bench"), str(TOP / "clients" / "python"), str(TOP / "tools")]
+
+import felzoren
+from load import resident
+from serving import PROGRAM, Recorder, started
+
+CALLERS, NODES, STEPS, PUT_SECONDS = (1, 16), 3, 10, 600
+MEMORY = "/dev/shm"
+LOOK_SECONDS = 0.02
+
+
+def request_of(name):
+    """The request of a put of one row, of an upload of this name."""
+    recorder = Recorder()
+    try:
+        felzoren.Client(lambda: recorder).put("rows", {"row": [1]}, schema={"row": "int64"}, id=name)
+    except felzoren.BadAnswer:
+        return recorder.written
+
+
+def put(port, request, name):
+    """One put: the version that it made."""
+    with socket.create_connection(("127.0.0.1", port), PUT_SECONDS) as peer:
+        peer.sendall(request)
+        answer = b""
+        while got := peer.recv(4096):
+            answer += got
+    return felzoren.read_version(felzoren.only(felzoren.read_messages(io.BytesIO(answer).read)), name)
+
+
+def take_turn(left):
+    """Whether there was an upload left, which is taken."""
+    with left.get_lock():
+        left.value -= 1
+        return left.value >= 0
+
+
+def put_many(port, left, done, faults):
+    """Puts uploads, one after the other, as long as some are left, and counts them; or tells why one was refused."""
+    blank = bytes(16)
+    front, back = request_of(blank).split(blank.hex().encode())
+    try:
+        while take_turn(left):
+            name = secrets.token_bytes(16)
+            put(port, front + name.hex().encode() + back, name)
+            with done.get_lock():
+                done.value += 1
+    except (OSError, felzoren.Refused, felzoren.BadAnswer) as fault:
+        faults.put(f"{type(fault).__name__} {fault}")
+
+
+def processor_seconds(process):
+    """How long a process has had processors, for itself and in the system."""
+    fields = Path(f"/proc/{process.pid}/stat").read_text(encoding="utf-8").rpartition(")")[2].split()
+    return (int(fields[11]) + int(fields[12])) / os.sysconf("SC_CLK_TCK")
+
+
+def reaches(done, goal, callers):
+    """Waits until so many uploads are done, or no caller is left: whether they are."""
+    while done.value < goal and any(caller.is_alive() for caller in callers):
+        time.sleep(LOOK_SECONDS)
+    return done.value >= goal
+
+
+def watch(process, done, callers, uploads):
+    """Prints a line for each tenth, once it is done, and gives what a put cost in it: seconds, and those of the server's processors."""
+    costs, count, before, used = [], 0, time.perf_counter(), processor_seconds(process)
+    for step in range(1, STEPS + 1):
+        if not reaches(done, uploads * step // STEPS, callers):
+            break
+        now, spent, more = time.perf_counter(), processor_seconds(process), done.value - count
+        costs.append(((now - before) / more, (spent - used) / more))
+        count, before, used = done.value, now, spent
+        rate, memory = 1 / costs[-1][0], resident(process)[0]
+        print(f"  {count:,}: {rate:,.0f} puts a second, {1000 * costs[-1][1]:.2f} ms of processors a put, {memory:,.0f} MiB", flush=True)
+    return costs
+
+
+def grow(program, count, uploads):
+    """So many uploads by so many callers."""
+    print(f"{count} {'caller' if count == 1 else 'callers'}", flush=True)
+    left, done, faults = multiprocessing.Value("q", uploads), multiprocessing.Value("q", 0), multiprocessing.Queue()
+    with tempfile.TemporaryDirectory(dir=MEMORY if os.path.isdir(MEMORY) else None) as folder:
+        process, _, port = started(program, NODES, folder)
+        try:
+            print(f"  at the start: {resident(process)[0]:,.0f} MiB")
+            words = [(port + number % NODES, left, done, faults) for number in range(count)]
+            callers = [multiprocessing.Process(target=put_many, args=it) for it in words]
+            for caller in callers:
+                caller.start()
+            costs = watch(process, done, callers, uploads)
+            for caller in callers:
+                caller.join()
+            if done.value < uploads:
+                print(f"  behind {done.value:,} uploads a put ended with {faults.get()}", flush=True)
+        finally:
+            process.terminate()
+            process.communicate()
+    if len(costs) > 1:
+        times, processors = (last / first for first, last in zip(costs[0], costs[-1]))
+        print(f"  the last of these tenths beside the first: {times:.2f} in time, {processors:.2f} in time of processors", flush=True)
+
+
+def main():
+    parser = argparse.ArgumentParser(description="Measures whether a put costs the same however many uploads a table has.")
+    parser.add_argument("--uploads", type=int, default=50_000)
+    parser.add_argument("program", nargs="?", default=str(PROGRAM))
+    words = parser.parse_args()
+    for count in CALLERS:
+        grow(words.program, count, words.uploads)
+
+
+if __name__ == "__main__":
+    main()
