@@ -11,9 +11,9 @@
 # are left as they come: what is left of gRPC's cost where a service goes past protoc's code, as Arrow's own C++ does for Flight. Last, the
 # reader of these has frames and windows of many MiB. gRPC's channel is connected beforehand, where the others open a connection for each call.
 #
-# For each it prints the mebibytes a second of the best call and of the one in the middle, and then what the server's rates are of the others'. It
-# is to have twice the rate of gRPC's messages, and 0.8 of a raw socket's. It wants g++, pkg-config, and Debian's libgrpc++-dev and
-# protobuf-compiler-grpc, and takes a minute.
+# For each it prints the mebibytes a second of the best call and of the one in the middle, and how long a call took the processors, which
+# depends less on what else runs; and then what the server's rates are of the others'. It is to have twice the rate of gRPC's messages,
+# and 0.8 of a raw socket's. It wants g++, pkg-config, and Debian's libgrpc++-dev and protobuf-compiler-grpc, and takes a minute.
 set -euo pipefail
 cd "$(dirname "${BASH_SOURCE[0]}")/.."
 work=$(mktemp -d)
@@ -24,15 +24,51 @@ g++ -O2 -std=c++17 -I "$work" -o "$work/stream" bench/plain_stream.cc "$work"/*.
 
 PYTHONPATH=bench python3 -B - "${1:-crates/flightd/out/flightd}" "$work" <<'P'
 import contextlib
+import resource
 import socket
 import statistics
 import subprocess
 import sys
 
-from serve import BATCHES, CALL_SECONDS, ROWS, UPLOADS, felzoren, server
+from growing import processor_seconds, started
+from serve import BATCHES, CALL_SECONDS, PUT_SECONDS, ROWS, UPLOADS, felzoren
 
 program, work = sys.argv[1:]
-STREAM, MIB, ROUNDS, CALLS, PUT_SECONDS = f"{work}/stream", 1 << 20, 5, 5, 600
+STREAM, MIB, ROUNDS, CALLS = f"{work}/stream", 1 << 20, 5, 5
+
+
+class Stream:
+    """A server, how its stream is read, the rate of each call, and the seconds of processors of all."""
+
+    def __init__(self, name, server, *words):
+        self.name, self.server, self.words = name, server, words
+        self.counts, self.rates, self.seconds = set(), [], [0, 0]
+
+    def used(self):
+        """What the server has used, and all readers so far."""
+        readers = resource.getrusage(resource.RUSAGE_CHILDREN)
+        return processor_seconds(self.server), readers.ru_utime + readers.ru_stime
+
+    def call(self):
+        """Some calls, each with a line of how many bytes its messages had, and how many seconds it took."""
+        before = self.used()
+        done = subprocess.run([STREAM, *self.words, str(CALLS)], stdout=subprocess.PIPE, check=True, text=True)
+        self.seconds = [total + now - was for total, now, was in zip(self.seconds, self.used(), before)]
+        for count, seconds in map(str.split, done.stdout.splitlines()):
+            self.counts.add(int(count))
+            self.rates.append(int(count) / MIB / float(seconds))
+
+    def best(self):
+        return max(self.rates), statistics.median(self.rates)
+
+    def __str__(self):
+        ours, readers = (1000 * it / len(self.rates) for it in self.seconds)
+        best, middle = self.best()
+        return f"{self.name}: {best:,.0f} MiB/s at best, {middle:,.0f} in the middle; a call takes processors {ours:.0f} ms, and {readers:.0f} ms of the reader"
+
+    def beside(self, other):
+        best, middle = (one / two for one, two in zip(self.best(), other.best()))
+        return f"{self.name} beside {other.name}: {best:.2f} at best, {middle:.2f} in the middle"
 
 
 def put_and_get(port):
@@ -49,47 +85,34 @@ def put_and_get(port):
             out.write(got)
 
 
-@contextlib.contextmanager
-def served(task):
-    """The port of a server of the kept answer."""
-    process = subprocess.Popen([STREAM, task, f"{work}/answer"], stdout=subprocess.PIPE, text=True)
-    try:
-        yield process.stdout.readline().strip()
-    finally:
-        process.terminate()
-        process.wait()
-
-
-def called(words):
-    """For each of some calls how many bytes the messages had, and mebibytes a second."""
-    lines = subprocess.run([STREAM, *words, str(CALLS)], stdout=subprocess.PIPE, check=True, text=True).stdout.splitlines()
-    for count, seconds in map(str.split, lines):
-        yield int(count), int(count) / MIB / float(seconds)
+def served(stack, task):
+    """A server of the kept answer, and its port."""
+    process = stack.enter_context(subprocess.Popen([STREAM, task, f"{work}/answer"], stdout=subprocess.PIPE, text=True))
+    stack.callback(process.terminate)
+    return process, process.stdout.readline().strip()
 
 
 with contextlib.ExitStack() as stack:
-    _, port = stack.enter_context(server(program, 3))
+    ours, _, port = started(program, 3, f"{work}/records")
+    stack.enter_context(ours)
+    stack.callback(ours.terminate)
     put_and_get(port)
-    raw, grpc, encoded = [stack.enter_context(served(task)) for task in ("raw", "grpc", "bytes")]
-    readers = {
-        "flightd": ["get", str(port), f"{work}/request"],
-        "a raw socket": ["get", raw, f"{work}/request"],
-        "gRPC's messages": ["get-grpc", grpc],
-        "gRPC's bytes": ["get-bytes", encoded],
-        "gRPC's bytes in wide windows": ["get-wide", encoded],
-    }
-    rates, counts = {name: [] for name in readers}, set()
+    (raw, raw_port), (grpc, grpc_port), (encoded, encoded_port) = (served(stack, task) for task in ("raw", "grpc", "bytes"))
+    streams = [
+        Stream("flightd", ours, "get", str(port), f"{work}/request"),
+        Stream("a raw socket", raw, "get", raw_port, f"{work}/request"),
+        Stream("gRPC's messages", grpc, "get-grpc", grpc_port),
+        Stream("gRPC's bytes", encoded, "get-bytes", encoded_port),
+        Stream("gRPC's bytes in wide windows", encoded, "get-wide", encoded_port),
+    ]
     for _ in range(ROUNDS):
-        for name, words in readers.items():
-            for count, rate in called(words):
-                counts.add(count)
-                rates[name].append(rate)
+        for stream in streams:
+            stream.call()
 
-if len(counts) > 1:
+if len(counts := set().union(*(stream.counts for stream in streams))) > 1:
     sys.exit(f"serve.sh: the streams have {sorted(counts)} bytes")
-ours, *others = [(name, max(found), statistics.median(found)) for name, found in rates.items()]
-for name, best, middle in (ours, *others):
-    print(f"{name}: {best:,.0f} MiB/s at best, {middle:,.0f} in the middle")
-for name, best, middle in others:
-    print(f"flightd beside {name}: {ours[1] / best:.2f} at best, {ours[2] / middle:.2f} in the middle")
+for stream in streams:
+    print(stream)
+for other in streams[1:]:
+    print(streams[0].beside(other))
 P
