@@ -6,15 +6,25 @@
 It starts `PROGRAM serve` (crates/flightd/out/flightd, which the gate builds) with three nodes for each number of callers. Callers are
 processes that make their request once and change its upload's name alone, and call the nodes in turn. For each tenth of the uploads it
 prints puts a second, how long a put took the server's processors, and what the server then holds in memory; and at the end what the last
-tenth cost to the first, which is to be within 1.2. Where a put is refused it says which, and ends with what came before. Records are kept in
-memory (/dev/shm), where a sync costs nothing, so that a disk does not hide what grows; where there is no such folder, in one for temporary
-files."""
+tenth cost to the first, and the middle one of the last three to that of the first three, which is to be within 1.2. Where a put is refused
+it says why, and ends with what came before: a journal has 1,000,000 entries, of which a put takes 28 where nodes don't compete for a slot.
+
+Records are kept in memory (/dev/shm), where a sync costs nothing, so that a disk does not hide what grows; where there is no such folder, in
+one for temporary files. It takes a few minutes. PROGRAM may be bench/plain_cluster.rs too, which has no such limit.
+
+Seen of bench/plain_cluster.rs, on four processors that a dozen other tasks shared, with 10,000 uploads:
+
+              puts a second    ms of processors a put   MiB at the end   last tenth beside the first, in time and in that of processors
+  1 caller       183 to 396              0.35 to 0.52               93   1.43, 1.27
+  16 callers    868 to 1,526             0.30 to 0.45              349   1.29, 1.20
+"""
 import argparse
 import io
 import multiprocessing
 import os
 import secrets
 import socket
+import statistics
 import sys
 import tempfile
 import time
@@ -28,7 +38,7 @@ import felzoren
 from load import resident
 from serving import PROGRAM, Recorder, started
 
-CALLERS, NODES, STEPS, PUT_SECONDS = (1, 16), 3, 10, 600
+CALLERS, NODES, STEPS, SOME, PUT_SECONDS = (1, 16), 3, 10, 3, 600
 MEMORY = "/dev/shm"
 LOOK_SECONDS = 0.02
 
@@ -100,6 +110,12 @@ def watch(process, done, callers, uploads):
     return costs
 
 
+def tell_growth(what, first, last):
+    """Prints what a put cost later to what it cost first."""
+    times, processors = (after / max(before, 1e-9) for before, after in zip(first, last))
+    print(f"  {what}: {times:.2f} in time, {processors:.2f} in time of processors", flush=True)
+
+
 def grow(program, count, uploads):
     """So many uploads by so many callers."""
     print(f"{count} {'caller' if count == 1 else 'callers'}", flush=True)
@@ -120,9 +136,10 @@ def grow(program, count, uploads):
         finally:
             process.terminate()
             process.communicate()
-    if len(costs) > 1:
-        times, processors = (last / first for first, last in zip(costs[0], costs[-1]))
-        print(f"  the last of these tenths beside the first: {times:.2f} in time, {processors:.2f} in time of processors", flush=True)
+    if len(costs) > 2 * SOME:
+        tell_growth("the last of these beside the first", costs[0], costs[-1])
+        middle = [[statistics.median(it) for it in zip(*some)] for some in (costs[:SOME], costs[-SOME:])]
+        tell_growth(f"the middle of the last {SOME} beside that of the first {SOME}", *middle)
 
 
 def main():

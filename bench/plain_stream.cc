@@ -146,8 +146,9 @@ size_t get_raw(int port, const std::string &request, std::vector<char> &room) {
     read_all(peer, room.data(), length);
     if (head[0] == kEnd) {
       close(peer);
-      if (length == 0 || room[0] != 0) fail("the call was refused");
-      return count;
+      if (length == 1 && room[0] == 0) return count;
+      std::fprintf(stderr, "the call was refused: %.*s\n", static_cast<int>(length), room.data());
+      std::exit(1);
     }
     count += length;
   }

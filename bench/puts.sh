@@ -11,6 +11,13 @@
 # decides then; then in memory (/dev/shm), where a sync costs nothing, so that all else is seen.
 #
 # It takes some minutes, which depends on the disk.
+#
+# Seen of plain Rust alone, on four processors that a dozen other tasks shared, where a sync of the disk took 4 ms, in puts a second:
+#
+#                on the disk   with records kept apart   in memory
+#   1 caller              11                        37          72
+#   16 callers             7                        34         348
+#   64 callers             5                        19         343
 set -euo pipefail
 cd "$(dirname "${BASH_SOURCE[0]}")/.."
 work=$(mktemp -d)
