@@ -136,8 +136,9 @@ def grow(program, count, uploads):
         finally:
             process.terminate()
             process.communicate()
-    if len(costs) > 2 * SOME:
+    if len(costs) > 1:
         tell_growth("the last of these beside the first", costs[0], costs[-1])
+    if len(costs) >= 2 * SOME:
         middle = [[statistics.median(it) for it in zip(*some)] for some in (costs[:SOME], costs[-SOME:])]
         tell_growth(f"the middle of the last {SOME} beside that of the first {SOME}", *middle)
 
