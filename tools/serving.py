@@ -6,12 +6,14 @@
 It plays the scripts of examples/scripts, and compares the lines with those beside them. Then it starts `PROGRAM serve`
 (crates/flightd/out/flightd) with three nodes and then with five, at ports that it finds free, and looks at what a user sees: the lines with the nodes' addresses, an upload that is put at one node and got at each, what comes of it when it is
 put again or its id is another's, puts of several callers at once, calls that are cut off in their midst, peers that stay silent, a
-port that can't be had, the words of a client, and the files that the nodes keep their records in: which it takes, and that each upload that was acknowledged
+port that can't be had, the words of a client and what they show of a slow call, and the files that the nodes keep their records in: which it takes, and that each upload that was acknowledged
 stands there at most nodes, also where the server is killed while it takes others. The status is 1 where anything is not as it has to be."""
 import concurrent.futures
 import contextlib
 import os
+import pty
 import random
+import re
 import resource
 import signal
 import socket
@@ -32,6 +34,8 @@ import felzoren
 PROGRAM = TOP / "crates" / "flightd" / "out" / "flightd"
 # How long a call may take, in seconds, and for how long a version is waited for at a node that has not learned it.
 CALL_SECONDS, LEARN_SECONDS = 30, 30
+# For how long an answer is held back: a call says nothing of itself for a second.
+HELD_SECONDS = 1.5
 CALLERS, PUTS = 8, 6
 CUTS, SEED = 60, 20261127
 # A node serves so many calls at once; others wait until one of these ends.
@@ -303,6 +307,54 @@ def client_words(program, clients, port):
         want(told(program, words, given), (status, "", f"flightd: {name}\n"))
 
 
+def held_back(port):
+    """The port of a relay to this one, which holds each answer back for a while behind its first byte."""
+
+    def relay(near):
+        with near, socket.create_connection(("127.0.0.1", port)) as far:
+            threading.Thread(target=copied, args=(near, far), daemon=True).start()
+            near.sendall(far.recv(1))
+            time.sleep(HELD_SECONDS)
+            copied(far, near)
+
+    def copied(one, other):
+        with contextlib.suppress(OSError):
+            while data := one.recv(65_536):
+                other.sendall(data)
+            other.shutdown(socket.SHUT_WR)
+
+    def serve():
+        while True:
+            threading.Thread(target=relay, args=(listener.accept()[0],), daemon=True).start()
+
+    listener = socket.create_server(("127.0.0.1", 0))
+    threading.Thread(target=serve, daemon=True).start()
+    return listener.getsockname()[1]
+
+
+def at_terminal(program, words):
+    """What a call of the program prints, and what it reports to a terminal."""
+    terminal, errors = pty.openpty()
+    with subprocess.Popen([program, *words], stdout=subprocess.PIPE, stderr=errors, text=True) as ran:
+        os.close(errors)
+        printed = ran.stdout.read()
+    reported = b""
+    # A terminal that nobody has open any more fails a read.
+    with contextlib.suppress(OSError):
+        while data := os.read(terminal, 1_024):
+            reported += data
+    os.close(terminal)
+    return printed, reported.decode()
+
+
+def slow_answers(program, port):
+    """A call that takes long says at a terminal how far it has come, and nowhere else."""
+    words = ["get", f"127.0.0.1:{held_back(port)}", "words", "1"]
+    printed, reported = at_terminal(program, words)
+    want((printed, re.fullmatch(r"(\d+ MiB received so far\r\n)+", reported) is not None), (LINES, True))
+    want(told(program, words), (0, LINES, ""))
+
+
 # ---- the files of records
 
 
@@ -424,6 +476,7 @@ def main(program):
             describes(clients, port)
             first_upload(clients)
             client_words(program, clients, port)
+            slow_answers(program, port)
             several_callers(clients)
             cut_calls(clients, port)
             silent_peers(clients, port)

@@ -10,9 +10,11 @@ mod address;
 mod connect;
 mod fault;
 pub mod laws;
+mod metered;
 mod sockets;
 
 pub use address::{address_of, location_of};
 pub use connect::Connect;
 pub use fault::ConnectFault;
+pub use metered::Metered;
 pub use sockets::{CONNECT_SECONDS, READ_SECONDS, Sockets, WRITE_SECONDS};

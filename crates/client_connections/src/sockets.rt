@@ -1,11 +1,14 @@
 //! Connections over TCP.
 
+ghost use Rattle.std.specs.Prelude.{◌≡◌};
+
 use crate::connect::Connect;
 use crate::fault::ConnectFault;
+use crate::metered::Metered;
 use std::alloc::Global;
-use std::io::{BufReader, BufWriter};
+use std::io::{BufReader, BufWriter, Eprint, Read, Write};
 use std::net::{Net, SocketAddr, SocketAddrV4, TcpStream};
-use std::time::Duration;
+use std::time::{Clock, Duration};
 
 /// How long is waited for a server to take a connection, in seconds.
 pub const CONNECT_SECONDS: u64 = 10;
@@ -21,21 +24,29 @@ pub const WRITE_SECONDS: u64 = 60;
 #[derive(Drop)]
 pub struct Sockets<'a, R> {
     rt: &'a R,
+    /// Whether a call that takes longer than a second says on standard error how far it has come.
+    pub shows_progress: bool,
 }
 
+/// A connection's stream, with what is counted of it.
+type Stream<'a, R> = Metered<'a, R, TcpStream>;
+
 impl<'a, R> Sockets<'a, R> {
-    /// Connections that are opened through this runtime.
-    pub fn new(rt: &'a R) -> Sockets<'a, R> {
-        Sockets { rt }
+    /// Connections that are opened through this runtime. Where progress is to be shown, a call that takes longer than a second
+    /// says on standard error how many MiB it has sent and received, at most once a second.
+    pub fn new(rt: &'a R, shows_progress: bool) -> Sockets<'a, R>
+        ensures { result.shows_progress ≡ shows_progress }
+    {
+        Sockets { rt, shows_progress }
     }
 }
 
-impl<R: Net<Stream = TcpStream>> Connect for Sockets<'_, R> {
+impl<'a, R: Net<Stream = TcpStream> + Clock + Eprint> Connect for Sockets<'a, R> {
     ghost use Rattle.std.specs.Prelude.{None};
 
-    type Input = BufReader<TcpStream>;
+    type Input = BufReader<Stream<'a, R>>;
 
-    type Output = BufWriter<TcpStream>;
+    type Output = BufWriter<Stream<'a, R>>;
 
     ghost log = { λ _. None };
 
@@ -43,7 +54,7 @@ impl<R: Net<Stream = TcpStream>> Connect for Sockets<'_, R> {
         &mut self,
         alloc: Global,
         address: SocketAddrV4,
-    ) -> Result<(BufReader<TcpStream>, BufWriter<TcpStream>), ConnectFault> {
+    ) -> Result<(BufReader<Stream<'a, R>>, BufWriter<Stream<'a, R>>), ConnectFault> {
         let within = Duration::from_secs(CONNECT_SECONDS);
         let Ok(stream) = TcpStream::connect_timeout(self.rt, &SocketAddr::V4(address), within)
         else {
@@ -56,21 +67,23 @@ impl<R: Net<Stream = TcpStream>> Connect for Sockets<'_, R> {
         let Ok(other) = stream.try_clone() else {
             return Err(ConnectFault::Connect);
         };
-        buffered(alloc, stream, other)
+        let input = Metered::new(self.rt, stream, "received", self.shows_progress);
+        let output = Metered::new(self.rt, other, "sent", self.shows_progress);
+        buffered(alloc, input, output)
     }
 
-    fn close(&mut self, input: BufReader<TcpStream>, output: BufWriter<TcpStream>) {
+    fn close(&mut self, input: BufReader<Stream<'a, R>>, output: BufWriter<Stream<'a, R>>) {
         drop(output);
         drop(input);
     }
 }
 
 // The two sides of a connection, each with a buffer.
-fn buffered(
+fn buffered<I: Read + Drop, O: Write + Drop>(
     alloc: Global,
-    input: TcpStream,
-    output: TcpStream,
-) -> Result<(BufReader<TcpStream>, BufWriter<TcpStream>), ConnectFault> {
+    input: I,
+    output: O,
+) -> Result<(BufReader<I>, BufWriter<O>), ConnectFault> {
     let (Ok(input), Ok(output)) = (BufReader::new(alloc, input), BufWriter::new(alloc, output))
     else {
         return Err(ConnectFault::OutOfMemory);

@@ -21,7 +21,7 @@ use script_command::script_run;
 use serve_command::serve_run;
 use std::fmt::Display;
 use std::hash::RandomState;
-use std::io::{BufReader, BufWriter, Read};
+use std::io::{BufReader, BufWriter, IsTerminal, Read};
 use std::process::ExitCode;
 use std::random::RandomSource;
 use std::{fs, io};
@@ -210,7 +210,7 @@ fn put(
     let mut output = BufWriter::new(alloc, rt.stdout())?;
     Ok(put_run(
         alloc,
-        &mut Sockets::new(rt),
+        &mut Sockets::new(rt, rt.stderr().is_terminal()),
         address,
         table,
         id,
@@ -249,7 +249,7 @@ fn get(
         },
     };
     let mut output = BufWriter::new(alloc, rt.stdout())?;
-    let mut sockets = Sockets::new(rt);
+    let mut sockets = Sockets::new(rt, rt.stderr().is_terminal());
     let mut errors = rt.stderr();
     Ok(if all_locations {
         get_everywhere_run(
@@ -279,7 +279,7 @@ fn list(rt: &HostRuntime, address: &str) -> io::Result<u8> {
     let mut output = BufWriter::new(alloc, rt.stdout())?;
     Ok(list_run(
         alloc,
-        &mut Sockets::new(rt),
+        &mut Sockets::new(rt, rt.stderr().is_terminal()),
         address,
         &mut output,
         &mut rt.stderr(),
@@ -292,7 +292,7 @@ fn tell(rt: &HostRuntime, address: &str, table: &str) -> io::Result<u8> {
     let mut output = BufWriter::new(alloc, rt.stdout())?;
     Ok(info_run(
         alloc,
-        &mut Sockets::new(rt),
+        &mut Sockets::new(rt, rt.stderr().is_terminal()),
         address,
         table,
         &mut output,
