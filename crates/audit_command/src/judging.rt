@@ -40,8 +40,9 @@ pub enum AuditFault {
 /// `flightd audit FILE`: judges the recorded run that the file's bytes tell (`read_trace` says how), writes `lawful` or
 /// `unlawful` and a newline to `w`, and gives the exit status: [`SUCCESS`] for lawful alone.
 ///
-/// A fault's line goes to `e`: `flightd: BadTrace` where the bytes tell no recorded run, `flightd: OutOfMemory` where
-/// memory is refused, `flightd: Io` where `w` fails. Where that can't be written, the status alone tells.
+/// A fault's line goes to `e`: `flightd: BadTrace` where the bytes tell no recorded run, and behind it a line with what is
+/// wrong with them; `flightd: OutOfMemory` where memory is refused, `flightd: Io` where `w` fails. Where that can't be
+/// written, the status alone tells.
 pub fn audit_run<W: Write, E: Write>(alloc: Global, file: &[u8], w: &mut W, e: &mut E) -> u8
     ensures status { (result ≡ 0) ⊎ (result ≡ 1) }
     ensures lawful { result ≡ 0 → MeansLawful file.now }
@@ -54,12 +55,21 @@ pub fn audit_run<W: Write, E: Write>(alloc: Global, file: &[u8], w: &mut W, e: &
         Ok(true) => SUCCESS,
         Ok(false) => FAILURE,
         Err(fault) => {
-            // Where this fails too, the status alone tells.
-            let _ = writeln!(e, "flightd: {fault}");
-            let _ = e.flush();
+            say(alloc, file, fault, e);
             FAILURE
         }
     }
+}
+
+// Says the fault, and what is wrong with a file that tells no run. Where this fails too, the status alone tells.
+fn say<E: Write>(alloc: Global, file: &[u8], fault: AuditFault, e: &mut E) {
+    let _ = writeln!(e, "flightd: {fault}");
+    if fault == AuditFault::BadTrace
+        && let Err(TraceFault::BadTrace(flaw)) = read_trace(alloc, file)
+    {
+        let _ = writeln!(e, "flightd: {flaw}");
+    }
+    let _ = e.flush();
 }
 
 /// Judges the recorded run that a file tells, as [`read_trace`] reads it, and writes `lawful` or `unlawful` and a

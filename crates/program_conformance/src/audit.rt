@@ -39,20 +39,21 @@ fn tells_a_judgement_that_is_lost(rt: HostRuntime) {
     }
 }
 
-/// Whether the audit of a file that tells no run fails where its line's room is this, with the first bytes said.
-fn is_cut_line(alloc: Global, line: &[u8], room: usize) -> bool {
+/// Whether the audit of a file that tells no run fails where its lines' room is this, with the first bytes said.
+fn is_cut_line(alloc: Global, lines: &[u8], room: usize) -> bool {
     let mut output = Vec::new(alloc);
     let mut said = Narrow::new(alloc, room, 0);
     let status = audit_run(alloc, b"{}", &mut output, &mut said);
-    let is_cut = line.get(..room) == Some(said.written.as_slice());
+    let is_cut = lines.get(..room) == Some(said.written.as_slice());
     status == 1 && output.is_empty() && is_cut
 }
 
 #[test]
 fn fails_where_its_fault_cannot_be_said(rt: HostRuntime) {
-    let line = b"flightd: BadTrace\n";
-    for room in 0..=line.len() {
-        assert!(rt; is_cut_line(rt.alloc(), line, room), "in {room} bytes");
+    let lines =
+        b"flightd: BadTrace\nflightd: `members` is not there, or is no whole number from 1 to 7\n";
+    for room in 0..=lines.len() {
+        assert!(rt; is_cut_line(rt.alloc(), lines, room), "in {room} bytes");
     }
 }
 
