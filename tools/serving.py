@@ -302,6 +302,13 @@ def client_words(program, clients, port):
         (["info", here[0], "none"], "", 5, "NoTable"),
         (["list", f"127.0.0.1:{free_port(1)}"], "", 1, "Connect"),
         (["put", here[0], "words", "/no/such/file"], "", 1, "Io"),
+        (["put", "here", "words", "/no/such/file"], "", 2, "BadAddress"),
+        (["put", here[0], "no words", "/no/such/file"], "", 2, "BadTable"),
+        (["put", here[0], "words", "/no/such/file", "--id", ID.upper()], "", 2, "BadId"),
+        (["get", here[0], "no words", "1"], "", 2, "BadTable"),
+        (["get", here[0], "no words"], "", 2, "BadTable"),
+        (["get", here[0], "no words", "--all-locations"], "", 2, "BadTable"),
+        (["info", here[0], "no words"], "", 2, "BadTable"),
         (["put", here[0], "words", "-"], "", 1, "NoRows"),
     ):
         want(told(program, words, given), (status, "", f"flightd: {name}\n"))

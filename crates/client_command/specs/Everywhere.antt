@@ -22,7 +22,7 @@ use Rattle.client_connections.specs.Events.{Event}
 use Rattle.client_command.specs.declared.fault.CommandFault.{CommandFault}
 use Rattle.client_command.specs.declared.fault.CommandFault.TheVariants.{Call, Differs, OutOfMemory}
 use Rattle.client_command.specs.Faults.{status_of}
-use Rattle.client_command.specs.Words.{AddressBy, TicketBy}
+use Rattle.client_command.specs.Words.{NamesTable, TicketBy}
 use Rattle.client_command.specs.Calls.{Calls}
 use Rattle.client_command.specs.Latest.{IsLatest, LatestSays}
 use Rattle.client_command.specs.Tables.{endpoint_locations}
@@ -119,12 +119,12 @@ GetsRowsEverywhere address table version result old new before after told_before
 -- ---- by words
 
 module _ (named table : List ℕ) (version : Option ℕ) where
-  -- the word names a server, which was asked; or it names none
+  -- the words name a server and a table, of which it was asked; or one of them names nothing
   abbrev pub GetsEverywhereAsked : Result (Unit {0}) CommandFault → Option (List Event) → Option (List Event) → (before after told_before told_after : Option (List ℕ)) → Type 0
   GetsEverywhereAsked result old new before after told_before told_after =
-      ((address : SocketAddrV4) × AddressBy named (Ok address)
+      ((address : SocketAddrV4) × NamesTable named table (Ok address)
       × GetsRowsEverywhere address table version result old new before after told_before told_after)
-      ⊎ ((fault : CommandFault) × AddressBy named (Err fault) × (result ≡ Err fault) × (new ≡ old) × (after ≡ before) × (told_after ≡ told_before))
+      ⊎ ((fault : CommandFault) × NamesTable named table (Err fault) × (result ≡ Err fault) × (new ≡ old) × (after ≡ before) × (told_after ≡ told_before))
 
   -- the exit status tells how it ended; a fault is reported behind the lines of the locations
   abbrev pub RunsEverywhere : ℕ → Option (List Event) → Option (List Event) → (before after told_before told_after : Option (List ℕ)) → Type 0

@@ -1,6 +1,6 @@
 -- The exit status of each outcome. Those of a service are of gRPC, "Status codes and their use in gRPC"; the others are
 -- this program's own.
-use Rattle.std.specs.Prelude.{ℕ, max, Result, Ok, Err}
+use Rattle.std.specs.Prelude.{ℕ, List, [], ◌∷◌, Contains, max, Result, Ok, Err}
 use Rattle.client_calls.specs.declared.client_fault.ClientFault.TheVariants as calls
 use Rattle.row_calls.specs.declared.fault.RowCallFault.{RowCallFault}
 use Rattle.row_calls.specs.declared.fault.RowCallFault.TheVariants as rows
@@ -33,3 +33,31 @@ status_of_fault faults.Differs = 1
 abbrev pub status_of : Result (Unit {0}) CommandFault → ℕ
 status_of (Ok done) = 0
 status_of (Err fault) = status_of_fault fault
+
+-- ---- of a put: whether its upload may have been taken
+
+-- The statuses that refuse an upload however often it is put: INVALID_ARGUMENT, NOT_FOUND, ALREADY_EXISTS,
+-- FAILED_PRECONDITION and UNIMPLEMENTED.
+abbrev pub final_statuses : List ℕ
+final_statuses = 3 ∷ 5 ∷ 6 ∷ 9 ∷ 12 ∷ []
+
+-- The request went out, in part or whole, and no refusal for good came back; or the line that tells of an upload that was
+-- taken was lost.
+abbrev pub MayBeTaken : CommandFault → Type 0
+MayBeTaken (faults.Call (calls.Status code words)) = ¬ Contains final_statuses code
+MayBeTaken (faults.Call calls.BadAnswer) = Unit {0}
+MayBeTaken (faults.Call (calls.Call fault)) = Unit {0}
+MayBeTaken faults.Io = Unit {0}
+MayBeTaken faults.OutOfMemory = Unit {0}
+MayBeTaken faults.BadAddress = ⊥
+MayBeTaken faults.BadId = ⊥
+MayBeTaken faults.BadTable = ⊥
+MayBeTaken (faults.Connect fault) = ⊥
+MayBeTaken (faults.Rows fault) = ⊥
+MayBeTaken (faults.Upload fault) = ⊥
+MayBeTaken faults.BadLocation = ⊥
+MayBeTaken faults.Differs = ⊥
+
+abbrev pub IsOpen : Result (Unit {0}) CommandFault → Type 0
+IsOpen (Ok done) = ⊥
+IsOpen (Err fault) = MayBeTaken fault

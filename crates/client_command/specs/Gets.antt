@@ -16,7 +16,7 @@ use Rattle.client_connections.specs.Events.{Event}
 use Rattle.client_command.specs.declared.fault.CommandFault.{CommandFault}
 use Rattle.client_command.specs.declared.fault.CommandFault.TheVariants as faults
 use Rattle.client_command.specs.Faults.{status_of}
-use Rattle.client_command.specs.Words.{AddressBy, TicketBy}
+use Rattle.client_command.specs.Words.{NamesTable, TicketBy}
 use Rattle.client_command.specs.Calls.{Calls}
 use Rattle.client_command.specs.Latest.{LatestSays}
 use Rattle.client_command.specs.Printed.{PrintsRows}
@@ -93,11 +93,11 @@ module _ (address : SocketAddrV4) (table : List ℕ) where
 -- ---- by words
 
 module _ (named table : List ℕ) (version : Option ℕ) where
-  -- the word names a server, where rows were got; or it names none
+  -- the words name a server and a table, whose rows were got there; or one of them names nothing
   abbrev pub GetsAsked : Result (Unit {0}) CommandFault → Option (List Event) → Option (List Event) → Option (List ℕ) → Option (List ℕ) → Type 0
   GetsAsked result old new before after =
-      ((address : SocketAddrV4) × AddressBy named (Ok address) × GetsTableAt address table version result old new before after)
-      ⊎ ((fault : CommandFault) × AddressBy named (Err fault) × (result ≡ Err fault) × DoesNothing old new before after)
+      ((address : SocketAddrV4) × NamesTable named table (Ok address) × GetsTableAt address table version result old new before after)
+      ⊎ ((fault : CommandFault) × NamesTable named table (Err fault) × (result ≡ Err fault) × DoesNothing old new before after)
 
   -- the exit status tells how it ended
   abbrev pub RunsGet : ℕ → Option (List Event) → Option (List Event) → Option (List ℕ) → Option (List ℕ) → Type 0

@@ -1,6 +1,6 @@
 -- What a put of rows sends, what it is told, and what is printed of that. Which upload is made of lines is that of
 -- `row_calls`.
-use Rattle.std.specs.Prelude.{◌≡◌, ◌⊎◌, ℕ, List, Option, Result, Ok, Err}
+use Rattle.std.specs.Prelude.{◌≡◌, ℕ, List, Option, Result, Ok, Err}
 use Rattle.std.specs.declared.net.socket_addr.SocketAddrV4.{SocketAddrV4}
 use Rattle.grpc_frames.specs.FrameFaults.{WhereKnown}
 use Rattle.header_types.specs.Fields.{SchemaTree}
@@ -13,7 +13,6 @@ use Rattle.client_connections.specs.Events.{Event}
 use Rattle.client_command.specs.declared.fault.CommandFault.{CommandFault}
 use Rattle.client_command.specs.declared.fault.CommandFault.TheVariants as faults
 use Rattle.client_command.specs.Faults.{status_of}
-use Rattle.client_command.specs.Words.{AddressBy, IdBy}
 use Rattle.client_command.specs.Calls.{Calls}
 use Rattle.client_command.specs.Writing.{DoesNothing, WritesText, put_line}
 
@@ -49,18 +48,7 @@ module _ (address : SocketAddrV4) (table id : List ℕ) (given : Option SchemaTr
   PutsAt (Err faults.BadLocation) old new before after = ⊥
   PutsAt (Err faults.Differs) old new before after = ⊥
 
--- ---- by words
-
-module _ (named table : List ℕ) (word : Option (List ℕ)) (random : List ℕ) (given : Option SchemaTree) (text : List ℕ) where
-  -- the words name a server and an upload, and the rows were put there by that name; or one of them names nothing
-  abbrev pub PutsAsked : Result (Unit {0}) CommandFault → Option (List Event) → Option (List Event) → Option (List ℕ) → Option (List ℕ) → Type 0
-  PutsAsked result old new before after =
-      ((address : SocketAddrV4) × AddressBy named (Ok address) × (id : List ℕ) × IdBy word random (Ok id)
-      × PutsAt address table id given text result old new before after)
-      ⊎ ((fault : CommandFault) × (AddressBy named (Err fault) ⊎ IdBy word random (Err fault)) × (result ≡ Err fault)
-      × DoesNothing old new before after)
-
   -- the exit status tells how it ended
   abbrev pub RunsPut : ℕ → Option (List Event) → Option (List Event) → Option (List ℕ) → Option (List ℕ) → Type 0
   RunsPut status old new before after =
-      (result : Result (Unit {0}) CommandFault) × (status ≡ status_of result) × PutsAsked result old new before after
+      (result : Result (Unit {0}) CommandFault) × (status ≡ status_of result) × PutsAt result old new before after

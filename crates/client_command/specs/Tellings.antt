@@ -12,7 +12,6 @@ use Rattle.client_connections.specs.Events.{Event}
 use Rattle.client_command.specs.declared.fault.CommandFault.{CommandFault}
 use Rattle.client_command.specs.declared.fault.CommandFault.TheVariants as faults
 use Rattle.client_command.specs.Faults.{status_of}
-use Rattle.client_command.specs.Words.{AddressBy}
 use Rattle.client_command.specs.Calls.{Calls}
 use Rattle.client_command.specs.Tables.{TellsInfo, TellsTables}
 use Rattle.client_command.specs.Writing.{DoesNothing, WritesText}
@@ -58,12 +57,12 @@ InformsAt table address result old new before after =
 
 -- ---- by words
 
-module _ (At : SocketAddrV4 → Result (Unit {0}) CommandFault → Option (List Event) → Option (List Event) → Option (List ℕ) → Option (List ℕ) → Type 0) (named : List ℕ) where
-  -- the word names a server, which was asked; or it names none
+module _ (At : SocketAddrV4 → Result (Unit {0}) CommandFault → Option (List Event) → Option (List Event) → Option (List ℕ) → Option (List ℕ) → Type 0) (By : Result SocketAddrV4 CommandFault → Type 0) where
+  -- the words name a server, which was asked; or one of them names nothing
   abbrev pub TellsAsked : Result (Unit {0}) CommandFault → Option (List Event) → Option (List Event) → Option (List ℕ) → Option (List ℕ) → Type 0
   TellsAsked result old new before after =
-      ((address : SocketAddrV4) × AddressBy named (Ok address) × At address result old new before after)
-      ⊎ ((fault : CommandFault) × AddressBy named (Err fault) × (result ≡ Err fault) × DoesNothing old new before after)
+      ((address : SocketAddrV4) × By (Ok address) × At address result old new before after)
+      ⊎ ((fault : CommandFault) × By (Err fault) × (result ≡ Err fault) × DoesNothing old new before after)
 
   -- the exit status tells how it ended
   abbrev pub RunsTelling : ℕ → Option (List Event) → Option (List Event) → Option (List ℕ) → Option (List ℕ) → Type 0

@@ -11,6 +11,10 @@ use Rattle.client_command.specs.declared.fault.CommandFault.TheVariants as fault
 abbrev pub put_line : List ℕ → ℕ → List ℕ
 put_line id version = id_text id ++ (codes " " ++ (decimal version ++ codes "\n"))
 
+-- by which name an upload is put again
+abbrev pub repeat_line : List ℕ → List ℕ
+repeat_line id = codes "flightd: put it again with --id " ++ (id_text id ++ codes "\n")
+
 -- ---- what was written behind what stood there
 
 -- the text, or after a fault a beginning of it

@@ -13,7 +13,7 @@ use crate::latest::latest_in;
 use crate::printing::tell_rows;
 use crate::reporting::report;
 use crate::visiting::visit_all;
-use crate::words::{address_by, ticket_by};
+use crate::words::{table_at, ticket_by};
 use client_calls::{Download, read_download};
 use client_connections::Connect;
 use proto_wire::{FlightInfo, Location};
@@ -169,7 +169,7 @@ fn get_everywhere_asked<C: Connect, O: Write, E: Write>(
     ensures { GetsEverywhereAsked address.now table.now version result (C.log connect.old) (C.log connect.new)
         (O.contents out.old) (O.contents out.new) (E.contents err.old) (E.contents err.new) }
 {
-    match address_by(address) {
+    match table_at(address, table) {
         Ok(address) => get_everywhere_at(alloc, connect, address, table, version, out, err),
         Err(fault) => Err(fault),
     }

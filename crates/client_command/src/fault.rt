@@ -1,7 +1,7 @@
 //! Why a client's word was not done.
 
-ghost use Rattle.std.specs.Prelude.{◌≡◌};
-ghost use Rattle.client_command.specs.Faults.{fault_of_rows, status_of_fault};
+ghost use Rattle.std.specs.Prelude.{◌≡◌, ◌↔◌, Contains, IsTrue};
+ghost use Rattle.client_command.specs.Faults.{MayBeTaken, fault_of_rows, final_statuses, status_of_fault};
 
 use crate::status::{FAILURE, NO_CALL};
 use client_calls::ClientFault;
@@ -51,6 +51,13 @@ pub enum CommandFault {
     Differs,
 }
 
+/// Whether this status refuses an upload however often it is put (gRPC, "Status codes and their use in gRPC").
+fn is_final(status: u8) -> bool
+    ensures { IsTrue result ↔ Contains final_statuses status }
+{
+    [3, 5, 6, 9, 12].contains(&status)
+}
+
 impl CommandFault {
     /// Why rows were not put, or not printed.
     pub(crate) fn of_rows(fault: RowCallFault) -> CommandFault
@@ -73,6 +80,27 @@ impl CommandFault {
             CommandFault::BadAddress | CommandFault::BadId | CommandFault::BadTable => NO_CALL,
             CommandFault::Call(ClientFault::Status(status, _)) => (*status).max(FAILURE),
             _ => FAILURE,
+        }
+    }
+
+    /// Whether the upload of a put that ended so may have been taken, though it was not told: its request went out, in part
+    /// or whole, and what came back does not refuse it for good.
+    pub(crate) fn may_be_taken(&self) -> bool
+        ensures { IsTrue result ↔ MayBeTaken self.now }
+    {
+        match self {
+            CommandFault::Call(ClientFault::Status(status, _)) => !is_final(*status),
+            CommandFault::Call(ClientFault::BadAnswer | ClientFault::Call(_))
+            | CommandFault::Io
+            | CommandFault::OutOfMemory => true,
+            CommandFault::BadAddress
+            | CommandFault::BadId
+            | CommandFault::BadTable
+            | CommandFault::Connect(_)
+            | CommandFault::Rows(_)
+            | CommandFault::Upload(_)
+            | CommandFault::BadLocation
+            | CommandFault::Differs => false,
         }
     }
 }

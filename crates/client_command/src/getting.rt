@@ -9,7 +9,7 @@ use crate::fault::CommandFault;
 use crate::latest::latest_in;
 use crate::printing::tell_rows;
 use crate::reporting::report;
-use crate::words::{address_by, ticket_by};
+use crate::words::{table_at, ticket_by};
 use client_connections::Connect;
 use std::alloc::Global;
 use std::io::Write;
@@ -113,7 +113,7 @@ fn get_asked<C: Connect, O: Write>(
     ensures { GetsAsked address.now table.now version result
         (C.log connect.old) (C.log connect.new) (O.contents out.old) (O.contents out.new) }
 {
-    match address_by(address) {
+    match table_at(address, table) {
         Ok(address) => get_table_at(alloc, connect, address, table, version, out),
         Err(fault) => Err(fault),
     }

@@ -3,12 +3,13 @@
 ghost use Rattle.std.specs.Prelude.{◌≡◌};
 ghost use Rattle.std.specs.Io.KnownBytes.{Keeps};
 ghost use Rattle.client_command.specs.Tellings.{InformsAt, RunsTelling, TellsAsked};
+ghost use Rattle.client_command.specs.Words.{NamesTable};
 
 use crate::asking::info_at;
 use crate::fault::CommandFault;
 use crate::reporting::report;
 use crate::tables::info_text;
-use crate::words::address_by;
+use crate::words::table_at;
 use crate::writing::write_text;
 use client_connections::Connect;
 use std::alloc::Global;
@@ -43,10 +44,10 @@ fn info_asked<C: Connect, O: Write>(
     table: &str,
     out: &mut O,
 ) -> Result<(), CommandFault>
-    ensures { TellsAsked (InformsAt table.now) address.now result
+    ensures { TellsAsked (InformsAt table.now) (NamesTable address.now table.now) result
         (C.log connect.old) (C.log connect.new) (O.contents out.old) (O.contents out.new) }
 {
-    match address_by(address) {
+    match table_at(address, table) {
         Ok(address) => print_info_at(alloc, connect, address, table, out),
         Err(fault) => Err(fault),
     }
@@ -61,7 +62,7 @@ fn info_asked<C: Connect, O: Write>(
 ///
 /// The exit status is [`SUCCESS`] where every line was printed. Else a line, `flightd: ` and the fault's name, goes to
 /// `err`, and the status is that of the service, where the service refused the call, [`NO_CALL`] of
-/// [`CommandFault::BadAddress`], and else [`FAILURE`].
+/// [`CommandFault::BadAddress`] and [`CommandFault::BadTable`], and else [`FAILURE`].
 ///
 /// [`SUCCESS`]: crate::SUCCESS
 /// [`FAILURE`]: crate::FAILURE
@@ -74,7 +75,7 @@ pub fn info_run<C: Connect, O: Write, E: Write>(
     out: &mut O,
     err: &mut E,
 ) -> u8
-    ensures done { RunsTelling (InformsAt table.now) address.now result
+    ensures done { RunsTelling (InformsAt table.now) (NamesTable address.now table.now) result
         (C.log connect.old) (C.log connect.new) (O.contents out.old) (O.contents out.new) }
     ensures silent { result ≡ 0 → Keeps (E.contents err.old) (E.contents err.new) }
 {

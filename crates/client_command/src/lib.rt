@@ -1,7 +1,8 @@
 //! `flightd put`, `get`, `list` and `info`: a client's words, done over any connections and writers.
 //!
 //! Each word has a function `.._run`, which reads its words, makes its calls, each over a connection of its own
-//! ([`Connect`] of `client_connections`), prints what was told, reports a fault in a line, and gives the exit status.
+//! ([`Connect`] of `client_connections`), prints what was told, reports a fault in a line, and gives the exit status. The
+//! words of a put are read apart, by `put_words`, so that they are judged before its rows are read from a file.
 //! Beneath it stands a function that gives the fault itself. What goes over each connection is that of `client_calls`
 //! (`specs/Calls`), and which rows are put and printed that of `row_calls`; `specs/Puts`, `Gets` and the others say
 //! what is printed of it.
@@ -32,3 +33,4 @@ pub use informing::info_run;
 pub use listing::list_run;
 pub use putting::{put_rows_at, put_run};
 pub use status::{FAILURE, NO_CALL, SUCCESS};
+pub use words::{PutWords, put_words};

@@ -3,6 +3,7 @@
 ghost use Rattle.std.specs.Prelude.{◌≡◌};
 ghost use Rattle.std.specs.Io.KnownBytes.{Keeps};
 ghost use Rattle.client_command.specs.Tellings.{ListsAt, RunsTelling, TellsAsked};
+ghost use Rattle.client_command.specs.Words.{AddressBy};
 
 use crate::asking::list_at;
 use crate::fault::CommandFault;
@@ -41,7 +42,7 @@ fn list_asked<C: Connect, O: Write>(
     address: &str,
     out: &mut O,
 ) -> Result<(), CommandFault>
-    ensures { TellsAsked ListsAt address.now result
+    ensures { TellsAsked ListsAt (AddressBy address.now) result
         (C.log connect.old) (C.log connect.new) (O.contents out.old) (O.contents out.new) }
 {
     match address_by(address) {
@@ -70,7 +71,7 @@ pub fn list_run<C: Connect, O: Write, E: Write>(
     out: &mut O,
     err: &mut E,
 ) -> u8
-    ensures done { RunsTelling ListsAt address.now result
+    ensures done { RunsTelling ListsAt (AddressBy address.now) result
         (C.log connect.old) (C.log connect.new) (O.contents out.old) (O.contents out.new) }
     ensures silent { result ≡ 0 → Keeps (E.contents err.old) (E.contents err.new) }
 {

@@ -4,13 +4,12 @@ ghost use Rattle.std.specs.Prelude.{◌≡◌};
 ghost use Rattle.std.specs.Option.{option_map};
 ghost use Rattle.std.specs.Io.KnownBytes.{Keeps};
 ghost use Rattle.header_types.specs.Views.{schema_of};
-ghost use Rattle.client_command.specs.Faults.{status_of};
-ghost use Rattle.client_command.specs.Puts.{PutsAsked, PutsAt, RunsPut};
+ghost use Rattle.client_command.specs.Puts.{PutsAt, RunsPut};
 
 use crate::asking::put_at;
 use crate::fault::CommandFault;
-use crate::reporting::report;
-use crate::words::{address_by, id_by};
+use crate::reporting::report_put;
+use crate::words::PutWords;
 use crate::writing::tell_put;
 use client_connections::Connect;
 use header_types::Schema;
@@ -56,64 +55,31 @@ pub fn put_rows_at<C: Connect, O: Write>(
     }
 }
 
-/// Puts rows as [`put_run`] does, and gives the fault itself.
-fn put_asked<C: Connect, O: Write>(
-    alloc: Global,
-    connect: &mut C,
-    address: &str,
-    table: &str,
-    id: Option<&str>,
-    random: [u8; 16],
-    text: &[u8],
-    schema: Option<&Schema>,
-    out: &mut O,
-) -> Result<(), CommandFault>
-    ensures { PutsAsked address.now table.now (option_map (λ text. text.now) id.entry) random
-        (option_map (λ s. schema_of s.now) schema.entry) text.now result
-        (C.log connect.old) (C.log connect.new) (O.contents out.old) (O.contents out.new) }
-{
-    let address = match address_by(address) {
-        Ok(address) => address,
-        Err(fault) => return Err(fault),
-    };
-    let id = match id_by(id, random) {
-        Ok(id) => id,
-        Err(fault) => return Err(fault),
-    };
-    put_rows_at(alloc, connect, address, table, id, text, schema, out)
-}
-
-/// `flightd put HOST:PORT TABLE FILE`: puts the rows that the lines of a file's text tell into this table at the server
-/// at this address ([`client_connections::address_of`]), and prints a line, as [`put_rows_at`] does. The upload's own
-/// name is what `id` writes in 32 lower-case hexadecimal digits; where there is none, it is `random`, which the caller
-/// has drawn. The rows are of the schema, where one is given, else of one that is made of them.
+/// `flightd put HOST:PORT TABLE FILE`: puts the rows that the lines of a file's text tell into the table that the words name
+/// ([`put_words`](crate::put_words)) at the server that they name, and prints a line, as [`put_rows_at`] does. The rows are
+/// of the schema, where one is given, else of one that is made of them.
 ///
 /// The exit status is [`SUCCESS`] where the line was printed. Else a line, `flightd: ` and the fault's name, goes to
-/// `err`, and the status is that of the service, where the service refused the put, [`NO_CALL`] of
-/// [`CommandFault::BadAddress`] and [`CommandFault::BadId`], and else [`FAILURE`].
+/// `err`, and the status is that of the service, where the service refused the put, and else [`FAILURE`]. Where the upload
+/// may have been taken nonetheless, as where an answer was lost, a second line says how it is put again:
+/// `flightd: put it again with --id ` and the upload's own name. It makes the same version then, once.
 ///
 /// [`SUCCESS`]: crate::SUCCESS
 /// [`FAILURE`]: crate::FAILURE
-/// [`NO_CALL`]: crate::NO_CALL
 pub fn put_run<C: Connect, O: Write, E: Write>(
     alloc: Global,
     connect: &mut C,
-    address: &str,
-    table: &str,
-    id: Option<&str>,
-    random: [u8; 16],
+    words: PutWords<'_>,
     text: &[u8],
     schema: Option<&Schema>,
     out: &mut O,
     err: &mut E,
 ) -> u8
-    ensures done { RunsPut address.now table.now (option_map (λ text. text.now) id.entry) random
-        (option_map (λ s. schema_of s.now) schema.entry) text.now result
+    ensures done { RunsPut words.entry.address words.entry.table.now words.entry.id (option_map (λ s. schema_of s.now) schema.entry) text.now result
         (C.log connect.old) (C.log connect.new) (O.contents out.old) (O.contents out.new) }
     ensures silent { result ≡ 0 → Keeps (E.contents err.old) (E.contents err.new) }
 {
-    let done = put_asked(
-        alloc, connect, address, table, id, random, text, schema, out,
-    );
-    report(done, err)
+    let PutWords { address, table, id } = words;
+    let done = put_rows_at(alloc, connect, address, table, id, text, schema, out);
+    report_put(alloc, id, done, err)
 }

@@ -3,7 +3,7 @@
 ghost use Rattle.std.specs.Prelude.{◌≡◌, IfErr, IfOk, string_bytes};
 ghost use Rattle.grpc_frames.specs.FrameFaults.{WhereKnown};
 ghost use Rattle.client_command.specs.declared.fault.CommandFault.TheVariants.{Io};
-ghost use Rattle.client_command.specs.Writing.{IsOfLines, WritesText, put_line};
+ghost use Rattle.client_command.specs.Writing.{IsOfLines, WritesText, put_line, repeat_line};
 
 use crate::fault::CommandFault;
 use grpc_frames::transfer::put;
@@ -46,4 +46,27 @@ pub(crate) fn tell_put<O: Write>(
         return Err(CommandFault::OutOfMemory);
     };
     write_text(out, line.as_bytes())
+}
+
+/// The line that says by which name an upload is put again.
+fn repeat_line(alloc: Global, id: [u8; 16]) -> Result<String, AllocError>
+    ensures { IfOk result (λ line. string_bytes line ≡ repeat_line id) }
+{
+    let digits = hex::encode(alloc, &id)?;
+    format!(in alloc; "flightd: put it again with --id {digits}\n")
+}
+
+/// Writes the line that says by which name an upload is put again.
+pub(crate) fn tell_repeat<E: Write>(
+    alloc: Global,
+    err: &mut E,
+    id: [u8; 16],
+) -> Result<(), CommandFault>
+    ensures written { WhereKnown (E.contents err.old) (E.contents err.new) (WritesText (repeat_line id) result) }
+    ensures fault { IfErr result IsOfLines }
+{
+    let Ok(line) = repeat_line(alloc, id) else {
+        return Err(CommandFault::OutOfMemory);
+    };
+    write_text(err, line.as_bytes())
 }

@@ -51,6 +51,7 @@ fn reports_faults(rt: HostRuntime) -> Result<(), Fail> {
         )?
     );
     assert!(rt; ends(alloc, &[], at, "a/b", Some(1), "2 0 0 flightd: BadTable\n")?);
+    assert!(rt; ends(alloc, &[], at, "a/b", None, "2 0 0 flightd: BadTable\n")?);
     assert!(rt; ends(alloc, &[], at, "t", Some(0), "2 0 0 flightd: BadTable\n")?);
     assert!(rt; ends(alloc, &[], at, "t", Some(1), "1 1 0 flightd: Connect\n")?);
     assert!(rt;

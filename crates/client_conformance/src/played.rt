@@ -1,7 +1,7 @@
 //! Rows that are put and got, served by `flight_calls`.
 
 use crate::scripted::Scripted;
-use client_command::{get_everywhere_run, get_run, list_run, put_run};
+use client_command::{get_everywhere_run, get_run, list_run, put_run, put_words};
 use flight_calls::serve_call;
 use std::alloc::Global;
 use std::hash::RandomState;
@@ -34,11 +34,11 @@ fn done(alloc: Global, connect: &mut Scripted, word: Word<'_>) -> Result<String,
     let at = "127.0.0.1:42000";
     let status = match word {
         Word::Put(id, rows) => {
-            let id = [id; 16];
+            let Ok(words) = put_words(at, "t", None, [id; 16]) else {
+                return Err(Fail::from("words that name nothing"));
+            };
             let text = rows.as_bytes();
-            put_run(
-                alloc, connect, at, "t", None, id, text, None, &mut out, &mut err,
-            )
+            put_run(alloc, connect, words, text, None, &mut out, &mut err)
         }
         Word::Get(version) => get_run(alloc, connect, at, "t", version, &mut out, &mut err),
         Word::GetEverywhere => {

@@ -11,8 +11,8 @@
 
 use acceptor_command::acceptor_run;
 use audit_command::{AuditFault, FAILURE, audit_run, explain_run};
-use client_command::{get_everywhere_run, get_run, info_run, list_run, put_run};
-use client_connections::{Sockets, address_of};
+use client_command::{get_everywhere_run, get_run, info_run, list_run, put_run, put_words};
+use client_connections::Sockets;
 use command_line::{Asked, asked_by, parse, served_by, version_by};
 use records_command::records_run;
 use replay_command::replay_run;
@@ -185,7 +185,7 @@ fn play(rt: &HostRuntime, path: &str) -> io::Result<u8> {
     Ok(replay_run(alloc, hashing, &file, &mut output, &mut rt.stderr()))
 }
 
-// Puts the rows of a file, which is read where the address is one.
+// Puts the rows of a file, which is read once all words are judged.
 fn put(
     rt: &HostRuntime,
     address: &str,
@@ -201,20 +201,18 @@ fn put(
         Some(Err(SchemaWordsFault::OutOfMemory)) => return Err(io::ErrorKind::OutOfMemory.into()),
         Some(Err(fault)) => return Ok(refuse(rt, fault)),
     };
-    let text = match address_of(address) {
-        Some(_) => rows_in(rt, file)?,
-        None => Vec::new(alloc),
-    };
     let mut random = [0; 16];
     rt.fill_bytes(&mut random)?;
+    let words = match put_words(address, table, id, random) {
+        Ok(words) => words,
+        Err(fault) => return Ok(refuse(rt, fault)),
+    };
+    let text = rows_in(rt, file)?;
     let mut output = BufWriter::new(alloc, rt.stdout())?;
     Ok(put_run(
         alloc,
         &mut Sockets::new(rt, rt.stderr().is_terminal()),
-        address,
-        table,
-        id,
-        random,
+        words,
         &text,
         schema.as_ref(),
         &mut output,
