@@ -122,7 +122,16 @@ def values(program):
 # ---- recorded runs
 
 
-JUDGED = {"lawful": (0, b"lawful\n", b""), "unlawful": (1, b"unlawful\n", b""), "no run": (1, b"", b"flightd: BadTrace\n")}
+JUDGED = {"lawful": (0, b"lawful\n", b""), "unlawful": (1, b"unlawful\n", b"")}
+
+
+def is_judged(outcome, judgement):
+    """Whether a file was judged so; of one that is no run a second line says what is wrong with it."""
+    if judgement in JUDGED:
+        return outcome == JUDGED[judgement]
+    status, output, error = outcome
+    lines = error.split(b"\n")
+    return (status, output, lines[0], lines[2:]) == (1, b"", b"flightd: BadTrace", [b""]) and lines[1].startswith(b"flightd: ")
 
 
 def audits(program):
@@ -137,7 +146,7 @@ def audits(program):
     whole = next(file for _, why, file in files if why == "an acceptance above")
     files += [("no run", f"its first {size} bytes", whole[:size]) for size in range(len(whole))]
     for judgement, why, file in files:
-        yield f"{judgement}: {why}", program.over("audit", file) == JUDGED[judgement]
+        yield f"{judgement}: {why}", is_judged(program.over("audit", file), judgement)
 
 
 # ---- schedules
@@ -152,26 +161,44 @@ def is_played(outcome, lines):
     return outcome == (0, "".join(f"{place} {line}\n" for place, line in enumerate(lines)).encode(), b"")
 
 
+FLAWS = {
+    "text": "the file is not UTF-8",
+    "json": "the file is not one JSON value",
+    "members": "`members` is not there, or is no whole number from 1 to 7",
+    "slot_limit": "`slot_limit` is not there, or is no whole number from 1 to 1,000,000",
+    "uploads": "`uploads` is not there, or is no array",
+    "events": "`events` is not there, or is no array",
+    "upload": "upload 0 of `uploads` tells no upload that is taken",
+    "event": "event 0 of `events` is no array of a word, a node's number and what the word asks for",
+    "last event": "event 3 of `events` is no array of a word, a node's number and what the word asks for",
+}
+
+
 def is_told(outcome, told, lines=()):
-    """Whether a file was played with these lines, or was refused, as it is told."""
-    return outcome == (1, b"", b"flightd: BadSchedule\n") if told == "bad" else is_played(outcome, lines)
+    """Whether a file was played with these lines, or was refused for what is told."""
+    if told in FLAWS:
+        return outcome == (1, b"", f"flightd: BadSchedule\nflightd: {FLAWS[told]}\n".encode())
+    return is_played(outcome, lines)
 
 
 def schedules(program):
     for told, file in rows("schedules.txt", 2):
         yield f"{told}: {file}", is_told(program.over("replay", file.encode()), told)
     no_text = b'{"members":3,"slot_limit":2,"uploads":[],"events":[],"note":"\xff"}'
-    yield "no text", is_told(program.over("replay", no_text), "bad")
+    yield "no text", is_told(program.over("replay", no_text), "text")
     for told, upload in rows("uploads.txt", 2):
-        yield f"{told}: {upload}", is_told(program.over("replay", schedule(upload, "")), told)
-    for count, told in ((1024, "good"), (1025, "bad")):
+        yield f"{told}: {upload}", is_told(program.over("replay", schedule(upload, "")), "upload" if told == "bad" else told)
+    for count, told in ((1024, "good"), (1025, "upload")):
         upload = json.dumps({"table": "t", "id": ID, "values": count * [[]]})
         yield f"{count} batches", is_told(program.over("replay", schedule(upload, "")), told)
 
 
 def events(program):
     for told, event in rows("events.txt", 2):
-        yield f"{told}: {event}", is_told(program.over("replay", schedule(UPLOAD, event)), told, [told])
+        yield f"{told}: {event}", is_told(program.over("replay", schedule(UPLOAD, event)), "event" if told == "bad" else told, [told])
+        if told == "bad":
+            behind = f'["tick",0,0],["restart",7],["info",0,""],{event},["tick"]'
+            yield f"fourth: {event}", is_told(program.over("replay", schedule(UPLOAD, behind)), "last event")
     yield "an upload", is_played(program.over("replay", schedule(UPLOAD, DECIDED)), DECIDED_LINES)
     # a node at which nothing waits asks for the first slot at each tick
     ticks = ",".join(5000 * ['["tick",2,0]'])

@@ -36,24 +36,78 @@ fn tells_lines_that_are_lost(rt: HostRuntime) -> Result<(), Fail> {
     Ok(())
 }
 
-/// Whether the replay of a file that tells no schedule fails where its line's room is this, with the first bytes said.
-fn is_cut_line(alloc: Global, hashing: RandomState, line: &[u8], room: usize) -> bool {
+/// Whether the replay of a file that tells no schedule fails where its lines' room is this, with the first bytes said.
+fn is_cut_line(alloc: Global, hashing: RandomState, lines: &[u8], room: usize) -> bool {
     let mut output = Vec::new(alloc);
     let mut said = Narrow::new(alloc, room, 0);
     let status = replay_run(alloc, hashing, b"{}", &mut output, &mut said);
-    let is_cut = line.get(..room) == Some(said.written.as_slice());
+    let is_cut = lines.get(..room) == Some(said.written.as_slice());
     status == 1 && output.is_empty() && is_cut
 }
 
 #[test]
 fn fails_where_its_fault_cannot_be_told(rt: HostRuntime) -> Result<(), Fail> {
     let hashing = RandomState::new(&rt)?;
-    let line = b"flightd: BadSchedule\n";
-    for room in 0..=line.len() {
+    let lines =
+        b"flightd: BadSchedule\nflightd: `members` is not there, or is no whole number from 1 to 7\n";
+    for room in 0..=lines.len() {
         assert!(rt;
-            is_cut_line(rt.alloc(), hashing, line, room),
+            is_cut_line(rt.alloc(), hashing, lines, room),
             "in {room} bytes"
         );
+    }
+    Ok(())
+}
+
+/// What is wrong with files that tell no schedule, as it is said of each.
+const NO_SCHEDULES: [(&[u8], &str); 10] = [
+    (b"{\"members\":3}\xff", "the file is not UTF-8"),
+    (b"{\"members\":3", "the file is not one JSON value"),
+    (
+        b"{\"members\":8,\"slot_limit\":0}",
+        "`members` is not there, or is no whole number from 1 to 7",
+    ),
+    (
+        b"{\"members\":3,\"slot_limit\":0}",
+        "`slot_limit` is not there, or is no whole number from 1 to 1,000,000",
+    ),
+    (
+        b"{\"members\":3,\"slot_limit\":2,\"uploads\":{},\"events\":{}}",
+        "`uploads` is not there, or is no array",
+    ),
+    (
+        b"{\"members\":3,\"slot_limit\":2,\"uploads\":[7]}",
+        "`events` is not there, or is no array",
+    ),
+    (
+        b"{\"members\":3,\"slot_limit\":2,\"uploads\":[7],\"events\":[7]}",
+        "upload 0 of `uploads` tells no upload that is taken",
+    ),
+    (
+        b"{\"members\":3,\"slot_limit\":2,\"uploads\":[],\"events\":[[\"put\",0,0]]}",
+        "event 0 of `events` is no array of a word, a node's number and what the word asks for",
+    ),
+    (
+        b"{\"members\":3,\"slot_limit\":2,\"uploads\":[],\"events\":[[\"restart\",0],[\"tick\",0,256],[\"x\"]]}",
+        "event 1 of `events` is no array of a word, a node's number and what the word asks for",
+    ),
+    (
+        b"{\"members\":3,\"slot_limit\":2,\"uploads\":[],\"events\":[[\"restart\",0],[\"tick\",0,255],[]]}",
+        "event 2 of `events` is no array of a word, a node's number and what the word asks for",
+    ),
+];
+
+#[test]
+fn says_what_is_wrong_with_a_file(rt: HostRuntime) -> Result<(), Fail> {
+    let alloc = rt.alloc();
+    let hashing = RandomState::new(&rt)?;
+    for (file, flaw) in NO_SCHEDULES {
+        let mut output = Vec::new(alloc);
+        let mut said = Vec::new(alloc);
+        let status = replay_run(alloc, hashing, file, &mut output, &mut said);
+        let lines = format!(in alloc; "flightd: BadSchedule\nflightd: {flaw}\n")?;
+        assert!(rt; status == 1 && output.is_empty(), "{flaw}");
+        assert!(rt; said.as_slice() == lines.as_bytes(), "{flaw}");
     }
     Ok(())
 }

@@ -1,9 +1,9 @@
 //! `flightd replay FILE`, a function over any writers.
 //!
 //! `replay_run` reads a schedule from a file's bytes, applies its events to nodes of its own, one after the other, and
-//! writes a line for each. It gives the exit status, and reports a fault in a line. What it runs, `replay_file`, gives
-//! the fault itself; the schedule is read by `read_schedule` of `run_files`. A caller reads the file, hands over the real
-//! streams, and exits with the status.
+//! writes a line for each. It gives the exit status, and reports a fault in a line; of a file that tells no schedule a second
+//! line says what is wrong with it. What it runs, `replay_file`, gives the fault itself; the schedule is read by
+//! `read_schedule` of `run_files`. A caller reads the file, hands over the real streams, and exits with the status.
 #![tactic(auto)]
 
 mod fault;
@@ -13,5 +13,7 @@ mod status;
 
 pub use fault::ReplayFault;
 pub use replaying::{replay_file, replay_run};
-pub use run_files::{Schedule, ScheduleFault, read_schedule};
+pub use run_files::{
+    Schedule, ScheduleFault, ScheduleFlaw, TextFlaw, read_schedule, schedule_flaw,
+};
 pub use status::{FAILURE, SUCCESS};

@@ -10,7 +10,7 @@ use crate::fault::ReplayFault;
 use crate::lines::line_of;
 use crate::status::{FAILURE, SUCCESS};
 use grpc_frames::transfer::put;
-use run_files::{ScheduleFault, read_schedule};
+use run_files::{ScheduleFault, read_schedule, schedule_flaw};
 use schedule_runner::{RunFault, Step, Trace, run};
 use std::alloc::Global;
 use std::hash::RandomState;
@@ -20,8 +20,9 @@ use std::io::Write;
 /// of its own, writes a line for each to `w`, and gives the exit status. docs/FORMATS.md has the lines. `hashing` has the
 /// random keys that keep look-ups fast whatever names the file chooses.
 ///
-/// A fault's line goes to `e`: `flightd: BadSchedule` where the bytes tell no schedule, `flightd: OutOfMemory` where
-/// memory is refused, `flightd: Io` where `w` fails. Where that can't be written, the status alone tells.
+/// A fault's line goes to `e`: `flightd: BadSchedule` where the bytes tell no schedule, and behind it a line with what is
+/// wrong with them ([`schedule_flaw`]); `flightd: OutOfMemory` where memory is refused, `flightd: Io` where `w` fails. Where
+/// that can't be written, the status alone tells.
 pub fn replay_run<W: Write, E: Write>(
     alloc: Global,
     hashing: RandomState,
@@ -38,12 +39,21 @@ pub fn replay_run<W: Write, E: Write>(
     match replay_file(alloc, hashing, file, w) {
         Ok(()) => SUCCESS,
         Err(fault) => {
-            // Where this fails too, the status alone tells.
-            let _ = writeln!(e, "flightd: {fault}");
-            let _ = e.flush();
+            say(alloc, file, fault, e);
             FAILURE
         }
     }
+}
+
+// Says the fault, and what is wrong with a file that tells no schedule. Where this fails too, the status alone tells.
+fn say<E: Write>(alloc: Global, file: &[u8], fault: ReplayFault, e: &mut E) {
+    let _ = writeln!(e, "flightd: {fault}");
+    if fault == ReplayFault::BadSchedule
+        && let Ok(Some(flaw)) = schedule_flaw(alloc, file)
+    {
+        let _ = writeln!(e, "flightd: {flaw}");
+    }
+    let _ = e.flush();
 }
 
 /// Plays the schedule that a file tells, as [`read_schedule`] reads it, and writes a line for each of its events to `w`,

@@ -1,18 +1,23 @@
 -- A file means one schedule, which is said of the value that it was read as.
-use Rattle.std.proofs.Common.{◌≡◌, ℕ, List, map, Some, sym, ap, subst, ◌∙◌}
+use Rattle.std.proofs.Common.{◌≡◌, ℕ, List, Some, None, Result, Ok, Err, sym, ap, subst, ◌∙◌}
 use Rattle.std.specs.Prelude.{codes}
 use Rattle.std.specs.List.{AllZip}
 use Rattle.std.proofs.lemmas.Option.{same_Some}
 use Rattle.serde_json.specs.Data.{Data}
 use Rattle.serde_json.specs.Read.{read as read_text}
-use Rattle.serde_json.specs.View.{view, items_of}
-use Rattle.serde_json.specs.declared.value.Value.{Value}
+use Rattle.serde_json.specs.View.{items_of}
 use Rattle.node_events.specs.declared.event.Event.{Event}
 use Rattle.schedule_runner.specs.declared.config.Config.{Config}
 use Rattle.run_files.specs.UploadValue.{MeansUpload}
 use Rattle.run_files.specs.JsonValues.{array_at}
 use Rattle.run_files.specs.ScheduleFile.{TellsEvent, TellsConfig, MeansSchedule}
-use Rattle.run_files.proofs.Reading.{items_are_one, zipped_are_one}
+use Rattle.run_files.specs.Flaws.{IsScheduleFlaw, IsScheduleFlawIn, IsTextFlaw, ReadsSchedule}
+use Rattle.run_files.specs.declared.schedule_file.Schedule.{Schedule}
+use Rattle.run_files.specs.declared.flaw.TextFlaw.{TextFlaw}
+use Rattle.run_files.specs.declared.flaw.TextFlaw.TheVariants.{NotUtf8, NotJson}
+use Rattle.run_files.specs.declared.flaw.ScheduleFlaw.{ScheduleFlaw}
+use Rattle.run_files.specs.declared.flaw.ScheduleFlaw.TheVariants as flaws
+use Rattle.run_files.proofs.Reading.{items_are_one, zipped_are_one, unfit_refused}
 use Rattle.run_files.proofs.EventWords.{event_is_one}
 use Rattle.run_files.proofs.UploadValues.{upload_is_one}
 
@@ -33,24 +38,53 @@ module _ (file : List ℕ) (d : Data) (config : Config) (events : List Event) (r
   pub config_said : TellsConfig d config
   config_said = subst (λ (x : Data). TellsConfig x config) same h.configured
 
-  array_said : (name : List ℕ) (ds es : List Data) → array_at name h.value ≡ Some (items_of ds) → Some (items_of es) ≡ array_at name d → ds ≡ es
+  array_said : (name : List ℕ) (ds es : List Data) → array_at name h.value ≡ Some (items_of ds) → array_at name d ≡ Some (items_of es) → ds ≡ es
   array_said name ds es is_here is_there =
-      items_are_one ds es (same_Some (items_of ds) (items_of es) (sym is_here ∙ ap (array_at name) same ∙ sym is_there))
+      items_are_one ds es (same_Some (items_of ds) (items_of es) (sym is_here ∙ ap (array_at name) same ∙ is_there))
 
   -- the uploads that are told are those of the values at their name
-  pub uploads_said : (vs ws : List Value) → ws ≡ vs → Some (items_of (map view vs)) ≡ array_at (codes "uploads") d → AllZip MeansUpload (map view ws) h.uploads
-  uploads_said vs ws is is_there =
-      subst (λ (l : List Data). AllZip MeansUpload l h.uploads) (array_said (codes "uploads") h.upload_values (map view vs) h.uploads_at is_there ∙ ap (map view) (sym is)) h.uploads_mean
+  uploads_said : (ds : List Data) → array_at (codes "uploads") d ≡ Some (items_of ds) → AllZip MeansUpload ds h.uploads
+  uploads_said ds is_there =
+      subst (λ (l : List Data). AllZip MeansUpload l h.uploads) (array_said (codes "uploads") h.upload_values ds h.uploads_at is_there) h.uploads_mean
 
-  -- and so are the events, of the uploads that were read
-  pub events_said : (vs ws es fs : List Value) (uploads own : List (List ℕ)) → ws ≡ vs → fs ≡ es → own ≡ uploads
-      → Some (items_of (map view vs)) ≡ array_at (codes "uploads") d → Some (items_of (map view es)) ≡ array_at (codes "events") d
-      → AllZip MeansUpload (map view ws) uploads → AllZip (TellsEvent own) (map view fs) events
-  events_said vs ws es fs uploads own is are mine uploads_there events_there mean =
-      let all : h.uploads ≡ own
-      = zipped_are_one MeansUpload upload_is_one (map view ws) h.uploads uploads (uploads_said vs ws is uploads_there) mean ∙ sym mine in
-      subst (λ (us : List (List ℕ)). AllZip (TellsEvent us) (map view fs) events) all
-      (subst (λ (l : List Data). AllZip (TellsEvent h.uploads) l events) (array_said (codes "events") h.event_values (map view es) h.events_at events_there ∙ ap (map view) (sym are)) h.events_mean)
+  -- and so are the events, of these uploads
+  events_said : (ds es : List Data) (uploads : List (List ℕ)) → array_at (codes "uploads") d ≡ Some (items_of ds) → AllZip MeansUpload ds uploads
+      → array_at (codes "events") d ≡ Some (items_of es) → AllZip (TellsEvent uploads) es events
+  events_said ds es uploads uploads_there mean events_there =
+      let all : h.uploads ≡ uploads = zipped_are_one MeansUpload upload_is_one ds h.uploads uploads (uploads_said ds uploads_there) mean in
+      subst (λ (us : List (List ℕ)). AllZip (TellsEvent us) es events) all
+      (subst (λ (l : List Data). AllZip (TellsEvent h.uploads) l events) (array_said (codes "events") h.event_values es h.events_at events_there) h.events_mean)
+
+  array_missing : (name : List ℕ) (ds : List Data) → array_at name h.value ≡ Some (items_of ds) → array_at name d ≡ None → ⊥
+  array_missing name ds is_here none =
+      let both : Some (items_of ds) ≡ None = sym is_here ∙ ap (array_at name) same ∙ none in absurd cc
+
+  -- with what is wrong in the value, it would mean none
+  refused_in : (flaw : ScheduleFlaw) → IsScheduleFlawIn d flaw → ⊥
+  refused_in (flaws.Text flaw) bad = absurd bad
+  refused_in flaws.Members bad = bad config.members (config_said.members, config_said.members_within)
+  refused_in flaws.SlotLimit bad = bad.1 config.slot_limit config_said.slots config_said.within.0.0 config_said.within.0.1
+  refused_in flaws.Uploads bad = array_missing (codes "uploads") h.upload_values h.uploads_at bad.1
+  refused_in flaws.Events bad = array_missing (codes "events") h.event_values h.events_at bad.2
+  refused_in (flaws.Upload place) bad = unfit_refused MeansUpload bad.items place h.uploads bad.first (uploads_said bad.items bad.there)
+  refused_in (flaws.Event place) bad =
+      unfit_refused (TellsEvent bad.uploads) bad.items place events bad.first
+      (events_said bad.upload_items bad.items bad.uploads bad.uploads_there bad.uploads_mean bad.there)
+
+-- ---- a file that something is wrong with means no schedule
+
+text_refused : (file : List ℕ) (flaw : TextFlaw) (config : Config) (events : List Event) → IsTextFlaw file flaw → MeansSchedule file config events → ⊥
+text_refused file NotUtf8 config events bad h = bad h.is_text
+text_refused file NotJson config events bad h = let both : Some h.value ≡ None = sym h.read ∙ bad.1 in absurd cc
+
+pub schedule_refused : (file : List ℕ) (flaw : ScheduleFlaw) (config : Config) (events : List Event) → IsScheduleFlaw file flaw → MeansSchedule file config events → ⊥
+schedule_refused file (flaws.Text flaw) config events bad h = text_refused file flaw config events bad h
+schedule_refused file flaws.Members config events bad h = refused_in file bad.0 config events bad.1.1 h flaws.Members bad.2
+schedule_refused file flaws.SlotLimit config events bad h = refused_in file bad.0 config events bad.1.1 h flaws.SlotLimit bad.2
+schedule_refused file flaws.Uploads config events bad h = refused_in file bad.0 config events bad.1.1 h flaws.Uploads bad.2
+schedule_refused file flaws.Events config events bad h = refused_in file bad.0 config events bad.1.1 h flaws.Events bad.2
+schedule_refused file (flaws.Upload place) config events bad h = refused_in file bad.0 config events bad.1.1 h (flaws.Upload place) bad.2
+schedule_refused file (flaws.Event place) config events bad h = refused_in file bad.0 config events bad.1.1 h (flaws.Event place) bad.2
 
 -- ---- a file means one schedule at most
 
@@ -68,3 +102,19 @@ one_schedule file c d s t p q =
           (subst (λ (l : List (List ℕ)). AllZip (TellsEvent l) q.event_values s) uploads (subst (λ (l : List Data). AllZip (TellsEvent p.uploads) l s) es p.events_mean))
           q.events_mean,
     )
+
+-- ---- what was read of it
+
+-- the schedule that was read is the one that the file means
+pub reads_one : (file : List ℕ) (r : Result Schedule ScheduleFlaw) (own : Schedule) (config : Config) (events : List Event) → r ≡ Ok own → ReadsSchedule file r
+    → MeansSchedule file config events → (own.config ≡ config) × (own.events.items ≡ events)
+reads_one file r own config events is reads h =
+    let means : ReadsSchedule file (Ok own) = subst (ReadsSchedule file) is reads in
+    one_schedule file own.config config own.events.items events means h
+
+-- where something was found to be wrong, it means none
+pub reads_none : (file : List ℕ) (r : Result Schedule ScheduleFlaw) (flaw : ScheduleFlaw) (config : Config) (events : List Event) → r ≡ Err flaw → ReadsSchedule file r
+    → MeansSchedule file config events → ⊥
+reads_none file r flaw config events is reads h =
+    let bad : ReadsSchedule file (Err flaw) = subst (ReadsSchedule file) is reads in
+    schedule_refused file flaw config events bad h

@@ -1,13 +1,12 @@
 -- What an array says is asked is one call, and a file means one script.
-use Rattle.std.proofs.Common.{◌≡◌, ℕ, List, [], ◌∷◌, map, Some, refl, sym, ap, subst, ◌∙◌}
+use Rattle.std.proofs.Common.{◌≡◌, ℕ, List, [], ◌∷◌, Some, None, Result, Ok, Err, refl, sym, ap, subst, ◌∙◌}
 use Rattle.std.specs.Prelude.{codes}
 use Rattle.std.specs.List.{AllZip}
 use Rattle.std.proofs.lemmas.Option.{same_Some}
 use Rattle.serde_json.specs.Data.{Data}
 use Rattle.serde_json.specs.Read.{read as read_text}
 use Rattle.serde_json.specs.Find.{as_array}
-use Rattle.serde_json.specs.View.{view, items_of}
-use Rattle.serde_json.specs.declared.value.Value.{Value}
+use Rattle.serde_json.specs.View.{items_of}
 use Rattle.run_files.specs.declared.script.NodeCount.{NodeCount}
 use Rattle.run_files.specs.declared.script.NodeCount.TheVariants.{Three, Five}
 use Rattle.run_files.specs.declared.script.Asked.{Asked}
@@ -16,7 +15,13 @@ use Rattle.run_files.specs.declared.script.Call.{Call}
 use Rattle.run_files.specs.JsonValues.{words, number_at, array_at}
 use Rattle.run_files.specs.UploadValue.{MeansUpload}
 use Rattle.run_files.specs.ScriptFile.{node_count, Asks, TellsCall, MeansScript}
-use Rattle.run_files.proofs.Reading.{items_are_one, zipped_are_one}
+use Rattle.run_files.specs.Flaws.{IsScriptFlaw, IsScriptFlawIn, IsTextFlaw, ReadsScript}
+use Rattle.run_files.specs.declared.script.Script.{Script}
+use Rattle.run_files.specs.declared.flaw.TextFlaw.{TextFlaw}
+use Rattle.run_files.specs.declared.flaw.TextFlaw.TheVariants.{NotUtf8, NotJson}
+use Rattle.run_files.specs.declared.flaw.ScriptFlaw.{ScriptFlaw}
+use Rattle.run_files.specs.declared.flaw.ScriptFlaw.TheVariants as flaws
+use Rattle.run_files.proofs.Reading.{items_are_one, zipped_are_one, unfit_refused}
 use Rattle.run_files.proofs.Words.{differ, one_ticket, words_are_one}
 use Rattle.run_files.proofs.UploadValues.{upload_is_one}
 
@@ -84,15 +89,37 @@ module _ (file : List ℕ) (d : Data) (nodes : NodeCount) (calls : List Call) (r
   pub nodes_said : (n : NodeCount) → number_at (codes "nodes") d ≡ Some (node_count n) → n ≡ nodes
   nodes_said n is = count_is_one n nodes (same_Some (node_count n) (node_count nodes) (sym is ∙ count_said))
 
+  values_said : (ds : List Data) → array_at (codes "calls") d ≡ Some (items_of ds) → h.call_values ≡ ds
+  values_said ds is_there =
+      items_are_one h.call_values ds (same_Some (items_of h.call_values) (items_of ds) (sym h.calls_at ∙ ap (array_at (codes "calls")) same ∙ is_there))
+
   -- the calls that are told are those of the values at their name
-  pub calls_said : (n : NodeCount) (vs ws : List Value) → number_at (codes "nodes") d ≡ Some (node_count n) → ws ≡ vs
-      → Some (items_of (map view vs)) ≡ array_at (codes "calls") d → AllZip (TellsCall n) (map view ws) calls
-  calls_said n vs ws counted is is_there =
-      let values : h.call_values ≡ map view ws
-      = items_are_one h.call_values (map view vs) (same_Some (items_of h.call_values) (items_of (map view vs)) (sym h.calls_at ∙ ap (array_at (codes "calls")) same ∙ sym is_there))
-      ∙ ap (map view) (sym is) in
-      subst (λ (k : NodeCount). AllZip (TellsCall k) (map view ws) calls) (sym (nodes_said n counted))
-      (subst (λ (l : List Data). AllZip (TellsCall nodes) l calls) values h.calls_mean)
+  calls_said : (n : NodeCount) (ds : List Data) → number_at (codes "nodes") d ≡ Some (node_count n) → array_at (codes "calls") d ≡ Some (items_of ds) → AllZip (TellsCall n) ds calls
+  calls_said n ds counted is_there =
+      subst (λ (k : NodeCount). AllZip (TellsCall k) ds calls) (sym (nodes_said n counted))
+      (subst (λ (l : List Data). AllZip (TellsCall nodes) l calls) (values_said ds is_there) h.calls_mean)
+
+  -- with what is wrong in the value, it would mean none
+  refused_in : (flaw : ScriptFlaw) → IsScriptFlawIn d flaw → ⊥
+  refused_in (flaws.Text flaw) bad = absurd bad
+  refused_in flaws.Nodes bad = bad nodes count_said
+  refused_in flaws.Calls bad =
+      let both : Some (items_of h.call_values) ≡ None = sym h.calls_at ∙ ap (array_at (codes "calls")) same ∙ bad.1 in absurd cc
+  refused_in (flaws.Call place) bad = unfit_refused (TellsCall bad.nodes) bad.items place calls bad.first (calls_said bad.nodes bad.items bad.counted bad.there)
+
+-- ---- a file that something is wrong with means no script
+
+text_refused : (file : List ℕ) (flaw : TextFlaw) (nodes : NodeCount) (calls : List Call) → IsTextFlaw file flaw → MeansScript file nodes calls → ⊥
+text_refused file NotUtf8 nodes calls bad h = bad h.is_text
+text_refused file NotJson nodes calls bad h = let both : Some h.value ≡ None = sym h.read ∙ bad.1 in absurd cc
+
+pub script_refused : (file : List ℕ) (flaw : ScriptFlaw) (nodes : NodeCount) (calls : List Call) → IsScriptFlaw file flaw → MeansScript file nodes calls → ⊥
+script_refused file (flaws.Text flaw) nodes calls bad h = text_refused file flaw nodes calls bad h
+script_refused file flaws.Nodes nodes calls bad h = refused_in file bad.0 nodes calls bad.1.1 h flaws.Nodes bad.2
+script_refused file flaws.Calls nodes calls bad h = refused_in file bad.0 nodes calls bad.1.1 h flaws.Calls bad.2
+script_refused file (flaws.Call place) nodes calls bad h = refused_in file bad.0 nodes calls bad.1.1 h (flaws.Call place) bad.2
+
+-- ---- a file means one script at most
 
 pub one_script : (file : List ℕ) (n m : NodeCount) (s t : List Call) → MeansScript file n s → MeansScript file m t → (n ≡ m) × (s ≡ t)
 one_script file n m s t p q =
@@ -104,3 +131,19 @@ one_script file n m s t p q =
       zipped_are_one (TellsCall m) (call_is_one m) q.call_values s t
           (subst (λ (k : NodeCount). AllZip (TellsCall k) q.call_values s) count (subst (λ (l : List Data). AllZip (TellsCall n) l s) values p.calls_mean)) q.calls_mean,
     )
+
+-- ---- what was read of it
+
+-- the script that was read is the one that the file means
+pub reads_one : (file : List ℕ) (r : Result Script ScriptFlaw) (own : Script) (nodes : NodeCount) (calls : List Call) → r ≡ Ok own → ReadsScript file r
+    → MeansScript file nodes calls → (own.nodes ≡ nodes) × (own.calls.items ≡ calls)
+reads_one file r own nodes calls is reads h =
+    let means : ReadsScript file (Ok own) = subst (ReadsScript file) is reads in
+    one_script file own.nodes nodes own.calls.items calls means h
+
+-- where something was found to be wrong, it means none
+pub reads_none : (file : List ℕ) (r : Result Script ScriptFlaw) (flaw : ScriptFlaw) (nodes : NodeCount) (calls : List Call) → r ≡ Err flaw → ReadsScript file r
+    → MeansScript file nodes calls → ⊥
+reads_none file r flaw nodes calls is reads h =
+    let bad : ReadsScript file (Err flaw) = subst (ReadsScript file) is reads in
+    script_refused file flaw nodes calls bad h

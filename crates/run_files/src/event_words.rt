@@ -1,12 +1,12 @@
 //! Events from the arrays that tell them: a word, the number of a node, and what stands behind it.
 
 ghost use Rattle.std.specs.Prelude.{◌≡◌, ◌≤◌, ◌∷◌, ℕ, List, [], Some, Ok, IfOk, IfErr, map, slice_get};
-ghost use Rattle.std.specs.List.{AllZip};
 ghost use Rattle.serde_json.specs.Data.{string};
 ghost use Rattle.serde_json.specs.View.{view};
 ghost use Rattle.table_types.specs.Ticket.{TableVersion, IsTableVersion};
 ghost use Rattle.node_events.specs.declared.event.Event.{Event as Happening};
 ghost use Rattle.run_files.specs.declared.fault.ValueFault.TheVariants.{OutOfMemory};
+ghost use Rattle.run_files.specs.Flaws.{ReadsItems};
 ghost use Rattle.run_files.specs.JsonValues.{whole};
 ghost use Rattle.run_files.specs.ScheduleFile.{Says, TellsEvent, most_left};
 
@@ -14,7 +14,7 @@ use crate::fault::ValueFault;
 use crate::json_values::{text_of, whole_of, words_of};
 use schedule_runner::{Event, TableText};
 use serde_json::Value;
-use std::alloc::Global;
+use std::alloc::{AllocError, Global};
 use table_types::Ticket;
 use uploads::Upload;
 
@@ -149,22 +149,21 @@ pub(crate) fn event_of(
     }
 }
 
-/// The events that these values tell, in order.
+/// The events that these values tell, in order; or the place of the first that tells none.
 pub(crate) fn events_of(
     alloc: Global,
     uploads: &[Upload],
     values: &[Value],
-) -> Result<Vec<Event>, ValueFault>
-    ensures read { IfOk result (λ events. AllZip (TellsEvent uploads.now) (map view values.now) events.items) }
-    ensures refused { (events : List Happening) → AllZip (TellsEvent uploads.now) (map view values.now) events
-        → IfErr result (λ fault. fault ≡ OutOfMemory) }
+) -> Result<Result<Vec<Event>, usize>, AllocError>
+    ensures { IfOk result (ReadsItems (TellsEvent uploads.now) (map view values.now)) }
 {
     let mut events = Vec::new(alloc);
-    for value in values {
-        let event = event_of(alloc, uploads, value)?;
-        if events.push(event).is_err() {
-            return Err(ValueFault::OutOfMemory);
+    for place in 0..values.len() {
+        match event_of(alloc, uploads, &values[place]) {
+            Ok(event) => events.push(event)?,
+            Err(ValueFault::Unfit) => return Ok(Err(place)),
+            Err(ValueFault::OutOfMemory) => return Err(AllocError),
         }
     }
-    Ok(events)
+    Ok(Ok(events))
 }

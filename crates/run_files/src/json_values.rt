@@ -1,32 +1,32 @@
 //! The value of JSON that a file is, and what stands in it.
 
-ghost use Rattle.std.specs.Prelude.{◌≡◌, ◌⊎◌, ℕ, List, Some, None, Ok, Err, map, option_map, IfOk, IfErr, IfSome, IsSome, IsUtf8};
+ghost use Rattle.std.specs.Prelude.{◌≡◌, ℕ, List, Some, Ok, map, option_map, IfOk, IfErr, IfSome, IsSome, IsUtf8};
 ghost use Rattle.std.specs.String.{string_bytes};
 ghost use Rattle.serde_json.specs.Data.{Data, string};
 ghost use Rattle.serde_json.specs.Find.{as_array};
-ghost use Rattle.serde_json.specs.Read.{read as read_text};
 ghost use Rattle.serde_json.specs.View.{view, items_view};
 ghost use Rattle.run_files.specs.declared.fault.ValueFault.TheVariants.{OutOfMemory};
+ghost use Rattle.run_files.specs.Flaws.{ReadsText};
 ghost use Rattle.run_files.specs.JsonValues.{whole, words, text_at, array_at};
 
 use crate::fault::ValueFault;
+use crate::flaw::TextFlaw;
 use serde_json::Value;
-use std::alloc::Global;
+use std::alloc::{AllocError, Global};
 use std::str::from_utf8;
 
-/// The value that a file is.
-pub(crate) fn value_of(alloc: Global, file: &[u8]) -> Result<Value, ValueFault>
-    ensures read { IfOk result (λ value. IsUtf8 file.now × (read_text file.now ≡ Some (view value))) }
-    ensures err { IfErr result (λ fault. (fault ≡ OutOfMemory) ⊎ (IsUtf8 file.now → read_text file.now ≡ None)) }
-    ensures memory { result ≡ Err OutOfMemory → IsUtf8 file.now }
+/// The value that a file is, or what is wrong with it.
+pub(crate) fn value_of(alloc: Global, file: &[u8]) -> Result<Result<Value, TextFlaw>, AllocError>
+    ensures read { IfOk result (ReadsText file.now) }
+    ensures memory { IfErr result (λ _. IsUtf8 file.now) }
 {
     let Ok(text) = from_utf8(file) else {
-        return Err(ValueFault::Unfit);
+        return Ok(Err(TextFlaw::NotUtf8));
     };
     match Value::from_str(alloc, text) {
-        Ok(value) => Ok(value),
-        Err(error) if error.is_memory() => Err(ValueFault::OutOfMemory),
-        Err(_) => Err(ValueFault::Unfit),
+        Ok(value) => Ok(Ok(value)),
+        Err(error) if error.is_memory() => Err(AllocError),
+        Err(_) => Ok(Err(TextFlaw::NotJson)),
     }
 }
 

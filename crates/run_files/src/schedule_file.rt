@@ -1,24 +1,25 @@
 //! A schedule, read from the file that tells it.
 
-ghost use Rattle.std.specs.Prelude.{◌≡◌, ◌≤◌, ℕ, List, Some, Err, IfOk, IfSome, IsSome, MatchResult, IsUtf8, codes};
+ghost use Rattle.std.specs.Prelude.{◌≡◌, ◌≤◌, ℕ, List, Some, None, Ok, Err, IfOk, IfErr, IfSome, IsSome, MatchResult, IsUtf8, codes};
 ghost use Rattle.serde_json.specs.View.{view};
 ghost use Rattle.ballots.specs.Majority.{IsMembers};
 ghost use Rattle.node_events.specs.declared.event.Event.{Event as Happening};
 ghost use Rattle.schedule_runner.specs.declared.config.Config.{Config as Configured};
 ghost use Rattle.schedule_runner.specs.Limits.{most_slots};
 ghost use Rattle.run_files.specs.declared.fault.ScheduleFault.TheVariants.{OutOfMemory};
-ghost use Rattle.run_files.specs.declared.fault.ValueFault.TheVariants as values;
+ghost use Rattle.run_files.specs.Flaws.{IsScheduleFlaw, IsScheduleFlawIn, ReadsSchedule};
 ghost use Rattle.run_files.specs.JsonValues.{number_at};
 ghost use Rattle.run_files.specs.ScheduleFile.{MeansSchedule, TellsConfig};
 
 use crate::event_words::events_of;
-use crate::fault::{ScheduleFault, ValueFault};
+use crate::fault::ScheduleFault;
+use crate::flaw::ScheduleFlaw;
 use crate::json_values::{array_at, value_of};
 use crate::upload_values::uploads_of;
 use ballots::{MAX_MEMBERS, Members};
 use schedule_runner::{Config, Event, MAX_JOURNAL_ENTRIES, MAX_SLOTS};
 use serde_json::Value;
-use std::alloc::Global;
+use std::alloc::{AllocError, Global};
 
 /// Events of nodes, and what the nodes have in common.
 #[derive(Debug, Drop)]
@@ -54,37 +55,51 @@ fn slot_limit_of(value: &Value) -> Option<u32>
     Some(count as u32)
 }
 
-/// What the nodes have in common. A journal takes as many entries as it can have.
-fn config_of(value: &Value) -> Option<Config>
-    ensures read { IfSome result (TellsConfig (view value.now)) }
-    ensures only { (config : Configured) → TellsConfig (view value.now) config → IsSome result }
+/// What the nodes have in common, or what is wrong with it. A journal takes as many entries as it can have.
+fn config_of(value: &Value) -> Result<Config, ScheduleFlaw>
+    ensures read { IfOk result (TellsConfig (view value.now)) }
+    ensures flaw { IfErr result (IsScheduleFlawIn (view value.now)) }
 {
-    Some(Config {
-        members: members_of(value)?,
-        slot_limit: slot_limit_of(value)?,
+    let Some(members) = members_of(value) else {
+        return Err(ScheduleFlaw::Members);
+    };
+    let Some(slot_limit) = slot_limit_of(value) else {
+        return Err(ScheduleFlaw::SlotLimit);
+    };
+    Ok(Config {
+        members,
+        slot_limit,
         journal_limit: MAX_JOURNAL_ENTRIES,
     })
 }
 
-/// The schedule in a file.
-fn schedule_in(alloc: Global, file: &[u8]) -> Result<Schedule, ValueFault>
-    ensures read { IfOk result (λ schedule. MeansSchedule file.now schedule.config schedule.events.items) }
-    ensures only { (config : Configured) (events : List Happening) → MeansSchedule file.now config events
-        → MatchResult result (λ schedule. (schedule.config ≡ config) × (schedule.events.items ≡ events))
-        (λ fault. fault ≡ values.OutOfMemory) }
-    ensures memory { result ≡ Err values.OutOfMemory → IsUtf8 file.now }
+/// The schedule in a file, or what is wrong with it.
+fn schedule_in(alloc: Global, file: &[u8]) -> Result<Result<Schedule, ScheduleFlaw>, AllocError>
+    ensures read { IfOk result (ReadsSchedule file.now) }
+    ensures memory { IfErr result (λ _. IsUtf8 file.now) }
 {
-    let value = value_of(alloc, file)?;
-    let Some(config) = config_of(&value) else {
-        return Err(ValueFault::Unfit);
+    let value = match value_of(alloc, file)? {
+        Ok(value) => value,
+        Err(flaw) => return Ok(Err(ScheduleFlaw::Text(flaw))),
     };
-    let (Some(uploads), Some(events)) = (array_at(&value, "uploads"), array_at(&value, "events"))
-    else {
-        return Err(ValueFault::Unfit);
+    let config = match config_of(&value) {
+        Ok(config) => config,
+        Err(flaw) => return Ok(Err(flaw)),
     };
-    let uploads = uploads_of(alloc, uploads)?;
-    let events = events_of(alloc, &uploads, events)?;
-    Ok(Schedule { config, events })
+    let Some(uploads) = array_at(&value, "uploads") else {
+        return Ok(Err(ScheduleFlaw::Uploads));
+    };
+    let Some(events) = array_at(&value, "events") else {
+        return Ok(Err(ScheduleFlaw::Events));
+    };
+    let uploads = match uploads_of(alloc, uploads)? {
+        Ok(uploads) => uploads,
+        Err(place) => return Ok(Err(ScheduleFlaw::Upload(place))),
+    };
+    match events_of(alloc, &uploads, events)? {
+        Ok(events) => Ok(Ok(Schedule { config, events })),
+        Err(place) => Ok(Err(ScheduleFlaw::Event(place))),
+    }
 }
 
 /// The schedule that a file tells.
@@ -102,8 +117,21 @@ pub fn read_schedule(alloc: Global, file: &[u8]) -> Result<Schedule, ScheduleFau
     ensures memory { result ≡ Err OutOfMemory → IsUtf8 file.now }
 {
     match schedule_in(alloc, file) {
-        Ok(schedule) => Ok(schedule),
-        Err(ValueFault::Unfit) => Err(ScheduleFault::BadSchedule),
-        Err(ValueFault::OutOfMemory) => Err(ScheduleFault::OutOfMemory),
+        Ok(Ok(schedule)) => Ok(schedule),
+        Ok(Err(_)) => Err(ScheduleFault::BadSchedule),
+        Err(_) => Err(ScheduleFault::OutOfMemory),
+    }
+}
+
+/// The first thing that is wrong with a file that tells no schedule, as [`read_schedule`] reads it; none where it tells
+/// one. [`AllocError`] says that memory was refused, and comes only of a file that is UTF-8.
+pub fn schedule_flaw(alloc: Global, file: &[u8]) -> Result<Option<ScheduleFlaw>, AllocError>
+    ensures flaw { IfOk result (λ flaw. IfSome flaw (IsScheduleFlaw file.now)) }
+    ensures none { result ≡ Ok None → (config : Configured) × (events : List Happening) × MeansSchedule file.now config events }
+    ensures memory { IfErr result (λ _. IsUtf8 file.now) }
+{
+    match schedule_in(alloc, file)? {
+        Ok(_) => Ok(None),
+        Err(flaw) => Ok(Some(flaw)),
     }
 }

@@ -1,20 +1,21 @@
 //! A script, read from the file that tells it.
 
-ghost use Rattle.std.specs.Prelude.{◌≡◌, List, ℕ, Some, Err, IfOk, IfSome, IsSome, MatchResult, IsUtf8, codes};
+ghost use Rattle.std.specs.Prelude.{◌≡◌, List, ℕ, Some, None, Ok, Err, IfOk, IfErr, IfSome, IsSome, MatchResult, IsUtf8, codes};
 ghost use Rattle.serde_json.specs.View.{view};
 ghost use Rattle.run_files.specs.declared.fault.ScriptFault.TheVariants.{OutOfMemory};
-ghost use Rattle.run_files.specs.declared.fault.ValueFault.TheVariants as values;
 ghost use Rattle.run_files.specs.declared.script.NodeCount.{NodeCount as Counted};
 ghost use Rattle.run_files.specs.declared.script.Call.{Call as Calling};
+ghost use Rattle.run_files.specs.Flaws.{IsScriptFlaw, ReadsScript};
 ghost use Rattle.run_files.specs.JsonValues.{number_at};
 ghost use Rattle.run_files.specs.ScriptFile.{MeansScript, node_count};
 
-use crate::fault::{ScriptFault, ValueFault};
+use crate::fault::ScriptFault;
+use crate::flaw::ScriptFlaw;
 use crate::json_values::{array_at, value_of};
 use crate::script::{NodeCount, Script};
 use crate::script_words::calls_of;
 use serde_json::Value;
-use std::alloc::Global;
+use std::alloc::{AllocError, Global};
 
 /// How many nodes there are.
 fn nodes_of(value: &Value) -> Option<NodeCount>
@@ -29,20 +30,25 @@ fn nodes_of(value: &Value) -> Option<NodeCount>
     }
 }
 
-/// The script in a file.
-fn script_in(alloc: Global, file: &[u8]) -> Result<Script, ValueFault>
-    ensures read { IfOk result (λ script. MeansScript file.now script.nodes script.calls.items) }
-    ensures only { (nodes : Counted) (calls : List Calling) → MeansScript file.now nodes calls
-        → MatchResult result (λ script. (script.nodes ≡ nodes) × (script.calls.items ≡ calls))
-        (λ fault. fault ≡ values.OutOfMemory) }
-    ensures memory { result ≡ Err values.OutOfMemory → IsUtf8 file.now }
+/// The script in a file, or what is wrong with it.
+fn script_in(alloc: Global, file: &[u8]) -> Result<Result<Script, ScriptFlaw>, AllocError>
+    ensures read { IfOk result (ReadsScript file.now) }
+    ensures memory { IfErr result (λ _. IsUtf8 file.now) }
 {
-    let value = value_of(alloc, file)?;
-    let (Some(nodes), Some(calls)) = (nodes_of(&value), array_at(&value, "calls")) else {
-        return Err(ValueFault::Unfit);
+    let value = match value_of(alloc, file)? {
+        Ok(value) => value,
+        Err(flaw) => return Ok(Err(ScriptFlaw::Text(flaw))),
     };
-    let calls = calls_of(alloc, nodes, calls)?;
-    Ok(Script { nodes, calls })
+    let Some(nodes) = nodes_of(&value) else {
+        return Ok(Err(ScriptFlaw::Nodes));
+    };
+    let Some(calls) = array_at(&value, "calls") else {
+        return Ok(Err(ScriptFlaw::Calls));
+    };
+    match calls_of(alloc, nodes, calls)? {
+        Ok(calls) => Ok(Ok(Script { nodes, calls })),
+        Err(place) => Ok(Err(ScriptFlaw::Call(place))),
+    }
 }
 
 /// The script that a file tells.
@@ -59,8 +65,21 @@ pub fn read_script(alloc: Global, file: &[u8]) -> Result<Script, ScriptFault>
     ensures memory { result ≡ Err OutOfMemory → IsUtf8 file.now }
 {
     match script_in(alloc, file) {
-        Ok(script) => Ok(script),
-        Err(ValueFault::Unfit) => Err(ScriptFault::BadScript),
-        Err(ValueFault::OutOfMemory) => Err(ScriptFault::OutOfMemory),
+        Ok(Ok(script)) => Ok(script),
+        Ok(Err(_)) => Err(ScriptFault::BadScript),
+        Err(_) => Err(ScriptFault::OutOfMemory),
+    }
+}
+
+/// The first thing that is wrong with a file that tells no script, as [`read_script`] reads it; none where it tells one.
+/// [`AllocError`] says that memory was refused, and comes only of a file that is UTF-8.
+pub fn script_flaw(alloc: Global, file: &[u8]) -> Result<Option<ScriptFlaw>, AllocError>
+    ensures flaw { IfOk result (λ flaw. IfSome flaw (IsScriptFlaw file.now)) }
+    ensures none { result ≡ Ok None → (nodes : Counted) × (calls : List Calling) × MeansScript file.now nodes calls }
+    ensures memory { IfErr result (λ _. IsUtf8 file.now) }
+{
+    match script_in(alloc, file)? {
+        Ok(_) => Ok(None),
+        Err(flaw) => Ok(Some(flaw)),
     }
 }

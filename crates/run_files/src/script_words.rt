@@ -1,13 +1,13 @@
 //! Calls from the arrays that tell them: a word, the number of a node, and what stands behind it.
 
 ghost use Rattle.std.specs.Prelude.{◌≡◌, ◌∷◌, List, ℕ, [], IfOk, IfErr, map};
-ghost use Rattle.std.specs.List.{AllZip};
 ghost use Rattle.serde_json.specs.Data.{string};
 ghost use Rattle.serde_json.specs.View.{view};
 ghost use Rattle.table_types.specs.Valid.{IsTableName};
 ghost use Rattle.run_files.specs.declared.fault.ValueFault.TheVariants.{OutOfMemory};
 ghost use Rattle.run_files.specs.declared.script.Asked.{Asked as Question};
 ghost use Rattle.run_files.specs.declared.script.Call.{Call as Calling};
+ghost use Rattle.run_files.specs.Flaws.{ReadsItems};
 ghost use Rattle.run_files.specs.ScriptFile.{Asks, TellsCall};
 
 use crate::event_words::ticket_of;
@@ -17,7 +17,7 @@ use crate::script::{Asked, Call, NodeCount};
 use crate::upload_values::upload_of;
 use schedule_runner::TableText;
 use serde_json::Value;
-use std::alloc::Global;
+use std::alloc::{AllocError, Global};
 use table_types::is_table_name;
 
 /// The name of a table.
@@ -96,22 +96,21 @@ fn call_of(alloc: Global, nodes: NodeCount, value: &Value) -> Result<Call, Value
     })
 }
 
-/// The calls that these values tell, in order.
+/// The calls that these values tell, in order; or the place of the first that tells none.
 pub(crate) fn calls_of(
     alloc: Global,
     nodes: NodeCount,
     values: &[Value],
-) -> Result<Vec<Call>, ValueFault>
-    ensures read { IfOk result (λ calls. AllZip (TellsCall nodes) (map view values.now) calls.items) }
-    ensures refused { (calls : List Calling) → AllZip (TellsCall nodes) (map view values.now) calls
-        → IfErr result (λ fault. fault ≡ OutOfMemory) }
+) -> Result<Result<Vec<Call>, usize>, AllocError>
+    ensures { IfOk result (ReadsItems (TellsCall nodes) (map view values.now)) }
 {
     let mut calls = Vec::new(alloc);
-    for value in values {
-        let call = call_of(alloc, nodes, value)?;
-        if calls.push(call).is_err() {
-            return Err(ValueFault::OutOfMemory);
+    for place in 0..values.len() {
+        match call_of(alloc, nodes, &values[place]) {
+            Ok(call) => calls.push(call)?,
+            Err(ValueFault::Unfit) => return Ok(Err(place)),
+            Err(ValueFault::OutOfMemory) => return Err(AllocError),
         }
     }
-    Ok(calls)
+    Ok(Ok(calls))
 }

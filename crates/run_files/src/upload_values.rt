@@ -16,6 +16,7 @@ ghost use Rattle.table_types.specs.Valid.{IsId, IsUpload};
 ghost use Rattle.upload_writing.specs.Making.{upload_of as uploaded};
 ghost use Rattle.upload_writing.specs.declared.fault.UploadFault.TheVariants as UploadFault;
 ghost use Rattle.run_files.specs.declared.fault.ValueFault.TheVariants.{OutOfMemory};
+ghost use Rattle.run_files.specs.Flaws.{ReadsItems};
 ghost use Rattle.run_files.specs.UploadValue.{IsByteOf, TellsCell, TellsRows, IsByteBatch, MeansUpload, byte_cell, column_rows, column_schema, name_told};
 
 use crate::fault::ValueFault;
@@ -242,18 +243,20 @@ pub(crate) fn upload_of(alloc: Global, value: &Value) -> Result<Upload, ValueFau
     made(alloc, table, id, name, &batches)
 }
 
-/// The uploads that these values tell, in order.
-pub(crate) fn uploads_of(alloc: Global, values: &[Value]) -> Result<Vec<Upload>, ValueFault>
-    ensures read { IfOk result (λ uploads. AllZip MeansUpload (map view values.now) uploads.items) }
-    ensures refused { (uploads : List (List ℕ)) → AllZip MeansUpload (map view values.now) uploads
-        → IfErr result (λ fault. fault ≡ OutOfMemory) }
+/// The uploads that these values tell, in order; or the place of the first that tells none.
+pub(crate) fn uploads_of(
+    alloc: Global,
+    values: &[Value],
+) -> Result<Result<Vec<Upload>, usize>, AllocError>
+    ensures { IfOk result (ReadsItems MeansUpload (map view values.now)) }
 {
     let mut uploads = Vec::new(alloc);
-    for value in values {
-        let upload = upload_of(alloc, value)?;
-        if uploads.push(upload).is_err() {
-            return Err(ValueFault::OutOfMemory);
+    for place in 0..values.len() {
+        match upload_of(alloc, &values[place]) {
+            Ok(upload) => uploads.push(upload)?,
+            Err(ValueFault::Unfit) => return Ok(Err(place)),
+            Err(ValueFault::OutOfMemory) => return Err(AllocError),
         }
     }
-    Ok(uploads)
+    Ok(Ok(uploads))
 }

@@ -16,7 +16,7 @@ use flight_service::{Works, five_nodes, join_all, open_service, three_nodes};
 use growing_log::{Naming, Opened};
 use grpc_frames::transfer::put;
 use node_threads::{Note, OwnEntry};
-use run_files::{Call, NodeCount, ScriptFault, read_script};
+use run_files::{Call, NodeCount, ScriptFault, read_script, script_flaw};
 use std::alloc::Global;
 use std::hash::RandomState;
 use std::io::Write;
@@ -34,7 +34,7 @@ use std::time::Clock;
 /// whatever names the file chooses.
 ///
 /// A fault's line goes to `e`, and the status is 1: `flightd: BadScript` where the bytes tell no script, which is told before a
-/// port is opened; `flightd: Bind` where a port can't be had; `flightd: OutOfMemory` where memory or a thread is refused;
+/// port is opened, and behind it a line with what is wrong with them ([`script_flaw`]); `flightd: Bind` where a port can't be had; `flightd: OutOfMemory` where memory or a thread is refused;
 /// `flightd: Io` where `w` or a connection fails; `flightd: BadAnswer` where a node's answer is none. Where that can't be
 /// written, the status alone tells.
 pub fn script_run<
@@ -57,12 +57,21 @@ pub fn script_run<
         Ok(true) => SUCCESS,
         Ok(false) => FAILURE,
         Err(fault) => {
-            // Where this fails too, the status alone tells.
-            let _ = writeln!(e, "flightd: {fault}");
-            let _ = e.flush();
+            say(alloc, file, fault, e);
             FAILURE
         }
     }
+}
+
+// Says the fault, and what is wrong with a file that tells no script. Where this fails too, the status alone tells.
+fn say<E: Write>(alloc: Global, file: &[u8], fault: PlayFault, e: &mut E) {
+    let _ = writeln!(e, "flightd: {fault}");
+    if fault == PlayFault::BadScript
+        && let Ok(Some(flaw)) = script_flaw(alloc, file)
+    {
+        let _ = writeln!(e, "flightd: {flaw}");
+    }
+    let _ = e.flush();
 }
 
 /// Plays the script that a file tells as [`script_run`] does, and says whether each answer is confirmed, or gives the fault

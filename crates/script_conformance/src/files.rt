@@ -1,6 +1,6 @@
 //! Files that tell a script, and files that tell none.
 
-use run_files::{Asked, Call, NodeCount, Script, ScriptFault, read_script};
+use run_files::{Asked, Call, NodeCount, Script, ScriptFault, read_script, script_flaw};
 use std::alloc::{AllocError, Global};
 use std::test::Fail;
 
@@ -262,6 +262,46 @@ fn refuses_what_is_no_file(rt: HostRuntime) {
     ] {
         assert!(rt; is_bad(alloc, file));
     }
+}
+
+/// What is said to be wrong with a file, and nothing of one that tells a script.
+fn flaw_of(alloc: Global, file: &[u8]) -> Result<String, Fail> {
+    match script_flaw(alloc, file)? {
+        Some(flaw) => Ok(format!(in alloc; "{flaw}")?),
+        None => Ok(String::new(alloc)),
+    }
+}
+
+/// What is wrong with files that tell no script, and a file that tells one.
+const FLAWS: [(&[u8], &str); 8] = [
+    (b"{\"nodes\":3}\xff", "the file is not UTF-8"),
+    (b"{\"nodes\":3", "the file is not one JSON value"),
+    (b"[]", "`nodes` is not there, or is neither 3 nor 5"),
+    (
+        b"{\"nodes\":4}",
+        "`nodes` is not there, or is neither 3 nor 5",
+    ),
+    (
+        b"{\"nodes\":3,\"calls\":{}}",
+        "`calls` is not there, or is no array",
+    ),
+    (
+        b"{\"nodes\":3,\"calls\":[[\"info\",3,\"t\"]]}",
+        "call 0 of `calls` is no array of a word, a node's number and what the word asks for",
+    ),
+    (
+        b"{\"nodes\":5,\"calls\":[[\"info\",3,\"t\"],[\"get\",4,\"t\",1],[\"put\",0,0],0]}",
+        "call 2 of `calls` is no array of a word, a node's number and what the word asks for",
+    ),
+    (b"{\"nodes\":5,\"calls\":[[\"info\",3,\"t\"]]}", ""),
+];
+
+#[test]
+fn says_what_is_wrong_with_a_file(rt: HostRuntime) -> Result<(), Fail> {
+    for (file, flaw) in FLAWS {
+        assert!(rt; flaw_of(rt.alloc(), file)?.as_str() == flaw, "{flaw}");
+    }
+    Ok(())
 }
 
 /// Other members are passed over, and of two of one name the last one counts.

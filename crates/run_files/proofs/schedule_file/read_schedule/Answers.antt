@@ -1,7 +1,10 @@
-use Rattle.std.proofs.Common.{◌≡◌, sym, ◌∙◌}
-use Rattle.run_files.specs.declared.fault.ValueFault.TheVariants.{Unfit, OutOfMemory}
+use Rattle.run_files.proofs.Schedules.{reads_one, reads_none}
 use Rattle.run_files.proofs.schedule_file.read_schedule.Goals as goal
 
-pub returns-in-Err-Unfit-clause-only : goal.returns-in-Err-Unfit-clause-only
-returns-in-Err-Unfit-clause-only c = λ config events h.
-    let e : Unfit ≡ OutOfMemory = sym c.in-Err-Unfit.field-0-is ∙ c.in-Err-Unfit.ensures.only config events h in absurd cc
+pub returns-in-Ok-Ok-clause-only : goal.returns-in-Ok-Ok-clause-only
+returns-in-Ok-Ok-clause-only c = λ config events h.
+    reads_one c.args.file.now c.in-Ok-Ok.field-0 c.in-Ok-Ok.schedule config events c.in-Ok-Ok.field-0-is c.in-Ok-Ok.ensures.read h
+
+pub returns-in-Ok-Err-clause-only : goal.returns-in-Ok-Err-clause-only
+returns-in-Ok-Err-clause-only c = λ config events h.
+    absurd (reads_none c.args.file.now c.in-Ok-Err.field-0 _ config events c.in-Ok-Err.field-0-is c.in-Ok-Err.ensures.read h)

@@ -4,5 +4,5 @@ use Rattle.serde_json.specs.View.{view}
 use Rattle.run_files.specs.ScriptFile.{TellsCall}
 use Rattle.run_files.proofs.script_words.calls_of.Given as goal
 
-abbrev pub invariant-loop-value : goal.invariant-loop-value
-invariant-loop-value l = AllZip (TellsCall l.fn.nodes) (map view (take l.value-index l.fn.values)) l.calls.items
+abbrev pub invariant-loop-place : goal.invariant-loop-place
+invariant-loop-place l = AllZip (TellsCall l.fn.nodes) (map view (take l.place l.fn.values)) l.calls.items

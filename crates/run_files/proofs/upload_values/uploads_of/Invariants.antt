@@ -4,5 +4,5 @@ use Rattle.serde_json.specs.View.{view}
 use Rattle.run_files.specs.UploadValue.{MeansUpload}
 use Rattle.run_files.proofs.upload_values.uploads_of.Given as goal
 
-abbrev pub invariant-loop-value : goal.invariant-loop-value
-invariant-loop-value l = AllZip MeansUpload (map view (take l.value-index l.fn.values)) l.uploads.items
+abbrev pub invariant-loop-place : goal.invariant-loop-place
+invariant-loop-place l = AllZip MeansUpload (map view (take l.place l.fn.values)) l.uploads.items
