@@ -250,6 +250,8 @@ def full_output(program):
 
 ID = "101112131415161718191a1b1c1d1e1f"
 LINES = '{"shop":"Bern","sold":3}\n{"shop":"Zürich","sold":null}\n'
+# The frame at the end of a request.
+END_FRAME = bytes.fromhex("8000000000")
 
 
 def told(program, words, given=""):
@@ -360,6 +362,33 @@ def slow_answers(program, port):
     printed, reported = at_terminal(program, words)
     want((printed, re.fullmatch(r"(\d+ MiB received so far\r\n)+", reported) is not None), (LINES, True))
     want(told(program, words), (0, LINES, ""))
+
+
+def lost_answer(program):
+    """A put whose server takes the request and closes without an answer says with which id it is put again: that of the request."""
+    with socket.create_server(("127.0.0.1", 0)) as listener, concurrent.futures.ThreadPoolExecutor(1) as pool:
+        listener.settimeout(CALL_SECONDS)
+        words = ["put", f"127.0.0.1:{listener.getsockname()[1]}", "words", "-"]
+        running = pool.submit(told, program, words, LINES)
+        peer, _ = listener.accept()
+        request = b""
+        with peer:
+            peer.settimeout(CALL_SECONDS)
+            while not request.endswith(END_FRAME):
+                request += peer.recv(65_536)
+        status, output, error = running.result(CALL_SECONDS)
+    again = "flightd: BadAnswer\nflightd: put it again with --id "
+    want((status, output, error[: len(again)]), (1, "", again))
+    want((error[len(again) + 32 :], request.count(error[len(again) :][:32].encode())), ("\n", 1))
+
+
+def bad_script(program):
+    """A script with a call that is none says which one it is."""
+    with tempfile.TemporaryDirectory() as folder:
+        file = Path(folder) / "calls.json"
+        file.write_text('{"nodes":3,"calls":[["info",0,"t"],["info",3,"t"]]}', encoding="utf-8")
+        call = "call 1 of `calls` is no array of a word, a node's number and what the word asks for"
+        want(told(program, ["script", str(file)]), (1, "", f"flightd: BadScript\nflightd: {call}\n"))
 
 
 # ---- the files of records
@@ -490,6 +519,8 @@ def main(program):
             taken_port(program, port)
         print(f"{nodes} nodes: puts at one are got at all, by several callers at once, beside calls that are cut off and peers that stay silent")
         old_and_locked_files(program, nodes)
+    lost_answer(program)
+    bad_script(program)
     full_output(program)
     bad_files(program)
     full_later(program)
