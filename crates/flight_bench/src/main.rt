@@ -1,6 +1,6 @@
 //! Reads and writes the messages of Arrow Flight, the headers of Arrow's metadata and batches, and calls the parts of a
-//! Paxos node, the tables that uploads make and runs of whole nodes, to be measured and compared from outside.
-//! `flight_bench TASK COUNT FILE` does its task so many times on what the file holds.
+//! Paxos node, the tables that uploads make, runs of whole nodes and a store of records, to be measured and compared from
+//! outside. `flight_bench TASK COUNT FILE` does its task so many times on what the file holds.
 //!
 //! A task takes the file's bytes as they are, and prints the count and a sum that depends on each repetition. A task
 //! `reencode-..` reads the file's message once and writes it so many times as `encode-..` does, and prints the bytes that
@@ -20,6 +20,7 @@ use std::fs;
 use std::hash::RandomState;
 use std::io::Write;
 use std::process::ExitCode;
+use store_tasks::{keep_often, recall_often};
 use upload_tasks::{
     answer_often, compare_often, decode_uploads, hold_all, run_often, seat_often, take_often,
 };
@@ -64,9 +65,28 @@ fn refuse(rt: &HostRuntime) -> Result<u8, TaskFault> {
 
 fn perform(rt: &HostRuntime, task: &str, count: u64, path: &str) -> Result<u8, TaskFault> {
     let bytes = fs::read(rt, path)?;
-    let status = perform_on(rt, task, count, &bytes);
+    let status = match store(rt, task, count, &bytes, path) {
+        Some(Ok(sum)) => report(rt, task, count, sum, &[]),
+        Some(Err(fault)) => Err(fault),
+        None => perform_on(rt, task, count, &bytes),
+    };
     drop(bytes);
     status
+}
+
+// Does a task of a store so many times, where it is one: at the file of this path, which has these bytes.
+fn store(
+    rt: &HostRuntime,
+    task: &str,
+    count: u64,
+    bytes: &[u8],
+    path: &str,
+) -> Option<Result<u64, TaskFault>> {
+    match task {
+        "keep-records" => Some(keep_often(rt, rt.alloc(), count, bytes, path)),
+        "recall-records" => Some(recall_often(rt, rt.alloc(), count, path)),
+        _ => None,
+    }
 }
 
 fn perform_on(rt: &HostRuntime, task: &str, count: u64, bytes: &[u8]) -> Result<u8, TaskFault> {

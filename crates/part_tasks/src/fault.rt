@@ -6,7 +6,7 @@ use record_batches::BatchFault;
 use std::alloc::AllocError;
 use std::{fmt, io};
 
-/// What ended a task, of these or of uploads, or the program around it.
+/// What ended a task, of these, of uploads or of a store, or the program around it.
 #[derive(Clone, Copy)]
 pub enum TaskFault {
     /// The bytes are no such message.
@@ -34,6 +34,8 @@ pub enum TaskFault {
     Plan,
     /// There are no members or no slots, or too many of them.
     BadConfig,
+    /// The bytes are no file of records.
+    Records,
     /// A node refused an event, for want of slots or of memory.
     Refused,
     /// A read or a write failed.
@@ -58,6 +60,7 @@ impl fmt::Display for TaskFault {
             TaskFault::TooMany => f.write_str("TooMany"),
             TaskFault::Plan => f.write_str("Plan"),
             TaskFault::BadConfig => f.write_str("BadConfig"),
+            TaskFault::Records => f.write_str("Records"),
             TaskFault::Refused => f.write_str("Refused"),
             TaskFault::Io => f.write_str("Io"),
             TaskFault::OutOfMemory => f.write_str("OutOfMemory"),
