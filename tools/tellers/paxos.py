@@ -283,13 +283,12 @@ class Teller:
         return printed.splitlines()
 
     def tell_file(self, file):
-        """What is said of a file that tells no run, where the audit that is not explained says the first line alone."""
+        """What is said of a file that tells no run, whether the audit is explained or not."""
         explained, audited = yield [f"explain {file}", f"audit {file}"]
         status, printed, said = audit_of(explained)
-        lines = said.splitlines()
-        if status != "1" or printed or audit_of(audited) != ("1", "", f"{lines[0]}\n"):
+        if status != "1" or printed or audit_of(audited) != ("1", "", said):
             return [f"told otherwise: {explained}, {audited}"]
-        return lines
+        return said.splitlines()
 
     def tell_line(self, name, line):
         """What a line says, where it is read; it has to be written again as the same."""
