@@ -12,6 +12,12 @@ it says why, and ends with what came before: a journal has 1,000,000 entries, of
 Records are kept in memory (/dev/shm), where a sync costs nothing, so that a disk does not hide what grows; where there is no such folder, in
 one for temporary files. It takes a few minutes. PROGRAM may be bench/plain_cluster.rs too, which has no such limit.
 
+Seen of flightd, on four processors that nothing else used, until the journal was full:
+
+              puts a second    ms of processors a put   MiB at the end   last beside the first, in time and in that of processors   uploads
+  1 caller     2,365 to 2,659            0.30 to 0.34             368   1.06, 1.08                                                 35,713
+  16 callers   3,511 to 3,562            0.43 to 0.44             229   1.01, 1.03                                                 14,631
+
 Seen of bench/plain_cluster.rs, on four processors that a dozen other tasks shared, with 10,000 uploads:
 
               puts a second    ms of processors a put   MiB at the end   last tenth beside the first, in time and in that of processors

@@ -15,13 +15,15 @@
 # depends less on what else runs; and then what the server's rates are of the others'. It is to have twice the rate of gRPC's messages,
 # and 0.8 of a raw socket's. It wants g++, pkg-config, and Debian's libgrpc++-dev and protobuf-compiler-grpc, and takes a minute.
 #
-# Seen of the others alone, on four processors that eight other tasks shared, in MiB a second of the best of fifteen calls; a raw socket's best of
-# five calls was from 1,876 to 2,803:
+# Seen on four processors that nothing else used, in MiB a second of the best of 25 calls and of the one in the middle, and in milliseconds of
+# the processors a call, of the server and of the reader:
 #
-#   a raw socket                   2,803
-#   gRPC's messages                1,496
-#   gRPC's bytes                   2,085
-#   gRPC's bytes in wide windows   2,302
+#                                   best   middle   server   reader
+#   flightd                        3,433    3,217       18       15
+#   a raw socket                   3,432    3,038       18       15
+#   gRPC's messages                2,043    1,501       34       44
+#   gRPC's bytes                   2,819    1,943       22       32
+#   gRPC's bytes in wide windows   3,181    2,298       22       28
 set -euo pipefail
 cd "$(dirname "${BASH_SOURCE[0]}")/.."
 work=$(mktemp -d)

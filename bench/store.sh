@@ -10,14 +10,12 @@
 # bytes and makes no records of them. First it shows that each program, where it keeps the records of a file in turn, writes just that
 # file, and that both recall the same.
 #
-# Seen on four processors and a disk (ext4, of a virtual machine) that fifteen other tasks shared, with SQLite 3.40.1. `flight_bench` was
-# not the proved program but a build with checks of every access (`rt try`), so that its processor times tell nothing of that; the
-# first row is of eight rounds, the second of 25 of an earlier form of this script, the third of plain Rust alone:
+# Seen on four processors and a disk (ext4, of a virtual machine) that nothing else used, with SQLite 3.40.1:
 #
-#                                ours  plain Rust  ratio                    SQLite
-#   keeps of 32 bytes, a second    64          74   1.15 (1.11 to 1.24)        114
-#   keeps of 64 KiB, a second      29         122   3.90 (2.16 to 6.34)        234
-#   recall of 100,000, ms           -        16.6      -        (the bytes alone 1.1)
+#                                  ours  plain Rust  ratio                    SQLite
+#   keeps of 32 bytes, a second   10,809      10,802   0.99 (0.97 to 1.01)     9,313
+#   keeps of 64 KiB, a second      5,941       5,924   1.01 (0.96 to 1.03)     3,286
+#   recall of 100,000, ms           28.2        15.8   1.79 (the bytes alone 0.67)
 cd "$(dirname "${BASH_SOURCE[0]}")/.."
 source bench/programs.sh plain_store
 
