@@ -1,14 +1,17 @@
-# To be sourced at the top of the repository, with the name of a plain program where there is one: builds it and
-# `flight_bench`, whose paths are $plain and $proved then, and makes an empty folder, $work, for as long as the script runs.
+# To be sourced at the top of the repository, with the name of a plain program where there is one: builds it, has `flight_bench` as
+# the gate built it, or builds it where that is older than some source, and makes an empty folder, $work, for as long as the script
+# runs. The programs' paths are $plain and $proved then.
 set -euo pipefail
 work=$(mktemp -d)
 trap 'rm -rf "$work"' EXIT
 plain=$work/plain
 proved=$PWD/crates/flight_bench/out/flight_bench
 if (($#)); then rustc -O --edition 2021 -o "$plain" "bench/$1.rs"; fi
-if ! (cd crates/flight_bench && rt run -- decode-data 0 /dev/null) </dev/null >"$work/log" 2>&1; then
-  cat "$work/log" >&2
-  exit 1
+if [ ! -x "$proved" ] || [ -n "$(find crates -name '*.rt' -newer "$proved" -print -quit)" ]; then
+  if ! (cd crates/flight_bench && rt run -- decode-data 0 /dev/null) </dev/null >"$work/log" 2>&1; then
+    cat "$work/log" >&2
+    exit 1
+  fi
 fi
 
 # At these words both programs print the same.
