@@ -212,10 +212,12 @@ def cut_calls(clients, port):
 
 
 def silent_peers(clients, port):
-    """As many peers as a node serves at once stay silent; others wait until one of these ends."""
+    """Silent peers hold nobody up while there is a place left; where they have all, others wait until one of these ends."""
     with contextlib.ExitStack() as peers:
-        for _ in range(MOST_CONNECTIONS):
+        for _ in range(MOST_CONNECTIONS - 1):
             peers.enter_context(socket.create_connection(("127.0.0.1", port), CALL_SECONDS))
+        want(got(clients[0], "sales", 1), ROWS)
+        peers.enter_context(socket.create_connection(("127.0.0.1", port), CALL_SECONDS))
         want(got(clients[1], "sales", 1), ROWS)
         with concurrent.futures.ThreadPoolExecutor(1) as pool:
             waiting = pool.submit(got, clients[0], "sales", 1)
