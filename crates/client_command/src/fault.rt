@@ -4,6 +4,7 @@ ghost use Rattle.std.specs.Prelude.{◌≡◌, ◌↔◌, Contains, IsTrue};
 ghost use Rattle.client_command.specs.Faults.{MayBeTaken, fault_of_rows, final_statuses, status_of_fault};
 
 use crate::status::{FAILURE, NO_CALL};
+use call_words::Status;
 use client_calls::ClientFault;
 use client_connections::ConnectFault;
 use json_rows::RowsFault;
@@ -55,7 +56,14 @@ pub enum CommandFault {
 fn is_final(status: u8) -> bool
     ensures { IsTrue result ↔ Contains final_statuses status }
 {
-    [3, 5, 6, 9, 12].contains(&status)
+    [
+        Status::InvalidArgument.code(),
+        Status::NotFound.code(),
+        Status::AlreadyExists.code(),
+        Status::FailedPrecondition.code(),
+        Status::Unimplemented.code(),
+    ]
+    .contains(&status)
 }
 
 impl CommandFault {
