@@ -1,5 +1,5 @@
 //! Conformance tests of `flight_calls`, `table_backend` and `client_calls`, over their public calls, of which stories cannot
-//! tell: what a client writes and reads, calls that are asked and served one by the other, writers that fail, and thousands
+//! tell: what a client writes and reads, calls that are asked and served one by the other, streams that fail, and thousands
 //! of calls.
 //!
 //! The crate has no code but tests, so that what is proved in the crates below is not proved again together with them.
@@ -9,11 +9,15 @@
 #[cfg(test)]
 mod asked;
 #[cfg(test)]
+mod failing;
+#[cfg(test)]
 mod gotten;
 #[cfg(test)]
 mod samples;
 #[cfg(test)]
 mod served;
+#[cfg(test)]
+mod streams;
 #[cfg(test)]
 mod support;
 #[cfg(test)]

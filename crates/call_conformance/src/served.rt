@@ -1,11 +1,12 @@
 //! Calls that are asked by `client_calls` and served by `flight_calls`.
 
+use crate::streams::{Broken, Narrow};
 use crate::support::{backend, upload};
 use client_calls::{call_info, call_put};
 use flight_calls::{CallFault, serve_call};
 use proto_wire::FlightInfo;
 use std::alloc::Global;
-use std::io::{self, Read, Write};
+use std::io::{self, Write};
 use std::test::Fail;
 use table_backend::TableBackend;
 use uploads::Upload;
@@ -14,7 +15,7 @@ use uploads::Upload;
 const CALLS: u64 = 2_000;
 
 /// The trailer of a call of which a read failed: status 13, `Io`.
-const IO_TRAILER: [u8; 8] = [0x80, 0, 0, 0, 3, 13, b'I', b'o'];
+pub(crate) const IO_TRAILER: [u8; 8] = [0x80, 0, 0, 0, 3, 13, b'I', b'o'];
 
 /// The answer to a request.
 pub(crate) fn answer(
@@ -100,27 +101,6 @@ fn thousands_of_puts_of_one_upload_make_one_version(rt: HostRuntime) -> Result<(
     Ok(())
 }
 
-/// A writer that takes so many bytes, and then fails.
-#[derive(Drop)]
-struct Narrow {
-    room: usize,
-}
-
-impl Write for Narrow {
-    fn write(&mut self, bytes: &[u8]) -> io::Result<usize> {
-        let taken = bytes.len().min(self.room);
-        if taken == 0 {
-            return Err(io::ErrorKind::BrokenPipe.into());
-        }
-        self.room -= taken;
-        Ok(taken)
-    }
-
-    fn flush(&mut self) -> io::Result<()> {
-        Ok(())
-    }
-}
-
 /// Whether serving the put fails for its writer, which has so much room.
 fn fails(rt: &HostRuntime, room: usize) -> Result<bool, Fail> {
     let mut backend = backend(rt)?;
@@ -142,21 +122,6 @@ fn a_write_that_fails_is_told_and_the_put_stands(rt: HostRuntime) -> Result<(), 
     assert!(rt; failed == 33);
     assert!(rt; !fails(&rt, 33)?);
     Ok(())
-}
-
-/// A reader that gives these bytes, and then fails.
-#[derive(Drop)]
-struct Broken<'a> {
-    left: &'a [u8],
-}
-
-impl<'a> Read for Broken<'a> {
-    fn read(&mut self, room: &mut [u8]) -> io::Result<usize> {
-        if self.left.is_empty() {
-            return Err(io::ErrorKind::ConnectionReset.into());
-        }
-        self.left.read(room)
-    }
 }
 
 /// Whether a call of which a read fails behind these bytes is told as such, and nothing is handed over.

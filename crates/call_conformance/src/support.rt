@@ -47,3 +47,8 @@ pub(crate) fn backend(rt: &HostRuntime) -> Result<Box<TableBackend>, Fail> {
     let boxed = Box::new(rt.alloc(), backend)?;
     Ok(boxed)
 }
+
+/// Fails where it does not hold.
+pub(crate) fn check(holds: bool, what: &'static str) -> Result<(), Fail> {
+    if holds { Ok(()) } else { Err(Fail::from(what)) }
+}

@@ -1,6 +1,6 @@
 //! Conformance tests of `cluster_backend` and `flight_service`, over their public calls: what a connection to one of three nodes
-//! is told, one step after the other; callers in threads beside the nodes' workers, while a node is started again; and a call that
-//! waits for one node, at its seat or at the gate, while another answers.
+//! is told, one step after the other; callers in threads beside the nodes' workers, while a node is started again, also where its
+//! disk fails; and a call that waits for one node, at its seat or at the gate, while another answers.
 //!
 //! The crate has no code but tests, so that what is proved in the crates below is not proved again together with them.
 #![tactic(auto)]

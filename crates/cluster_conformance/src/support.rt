@@ -4,11 +4,12 @@ ghost use Rattle.std.specs.Prelude.{◌≡◌};
 
 use ballots::{Members, NodeId};
 use crossbeam_channel::Receiver;
+use disk_records::{DiskStable, MemoryDisk};
 use growing_log::{Naming, Opened};
 use header_types::Schema;
-use node_threads::{Cluster, Gate, Journal, Note, OwnEntry, Running, Seat};
+use node_threads::{Cluster, Gate, Journal, Note, OpenGate, OwnEntry, Running, Seat};
 use schedule_runner::Config;
-use stable_records::MemoryStable;
+use stable_records::{MemoryStable, Stable};
 use std::alloc::Global;
 use std::hash::RandomState;
 use std::sync::{Mutex, Wait};
@@ -18,6 +19,9 @@ use uploads::{Upload, UploadFault};
 
 pub(crate) type Nodes<J, G> = Running<3, MemoryStable, J, G>;
 
+/// Nodes whose records stand in files of disks in memory.
+pub(crate) type DiskNodes<J> = Running<3, DiskStable<MemoryDisk>, J, OpenGate>;
+
 /// Why a test fails. Threads can hand it to one another.
 pub(crate) type Why = &'static str;
 
@@ -25,17 +29,26 @@ pub(crate) fn members() -> Result<Members, Why> {
     Ok(Members::new(3).ok_or("no members")?)
 }
 
-fn seat<J: Naming>(
+fn config() -> Result<Config, Why> {
+    Ok(Config {
+        members: members()?,
+        slot_limit: 1000,
+        journal_limit: 1_000_000,
+    })
+}
+
+fn seat<S: Stable + Drop, J: Naming>(
     alloc: Global,
     hashing: RandomState,
     number: u8,
     config: Config,
-) -> Result<Mutex<Seat<MemoryStable, J>>, Why> {
+    store: S,
+) -> Result<Mutex<Seat<S, J>>, Why> {
     let me = NodeId::new(number).ok_or("no node")?;
     if !config.is_within_limits() || !config.members.have(me) {
         return Err("no member of a configuration");
     }
-    match Seat::open(alloc, hashing, me, config, MemoryStable::new(alloc)) {
+    match Seat::open(alloc, hashing, me, config, store) {
         Ok(Some(seat)) => Ok(Mutex::new(seat)),
         _ => Err("no seat is opened"),
     }
@@ -51,22 +64,49 @@ pub(crate) fn three<R: Wait, J: Naming, G: Gate + Drop>(
 ) -> Result<(Nodes<J, G>, Vec<Receiver<Note>>), Why>
     requires { log ≡ J.book }
 {
-    let config = Config {
-        members: members()?,
-        slot_limit: 1000,
-        journal_limit: 1_000_000,
-    };
+    let config = config()?;
     if !config.is_within_limits() {
         return Err("no configuration");
     }
     let seats = [
-        seat(alloc, hashing, 0, config)?,
-        seat(alloc, hashing, 1, config)?,
-        seat(alloc, hashing, 2, config)?,
+        seat(alloc, hashing, 0, config, MemoryStable::new(alloc))?,
+        seat(alloc, hashing, 1, config, MemoryStable::new(alloc))?,
+        seat(alloc, hashing, 2, config, MemoryStable::new(alloc))?,
     ];
     let journal = Journal::<J>::with_log(alloc, config, log);
     let cluster = Cluster::new(rt, seats, journal).ok_or("no cluster")?;
     had(Running::new(alloc, cluster, gate))
+}
+
+// A store over a new file, one call of whose disk fails behind so many, where a number is given.
+fn disk(alloc: Global, calls_left: Option<u64>) -> DiskStable<MemoryDisk> {
+    let mut disk = MemoryDisk::new(alloc, Vec::new(alloc));
+    disk.calls_left = calls_left;
+    DiskStable::new(alloc, disk)
+}
+
+/// Three nodes, and what their workers would read. One call of the disk of node 2 fails, behind so many.
+pub(crate) fn three_on_disks<R: Wait, J: Naming>(
+    rt: &R,
+    alloc: Global,
+    hashing: RandomState,
+    log: Opened<OwnEntry>,
+    calls_left: u64,
+) -> Result<(DiskNodes<J>, Vec<Receiver<Note>>), Why>
+    requires { log ≡ J.book }
+{
+    let config = config()?;
+    if !config.is_within_limits() {
+        return Err("no configuration");
+    }
+    let seats = [
+        seat(alloc, hashing, 0, config, disk(alloc, None))?,
+        seat(alloc, hashing, 1, config, disk(alloc, None))?,
+        seat(alloc, hashing, 2, config, disk(alloc, Some(calls_left)))?,
+    ];
+    let journal = Journal::<J>::with_log(alloc, config, log);
+    let cluster = Cluster::new(rt, seats, journal).ok_or("no cluster")?;
+    had(Running::new(alloc, cluster, OpenGate))
 }
 
 /// The upload without batches to the table `t`, of this number.

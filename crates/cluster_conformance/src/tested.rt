@@ -1,11 +1,11 @@
 //! Nodes with workers, and what tests do with them besides.
 
 use crate::flag::Flag;
-use crate::support::Nodes;
 use flight_service::Works;
 use growing_log::Naming;
-use node_threads::OpenGate;
+use node_threads::{OpenGate, Running};
 use schedule_runner::audit;
+use stable_records::Stable;
 use std::sync::Wait;
 use table_types::Ticket;
 
@@ -21,7 +21,7 @@ pub(crate) trait Tested: Works {
     fn answers_beside<R: Wait>(&self, rt: &R, held: &Flag, ticket: Ticket) -> bool;
 }
 
-impl<J: Naming + Send + Sync> Tested for Nodes<J, OpenGate> {
+impl<S: Stable + Drop + Send, J: Naming + Send + Sync> Tested for Running<3, S, J, OpenGate> {
     fn start_again<R: Wait>(&self, rt: &R, node: usize) -> bool {
         self.restart(rt, node).is_ok()
     }

@@ -2,8 +2,9 @@
 
 ghost use Rattle.std.specs.Prelude.{◌≡◌};
 
-use crate::support::{Why, check, had, three, ticket, told, upload};
+use crate::support::{Why, check, had, three, three_on_disks, ticket, told, upload};
 use crate::tested::Tested;
+use call_words::BackFault;
 use client_calls::{Download, call_get};
 use cluster_backend::{AllReceipts, ClusterBackend, Nodes};
 use crossbeam_channel::Receiver;
@@ -204,24 +205,50 @@ fn serve_all<R: Threads + Wait + Clock, C: Nodes + Drop>(
     stand_there(&download, second)
 }
 
-// Starts the third node again, a few times.
-fn start_again<R: Threads + Wait + Clock, C: Tested + Drop>(rt: &R, nodes: &C) -> Result<(), Why> {
+// Starts the third node again, a few times. Where a call of its disk may fail, which it does once, a start may be tried again.
+fn start_again<R: Threads + Wait + Clock, C: Tested + Drop>(
+    rt: &R,
+    nodes: &C,
+    may_fail: bool,
+) -> Result<(), Why> {
     for _ in 0..RESTARTS {
         let _ = thread::sleep(rt, Duration::from_millis(20));
-        check(nodes.start_again(rt, 2), "a node does not start again")?;
+        let starts = nodes.start_again(rt, 2) || (may_fail && nodes.start_again(rt, 2));
+        check(starts, "a node does not start again")?;
     }
     Ok(())
 }
 
-// Two callers put their uploads beside the restarts.
+// Waits for the third node to serve a version, and starts it again where it is down.
+fn revive<R: Threads + Wait + Clock, C: Tested + Drop>(
+    rt: &R,
+    alloc: Global,
+    service: &Service<C, AllReceipts>,
+    version: u64,
+) -> Result<(), Why> {
+    let (nodes, receipts) = (service.nodes(), service.receipts());
+    let mut backend = ClusterBackend::new(alloc, rt, nodes, receipts, 2, &[]);
+    let ticket = ticket(alloc, version)?;
+    for _ in 0..TRIES {
+        match backend.get(alloc, &ticket) {
+            Ok(_) => return Ok(()),
+            Err(BackFault::Down) => drop(nodes.start_again(rt, 2)),
+            Err(_) => drop(thread::sleep(rt, Duration::from_millis(1))),
+        }
+    }
+    Err("a node does not come back")
+}
+
+// Two callers put their uploads beside the restarts, and beside a call of the third node's disk that may fail.
 fn call_twice<R: Threads + Wait + Clock + Copy + Send + 'static, C: Tested + Drop + 'static>(
     rt: R,
     alloc: Global,
     service: &Shared<C>,
+    may_fail: bool,
 ) -> Result<(), Why> {
     let first = start_caller(rt, alloc, had(Arc::try_clone(service))?, 0, 0)?;
     let second = start_caller(rt, alloc, had(Arc::try_clone(service))?, 1, PUTS)?;
-    let started = start_again(&rt, service.nodes());
+    let started = start_again(&rt, service.nodes(), may_fail);
     let first = first.join(&rt);
     let second = second.join(&rt);
     started?;
@@ -231,6 +258,9 @@ fn call_twice<R: Threads + Wait + Clock + Copy + Send + 'static, C: Tested + Dro
     let Some(second) = second else {
         return Err("another caller fails");
     };
+    if may_fail {
+        revive(&rt, alloc, &**service, 2 * PUTS)?;
+    }
     serve_all(&rt, alloc, &**service, &first, &second)
 }
 
@@ -240,6 +270,7 @@ fn work<R: Threads + Wait + Clock + Copy + Send + 'static, C: Tested + Drop + 's
     alloc: Global,
     nodes: C,
     notes: Vec<Receiver<Note>>,
+    may_fail: bool,
 ) -> Result<(), Why> {
     let receipts = AllReceipts::new(alloc);
     let service = had(Service::new(alloc, nodes, receipts, 42_000, 3))?;
@@ -247,7 +278,7 @@ fn work<R: Threads + Wait + Clock + Copy + Send + 'static, C: Tested + Drop + 's
     let Ok(workers) = start_workers(rt, alloc, &service, notes) else {
         return Err("no workers");
     };
-    let called = call_twice(rt, alloc, &service);
+    let called = call_twice(rt, alloc, &service, may_fail);
     service.nodes().stop(&rt);
     join_all(&rt, workers);
     called?;
@@ -270,11 +301,40 @@ fn plays<R: Threads + Wait + Clock + Copy + Send + 'static, J: Naming + Send + S
     requires { log ≡ J.book }
 {
     let (nodes, notes) = three::<R, J, OpenGate>(&rt, alloc, hashing, log, OpenGate)?;
-    work(rt, alloc, nodes, notes)
+    work(rt, alloc, nodes, notes, false)
+}
+
+fn plays_on_disks<
+    R: Threads + Wait + Clock + Copy + Send + 'static,
+    J: Naming + Send + Sync + 'static,
+>(
+    rt: R,
+    alloc: Global,
+    hashing: RandomState,
+    log: Opened<OwnEntry>,
+    calls_left: u64,
+) -> Result<(), Why>
+    requires { log ≡ J.book }
+{
+    let (nodes, notes) = three_on_disks::<R, J>(&rt, alloc, hashing, log, calls_left)?;
+    work(rt, alloc, nodes, notes, true)
 }
 
 #[test]
 fn callers_put_beside_restarts(rt: HostRuntime) -> Result<(), Fail> {
     let hashing = RandomState::new(&rt)?;
     told(plays::<_, Brand>(rt, rt.alloc(), hashing, Opened::new()))
+}
+
+// A disk's sixth call is of its node's first keep, and its sixtieth of a later one.
+#[test]
+fn callers_put_beside_a_disk_that_fails_at_first(rt: HostRuntime) -> Result<(), Fail> {
+    let hashing = RandomState::new(&rt)?;
+    told(plays_on_disks::<_, Brand>(rt, rt.alloc(), hashing, Opened::new(), 5))
+}
+
+#[test]
+fn callers_put_beside_a_disk_that_fails_later(rt: HostRuntime) -> Result<(), Fail> {
+    let hashing = RandomState::new(&rt)?;
+    told(plays_on_disks::<_, Brand>(rt, rt.alloc(), hashing, Opened::new(), 59))
 }
