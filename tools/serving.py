@@ -251,6 +251,8 @@ def full_output(program):
 # ---- the words of a client
 
 ID = "101112131415161718191a1b1c1d1e1f"
+# The port of node 0 of a script's cluster.
+FIRST_PORT = 42_000
 LINES = '{"shop":"Bern","sold":3}\n{"shop":"Zürich","sold":null}\n'
 # The frame at the end of a request.
 END_FRAME = bytes.fromhex("8000000000")
@@ -393,6 +395,13 @@ def bad_script(program):
         want(told(program, ["script", str(file)]), (1, "", f"flightd: BadScript\nflightd: {call}\n"))
 
 
+def script_without_a_port(program):
+    """A script whose second node can't have its port, which another has."""
+    file = sorted((TOP / "examples" / "scripts").glob("*.json"))[0]
+    with socket.create_server(("127.0.0.1", FIRST_PORT + 1)):
+        want(told(program, ["script", str(file)]), (1, "", "flightd: Bind\n"))
+
+
 # ---- the files of records
 
 
@@ -523,6 +532,7 @@ def main(program):
         old_and_locked_files(program, nodes)
     lost_answer(program)
     bad_script(program)
+    script_without_a_port(program)
     full_output(program)
     bad_files(program)
     full_later(program)

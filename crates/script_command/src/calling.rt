@@ -6,7 +6,7 @@ ghost use Rattle.script_calls.specs.Lines.{line_of};
 ghost use Rattle.script_calls.specs.declared.told.Told.{Told as Answered};
 ghost use Rattle.script_command.specs.Playing.{WritesLines};
 
-use crate::fault::{PlayFault, not_answered};
+use crate::fault::{Unplayed, not_answered};
 use grpc_frames::transfer::put;
 use run_files::Call;
 use script_calls::{Told, ask, asks_again};
@@ -34,10 +34,10 @@ fn ask_node<R: Net<Stream = TcpStream>>(
     rt: &R,
     alloc: Global,
     call: &Call,
-) -> Result<Told, PlayFault> {
+) -> Result<Told, Unplayed> {
     let address = SocketAddr::from((Ipv4Addr::LOCALHOST, FIRST_PORT + u16::from(call.node)));
     let Ok(stream) = TcpStream::connect(rt, address) else {
-        return Err(PlayFault::Io);
+        return Err(Unplayed::Io);
     };
     let silence = Some(Duration::from_secs(SILENCE_SECONDS));
     // A stream without these options is used all the same.
@@ -47,12 +47,12 @@ fn ask_node<R: Net<Stream = TcpStream>>(
 }
 
 // Makes the call over this connection.
-fn ask_over(alloc: Global, stream: &TcpStream, call: &Call) -> Result<Told, PlayFault> {
+fn ask_over(alloc: Global, stream: &TcpStream, call: &Call) -> Result<Told, Unplayed> {
     let (Ok(mut input), Ok(mut output)) = (
         BufReader::new(alloc, stream),
         BufWriter::new(alloc, stream),
     ) else {
-        return Err(PlayFault::OutOfMemory);
+        return Err(Unplayed::OutOfMemory);
     };
     match ask(alloc, &mut input, &mut output, &call.asked) {
         Ok(told) => Ok(told),
@@ -65,7 +65,7 @@ fn told_to<R: Net<Stream = TcpStream> + Threads + Clock>(
     rt: &R,
     alloc: Global,
     call: &Call,
-) -> Result<Told, PlayFault> {
+) -> Result<Told, Unplayed> {
     let mut told = ask_node(rt, alloc, call)?;
     for _ in 1..MOST_TRIES {
         if !asks_again(&call.asked, &told) {
@@ -83,14 +83,14 @@ fn write_line<W: Write>(
     number: usize,
     told: &Told,
     w: &mut W,
-) -> Result<(), PlayFault>
+) -> Result<(), Unplayed>
     ensures { OnOk result (Appends (W.contents w.old) (W.contents w.new) (line_of number told.now)) }
 {
     let Ok(line) = told.line(alloc, number) else {
-        return Err(PlayFault::OutOfMemory);
+        return Err(Unplayed::OutOfMemory);
     };
     if put(w, line.as_bytes()).is_err() {
-        return Err(PlayFault::Io);
+        return Err(Unplayed::Io);
     }
     Ok(())
 }
@@ -102,7 +102,7 @@ fn play_call<R: Net<Stream = TcpStream> + Threads + Clock, W: Write>(
     number: usize,
     call: &Call,
     w: &mut W,
-) -> Result<(), PlayFault>
+) -> Result<(), Unplayed>
     ensures { OnOk result ((told : Answered) × Appends (W.contents w.old) (W.contents w.new) (line_of number told)) }
 {
     let told = told_to(rt, alloc, call)?;
@@ -116,7 +116,7 @@ pub(crate) fn play_calls<R: Net<Stream = TcpStream> + Threads + Clock, W: Write>
     alloc: Global,
     calls: &[Call],
     w: &mut W,
-) -> Result<(), PlayFault>
+) -> Result<(), Unplayed>
     ensures { OnOk result (WritesLines (W.contents w.old) (length calls.now) (W.contents w.new)) }
 {
     for number in 0..calls.len() {

@@ -12,6 +12,6 @@ mod playing;
 mod status;
 
 pub use calling::{FIRST_PORT, MOST_TRIES};
-pub use fault::PlayFault;
+pub use fault::{PlayFault, Unplayed};
 pub use playing::{script_file, script_run};
 pub use status::{FAILURE, SUCCESS};

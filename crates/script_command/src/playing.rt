@@ -1,14 +1,14 @@
 //! `flightd script FILE`, over any writers.
 
-ghost use Rattle.std.specs.Prelude.{◌≡◌, ◌⊎◌, ℕ, List, OnOk, IfOk, length, if◌then◌else◌};
+ghost use Rattle.std.specs.Prelude.{◌≡◌, ◌⊎◌, ℕ, List, OnOk, IfOk, IsErrOf, length, if◌then◌else◌};
 ghost use Rattle.std.specs.Io.KnownBytes.{Appends, Keeps};
 ghost use Rattle.run_files.specs.declared.script.NodeCount.{NodeCount as Counted};
 ghost use Rattle.run_files.specs.declared.script.Call.{Call as Calling};
 ghost use Rattle.run_files.specs.ScriptFile.{MeansScript};
-ghost use Rattle.script_command.specs.Playing.{WritesLines, WritesAll, confirmed_line, unconfirmed_line};
+ghost use Rattle.script_command.specs.Playing.{MeansNoScript, WritesAll, confirmed_line, unconfirmed_line};
 
 use crate::calling::{FIRST_PORT, play_calls};
-use crate::fault::{PlayFault, not_served};
+use crate::fault::{PlayFault, Unplayed, not_served};
 use crate::status::{FAILURE, SUCCESS};
 use cluster_backend::AllReceipts;
 use crossbeam_channel::Receiver;
@@ -34,9 +34,10 @@ use std::time::Clock;
 /// whatever names the file chooses.
 ///
 /// A fault's line goes to `e`, and the status is 1: `flightd: BadScript` where the bytes tell no script, which is told before a
-/// port is opened, and behind it a line with what is wrong with them ([`script_flaw`]); `flightd: Bind` where a port can't be had; `flightd: OutOfMemory` where memory or a thread is refused;
-/// `flightd: Io` where `w` or a connection fails; `flightd: BadAnswer` where a node's answer is none. Where that can't be
-/// written, the status alone tells.
+/// port is opened and anything is written to `w`, and behind it a line with what is wrong with them ([`script_flaw`]);
+/// `flightd: Bind` where a port can't be had; `flightd: OutOfMemory` where memory or a thread is refused; `flightd: Io` where
+/// `w` or a connection fails; `flightd: BadAnswer` where a node's answer is none. Where that can't be written, the status alone
+/// tells.
 pub fn script_run<
     R: Net<Listener = TcpListener, Stream = TcpStream>
         + Threads
@@ -52,6 +53,7 @@ pub fn script_run<
     ensures played { result ≡ 0 → (nodes : Counted) × (calls : List Calling) × MeansScript file.now nodes calls
         × WritesAll (W.contents w.old) (length calls) confirmed_line (W.contents w.new) }
     ensures silent { result ≡ 0 → Keeps (E.contents e.old) (E.contents e.new) }
+    ensures none { MeansNoScript file.now → Keeps (W.contents w.old) (W.contents w.new) }
 {
     match script_file(rt, alloc, hashing, file, w) {
         Ok(true) => SUCCESS,
@@ -75,7 +77,7 @@ fn say<E: Write>(alloc: Global, file: &[u8], fault: PlayFault, e: &mut E) {
 }
 
 /// Plays the script that a file tells as [`script_run`] does, and says whether each answer is confirmed, or gives the fault
-/// itself.
+/// itself: [`PlayFault::BadScript`] only where the file tells none.
 pub fn script_file<
     R: Net<Listener = TcpListener, Stream = TcpStream>
         + Threads
@@ -86,21 +88,26 @@ pub fn script_file<
         + 'static,
     W: Write,
 >(rt: R, alloc: Global, hashing: RandomState, file: &[u8], w: &mut W) -> Result<bool, PlayFault>
-    ensures { IfOk result (λ ok. (nodes : Counted) × (calls : List Calling) × MeansScript file.now nodes calls
+    ensures played { IfOk result (λ ok. (nodes : Counted) × (calls : List Calling) × MeansScript file.now nodes calls
         × WritesAll (W.contents w.old) (length calls) (if ok then confirmed_line else unconfirmed_line) (W.contents w.new)) }
+    ensures bad { IsErrOf result PlayFault.BadScript → MeansNoScript file.now }
+    ensures none { MeansNoScript file.now → Keeps (W.contents w.old) (W.contents w.new) }
 {
     let script = match read_script(alloc, file) {
         Ok(script) => script,
         Err(ScriptFault::BadScript) => return Err(PlayFault::BadScript),
-        Err(ScriptFault::OutOfMemory) => return Err(PlayFault::OutOfMemory),
+        Err(ScriptFault::OutOfMemory) => return Err(PlayFault::Unplayed(Unplayed::OutOfMemory)),
     };
-    match script.nodes {
+    let calls = script.calls.as_slice();
+    let played = match script.nodes {
         NodeCount::Three => {
-            play_at_three::<R, W, Brand>(rt, alloc, hashing, &script.calls, w, Opened::new())
+            play_at_three::<R, W, Brand>(rt, alloc, hashing, calls, w, Opened::new())
         }
-        NodeCount::Five => {
-            play_at_five::<R, W, Brand>(rt, alloc, hashing, &script.calls, w, Opened::new())
-        }
+        NodeCount::Five => play_at_five::<R, W, Brand>(rt, alloc, hashing, calls, w, Opened::new()),
+    };
+    match played {
+        Ok(ok) => Ok(ok),
+        Err(fault) => Err(PlayFault::Unplayed(fault)),
     }
 }
 
@@ -122,7 +129,7 @@ fn play_at_three<
     calls: &[Call],
     w: &mut W,
     log: Opened<OwnEntry>,
-) -> Result<bool, PlayFault>
+) -> Result<bool, Unplayed>
     requires { log ≡ J.book }
     ensures { IfOk result (λ ok. WritesAll (W.contents w.old) (length calls.now)
         (if ok then confirmed_line else unconfirmed_line) (W.contents w.new)) }
@@ -151,7 +158,7 @@ fn play_at_five<
     calls: &[Call],
     w: &mut W,
     log: Opened<OwnEntry>,
-) -> Result<bool, PlayFault>
+) -> Result<bool, Unplayed>
     requires { log ≡ J.book }
     ensures { IfOk result (λ ok. WritesAll (W.contents w.old) (length calls.now)
         (if ok then confirmed_line else unconfirmed_line) (W.contents w.new)) }
@@ -181,7 +188,7 @@ fn play_at<
     count: u8,
     calls: &[Call],
     w: &mut W,
-) -> Result<bool, PlayFault>
+) -> Result<bool, Unplayed>
     ensures { IfOk result (λ ok. WritesAll (W.contents w.old) (length calls.now)
         (if ok then confirmed_line else unconfirmed_line) (W.contents w.new)) }
 {
@@ -202,7 +209,7 @@ fn play_at<
 }
 
 // Writes the last line, and flushes the writer.
-fn tell_receipts<W: Write>(ok: bool, w: &mut W) -> Result<(), PlayFault>
+fn tell_receipts<W: Write>(ok: bool, w: &mut W) -> Result<(), Unplayed>
     ensures { OnOk result (Appends (W.contents w.old) (W.contents w.new)
         (if ok then confirmed_line else unconfirmed_line)) }
 {
@@ -212,10 +219,10 @@ fn tell_receipts<W: Write>(ok: bool, w: &mut W) -> Result<(), PlayFault>
         "receipts bad\n"
     };
     if put(w, line.as_bytes()).is_err() {
-        return Err(PlayFault::Io);
+        return Err(Unplayed::Io);
     }
     if w.flush().is_err() {
-        return Err(PlayFault::Io);
+        return Err(Unplayed::Io);
     }
     Ok(())
 }
