@@ -144,6 +144,47 @@ fn thousands_of_lists_are_written_and_read(rt: HostRuntime) -> Result<(), Fail> 
     Ok(())
 }
 
+/// Structs of texts, and a null.
+fn four_texts(alloc: Global) -> Result<Vec<Cell>, AllocError> {
+    let mut cells = Vec::new(alloc);
+    for word in [b"one".as_slice(), b"", b"three"] {
+        cells.push(text(alloc, word)?)?;
+    }
+    cells.push(Cell::Null)?;
+    Ok(cells)
+}
+
+/// Whether the batch is written and read again equal, where each call that is refused memory is made again.
+fn comes_back(alloc: Global, schema: &Schema, batch: &Batch) -> Result<bool, AllocError> {
+    if !schema.in_profile() || !batch.is_of(schema) {
+        return Ok(false);
+    }
+    let (head, body) = match write_body(alloc, schema, batch) {
+        Ok(written) => written,
+        Err(_) => write_body(alloc, schema, batch)?,
+    };
+    let read = match read_batch(alloc, schema, &head, &body) {
+        Err(BatchFault::OutOfMemory) => read_batch(alloc, schema, &head, &body),
+        read => read,
+    };
+    match read {
+        Ok(again) => Ok(again == *batch),
+        Err(BatchFault::OutOfMemory) => Err(AllocError),
+        Err(_) => Ok(false),
+    }
+}
+
+/// Run with every allocation refused in turn, it ends as before or for want of memory.
+#[test]
+fn a_batch_comes_back(rt: HostRuntime) -> Result<(), Fail> {
+    let alloc = rt.alloc();
+    let schema = table(alloc, texts(alloc)?)?;
+    let batch = alone(alloc, &schema, four_texts(alloc)?)?;
+    let comes_back = comes_back(alloc, &schema, &batch)?;
+    assert!(rt; comes_back);
+    Ok(())
+}
+
 #[test]
 fn cells_of_other_types_are_refused(rt: HostRuntime) -> Result<(), Fail> {
     let alloc = rt.alloc();

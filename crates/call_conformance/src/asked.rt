@@ -6,7 +6,7 @@ use std::alloc::Global;
 use std::test::Fail;
 
 /// The request of the put.
-const PUT: &str = "\
+pub(crate) const PUT: &str = "\
     000000002a2f6172726f772e666c696768742e70726f746f636f6c2e466c69676874536572766963652f446f507574000000\
     00c40a2708011a01741a20303030313032303330343035303630373038303930613062306330643065306612980110000000\
     0c00180004000600080010000c00000004000100200000000000000000000000000000000000000000000a000c0000000400\
@@ -18,22 +18,22 @@ const PUT: &str = "\
     c23e10050000000000000001000300000000008000000000";
 
 /// The request of what is told of t.
-const INFO: &str = "\
+pub(crate) const INFO: &str = "\
     00000000322f6172726f772e666c696768742e70726f746f636f6c2e466c69676874536572766963652f476574466c696768\
     74496e666f000000000508011a01748000000000";
 
 /// The frame of a PutResult with the upload's name and version 1, and of one with version 9.
-const FIRST: &str = "00000000160a140a10000102030405060708090a0b0c0d0e0f1001";
+pub(crate) const FIRST: &str = "00000000160a140a10000102030405060708090a0b0c0d0e0f1001";
 
 const NINTH: &str = "00000000160a140a10000102030405060708090a0b0c0d0e0f1009";
 
 /// The trailer of a call that was answered, and one of status 14.
-const OK: &str = "800000000100";
+pub(crate) const OK: &str = "800000000100";
 
 const UNAVAILABLE: &str = "800000000c0e556e617661696c61626c65";
 
 /// A FlightInfo in another spelling: ordered by 255, a field that is not known, and five rows.
-const TOLD: &str = "0000000007200330ff012005";
+pub(crate) const TOLD: &str = "0000000007200330ff012005";
 
 /// What the put gives over these bytes, and whether its request is as it is to be and this is left of them.
 fn put(alloc: Global, parts: &[&str], left: usize) -> Result<Result<u64, ClientFault>, Fail> {

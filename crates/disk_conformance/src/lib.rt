@@ -7,6 +7,8 @@
 #[cfg(test)]
 mod files;
 #[cfg(test)]
+mod refused_memory;
+#[cfg(test)]
 mod stops;
 #[cfg(test)]
 mod support;

@@ -17,6 +17,8 @@ mod long;
 #[cfg(test)]
 mod receipts;
 #[cfg(test)]
+mod refused_memory;
+#[cfg(test)]
 mod runs;
 #[cfg(test)]
 mod support;

@@ -12,6 +12,8 @@ mod lines;
 #[cfg(test)]
 mod order;
 #[cfg(test)]
+mod refused_memory;
+#[cfg(test)]
 mod support;
 #[cfg(test)]
 mod values;

@@ -12,6 +12,8 @@ mod left_behind;
 #[cfg(test)]
 mod long_runs;
 #[cfg(test)]
+mod refused_memory;
+#[cfg(test)]
 mod replay;
 #[cfg(test)]
 mod streams;

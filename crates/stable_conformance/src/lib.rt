@@ -9,6 +9,8 @@ mod failing;
 #[cfg(test)]
 mod memory;
 #[cfg(test)]
+mod refused_memory;
+#[cfg(test)]
 mod support;
 #[cfg(test)]
 mod through_the_bound;

@@ -68,6 +68,22 @@ fn an_upload_is_read(rt: HostRuntime) -> Result<(), Fail> {
     Ok(())
 }
 
+/// The bytes of an upload.
+fn encode(upload: &Upload) -> Result<Bytes, AllocError> {
+    match upload.encode() {
+        Ok(text) => Ok(text),
+        Err(_) => upload.encode(),
+    }
+}
+
+#[test]
+fn an_upload_is_written(rt: HostRuntime) -> Result<(), Fail> {
+    let upload = two_batches(rt.alloc())?;
+    let text = encode(&upload)?;
+    assert!(rt; text.as_slice() == upload.as_slice());
+    Ok(())
+}
+
 #[test]
 fn bytes_that_are_none_are_not_read(rt: HostRuntime) -> Result<(), Fail> {
     let upload = two_batches(rt.alloc())?;

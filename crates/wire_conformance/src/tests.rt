@@ -5,6 +5,7 @@ mod appended;
 mod frame_streams;
 mod frames;
 mod one_encoding;
+mod refused_memory;
 mod samples;
 mod shared_bytes;
 mod texts;
