@@ -21,7 +21,7 @@ TOP = Path(__file__).resolve().parent.parent
 sys.dont_write_bytecode = True
 sys.path.append(str(TOP / "tools"))
 
-from serving import free_port
+from servers import free_port
 
 CALLERS, PUTS, MEMBERS, START_SECONDS = (1, 16, 64), 1_280, 3, 30
 

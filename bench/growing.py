@@ -38,24 +38,14 @@ from pathlib import Path
 
 TOP = Path(__file__).resolve().parent.parent
 sys.dont_write_bytecode = True
-sys.path += [str(TOP / "bench"), str(TOP / "clients" / "python"), str(TOP / "tools")]
+sys.path += [str(TOP / "clients" / "python"), str(TOP / "tools")]
 
 import felzoren
-from load import resident
-from serving import PROGRAM, Recorder, started
+from servers import PROGRAM, look, request_of, started
 
 CALLERS, NODES, STEPS, SOME, PUT_SECONDS = (1, 16), 3, 10, 3, 600
 MEMORY = "/dev/shm"
 LOOK_SECONDS = 0.02
-
-
-def request_of(name):
-    """The request of a put of one row, of an upload of this name."""
-    recorder = Recorder()
-    try:
-        felzoren.Client(lambda: recorder).put("rows", {"row": [1]}, schema={"row": "int64"}, id=name)
-    except felzoren.BadAnswer:
-        return recorder.written
 
 
 def put(port, request, name):
@@ -78,7 +68,8 @@ def take_turn(left):
 def put_many(port, left, done, faults):
     """Puts uploads, one after the other, as long as some are left, and counts them; or tells why one was refused."""
     blank = bytes(16)
-    front, back = request_of(blank).split(blank.hex().encode())
+    request = request_of(lambda client: client.put("rows", {"row": [1]}, schema={"row": "int64"}, id=blank))
+    front, back = request.split(blank.hex().encode())
     try:
         while take_turn(left):
             name = secrets.token_bytes(16)
@@ -87,12 +78,6 @@ def put_many(port, left, done, faults):
                 done.value += 1
     except (OSError, felzoren.Refused, felzoren.BadAnswer) as fault:
         faults.put(f"{type(fault).__name__} {fault}")
-
-
-def processor_seconds(process):
-    """How long a process has had processors, for itself and in the system."""
-    fields = Path(f"/proc/{process.pid}/stat").read_text(encoding="utf-8").rpartition(")")[2].split()
-    return (int(fields[11]) + int(fields[12])) / os.sysconf("SC_CLK_TCK")
 
 
 def reaches(done, goal, callers):
@@ -104,14 +89,14 @@ def reaches(done, goal, callers):
 
 def watch(process, done, callers, uploads):
     """Prints a line for each tenth, once it is done, and gives what a put cost in it: seconds, and those of the server's processors."""
-    costs, count, before, used = [], 0, time.perf_counter(), processor_seconds(process)
+    costs, count, before, used = [], 0, time.perf_counter(), look(process).seconds
     for step in range(1, STEPS + 1):
         if not reaches(done, uploads * step // STEPS, callers):
             break
-        now, spent, more = time.perf_counter(), processor_seconds(process), done.value - count
-        costs.append(((now - before) / more, (spent - used) / more))
-        count, before, used = done.value, now, spent
-        rate, memory = 1 / costs[-1][0], resident(process)[0]
+        now, found, more = time.perf_counter(), look(process), done.value - count
+        costs.append(((now - before) / more, (found.seconds - used) / more))
+        count, before, used = done.value, now, found.seconds
+        rate, memory = 1 / costs[-1][0], found.now / 2**20
         print(f"  {count:,}: {rate:,.0f} puts a second, {1000 * costs[-1][1]:.2f} ms of processors a put, {memory:,.0f} MiB", flush=True)
     return costs
 
@@ -129,7 +114,7 @@ def grow(program, count, uploads):
     with tempfile.TemporaryDirectory(dir=MEMORY if os.path.isdir(MEMORY) else None) as folder:
         process, _, port = started(program, NODES, folder)
         try:
-            print(f"  at the start: {resident(process)[0]:,.0f} MiB")
+            print(f"  at the start: {look(process).now / 2**20:,.0f} MiB")
             words = [(port + number % NODES, left, done, faults) for number in range(count)]
             callers = [multiprocessing.Process(target=put_many, args=it) for it in words]
             for caller in callers:

@@ -12,7 +12,6 @@ memory before the load, at its end and 5 seconds behind it. The status is 1 wher
 import collections
 import random
 import socket
-import struct
 import sys
 import tempfile
 import threading
@@ -24,17 +23,10 @@ sys.dont_write_bytecode = True
 sys.path += [str(TOP / "clients" / "python"), str(TOP / "tools")]
 
 import felzoren
-from serving import CALL_SECONDS, PROGRAM, Recorder, Wrong, got, started, want
+from servers import CALL_SECONDS, PROGRAM, Wrong, got, look, request_of, reset, started, want
 
 CALLERS, SEED, TABLES, NODES = 200, 20261127, 4, 3
 QUIET_SECONDS = 5
-
-
-def resident(process):
-    """What a process holds in memory, in MiB, and how many threads it has."""
-    text = Path(f"/proc/{process.pid}/status").read_text(encoding="utf-8")
-    fields = dict(line.split(":", 1) for line in text.splitlines())
-    return int(fields["VmRSS"].split()[0]) / 1024, int(fields["Threads"])
 
 
 class Load:
@@ -81,17 +73,11 @@ class Load:
 
     def cut(self, drawn):
         """A request that ends before any of its bytes."""
-        recorder = Recorder()
-        client = felzoren.Client(lambda: recorder)
-        try:
-            drawn.choice((lambda: client.put("t0", {"row": [0]}, schema={"row": "int64"}), lambda: client.get("t0", 1)))()
-        except felzoren.BadAnswer:
-            pass
-        text = recorder.written
+        text = request_of(drawn.choice((lambda to: to.put("t0", {"row": [0]}, schema={"row": "int64"}), lambda to: to.get("t0", 1))))
         with socket.create_connection(("127.0.0.1", self.port + drawn.randrange(NODES)), CALL_SECONDS) as peer:
             peer.sendall(text[: drawn.randrange(len(text))])
             if drawn.randrange(2):
-                peer.setsockopt(socket.SOL_SOCKET, socket.SO_LINGER, struct.pack("ii", 1, 0))
+                reset(peer)
         with self.lock:
             self.counts["cut off"] += 1
 
@@ -120,16 +106,16 @@ def main(seconds, program):
     with tempfile.TemporaryDirectory() as folder:
         process, clients, port = started(program, NODES, folder)
         try:
-            load, held = Load(port), [resident(process)]
+            load, held = Load(port), [look(process)]
             end = time.monotonic() + seconds
             callers = [threading.Thread(target=load.caller, args=(number, end)) for number in range(CALLERS)]
             for caller in callers:
                 caller.start()
             for caller in callers:
                 caller.join()
-            held.append(resident(process))
+            held.append(look(process))
             time.sleep(QUIET_SECONDS)
-            held.append(resident(process))
+            held.append(look(process))
             check(load, clients)
             want(process.poll(), None)
         finally:
@@ -139,8 +125,8 @@ def main(seconds, program):
     print(f"{sum(load.counts.values())} connections in {seconds} s, by {CALLERS} callers at once: {dict(load.counts.most_common())}")
     print(f"{sum(map(len, load.acknowledged.values()))} uploads were acknowledged, and each stands once, in its place, at each node")
     print(f"a call took {times[len(times) // 2]:.0f} ms in the middle, {times[99 * len(times) // 100]:.0f} ms at 99 of 100, {times[-1]:.0f} ms at most")
-    for when, (memory, threads) in zip(("before", "at the end", f"{QUIET_SECONDS} s later"), held):
-        print(f"{when}: {memory:.1f} MiB, {threads} threads")
+    for when, found in zip(("before", "at the end", f"{QUIET_SECONDS} s later"), held):
+        print(f"{when}: {found.now / 2**20:.1f} MiB, {found.threads} threads")
 
 
 if __name__ == "__main__":

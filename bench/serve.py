@@ -19,7 +19,7 @@ sys.dont_write_bytecode = True
 sys.path += [str(TOP / "clients" / "python"), str(TOP / "tools")]
 
 import felzoren
-from serving import CALL_SECONDS, PROGRAM, server
+from servers import CALL_SECONDS, PROGRAM, server
 
 CALLERS, PUTS, PUT_SECONDS = (1, 16, 64), 1_280, 600
 # Six uploads of some 11 MiB in frames below 4 MiB.

@@ -13,6 +13,7 @@ import struct
 import sys
 
 from peer import PROGRAM, Server, Wrong, name_of, opening, want
+from servers import look
 
 from felzoren import DataType, Field, Schema, batch_header, data_message, schema_header
 
@@ -223,30 +224,17 @@ CASES = {
 }
 
 
-def held(process):
-    """How many bytes a process has held at most."""
-    with open(f"/proc/{process.pid}/status", encoding="ascii") as status:
-        return next(int(line.split()[1]) << 10 for line in status if line.startswith("VmHWM"))
-
-
-def spent(process):
-    """How many seconds of the processor it has taken."""
-    with open(f"/proc/{process.pid}/stat", encoding="ascii") as stat:
-        fields = stat.read().rpartition(")")[2].split()
-    return (int(fields[11]) + int(fields[12])) / os.sysconf("SC_CLK_TCK")
-
-
 def try_case(program, name, case):
     fields, (header, body), wanted = case()
     parts = [opening("t", name_of("t", 0), schema_header(Schema(fields))), data_message(header, b"", body)]
     server = Server(program)
     _, *told = server.call("DoPut", *parts)
-    memory, time = held(server.process), spent(server.process)
-    print(f"{name:<45} {len(parts[1]):>9,} bytes  {memory / 2**20:6.1f} MiB  {time:6.2f} s  {told[1] or 'taken'}")
+    found = look(server.process)
+    print(f"{name:<45} {len(parts[1]):>9,} bytes  {found.most / 2**20:6.1f} MiB  {found.seconds:6.2f} s  {told[1] or 'taken'}")
     server.process.communicate()
     want(tuple(told), wanted)
-    if memory > MOST_HELD or time > MOST_TIME:
-        raise Wrong(f"{memory} bytes and {time} s are more than {MOST_HELD} and {MOST_TIME}")
+    if found.most > MOST_HELD or found.seconds > MOST_TIME:
+        raise Wrong(f"{found.most} bytes and {found.seconds} s are more than {MOST_HELD} and {MOST_TIME}")
 
 
 def main(program=PROGRAM):

@@ -8,9 +8,11 @@ uploads, one after the other, and kills the server (SIGKILL) up to two seconds a
 to mean records, by `PROGRAM records` and by a reader of its own, each upload that was acknowledged has to stand in the files of most nodes, and
 the server must not take the files again. Last it says how many uploads were acknowledged in all. The status is 1 where one of these is not so."""
 import random
+import subprocess
 import sys
 
-from serving import PROGRAM, Wrong, felzoren, killed, subprocess, want
+from servers import PROGRAM, Wrong, felzoren, want
+from serving import killed
 
 SEED, LATEST_SECONDS = 20261127, 2.0
 

@@ -14,10 +14,7 @@ import os
 import pty
 import random
 import re
-import resource
-import signal
 import socket
-import struct
 import subprocess
 import sys
 import tempfile
@@ -25,94 +22,14 @@ import threading
 import time
 from pathlib import Path
 
-TOP = Path(__file__).resolve().parent.parent
-sys.dont_write_bytecode = True
-sys.path.append(str(TOP / "clients" / "python"))
+from servers import CALL_SECONDS, LEARN_SECONDS, MOST_CONNECTIONS, PROGRAM, TOP, Wrong, felzoren, file_limit, free_port, got, records_in
+from servers import request_of, reset, server, started, want
 
-import felzoren
-
-PROGRAM = TOP / "crates" / "flightd" / "out" / "flightd"
-# How long a call may take, in seconds, and for how long a version is waited for at a node that has not learned it.
-CALL_SECONDS, LEARN_SECONDS = 30, 30
 # For how long an answer is held back: a call says nothing of itself for a second.
 HELD_SECONDS = 1.5
 CALLERS, PUTS = 8, 6
 CUTS, SEED = 60, 20261127
-# A node serves so many calls at once; others wait until one of these ends.
-MOST_CONNECTIONS = 128
 ROWS = [{"shop": "Bern", "sold": 3}, {"shop": "Zürich", "sold": None}]
-
-
-class Wrong(Exception):
-    """What came is not what has to come."""
-
-
-def want(found, wanted):
-    if found != wanted:
-        raise Wrong(f"{found!r} in place of {wanted!r}")
-
-
-def free_port(count):
-    """A port that is free, as are so many behind it less one."""
-    for port in random.Random(os.getpid()).sample(range(20_000, 60_000), 100):
-        with contextlib.ExitStack() as open_ones:
-            try:
-                for number in range(count):
-                    opened = open_ones.enter_context(socket.socket())
-                    opened.setsockopt(socket.SOL_SOCKET, socket.SO_REUSEADDR, 1)
-                    opened.bind(("127.0.0.1", port + number))
-                return port
-            except OSError:
-                continue
-    raise Wrong("no ports are free")
-
-
-def file_limit(count):
-    """Has the files of a process started so stay within so many bytes, as on a full disk."""
-
-    def limit():
-        resource.setrlimit(resource.RLIMIT_FSIZE, (count, count))
-        signal.signal(signal.SIGXFSZ, signal.SIG_IGN)
-
-    return limit
-
-
-def started(program, nodes, folder, limit=None):
-    """A server of so many nodes with their records in this folder, its clients, and the port of its first node."""
-    port = free_port(nodes)
-    words = [program, "serve", "--nodes", str(nodes), "--port", str(port), "--data", folder]
-    process = subprocess.Popen(words, stdout=subprocess.PIPE, stderr=subprocess.PIPE, text=True, preexec_fn=limit)
-    for number in range(nodes):
-        want(process.stdout.readline(), f"node {number} at 127.0.0.1:{port + number}\n")
-    return process, [felzoren.connect(f"127.0.0.1:{port + number}", timeout=CALL_SECONDS) for number in range(nodes)], port
-
-
-@contextlib.contextmanager
-def server(program, nodes, folder=None, limit=None):
-    """The clients of so many nodes that are served, with their records in this folder, or in one that is taken away afterwards."""
-    with contextlib.ExitStack() as stack:
-        folder = folder or stack.enter_context(tempfile.TemporaryDirectory())
-        process, clients, port = started(program, nodes, folder, limit)
-        try:
-            yield clients, port
-            want(process.poll(), None)
-        finally:
-            process.terminate()
-            _, told = process.communicate(timeout=CALL_SECONDS)
-        want(told, "")
-
-
-def got(client, table, version):
-    """The rows of a version, once the node has learned it."""
-    end = time.monotonic() + LEARN_SECONDS
-    while True:
-        try:
-            return client.get(table, version).to_pylist()
-        except felzoren.Refused as refused:
-            want(refused.name, "Unavailable")
-            if time.monotonic() > end:
-                raise
-            time.sleep(0.01)
 
 
 def refusal(call, *given, **named):
@@ -172,41 +89,16 @@ def several_callers(clients):
         want(got(client, "many", 3), wanted[:3])
 
 
-class Recorder:
-    """A connection that keeps what is written, and gives no answer."""
-
-    def __init__(self):
-        self.written = b""
-
-    def write(self, data):
-        self.written += data
-
-    def read(self, count):
-        return b""
-
-    def close(self):
-        pass
-
-
-def requests():
-    """The bytes of a put and of a get."""
-    for call in (lambda client: client.put("cut", ROWS, id=bytes(16)), lambda client: client.get("sales", 1)):
-        recorder = Recorder()
-        try:
-            call(felzoren.Client(lambda: recorder))
-        except felzoren.BadAnswer:
-            yield recorder.written
-
-
 def cut_calls(clients, port):
     """Calls that end before any of their bytes, some with a reset: the nodes go on, and nothing of them counts."""
-    drawn, texts = random.Random(SEED), list(requests())
+    drawn, calls = random.Random(SEED), (lambda client: client.put("cut", ROWS, id=bytes(16)), lambda client: client.get("sales", 1))
+    texts = list(map(request_of, calls))
     for _ in range(CUTS):
         text = drawn.choice(texts)
         with socket.create_connection(("127.0.0.1", port + drawn.randrange(len(clients))), CALL_SECONDS) as peer:
             peer.sendall(text[: drawn.randrange(len(text))])
             if drawn.randrange(2):
-                peer.setsockopt(socket.SOL_SOCKET, socket.SO_LINGER, struct.pack("ii", 1, 0))
+                reset(peer)
     want(got(clients[0], "sales", 1), ROWS)
     want(refusal(clients[0].info, "cut"), ("NoTable", 5))
 
@@ -403,16 +295,6 @@ def script_without_a_port(program):
 
 
 # ---- the files of records
-
-
-def records_in(file):
-    """The records of a node's file: its text is a closed gate, or an open one, a length, a record and what follows from the next gate."""
-    text, at, found = Path(file).read_bytes(), 0, []
-    while text[at] == 1:
-        (length,) = struct.unpack_from("<I", text, at + 1)
-        found.append(text[at + 5 : at + 5 + length])
-        at += 5 + length
-    return found
 
 
 def uploads_kept(folder, nodes, ids):

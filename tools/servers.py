@@ -1,0 +1,168 @@
+"""Starts servers, speaks to their nodes by the library in clients/python, and looks at them from outside: what tools/serving.py,
+kills.py, soak.py, harm.py and hostile.py and the benches of servers share."""
+import contextlib
+import os
+import random
+import resource
+import signal
+import socket
+import struct
+import subprocess
+import sys
+import tempfile
+import time
+from collections import namedtuple
+from pathlib import Path
+
+TOP = Path(__file__).resolve().parent.parent
+sys.dont_write_bytecode = True
+sys.path.append(str(TOP / "clients" / "python"))
+
+import felzoren
+
+PROGRAM = TOP / "crates" / "flightd" / "out" / "flightd"
+# How long a call may take, in seconds, and for how long a version is waited for at a node that has not learned it.
+CALL_SECONDS, LEARN_SECONDS = 30, 30
+# A node serves so many calls at once; others wait until one of these ends.
+MOST_CONNECTIONS = 128
+
+
+class Wrong(Exception):
+    """What came is not what has to come."""
+
+
+def want(found, wanted):
+    if found != wanted:
+        raise Wrong(f"{found!r} in place of {wanted!r}")
+
+
+# ---- servers
+
+
+def free_port(count):
+    """A port that is free, as are so many behind it less one."""
+    for port in random.Random(os.getpid()).sample(range(20_000, 60_000), 100):
+        with contextlib.ExitStack() as open_ones:
+            try:
+                for number in range(count):
+                    opened = open_ones.enter_context(socket.socket())
+                    opened.setsockopt(socket.SOL_SOCKET, socket.SO_REUSEADDR, 1)
+                    opened.bind(("127.0.0.1", port + number))
+                return port
+            except OSError:
+                continue
+    raise Wrong("no ports are free")
+
+
+def file_limit(count):
+    """Has the files of a process started so stay within so many bytes, as on a full disk."""
+
+    def limit():
+        resource.setrlimit(resource.RLIMIT_FSIZE, (count, count))
+        signal.signal(signal.SIGXFSZ, signal.SIG_IGN)
+
+    return limit
+
+
+def started(program, nodes, folder, limit=None):
+    """A server of so many nodes with their records in this folder, its clients, and the port of its first node."""
+    port = free_port(nodes)
+    words = [program, "serve", "--nodes", str(nodes), "--port", str(port), "--data", folder]
+    process = subprocess.Popen(words, stdout=subprocess.PIPE, stderr=subprocess.PIPE, text=True, preexec_fn=limit)
+    lines = [f"node {number} at 127.0.0.1:{port + number}\n" for number in range(nodes)]
+    found = [process.stdout.readline() for _ in lines]
+    if found != lines:
+        process.kill()
+        raise Wrong(f"a server told {found!r} and {process.communicate()[1]!r}")
+    return process, [felzoren.connect(f"127.0.0.1:{port + number}", timeout=CALL_SECONDS) for number in range(nodes)], port
+
+
+@contextlib.contextmanager
+def server(program, nodes, folder=None, limit=None):
+    """The clients of so many nodes that are served, with their records in this folder, or in one that is taken away afterwards."""
+    with contextlib.ExitStack() as stack:
+        folder = folder or stack.enter_context(tempfile.TemporaryDirectory())
+        process, clients, port = started(program, nodes, folder, limit)
+        try:
+            yield clients, port
+            want(process.poll(), None)
+        finally:
+            process.terminate()
+            _, told = process.communicate(timeout=CALL_SECONDS)
+        want(told, "")
+
+
+Looked = namedtuple("Looked", "most now threads seconds")
+Looked.__doc__ = """What a process ever held at most and holds in memory, in bytes, its threads, and its seconds of processors."""
+
+
+def look(process):
+    """What the kernel counts for a process that is running still (Linux, proc(5))."""
+    text = Path(f"/proc/{process.pid}/status").read_text(encoding="utf-8")
+    fields = {name: value.split() for name, value in (line.split(":", 1) for line in text.splitlines())}
+    times = Path(f"/proc/{process.pid}/stat").read_text(encoding="utf-8").rpartition(")")[2].split()
+    seconds = (int(times[11]) + int(times[12])) / os.sysconf("SC_CLK_TCK")
+    return Looked(int(fields["VmHWM"][0]) << 10, int(fields["VmRSS"][0]) << 10, int(fields["Threads"][0]), seconds)
+
+
+# ---- calls
+
+
+def learned(call):
+    """What a call gives once the node has learned the version that it asks for."""
+    end = time.monotonic() + LEARN_SECONDS
+    while True:
+        try:
+            return call()
+        except felzoren.Refused as refused:
+            want(refused.name, "Unavailable")
+            if time.monotonic() > end:
+                raise
+            time.sleep(0.01)
+
+
+def got(client, table, version):
+    """The rows of a version, once the node has learned it."""
+    return learned(lambda: client.get(table, version).to_pylist())
+
+
+class Recorder:
+    """A connection that keeps what is written, and gives no answer."""
+
+    def __init__(self):
+        self.written = b""
+
+    def write(self, data):
+        self.written += data
+
+    def read(self, count):
+        return b""
+
+    def close(self):
+        pass
+
+
+def request_of(call):
+    """The bytes of the request that a call makes of the client that it is given."""
+    recorder = Recorder()
+    with contextlib.suppress(felzoren.BadAnswer):
+        call(felzoren.Client(lambda: recorder))
+    return recorder.written
+
+
+def reset(peer):
+    """Has a connection end with a reset, once it is closed."""
+    peer.setsockopt(socket.SOL_SOCKET, socket.SO_LINGER, struct.pack("ii", 1, 0))
+
+
+# ---- files of records
+
+
+def records_in(file):
+    """The records of a node's file: its text is a closed gate, or an open one, a length, a record and what follows from the next gate."""
+    text, at, found = Path(file).read_bytes(), 0, []
+    while text[at] == 1:
+        (length,) = struct.unpack_from("<I", text, at + 1)
+        found.append(text[at + 5 : at + 5 + length])
+        at += 5 + length
+    return found
