@@ -12,12 +12,17 @@
 #
 # It takes some minutes, which depends on the disk.
 #
-# Seen of plain Rust alone, on four processors that a dozen other tasks shared, where a sync of the disk took 4 ms, in puts a second:
+# Seen on four processors with nothing else running, in puts a second, and in milliseconds for a put in the middle:
 #
-#                on the disk   with records kept apart   in memory
-#   1 caller              11                        37          72
-#   16 callers             7                        34         348
-#   64 callers             5                        19         343
+#                             flightd    plain Rust   ratio   plain Rust with records kept apart
+#   disk,   1 caller      440 (  2.2)    481 (  2.0)   0.92       665 (  1.4)
+#          16 callers     414 ( 28.4)    404 ( 29.6)   1.02       773 (  9.2)
+#          64             325 (150.6)    370 (128.2)   0.88       579 ( 41.1)
+#   memory, 1 caller    1,126 (  0.9)  1,292 (  0.7)   0.87     1,536 (  0.6)
+#          16 callers   2,140 (  5.0)  2,985 (  4.4)   0.72     3,180 (  4.2)
+#          64           1,460 ( 33.7)  2,519 ( 18.3)   0.58     2,780 ( 15.3)
+#
+# On the disk both wait for it: the records of one node at a time are synced, as each is kept under the journal's lock.
 set -euo pipefail
 cd "$(dirname "${BASH_SOURCE[0]}")/.."
 work=$(mktemp -d)
