@@ -8,19 +8,19 @@
 # seats without that of the same run of nodes alone, for each entry. First it shows that both programs, with a log and without, add
 # up to the same sums over all messages and steps as a run of the same events.
 #
-# Seen on four processors that three other tasks shared, in microseconds for an entry:
+# Seen on four processors with nothing else running, in microseconds for an entry:
 #
 #                                    ours  plain Rust  ratio  instructions, ratio
-#   1,000 entries                    1.57        0.66   2.38          9,464  2.20
-#   100,000                          2.06        0.97   2.13          8,938  2.18
-#   990,000                          2.15        1.11   1.94          8,768  2.16
-#   1,000 without a log              7.72        0.66   11.7         65,476  15.3
-#   2,000 without a log              13.8        0.66   20.9        121,566  27.9
+#   1,000 entries                    1.61        0.65   2.48         10,322  2.40
+#   100,000                          2.03        0.93   2.18          9,793  2.39
+#   990,000                          2.12        1.07   1.99          9,599  2.37
+#   1,000 without a log              9.31        1.11   8.41         68,476  16.0
+#   2,000 without a log              17.3        0.79   21.9        126,728  29.1
 #
-# The instructions of an entry do not grow with the journal; its time does by 1.38 times up to 990,000 entries (plain Rust 1.69), since
+# The instructions of an entry do not grow with the journal; its time does by 1.32 times up to 990,000 entries (plain Rust 1.65), since
 # no cache holds the journal. What is more than in plain Rust is the node itself, whose run alone has 1.9 times plain Rust's
-# instructions (bench/runs.sh). Seats, their own lists and the journal took 255 bytes an entry beside a run of the same events, plain
-# Rust's 162; that was where each of a seat's own entries had 216 bytes beside its messages, which have 144 now.
+# instructions (bench/runs.sh). Seats, their own lists and the journal took 183 bytes an entry beside a run of the same events, plain
+# Rust's 161.
 cd "$(dirname "${BASH_SOURCE[0]}")/.."
 source bench/programs.sh plain_runs
 
