@@ -30,6 +30,10 @@ DECIDED = """["put",0,0],["tick",0,0],["deliver",0,0],["deliver",1,0],["deliver"
 DECIDED_LINES = ["done", *(f"sent {it}" for it in "012-345--"), "applied 1", "unavailable"]
 # a file that is an unlawful run, and a schedule of one event
 BOTH = b'{"members":3,"sent":["08042801"],"slot_limit":2,"uploads":[],"events":[["tick",0,0]]}'
+# the records of a begun ballot, a promise and an acceptance of forty bytes, and their lines
+FORTY = bytes(range(40)).hex()
+RECORDS = ("08011801", "08021801", f"080318012a28{FORTY}")
+RECORD_LINES = ("0 began 1.0", "1 promised slot 0 1.0", f"2 accepted slot 0 1.0 upload of 40 bytes {FORTY[:64]}")
 PREPARE, PROMISE = bytes.fromhex("000000000408012801"), bytes.fromhex("000000000408022801")
 
 
@@ -117,6 +121,18 @@ def values(program):
     accepted = with_value("00 003fffff 0805 2801 4af6ffff01", REPORTED + 1)
     outcome = program.run([], with_value("00 003fffff 0804 2801 4af6ffff01", REPORTED + 1) + prepare)
     yield "a longer value", is_conversation(outcome, accepted, ["frame 1: TooLong"])
+
+
+def beginnings_of_a_conversation(program):
+    """Of each beginning of a conversation the whole frames are answered, and what is left of it is told of."""
+    given, answers = (list(map(bytes.fromhex, texts)) for texts in zip(*rows("competing.txt", 2)))
+    whole = b"".join(given)
+    ends = [sum(map(len, given[:count])) for count in range(len(given) + 1)]
+    for size in range(len(whole)):
+        count = sum(end <= size for end in ends) - 1
+        line = "" if size in ends else f"frame {count}: Truncated"
+        outcome = program.run(["acceptor"], whole[:size])
+        yield f"its first {size} bytes", is_conversation(outcome, b"".join(answers[:count]), [line])
 
 
 # ---- recorded runs
@@ -211,6 +227,35 @@ def examples(program):
         yield lines.name, outcome == (0, lines.read_bytes(), b"")
 
 
+# ---- files that are cut off
+
+
+def beginnings_of_files(program):
+    """No beginning of the object of a schedule or of a script is JSON (RFC 8259, section 2)."""
+    whole = schedule(UPLOAD, DECIDED)
+    for size in range(len(whole)):
+        yield f"a schedule's first {size} bytes", is_told(program.over("replay", whole[:size]), "json")
+    whole = (EXAMPLES / "scripts" / "first_upload.json").read_bytes().rstrip()
+    refused = (1, b"", f"flightd: BadScript\nflightd: {FLAWS['json']}\n".encode())
+    for size in range(len(whole)):
+        yield f"a script's first {size} bytes", program.over("script", whole[:size]) == refused
+
+
+def beginnings_of_records(program):
+    """A file of two bytes and more means nothing where it ends before the gate behind a record whose own is open (docs/FORMATS.md, "Files
+    of records")."""
+    blocks = [b"\1" + len(it).to_bytes(4, "little") + it for it in map(bytes.fromhex, RECORDS)]
+    whole = b"".join(blocks) + b"\0"
+    gates = [sum(map(len, blocks[:count])) for count in range(len(blocks) + 1)]
+    for size in range(len(whole)):
+        place = max(gate for gate in gates if gate < max(size, 1))
+        damage = f"byte {place}: no whole record stands behind this gate, which is open"
+        wanted = (1, b"", f"flightd: Damaged\n{damage}\n".encode()) if size > 1 else (0, b"", b"")
+        yield f"the first {size} bytes of a file of records", program.over("records", whole[:size]) == wanted
+    outcome = program.over("records", whole)
+    yield "a file of records", outcome == (0, "".join(f"{line}\n" for line in RECORD_LINES).encode(), b"")
+
+
 # ---- words
 
 
@@ -259,7 +304,8 @@ def main():
         return 1
     status = 0
     for path in built:
-        for kind in (conversations, frames, values, audits, schedules, events, examples, calls, helps):
+        for kind in (conversations, beginnings_of_a_conversation, frames, values, audits, schedules, events, examples, beginnings_of_files,
+                     beginnings_of_records, calls, helps):
             with tempfile.TemporaryDirectory() as folder:
                 found = list(kind(Program(path, folder)))
             for label, is_so in found:

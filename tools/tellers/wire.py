@@ -116,6 +116,19 @@ def tell_cut_frame(flag, length):
     return [*(line for it in cuts for line in frames_lines(it)), *frames_lines(behind)[1:]]
 
 
+def end_told(answer):
+    """How many frames an answer to `frames` has, and how they end."""
+    lines = frames_lines(answer)
+    return f"frames {len(lines) - 1}, {lines[-1].removesuffix(', left -')}"
+
+
+def tell_beginnings(text):
+    """What is read of each beginning of a stream, from the shortest on that it is read of."""
+    answers = yield [f"frames {text[: 2 * count] or '-'}" for count in range(len(text) // 2 + 1)]
+    told = list(map(end_told, answers))
+    return [f"from {count} bytes on: {it}" for count, it in enumerate(told) if count == 0 or it != told[count - 1]]
+
+
 def tell_stream(count):
     """So many frames in one text, with payloads of 0 to 96 bytes, every third of them with the other flag."""
     frames = [(128 if number % 3 == 1 else 0, number % 97) for number in range(count)]
@@ -152,6 +165,8 @@ class Teller:
             return tell_each(self, rest)
         if name in LONG_COMMANDS:
             return LONG_COMMANDS[name](*map(int, rest.split(" ")))
+        if name == "beginnings":
+            return tell_beginnings(digits(rest))
         if name == "each-message":
             return self.tell_each(digits(rest))
         if name in ("frame", "varint", "nonzero-varint", "bytes", "nonempty-bytes"):
