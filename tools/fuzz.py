@@ -1,309 +1,414 @@
 #!/usr/bin/env python3
-"""Has the commands of `flightd` that read a file, or standard input, read bytes that were drawn from good ones. It is no part of the gate.
+"""Gives the programs of stories, and the commands of `flightd` that read a file or standard input, inputs that are drawn from what reached
+something new, and keeps each input that does. It is no part of the gate.
 
-    tools/fuzz.py [SECONDS] [PROGRAM]
+    tools/fuzz.py [SECONDS] [FOLDER]
 
-For SECONDS each (60), `PROGRAM audit`, `audit --explain`, `replay`, `records` and `acceptor` (crates/flightd/out/flightd) read one input after the
-other. Its seeds are the runs and schedules of examples/, the rows of tools/program/, and the messages and records of the stories. Of five inputs two
-have some of their bytes changed, and three what these say: values of JSON, frames, fields and blocks of records, written again with right lengths.
-Which inputs there are is known beforehand: input N of a command is drawn from SEED, the command and N alone. What a run reaches is not looked at.
+Of each target (tools/targets.py) inputs are drawn for SECONDS (60), from few plain ones, from those kept before, and from those that are kept on
+the way: some of their bytes are changed, or what these say. The programs are those that stand in FOLDER/crates/NAME/out as the gate built them
+(FOLDER is this repository); nothing is built again but the driver that runs them, in a folder of its own. tools/blocks.py says how it is seen
+which basic blocks an input is the first to reach: a breakpoint stands at each that no input has reached.
 
-Of each command it says how many inputs ran and how they ended; and how many ended by a signal, or with another status than 0 and 1, said
-something else on standard error than a fault of flightd behind status 1, took more than MOST_SECONDS of the processor, or ever held more than
-MOST_HELD bytes. Each of these is printed, by its number and its bytes, and then the status is 1. Time and memory are those that the kernel counts for
-the process (getrusage), so that what it held is never less than what this program holds, as a copy of which it begins."""
+An input that reached a block is made smaller, as long as it still does. What the models say of it (tools/reached.py) becomes a row of
+`reached.txt` among the stories of its crate, or in tools/program/, where they judge it and it is small. The answers to every input are
+compared with the model's.
+
+At the end a table has of each target how many inputs ran, how many blocks they reached of how many there are in the program, how many were kept,
+how many ended by a signal, did not end, were answered otherwise than the model says, or cost too much, and the dearest one. An input costs too
+much where it takes more of the processor than LEAST_SECONDS and SECONDS_A_BYTE for each byte that is read or written, or holds more memory than
+LEAST_HELD and HELD_A_BYTE for each. Each such input is printed, and then the status is 1; so it is where a program is not built."""
 import collections
 import contextlib
+import importlib
 import itertools
-import json
-import multiprocessing
 import os
 import random
-import re
-import resource
-import signal
 import sys
 import tempfile
 import time
 from pathlib import Path
+from typing import NamedTuple
 
-TOP = Path(__file__).resolve().parent.parent
-PROGRAM = TOP / "crates" / "flightd" / "out" / "flightd"
+from batches import bytes_of, spelled
+from blocks import Traced
+from changes import parts_in, parts_text, shorter, shorter_json
+from files_model import COMMANDS
+from reached import PROGRAM_ROWS, TOLD, TOP, Unjudged, file_row, plain
+from repeated import ended
+from targets import targets
+
 SEED = 20261128
-MOST_SECONDS, MOST_HELD = 5, 64 << 20
-# An input is no longer than this; a run that has not ended after so many seconds of the clock is ended.
-MOST_BYTES, MOST_WAIT = 1 << 18, 120
-# So many ways to end are printed of each command, the most frequent first.
-MOST_NAMES = 12
-EDGES = (0, 1, 2, 3, 6, 7, 8, 127, 128, 255, 256, 999_999, 1_000_000, 4_000_000_000, 1 << 31, (1 << 32) + 1, (1 << 53) + 1, (1 << 64) - 1, 1 << 64)
-SAID = re.compile(rb"(flightd: [^\n]+\n([^\n]+\n)?)?\Z")
+LEAST_SECONDS, SECONDS_A_BYTE = 0.1, 5e-6
+LEAST_HELD, HELD_A_BYTE = 24 << 20, 128
+# A run that has not ended after so many seconds of the clock hangs.
+MOST_WAIT = 30
+# So many inputs are asked of a program of stories in one run, and so many runs are asked for at once.
+TOGETHER, AT_ONCE = 40, 8
+# So many smaller inputs are tried of one that reached something new; what is longer than this is not kept as rows.
+MOST_SMALLER, MOST_LETTERS = 96, 4000
+# Of the inputs to draw from, as many are among the last ones as among all.
+LAST = 24
+HEAD = ("# Inputs that reached something new in the program, one behind the other, each made small. The notation is that of the other files. Made by\n"
+        "# tools/fuzz.py, with what the models say of them, as tools/reached.py --check tries, and not by hand.\n")
 
 
-# ---- seeds
+class Case(NamedTuple):
+    """An input: its lines; its rows, None where the models don't judge it; what the program reads; and how many answers it has to give."""
+
+    lines: list
+    rows: list
+    given: bytes
+    count: int
 
 
-def digits_in(name):
-    """The bytes that stand in hexadecimal digits in a file of the stories of Paxos."""
-    text = (TOP / "crates" / "paxos_stories" / "data" / name).read_text(encoding="utf-8")
-    lines = (line for line in text.splitlines() if not line.startswith("#"))
-    return [bytes.fromhex(it) for line in lines for it in re.findall(r"\b(?:08(?:[0-9a-f]{2})+)\b", line)]
+class Wrong(NamedTuple):
+    """What was wrong with a run, by its kind."""
+
+    kind: str
+    told: str
 
 
-def framed(payload, flag=0):
-    return bytes([flag]) + len(payload).to_bytes(4, "big") + payload
+def cost_of(outcome, given):
+    size = given + len(outcome.output)
+    if outcome.seconds > LEAST_SECONDS + SECONDS_A_BYTE * size:
+        return Wrong("cost", f"{outcome.seconds:.3f} s for {size} bytes")
+    if outcome.held > LEAST_HELD + HELD_A_BYTE * size:
+        return Wrong("cost", f"{outcome.held >> 10} KiB for {size} bytes")
+    return None
 
 
-def blocks(records):
-    """A file of these records: the gate, the length and the bytes of each, and a closed gate."""
-    return b"".join(b"\x01" + len(it).to_bytes(4, "little") + it for it in records) + b"\x00"
+def ended_wrong(outcome):
+    """What is wrong with how a run ended."""
+    if os.WIFSIGNALED(outcome.status):
+        signal = os.WTERMSIG(outcome.status)
+        return Wrong("hang", "it did not end") if signal == 9 else Wrong("crash", f"signal {signal}")
+    return None
 
 
-def seeds():
-    """The seeds of each command."""
-    examples = [it.read_bytes() for it in sorted((TOP / "examples").glob("*.json"))]
-    rows = [line.split("|")[-1].encode() for name in ("runs.txt", "schedules.txt")
-            for line in (TOP / "tools" / "program" / name).read_text(encoding="utf-8").splitlines() if re.match("(lawful|unlawful|good)[|]", line)]
-    messages, records = digits_in("encodings.txt"), digits_in("kept.txt")
-    runs = [it for it in examples if b'"sent"' in it] + [it for it in rows if b'"sent"' in it]
-    plays = [it for it in examples if b'"events"' in it] + [it for it in rows if b'"events"' in it]
-    files = [blocks(records[at : at + 5]) for at in range(0, len(records), 5)] + [blocks(records), b"", b"\x00"]
-    talks = [b"".join(map(framed, messages[at : at + 7])) for at in range(0, len(messages), 7)]
-    talks.append((TOP / "examples" / "overwrite.frames").read_bytes())
-    return {"audit": runs, "audit --explain": runs, "replay": plays, "records": files, "acceptor": talks}
+# ---- what a program is asked, and what it has to answer
 
 
-# ---- changes of bytes
+class Stories:
+    """A program of stories: one run answers many inputs."""
+
+    def __init__(self, target):
+        self.model, self.module = TOLD[target.crate], importlib.import_module(f"tellers.{target.crate}")
+
+    def rows(self, lines):
+        model = self.model()
+        try:
+            return [model.row(it) for it in lines]
+        except (Unjudged, RecursionError):
+            return None
+
+    def case(self, lines):
+        rows = self.rows(lines)
+        teller = self.module.Teller()
+        requests = [it for line in self.commands(lines, rows) for it in next(teller.tell(line))]
+        return Case(lines, rows, "".join(f"{it}\n" for it in requests).encode(), len(requests))
+
+    @staticmethod
+    def commands(lines, rows):
+        return lines if rows is None else [command for command, _ in rows]
+
+    def wrong(self, case, answers):
+        """How the answers to a case are told otherwise than the model says."""
+        teller, answers = self.module.Teller(), iter(answers)
+        for place, command in enumerate(self.commands(case.lines, case.rows)):
+            telling = teller.tell(command)
+            told = ended(telling, list(itertools.islice(answers, len(next(telling)))))
+            if case.rows is not None and told != case.rows[place][1]:
+                return Wrong("answer", f"{command[:300]}\n  told {told!r}\n  the model says {case.rows[place][1]!r}")
+        return None
+
+    def alone(self, case, outcome):
+        """What is wrong with a run of one case."""
+        answers = outcome.output.decode(errors="replace").splitlines()
+        if outcome.status or len(answers) != case.count:
+            return Wrong("answer", f"status {os.waitstatus_to_exitcode(outcome.status)}, {len(answers)} of {case.count} answers, {outcome.errors[:200]!r}")
+        return self.wrong(case, answers)
+
+    @staticmethod
+    def kept(case):
+        return "".join(f"{command}\n" + "".join(f"  {it}\n" for it in told) for command, told in case.rows)
 
 
-def number(drawn):
-    return drawn.choice((drawn.choice(EDGES), drawn.getrandbits(drawn.choice((2, 2, 3, 3, 3, 8, 16, 32, 64)))))
+class Files:
+    """A command of `flightd`: one run reads one input."""
+
+    def __init__(self, target):
+        self.command = target.name
+
+    def case(self, lines):
+        given = bytes_of(lines[0].partition(" ")[2])
+        try:
+            return Case(lines, [COMMANDS[self.command](given)], given, 1)
+        except (Unjudged, RecursionError):
+            return Case(lines, None, given, 1)
+
+    def alone(self, case, outcome):
+        if case.rows is None:
+            return None
+        ((status, output, said),) = case.rows
+        output = output if isinstance(output, bytes) else output.encode()
+        told = os.waitstatus_to_exitcode(outcome.status), outcome.output, outcome.errors.decode(errors="replace")
+        if told[:2] != (status, output) or told[2] not in said:
+            return Wrong("answer", f"told {told!r}\n  the model says {case.rows[0]!r}")
+        return None
+
+    def kept(self, case):
+        return file_row(self.command, case.given) + "\n"
 
 
-def varint(value):
-    """The number in base 128, also one of more than 64 bits."""
-    text = bytearray()
-    while value > 127:
-        text.append(value & 127 | 128)
-        value >>= 7
-    return bytes(text) + bytes([value])
+# ---- smaller inputs
 
 
-def changed(drawn, text):
-    """The bytes with one change."""
-    at, end = sorted(drawn.randint(0, len(text)) for _ in range(2))
-    end = min(end, at + drawn.choice((1, 4, 64, MOST_BYTES)))
-    new = drawn.choice((
-        lambda: drawn.randbytes(drawn.choice((1, 2, 4, 9))),
-        lambda: varint(number(drawn)),
-        lambda: (number(drawn) % (1 << 32)).to_bytes(4, drawn.choice(("big", "little"))),
-        lambda: b"",
-        lambda: text[at:end] * drawn.choice((2, 2, 3, 50)),
-        lambda: bytes([drawn.choice((0, 1, 0x80, 0xFF))]) * drawn.choice((1, 5, 11, 4096)),
-        lambda: bytes([text[at] ^ 1 << drawn.randrange(8)]) + text[at + 1 : end] if at < end else b"[" * 300,
-    ))()
-    return text[:at] + new + text[drawn.choice((at, end)) :]
-
-
-# ---- changes of what they say
-
-
-def value_of(drawn, value, rate):
-    """A value of JSON in which each value that it has is another with this chance."""
-    if isinstance(value, dict):
-        value = {key: value_of(drawn, it, rate) for key, it in value.items()}
-    elif isinstance(value, list):
-        value = [value_of(drawn, it, rate) for it in value]
-    return other_than(drawn, value) if drawn.random() < rate else value
-
-
-def other_than(drawn, value):
-    """Another value, mostly one of its kind."""
-    if drawn.random() < 0.1:
-        return drawn.choice((None, True, [], {}, "", "0" * 64, "\U0001f600", -1, 0.5, 1e300, number(drawn), [value] * 20, {"members": value}))
-    if isinstance(value, dict):
-        return {drawn.choice((key, key, key, "x" + key)): it for key, it in value.items()}
-    if isinstance(value, list) and value:
-        place, other = drawn.randrange(len(value)), drawn.choice(value)
-        return drawn.choice((value[:place] + [other] * drawn.choice((1, 2, 200)) + value[place:], value[:place] + value[place + 1 :],
-                             drawn.sample(value, len(value))))
-    if isinstance(value, int):
-        return drawn.choice((number(drawn), value + 1, abs(value - 1)))
-    if isinstance(value, str) and re.fullmatch("(?:[0-9a-f]{2})+", value):
-        return message_of(drawn, bytes.fromhex(value)).hex()
-    return value
-
-
-def fields_in(text):
-    """The fields that a text begins with, by their bytes, as far as they are numbers and lengths; and the rest."""
-    found, at = [], 0
-    while at < len(text) and text[at] & 7 in (0, 2) and text[at] < 128:
-        end = at + 1
-        while end < min(len(text), at + 10) and text[end] > 127:
-            end += 1
-        length = sum((it & 127) << 7 * place for place, it in enumerate(text[at + 1 : end + 1])) if text[at] & 7 else 0
-        found.append(text[at : end + 1 + length])
-        at = end + 1 + length
-    return found, text[at:]
-
-
-def message_of(drawn, text):
-    """A message or a record with another number, field or value."""
-    fields, rest = fields_in(text)
-    for _ in range(drawn.choice((1, 1, 2, 4))):
-        place = drawn.randint(0, len(fields))
-        key, size = drawn.randrange(1, 11), drawn.choice((0, 1, 344, 5000))
-        fields[place:place + drawn.randrange(2)] = [drawn.choice((
-            lambda: varint(key << 3) + varint(number(drawn)),
-            lambda: varint(key << 3 | 2) + varint(size) + bytes(size),
-            lambda: drawn.choice(fields) if fields else b"",
-            lambda: b"",
-        ))()]
-    return b"".join(fields) + rest
-
-
-def parts_in(text, order, flagged):
-    """The payloads of frames, or the records of a file, with the byte in front of each."""
-    at, found = 0, []
-    while at + 5 <= len(text) and (flagged or text[at] == 1):
-        size = int.from_bytes(text[at + 1 : at + 5], order)
-        found.append((text[at], text[at + 5 : at + 5 + size]))
-        at += 5 + size
-    return found
-
-
-def said_otherwise(drawn, command, text, other):
-    """What the bytes say, with some changes, written again with right lengths."""
-    if command in ("acceptor", "records"):
-        order, flagged = ("big", True) if command == "acceptor" else ("little", False)
-        parts = parts_in(text, order, flagged) + parts_in(other, order, flagged)[: drawn.randrange(3)]
-        share = drawn.choice((0, 0.05, 0.05, 0.3))
-        for place in range(len(parts)):
-            if drawn.random() < share:
-                parts[place] = (parts[place][0], message_of(drawn, parts[place][1]))
-        if drawn.random() < 0.3:
-            drawn.shuffle(parts)
-        parts *= drawn.choice((1, 1, 1, 1, 40)) if len(parts) < 100 else 1
-        return b"".join(bytes([flag]) + len(it).to_bytes(4, order) + it for flag, it in parts) + (b"" if flagged else b"\x00")
+def with_bytes(line):
+    """The words of a line before its bytes, and these; None where it has none."""
+    word = line.split(" ")[0]
+    if word == "read":
+        head, _, digits = line.rpartition("| ")
+        size, _, digits = digits.partition(" ")
+        return f"{head}| {size}", bytes_of(digits)
+    words = line.split(" ", 2 if word in ("upload", "bytes") else 1)
+    if word in ("new", "call", "take", "outcome", "tables", "latest", "answer", "schema", "nodes", "play", "digest") or len(words[-1]) < 2:
+        return None
     try:
-        rate = drawn.choice((0.5, 2, 8)) / (1 + text.count(b","))
-        return json.dumps(value_of(drawn, json.loads(text), rate), ensure_ascii=drawn.random() < 0.5).encode()
-    except (ValueError, RecursionError):
-        return changed(drawn, text)
+        return " ".join(words[:-1]), bytes_of(words[-1])
+    except ValueError:
+        return None
 
 
-def input_of(command, place, ones):
-    """Input number `place` of a command, of these seeds."""
-    drawn = random.Random(f"{SEED} {command} {place}")
-    text, of_bytes = drawn.choice(ones), drawn.random() < 0.4
-    for _ in range(drawn.choice((1, 1, 2, 3, 8))):
-        text = changed(drawn, text) if of_bytes else said_otherwise(drawn, command, text, drawn.choice(ones))
-        text = text[:MOST_BYTES]
-    return text
+def smaller_bytes(text):
+    parts = parts_in(text, "big", True)
+    if parts_text(parts, "big") == text and len(parts) > 1:
+        yield from (parts_text(it, "big") for it in shorter(parts))
+    yield from shorter_json(text)
+    yield from shorter(text)
 
 
-def send_inputs(command, ones, ours, theirs):
-    """Sends the inputs of a command, as long as they are read: first the seeds, and then what is drawn from them."""
-    ours.close()
-    with contextlib.suppress(BrokenPipeError):
-        for text in ones:
-            theirs.send_bytes(text)
-        for place in itertools.count(len(ones)):
-            theirs.send_bytes(input_of(command, place, ones))
+def smaller(lines):
+    """The lines with fewer of them, or with fewer bytes in one."""
+    yield from shorter(lines)
+    for place, line in enumerate(lines):
+        found = with_bytes(line)
+        for it in smaller_bytes(found[1]) if found else ():
+            digits = it.hex() if line.split(" ")[0] in SHORT else spelled(it)
+            yield [*lines[:place], f"{found[0]} {digits}".rstrip(), *lines[place + 1 :]]
 
 
-@contextlib.contextmanager
-def inputs(command, ones):
-    """The inputs of a command. They are drawn by a process of its own, since the memory of this one counts as that of each it starts."""
-    ours, theirs = multiprocessing.Pipe(duplex=False)
-    sender = multiprocessing.Process(target=send_inputs, args=(command, ones, ours, theirs))
-    sender.start()
-    try:
-        yield iter(ours.recv_bytes, None)
-    finally:
-        sender.kill()
-        sender.join()
+# Commands whose bytes are told without letters for zeros.
+SHORT = ("frames", "fields", "front", "descriptor", "ticket", "location", "endpoint", "info", "schema", "criteria", "data", "put-result", "decode",
+         "decode-record", "audited", "audit", "audit_--explain", "replay", "records", "acceptor", "read-ticket")
 
 
-# ---- runs
+# ---- a target that is explored
 
 
-class Outcome:
-    """How a run ended: its name, what was wrong with it by kind, and what it took of the processor and of memory."""
+class Exploration:
+    """The inputs of a target: those to draw from, those that were kept, and what was counted."""
 
-    def __init__(self, status, used, said):
-        self.seconds, self.held = used.ru_utime + used.ru_stime, used.ru_maxrss << 10
-        code = os.waitstatus_to_exitcode(status)
-        self.name = said.split(b"\n")[0].decode(errors="replace") or f"status {code}"
-        self.wrong = {}
-        if code < 0 and -code != signal.SIGXCPU:
-            self.wrong["signal"] = f"signal {-code}"
-        elif code > 1:
-            self.wrong["status"] = f"status {code}"
-        if not SAID.match(said) or (said and code == 0):
-            self.wrong["said"] = f"said {said[:200]!r}"
-        if self.seconds > MOST_SECONDS:
-            self.wrong["time"] = f"{self.seconds:.1f} s"
-        if self.held > MOST_HELD:
-            self.wrong["memory"] = f"{self.held / 2**20:.1f} MiB"
+    def __init__(self, target, program, folder):
+        self.target, self.draw = target, random.Random(f"{SEED} {target.name} {time.time_ns()}")
+        self.asks = (Files if target.crate == "flightd" else Stories)(target)
+        self.traced = Traced(program, target.words, folder, MOST_WAIT)
+        self.reached, self.pool, self.rows, self.pending = set(), [], [], []
+        self.ran, self.wrong, self.dearest = 0, collections.Counter(), (0.0, 0)
 
+    # runs
 
-class Runs:
-    """A program, and a folder for what it reads and says."""
+    def case(self, lines):
+        """The case of these lines, None where they ask for nothing that there is."""
+        with contextlib.suppress(LookupError, ValueError):
+            return self.asks.case(lines)
+        return None
 
-    def __init__(self, program, folder):
-        self.program, self.input, self.said = str(program), f"{folder}/input", f"{folder}/said"
+    def together(self, cases):
+        """Has a program of stories answer these cases in one run, and gives those that were the first to reach blocks, with these."""
+        (outcome,) = self.traced.run([b"".join(it.given for it in cases)])
+        answers = outcome.output.decode(errors="replace").splitlines()
+        is_dear = outcome.seconds > max(self.dearest[0], LEAST_SECONDS)
+        if outcome.status or len(answers) != sum(it.count for it in cases) or is_dear:
+            self.one_by_one(cases)
+        else:
+            answers = iter(answers)
+            for case in cases:
+                self.look(case, self.asks.wrong(case, list(itertools.islice(answers, case.count))))
+        self.ran += len(cases)
+        return self.reachers(cases, set(outcome.reached))
 
-    def start(self, command):
-        """Starts a call, and gives its process."""
-        words = [self.program, *command.split()] + ([] if command == "acceptor" else [self.input])
-        actions = [(os.POSIX_SPAWN_OPEN, 0, self.input, os.O_RDONLY, 0),
-                   (os.POSIX_SPAWN_OPEN, 1, os.devnull, os.O_WRONLY, 0),
-                   (os.POSIX_SPAWN_OPEN, 2, self.said, os.O_WRONLY | os.O_CREAT | os.O_TRUNC, 0o600)]
-        process = os.posix_spawn(self.program, words, os.environ, file_actions=actions)
-        resource.prlimit(process, resource.RLIMIT_CPU, (MOST_SECONDS + 1, MOST_SECONDS + 2))
-        return process
+    def reachers(self, cases, blocks):
+        """Of the cases those that reach these blocks first, each with its own."""
+        if not blocks or len(cases) == 1:
+            return [(cases[0], blocks)] if blocks else []
+        half = len(cases) // 2
+        (outcome,) = self.traced.run([b"".join(it.given for it in cases[:half])], blocks)
+        mine = blocks & set(outcome.reached)
+        return self.reachers(cases[:half], mine) + self.reachers(cases[half:], blocks - mine)
 
-    def run(self, command, text):
-        """How a call over these bytes ended."""
-        Path(self.input).write_bytes(text)
-        process = self.start(command)
-        signal.signal(signal.SIGALRM, lambda *_: os.kill(process, signal.SIGKILL))
-        signal.alarm(MOST_WAIT)
-        _, status, used = os.wait4(process, 0)
-        signal.alarm(0)
-        return Outcome(status, used, Path(self.said).read_bytes())
+    def one_by_one(self, cases, is_new=True):
+        """Has each of the cases run by itself, and gives those that were the first to reach blocks."""
+        found = []
+        for start in range(0, len(cases), AT_ONCE):
+            group = cases[start : start + AT_ONCE]
+            for case, outcome in zip(group, self.traced.run([it.given for it in group])):
+                self.look(case, ended_wrong(outcome) or self.asks.alone(case, outcome) or self.cost(case, outcome))
+                if outcome.reached:
+                    found.append((case, set(outcome.reached)))
+        return found
 
+    def cost(self, case, outcome):
+        """What is wrong with what a run took. A run that reached something new was stopped, so it is made once more."""
+        if outcome.reached or cost_of(outcome, len(case.given)):
+            (outcome,) = self.traced.run([case.given])
+        self.dearest = max(self.dearest, (outcome.seconds, len(case.given)))
+        return cost_of(outcome, len(case.given))
 
-def tried(runs, command, ones, seconds):
-    """Whether the inputs of a command, for so many seconds, all ended well."""
-    names, wrong, most_seconds, most_held = collections.Counter(), collections.Counter(), 0, 0
-    end = time.monotonic() + seconds
-    with inputs(command, ones) as texts:
-        for place, text in enumerate(texts):
-            outcome = runs.run(command, text)
-            names[outcome.name] += 1
-            wrong.update(outcome.wrong.keys())
-            most_seconds, most_held = max(most_seconds, outcome.seconds), max(most_held, outcome.held)
-            if outcome.wrong:
-                print(f"{command}: input {place}, of {len(text)} bytes: {', '.join(outcome.wrong.values())}\n  {text.hex()}", flush=True)
-            if time.monotonic() > end:
+    def look(self, case, wrong):
+        if wrong:
+            self.wrong[wrong.kind] += 1
+            print(f"{self.target.name}: {wrong.kind}: {wrong.told}", *case.lines, sep="\n  ", flush=True)
+
+    def run(self, cases):
+        if isinstance(self.asks, Stories):
+            return self.together(cases)
+        self.ran += len(cases)
+        return self.one_by_one(cases)
+
+    # what reached something new
+
+    def made_small(self, case, blocks):
+        """The smallest case that was found to reach these blocks too, None where this one does not do so each time."""
+        best, tried, candidates = None, 0, iter([case.lines])
+        while tried < MOST_SMALLER:
+            drawn = filter(None, map(self.case, candidates))
+            group = list(itertools.islice(drawn, AT_ONCE if best else 1))
+            if not group:
                 break
-    print(f"{command}: {names.total()} inputs; {wrong['signal']} ended by a signal, {wrong['status']} with another status, {wrong['said']} said"
-          f" something else; {wrong['time']} took more than {MOST_SECONDS} s, {wrong['memory']} held more than {MOST_HELD >> 20} MiB;"
-          f" the most were {most_seconds:.2f} s and {most_held / 2**20:.1f} MiB", flush=True)
-    for name, count in names.most_common(MOST_NAMES):
-        print(f"  {count:>7}  {name[:100]}", flush=True)
-    return not wrong
+            tried += len(group)
+            outcomes = self.traced.run([it.given for it in group], blocks)
+            self.pending += [(it, set(outcome.reached) - blocks) for it, outcome in zip(group, outcomes) if set(outcome.reached) - blocks]
+            hit = next((it for it, outcome in zip(group, outcomes) if blocks <= set(outcome.reached)), None)
+            if hit:
+                best, candidates = hit, smaller(hit.lines)
+            elif best is None:
+                return None
+        self.traced.run([best.given], blocks)
+        return best
+
+    def keep(self, found):
+        """Keeps cases that reached blocks which none had reached, and those that are come upon where they are made smaller."""
+        self.pending += found
+        while self.pending:
+            case, blocks = self.pending.pop()
+            blocks -= self.reached
+            self.reached |= blocks
+            small = self.made_small(case, blocks) if blocks else None
+            if not small:
+                continue
+            self.pool.append(small.lines)
+            if small.rows is not None:
+                text = self.asks.kept(small)
+                if len(text) <= MOST_LETTERS and all(it.isprintable() for it in text.split("\n")):
+                    self.rows.append(text)
+
+    # the whole
+
+    def begin(self, lines_kept):
+        """Runs the plain inputs and those that were kept before."""
+        self.pool = [*self.target.seeds, *lines_kept]
+        cases = list(filter(None, map(self.case, self.pool)))
+        for start in range(0, len(cases), TOGETHER):
+            for _, blocks in self.run(cases[start : start + TOGETHER]):
+                self.reached |= blocks
+
+    def drawn(self):
+        """An input that is drawn."""
+        lines, other = (self.draw.choice(self.pool[-LAST:] if self.draw.random() < 0.5 else self.pool) for _ in range(2))
+        return self.target.other(self.draw, lines, other)
+
+    def explore(self, seconds):
+        end = time.monotonic() + seconds
+        while time.monotonic() < end:
+            cases = filter(None, (self.case(self.drawn()) for _ in itertools.count()))
+            self.keep(self.run(list(itertools.islice(cases, TOGETHER))))
+        self.traced.close()
 
 
-def main(seconds=60, program=PROGRAM):
-    with tempfile.TemporaryDirectory() as folder:
-        runs = Runs(Path(program).resolve(), folder)
-        return [command for command, ones in seeds().items() if not tried(runs, command, ones, seconds)]
+# ---- rows that were kept
+
+
+def file_kept(target):
+    return PROGRAM_ROWS if target.crate == "flightd" else TOP / "crates" / f"{target.crate}_stories" / "data" / "reached.txt"
+
+
+def lines_kept(target):
+    """The inputs of a target that were kept before."""
+    file = file_kept(target)
+    text = file.read_text(encoding="utf-8") if file.exists() else ""
+    if target.crate == "flightd":
+        rows = [it.split("|") for it in text.splitlines() if it.startswith(f"{target.name}|")]
+        return [[f"{target.name.replace(' ', '_')} {row[1].strip('-')}".rstrip()] for row in rows]
+    groups = [[plain(line) for line in group.splitlines() if not line.startswith(("#", "  "))] for group in text.split("\n\n")]
+    return [it for it in groups if it]
+
+
+def write_kept(target, rows):
+    """Puts rows behind those that were kept before."""
+    file = file_kept(target)
+    is_file = target.crate == "flightd"
+    before = file.read_text(encoding="utf-8") if file.exists() else HEAD
+    file.write_text(before + "".join(rows if is_file else (f"\n{it}" for it in rows)), encoding="utf-8")
+
+
+def program_of(target, folder):
+    crate = "flightd" if target.crate == "flightd" else f"{target.crate}_stories"
+    return Path(folder) / "crates" / crate / "out" / crate
+
+
+# ---- the table
+
+
+def printed(rows):
+    """The rows as a table, whose columns are as wide as they have to be."""
+    widths = [max(map(len, column)) for column in zip(*rows)]
+    for row in rows:
+        print("  ".join(it.ljust(width) if place == 0 else it.rjust(width) for place, (it, width) in enumerate(zip(row, widths))).rstrip())
+
+
+NAMES = ("target", "inputs", "blocks", "of", "kept", "crashes", "hangs", "wrong", "too dear", "dearest", "bytes")
+
+
+def row_of(it):
+    counts = [it.ran, len(it.reached), len(it.traced.blocks), len(it.rows), *(it.wrong[kind] for kind in ("crash", "hang", "answer", "cost"))]
+    seconds, size = it.dearest
+    return [it.target.name, *map(str, counts), f"{seconds:.4f} s", str(size)]
+
+
+def main(seconds=60, folder=TOP, *names):
+    rows, status = [list(NAMES)], 0
+    for target in targets():
+        program = program_of(target, folder)
+        if names and target.name not in names:
+            continue
+        if not program.exists():
+            print(f"fuzz: {program} is not built")
+            status = 1
+            continue
+        with tempfile.TemporaryDirectory() as place:
+            exploration = Exploration(target, program, place)
+            exploration.begin(lines_kept(target))
+            exploration.explore(seconds)
+        write_kept(target, exploration.rows)
+        rows.append(row_of(exploration))
+        status |= bool(exploration.wrong)
+        print(*row_of(exploration), sep=", ", flush=True)
+    printed(rows)
+    return status
 
 
 if __name__ == "__main__":
     try:
-        sys.exit(1 if main(*[float(it) for it in sys.argv[1:2]], *sys.argv[2:3]) else 0)
+        sys.exit(main(*[float(it) for it in sys.argv[1:2]], *sys.argv[2:]))
     except OSError as error:
         sys.exit(f"tools/fuzz.py: {error}")

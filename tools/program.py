@@ -59,7 +59,7 @@ class Program:
         """The outcome of a command over a file of these bytes."""
         file = self.folder / "file.json"
         file.write_bytes(text)
-        return self.run([command, file.name])
+        return self.run([*command.split(" "), file.name])
 
 
 def said(line):
@@ -256,6 +256,18 @@ def beginnings_of_records(program):
     yield "a file of records", outcome == (0, "".join(f"{line}\n" for line in RECORD_LINES).encode(), b"")
 
 
+# ---- inputs that reached something new
+
+
+def reached(program):
+    """What tools/fuzz.py has kept: of each input its bytes, the status, the output, and the lines on standard error of which one is said."""
+    for command, given, status, output, said in rows("reached.txt", 5):
+        given, output = (bytes.fromhex(it.strip("-")) for it in (given, output))
+        outcome = program.run([command], given) if command == "acceptor" else program.over(command, given)
+        lines = [it.replace(" / ", "\n").encode() + b"\n" * bool(it) for it in said.split(" or ")]
+        yield f"{command} {given.hex()}", outcome[:2] == (int(status), output) and outcome[2] in lines
+
+
 # ---- words
 
 
@@ -305,7 +317,7 @@ def main():
     status = 0
     for path in built:
         for kind in (conversations, beginnings_of_a_conversation, frames, values, audits, schedules, events, examples, beginnings_of_files,
-                     beginnings_of_records, calls, helps):
+                     beginnings_of_records, reached, calls, helps):
             with tempfile.TemporaryDirectory() as folder:
                 found = list(kind(Program(path, folder)))
             for label, is_so in found:

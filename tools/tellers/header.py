@@ -280,6 +280,12 @@ class Teller:
         (answer,) = yield [f"message {hexadecimal(bytes_of(words))}"]
         return shown(answer)
 
+    def tell_one_of(self, words):
+        """That one of these faults is told of a header, and else what is."""
+        faults, _, header = words.partition(": header")
+        (answer,) = yield [f"message {hexadecimal(bytes_of(header))}"]
+        return ["one of them"] if answer in faults.split(" ") else shown(answer)
+
     def tell_changed(self, words):
         """What the bytes show with others at a place; and of a header, how many bytes it needs: as many as there are in the
         shortest beginning that is not out of bounds, where that many show it already."""

@@ -212,6 +212,8 @@ class Teller:
             return self.tell_said(name, message_of(rest))
         if name == "if":
             return self.tell_asked(f"history if {message_of(rest)}", str)
+        if name == "audited":
+            return self.tell_audited(rest or "-")
         if name in ("file", "file-bytes"):
             return self.tell_file(rest if name == "file-bytes" else text(rest))
         if name in ("line", "long-line"):
@@ -289,6 +291,14 @@ class Teller:
         if status != "1" or printed or audit_of(audited) != ("1", "", said):
             return [f"told otherwise: {explained}, {audited}"]
         return said.splitlines()
+
+    def tell_audited(self, file):
+        """What is printed and said of a file, by its bytes. The audit that is not explained has to give the same, up to the first line."""
+        explained, audited = yield [f"explain {file}", f"audit {file}"]
+        status, printed, said = audit_of(explained)
+        if audit_of(audited) != (status, "".join(printed.splitlines(keepends=True)[:1]), said):
+            return [f"told otherwise: {explained}, {audited}"]
+        return [*printed.splitlines(), *said.splitlines()]
 
     def tell_line(self, name, line):
         """What a line says, where it is read; it has to be written again as the same."""

@@ -1,0 +1,228 @@
+"""A model of headers of messages: what bytes show, or every fault that stands in them. It is written from FlatBuffers, "FlatBuffer
+Internals", from Message.fbs and Schema.fbs of Apache Arrow and from docs/FORMATS.md, and not from the code. What is shown has the form of
+the JSON files of crates/flatbuf_meta/vectors, whose scripts say it in lines and lay out its one text.
+
+Fields and entries that are more than a schema may have are not looked at."""
+import struct
+import sys
+from pathlib import Path
+
+TOP = Path(__file__).resolve().parent.parent
+sys.dont_write_bytecode = True
+sys.path.append(str(TOP / "crates" / "flatbuf_meta" / "vectors"))
+
+import canonical
+import make
+from wire_model import Faults
+
+MOST_LEVELS, MOST_FIELDS, MOST_ENTRIES, MOST_TEXT, MOST_NODES, MOST_BUFFERS = 16, 512, 4096, 1 << 20, 512, 1536
+SCHEMA, DICTIONARY, BATCH, VERSION_5 = 1, 2, 3, 4
+NAMES = {number: name for name, number in canonical.NUMBERS.items()}
+UNITS = ("SECOND", "MILLISECOND", "MICROSECOND", "NANOSECOND")
+VALUES = {"FloatingPoint": ("HALF", "SINGLE", "DOUBLE"), "Date": ("DAY", "MILLISECOND")}
+SIZES = {"unit": 2, "is_signed": 1}
+
+
+class Reader:
+    """A text, every fault that was found in it, and how many fields, entries and bytes of texts it has shown."""
+
+    def __init__(self, text):
+        self.text, self.found, self.seen = text, set(), [0, 0, 0]
+
+    def number(self, place, size, is_signed=False):
+        if not 0 <= place <= len(self.text) - size:
+            raise Faults("OutOfBounds")
+        return int.from_bytes(self.text[place : place + size], "little", signed=is_signed)
+
+    def follow(self, place):
+        return place + self.number(place, 4)
+
+    def slot(self, table, number):
+        """Where a field of the table stands, None where it is absent."""
+        vtable = table - self.number(table, 4, True)
+        own_size = self.number(vtable, 2)
+        if own_size < 4:
+            raise Faults("BadHeader")
+        cell = self.number(vtable + 4 + 2 * number, 2) if own_size >= 6 + 2 * number else 0
+        return table + cell if cell else None
+
+    def tried(self, read, *arguments):
+        """What the read gives, None where it finds a fault, which is kept."""
+        try:
+            return read(*arguments)
+        except Faults as faults:
+            self.found |= faults.names
+            return None
+
+    def number_in(self, table, number, size, default=0, is_signed=False):
+        place = self.slot(table, number)
+        return default if place is None else self.number(place, size, is_signed)
+
+    def reference_in(self, table, number):
+        place = self.slot(table, number)
+        return None if place is None else self.follow(place)
+
+    def vector_in(self, table, number, size):
+        """Where the first element stands, and how many there are."""
+        vector = self.reference_in(table, number)
+        if vector is None:
+            return 0, 0
+        count = self.number(vector, 4)
+        if vector + 4 + count * size > len(self.text):
+            raise Faults("OutOfBounds")
+        return vector + 4, count
+
+    def string_in(self, table, number):
+        vector = self.reference_in(table, number)
+        if vector is None:
+            return None
+        first, count = self.vector_in(table, number, 1)
+        try:
+            return self.text[first : first + count].decode("utf-8")
+        except UnicodeDecodeError:
+            raise Faults("NotUtf8") from None
+
+    # what a schema shows
+
+    def counts(self, kind, count):
+        """Whether the text has shown no more of this kind than a schema may."""
+        self.seen[kind] += count
+        if self.seen[kind] > (MOST_FIELDS, MOST_ENTRIES, MOST_TEXT)[kind]:
+            self.found.add("TooManyFields")
+        return self.seen[0] <= MOST_FIELDS and self.seen[1] <= MOST_ENTRIES
+
+    def counted_text(self, table, number):
+        text = self.tried(self.string_in, table, number)
+        self.counts(2, len((text or "").encode()))
+        return text
+
+    def elements(self, table, number, kind):
+        """The tables of a vector of references, each of which counts."""
+        first, count = self.tried(self.vector_in, table, number, 4) or (0, 0)
+        for place in range(first, first + 4 * count, 4):
+            if not self.counts(kind, 1):
+                return
+            yield self.follow(place)
+
+    def metadata(self, table, number):
+        return [{"key": self.counted_text(it, 0) or "", "value": self.counted_text(it, 1) or ""} for it in self.elements(table, number, 1)]
+
+    def parameter(self, table, name, place, word, default):
+        if word == "timezone":
+            return None if table is None else self.counted_text(table, place)
+        values = VALUES.get(name, UNITS) if word == "unit" or name == "FloatingPoint" else None
+        size = 2 if values else SIZES.get(word, 4)
+        found = None if table is None else self.tried(self.number_in, table, place, size, None, size == 4)
+        if found is None:
+            return default
+        if values:
+            # a unit that there is not has no name, and the number is no length that a Time has
+            return values[found] if found < len(values) else found
+        return found != 0 if word == "is_signed" else found
+
+    def type_of(self, table):
+        """The name of a field's type, and its parameters."""
+        number = self.tried(self.number_in, table, 2, 1)
+        if number is None:
+            return None, {}
+        if number not in NAMES:
+            self.found.add(f"Unsupported({number})")
+            return None, {}
+        name = NAMES[number]
+        if not make.TYPES[name]:
+            return name, {}
+        before = set(self.found)
+        self.found.clear()
+        place = self.tried(self.reference_in, table, 3)
+        words = enumerate(make.TYPES[name].items())
+        said = {word: self.parameter(place, name, at, word, default) for at, (word, default) in words}
+        if not self.found - {"NotUtf8", "TooManyFields"}:
+            self.found |= self.wrong_parameters(name, said)
+        self.found |= before
+        return name, said
+
+    @staticmethod
+    def wrong_parameters(name, said):
+        for word, value in said.items():
+            if isinstance(value, int) and (word == "unit" or name == "FloatingPoint"):
+                return {"BadHeader"}
+        try:
+            make.kind({"type_type": name, "type": said})
+        except make.Refused as refused:
+            return {str(refused)}
+        return set()
+
+    def field(self, table, level):
+        said = {"name": self.counted_text(table, 0) or "", "nullable": bool(self.tried(self.number_in, table, 1, 1))}
+        said["type_type"], said["type"] = self.type_of(table)
+        if self.tried(self.slot, table, 4) is not None:
+            self.found.add("Dictionary")
+        _, count = self.tried(self.vector_in, table, 5, 4) or (0, None)
+        wanted = {"List": 1, "FixedSizeList": 1, "Struct_": count}.get(said["type_type"], 0)
+        if said["type_type"] and count is not None and count != wanted:
+            self.found.add("BadHeader")
+        said["custom_metadata"] = self.metadata(table, 6)
+        said["children"] = self.fields(table, 5, level + 1)
+        return said
+
+    def fields(self, table, number, level):
+        if level > MOST_LEVELS:
+            _, count = self.tried(self.vector_in, table, number, 4) or (0, 0)
+            self.found |= {"TooDeep"} if count else set()
+            return []
+        return [self.field(it, level) for it in self.elements(table, number, 0)]
+
+    def schema(self, table):
+        if self.tried(self.number_in, table, 0, 2):
+            self.found.add("Endianness")
+        return {"fields": self.fields(table, 1, 1), "custom_metadata": self.metadata(table, 2)}
+
+    # what a batch shows
+
+    def pairs(self, table, number, *names):
+        first, count = self.tried(self.vector_in, table, number, 16) or (0, 0)
+        return [dict(zip(names, it)) for it in struct.iter_unpack("<qq", self.text[first : first + 16 * count])]
+
+    def batch(self, table):
+        said = {"length": self.tried(self.number_in, table, 0, 8, 0, True), "nodes": self.pairs(table, 1, "length", "null_count")}
+        said["buffers"] = self.pairs(table, 2, "offset", "length")
+        return said | ({} if self.tried(self.slot, table, 3) is None else {"compression": {}})
+
+    def message(self):
+        """The header, as far as nothing is wrong with it."""
+        message = self.follow(0)
+        version = self.tried(self.number_in, message, 0, 2)
+        self.found |= {"Version"} if version not in (None, VERSION_5) else set()
+        kind, table = self.tried(self.number_in, message, 1, 1), self.tried(self.reference_in, message, 2)
+        self.found |= {"Dictionary"} if kind == DICTIONARY else {"BadHeader"} if kind not in (None, SCHEMA, BATCH) else set()
+        if table is None and not self.found:
+            self.found.add("BadHeader")
+        if self.found:
+            return None
+        said = {"version": "V5", "header_type": "Schema" if kind == SCHEMA else "RecordBatch"}
+        if kind == SCHEMA:
+            return said | {"header": self.schema(table)}
+        return said | {"header": self.batch(table), "bodyLength": self.tried(self.number_in, message, 3, 8, 0, True)}
+
+
+def header_of(text):
+    """The header that the bytes show; the faults that stand in them are raised."""
+    reader = Reader(text)
+    said = reader.tried(reader.message)
+    if reader.found:
+        raise Faults(*reader.found)
+    return said
+
+
+def shown(said):
+    """The lines of a story that say what a header is."""
+    return [line[2:] for line in make.header(said)]
+
+
+def written(said):
+    """The one text of a header, in hexadecimal; None where it can't be written."""
+    header = said["header"]
+    if said["header_type"] == "Schema":
+        return canonical.message(said)
+    is_within = len(header["nodes"]) <= MOST_NODES and len(header["buffers"]) <= MOST_BUFFERS
+    return canonical.message(said) if is_within and "compression" not in header else None
