@@ -2,11 +2,10 @@
 is written from gRPC, "gRPC over HTTP2", from Arrow Flight ("Flight.proto", "Arrow Flight RPC") and from docs/FORMATS.md, and not
 from the code. Uploads, tables and tickets are those of tables_model.py, and messages those of wire_model.py.
 
-A header is judged as far as it is one of a schema, of a batch, or none at all; which fault stands in one that is none is not judged
-here, nor which is told of a message with several."""
-from batch_model import meaning
-from tables_model import MOST_BATCHES, Refused, Upload, answer, batch_at, effective, head_at, is_table_name, latest, outcome
-from tables_model import NoUpload, schema_at, table_names, ticket_of, ticket_text, type_in
+Headers are those of headers_model.py. Which fault is told of a header or a message with several is not judged here."""
+import headers_model
+from batch_model import Head, meaning
+from tables_model import MOST_BATCHES, Upload, answer, effective, is_table_name, latest, outcome, table_names, ticket_of, ticket_text, type_in
 from wire_model import DATA_MESSAGE, DESCRIPTOR, INFO, MAX_FRAME_PAYLOAD, TICKET, Faults, bytes_field, encoding, meant_inside, number_field
 
 SERVICE = b"/arrow.flight.protocol.FlightService/"
@@ -20,7 +19,7 @@ STATUSES = {
     "BadHeader TooManyRows NodeCount BufferCount BufferRange NullCount OffsetsFall ChildShort BadPath BadDescriptor BadTicket NoSchema "
     "NoEnd MessageCount",
     5: "NoTable", 6: "Conflict", 8: "SlotsSpent TooLarge TooManyBatches", 9: "SchemaMismatch",
-    12: "Compressed CmdDescriptor Criteria NoCall", 14: "Unavailable",
+    12: "Compressed Unsupported Dictionary CmdDescriptor Criteria NoCall", 14: "Unavailable",
 }
 STATUS_OF = {name: status for status, names in STATUSES.items() for name in names.split()}
 
@@ -116,24 +115,21 @@ def one_message(method, text):
 # ---- uploads
 
 
-def header_of(text):
+def header_of(text, left):
     """The schema or the head that the bytes show: a pair of its kind and of itself."""
-    for kind, read in (("schema", schema_at), ("batch", head_at)):
-        try:
-            shown = read(text)
-        except (NoUpload, Refused, LookupError, TypeError, ValueError, OverflowError):
-            continue
-        if kind == header_kind(text):
-            return kind, shown
-    raise Unjudged(text)
-
-
-def header_kind(text):
-    """What the message's table says that its header is: 1 a schema, 3 a batch."""
-    table = int.from_bytes(text[:4], "little")
-    vtable = table - int.from_bytes(text[table : table + 4], "little", signed=True)
-    place = table + int.from_bytes(text[vtable + 6 : vtable + 8], "little")
-    return {1: "schema", 3: "batch"}.get(text[place])
+    try:
+        said = headers_model.header_of(text)
+    except Faults as found:
+        # a fault that holds the number of a type is told without it
+        names = {it.partition("(")[0] for it in found.names}
+        if len(names) > 1:
+            raise Unjudged(text) from None
+        raise Refusal(names.pop(), left) from None
+    header = said["header"]
+    if said["header_type"] == "Schema":
+        return "schema", header
+    pairs = [tuple(tuple(it.values()) for it in header[part]) for part in ("nodes", "buffers")]
+    return "batch", Head(header["length"], *pairs, "compression" in header, said["bodyLength"])
 
 
 def is_id(text):
@@ -148,7 +144,7 @@ def opening(text, left):
     path = path_in(descriptor, left)
     if len(path) != 2 or not is_table_name(path[0]) or not is_id(path[1]):
         raise Refusal("BadDescriptor", left)
-    kind, schema = header_of(header) if header else ("batch", None)
+    kind, schema = header_of(header, left) if header else ("batch", None)
     if kind == "batch":
         raise Refusal("NoSchema", left)
     return path[0], bytes.fromhex(path[1].decode()), schema
@@ -161,7 +157,7 @@ def addition(schema, batches, text, left):
         return []
     if not header:
         raise Refusal("OutOfBounds", left)
-    kind, head = header_of(header)
+    kind, head = header_of(header, left)
     if kind == "schema":
         raise Refusal("BadHeader", left)
     columns = meaning([type_in(it) for it in schema["fields"]], head, body)

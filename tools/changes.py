@@ -187,8 +187,23 @@ def digits_changed(draw, digits):
     return draw.choice((digits + "a", digits[1:], "", "t"))
 
 
+TOKENS = ("{", "}", "[", "]", ":", ",", '"', "\\", "\\u00e9", "\\ud83d\\ude00", "\\n", "\\x", "\t", "\u20ac", "0", "-", "-0", "01", "1.5", "1e5", "1E+", "true", "nul",
+          "false", "null", '"a"', '"a":1,', "18446744073709551616", "-9223372036854775809", "\x7f", "\x00", "/", " ", "\r\n", "NaN")
+
+
+def tokens_changed(draw, text):
+    """The text of a value of JSON with another piece at some place, between its pieces or inside one."""
+    pieces = re.findall(rb'[0-9.eE+-]+|[a-z_]+|\s+|.', text, re.DOTALL)
+    place = draw.randint(0, len(pieces))
+    pieces[place : place + draw.choice((0, 0, 1, 1, 2, 8))] = draw.choice(([], [draw.choice(TOKENS).encode()], [draw.choice(TOKENS).encode()], pieces[place : place + 3] * 2))
+    return b"".join(pieces)[:MOST_BYTES]
+
+
 def json_changed(draw, text, of_text=digits_changed):
-    """The text of a value of JSON, written again with some values changed; where it is none, its bytes with a change."""
+    """The text of a value of JSON, written again with some values changed; or with other pieces, or other bytes."""
+    kind = draw.random()
+    if kind < 0.5:
+        return (bytes_changed if kind < 0.08 else tokens_changed)(draw, text)
     try:
         rate = draw.choice((0.5, 2, 8)) / (1 + text.count(b","))
         value = value_changed(draw, json.loads(text), rate, of_text)

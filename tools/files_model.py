@@ -2,6 +2,7 @@
 a node's records each of them; and of a conversation with the acceptor its answers. It is written from Lamport, "Paxos Made Simple",
 section 2, from RFC 8259 and from docs/FORMATS.md, and not from the code. Messages and records are those of paxos_model.py, and nodes those
 of runs_model.py. Each function gives the status, the output, and a list of what may stand on standard error."""
+import itertools
 import json
 import re
 
@@ -45,9 +46,10 @@ def no_constant(word):
     raise ValueError(word)
 
 
-def levels_in(value):
-    inside = value.values() if isinstance(value, dict) else value if isinstance(value, list) else None
-    return 0 if inside is None else 1 + max(map(levels_in, inside), default=0)
+def levels_in(text):
+    """How deep brackets stand in one another, those of texts among them."""
+    steps = (1 if it in "[{" else -1 for it in re.findall(r"[][{}]", text))
+    return max(itertools.accumulate(steps), default=0)
 
 
 def json_of(file):
@@ -56,15 +58,13 @@ def json_of(file):
         text = file.decode("utf-8")
     except UnicodeDecodeError:
         raise Flaw("the file is not UTF-8") from None
-    if re.search(r"\\u[dD][89a-fA-F]", text) or max(text.count("["), text.count("{")) > MOST_LEVELS**2:
+    if levels_in(text) > MOST_LEVELS:
         raise Unjudged(text)
     try:
         value = json.loads(text, parse_int=whole, parse_float=finite, parse_constant=no_constant)
     except ValueError:
         raise Flaw("the file is not one JSON value") from None
-    except RecursionError:
-        raise Unjudged(text) from None
-    if levels_in(value) > MOST_LEVELS:
+    if re.search("[\ud800-\udfff]", json.dumps(value, ensure_ascii=False)):
         raise Unjudged(text)
     return value
 

@@ -8,6 +8,7 @@ and conversations in tools/program/reached.txt.
 `TOLD` has for each crate a class that tells a command as a row: the command, and the lines to stand under it. Where several faults stand in a
 text, of which a reader may tell any, the command begins with `one-of` and names them, as everywhere in the stories. LookupError is raised of a
 command that asks for nothing that there is, and Unjudged where a model does not say what is told."""
+import functools
 import sys
 from pathlib import Path
 
@@ -136,7 +137,9 @@ class Runs:
         return command, []
 
     @staticmethod
+    @functools.cache
     def upload(text):
+        """The upload of one column of Int8 that the bytes are."""
         found = upload_of(text)
         column = found.schema["fields"][0]
         values = [[None if it is None else int.from_bytes(it, "little", signed=True) for it in cells] for _, (cells,) in found.batches]

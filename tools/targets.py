@@ -321,8 +321,8 @@ def lawful_beginning(draw):
 
 def run_changed(draw, text, other):
     """Another recorded run: other messages, other members, or other JSON."""
-    if draw.random() < 0.15:
-        return draw.choice((bytes_changed, json_changed))(draw, text)
+    if draw.random() < 0.25:
+        return json_changed(draw, text)
     try:
         value, others = json.loads(text), json.loads(other)
         sent, known = list(value["sent"]), [*others["sent"], *SENT]
@@ -332,7 +332,7 @@ def run_changed(draw, text, other):
         members = draw.choice((value["members"],) * 8 + (1, 2, 3, 5))
         return json.dumps({"members": members, "sent": sent}).encode()
     except (ValueError, TypeError, KeyError, AttributeError):
-        return bytes_changed(draw, text)
+        return json_changed(draw, text)
 
 
 # ---- schedules
@@ -391,8 +391,6 @@ def text_changed(draw, text):
 
 
 def schedule_changed(draw, text, _):
-    if draw.random() < 0.3:
-        return bytes_changed(draw, text)
     if draw.random() < 0.6:
         try:
             value = json.loads(text)
@@ -400,7 +398,7 @@ def schedule_changed(draw, text, _):
             value["events"] = [[int(part) if isinstance(part, str) and part.isdigit() else part for part in it] if isinstance(it, list) else it for it in events]
             return json.dumps(value).encode(errors="surrogatepass")
         except (ValueError, TypeError, KeyError):
-            return bytes_changed(draw, text)
+            return json_changed(draw, text, text_changed)
     return json_changed(draw, text, text_changed)
 
 
@@ -419,7 +417,7 @@ class FileTarget(Target):
 
     def __init__(self, command, seeds, change):
         super().__init__(command)
-        self.words = tuple(command.split()) + (() if command == "acceptor" else ("0.input",))
+        self.words = tuple(command.split()) + (() if command == "acceptor" else ("@",))
         self.seeds, self.change = [[file_line(command.replace(" ", "_"), it)] for it in seeds], change
 
     def other(self, draw, lines, others):

@@ -9,7 +9,7 @@
  *
  * Each line of standard input asks for a run: a number N, and numbers of blocks, from 0 on, that are given their breakpoint again before.
  * The program reads the file N.input of the folder that it is called in, on standard input, and writes N.output and N.errors; WORDs are its
- * arguments. A line answers: how the run ended, as wait(2) has it, the microseconds of the processor, the most memory in KiB, and the
+ * arguments, of which `@` stands for the name of that file. A line answers: how the run ended, as wait(2) has it, the microseconds of the processor, the most memory in KiB, and the
  * numbers of the blocks. */
 #define _GNU_SOURCE
 #include <errno.h>
@@ -129,9 +129,14 @@ static struct block *stopped_at(pid_t process, uint64_t base) {
   return it;
 }
 
-static int open_file(unsigned long number, const char *end, int flags) {
-  char name[64];
+static const char *file_name(unsigned long number, const char *end) {
+  static char name[64];
   snprintf(name, sizeof name, "%lu.%s", number, end);
+  return name;
+}
+
+static int open_file(unsigned long number, const char *end, int flags) {
+  const char *name = file_name(number, end);
   int file = open(name, flags, 0600);
   if (file < 0) _exit(127);
   return file;
@@ -145,6 +150,9 @@ static void begin(char **words, unsigned long number) {
   int err = open_file(number, "errors", O_WRONLY | O_CREAT | O_TRUNC);
   dup2(in, 0), dup2(out, 1), dup2(err, 2);
   for (int at = 3; at < 16; at++) close(at);
+  for (char **it = words; *it; it++) {
+    if (!strcmp(*it, "@")) *it = strdup(file_name(number, "input"));
+  }
   ptrace(PTRACE_TRACEME, 0, 0, 0);
   execv(program, words);
   _exit(127);
