@@ -44,8 +44,10 @@ LEAST_HELD, HELD_A_BYTE = 24 << 20, 128
 MOST_WAIT = 30
 # So many inputs are asked of a program of stories in one run, and so many runs are asked for at once.
 TOGETHER, AT_ONCE = 40, 8
+# Runs of many inputs that take no more than these seconds, and twice those of the dearest input, are not looked at one by one.
+DOUBT = 0.004
 # So many smaller inputs are tried of one that reached something new; what is longer than this is not kept as rows.
-MOST_SMALLER, MOST_LETTERS = 96, 4000
+MOST_SMALLER, MOST_LETTERS = 64, 4000
 # Of the inputs to draw from, as many are among the last ones as among all.
 LAST = 24
 HEAD = ("# Inputs that reached something new in the program, one behind the other, each made small. The notation is that of the other files. Made by\n"
@@ -227,14 +229,14 @@ class Exploration:
         """Has a program of stories answer these cases in one run, and gives those that were the first to reach blocks, with these."""
         (outcome,) = self.traced.run([b"".join(it.given for it in cases)])
         answers = outcome.output.decode(errors="replace").splitlines()
-        is_dear = outcome.seconds > max(self.dearest[0], LEAST_SECONDS)
-        if outcome.status or len(answers) != sum(it.count for it in cases) or is_dear:
-            self.one_by_one(cases)
-        else:
-            answers = iter(answers)
-            for case in cases:
-                self.look(case, self.asks.wrong(case, list(itertools.islice(answers, case.count))))
+        # where one of them may be the dearest, or one ended the run, each has a run of its own
+        may_be_dear = outcome.seconds > (LEAST_SECONDS if outcome.reached else 2 * self.dearest[0] + DOUBT)
         self.ran += len(cases)
+        if outcome.status or len(answers) != sum(it.count for it in cases) or may_be_dear:
+            return self.reachers(cases, set(outcome.reached)) + self.one_by_one(cases)
+        answers = iter(answers)
+        for case in cases:
+            self.look(case, self.asks.wrong(case, list(itertools.islice(answers, case.count))))
         return self.reachers(cases, set(outcome.reached))
 
     def reachers(self, cases, blocks):
@@ -246,7 +248,7 @@ class Exploration:
         mine = blocks & set(outcome.reached)
         return self.reachers(cases[:half], mine) + self.reachers(cases[half:], blocks - mine)
 
-    def one_by_one(self, cases, is_new=True):
+    def one_by_one(self, cases):
         """Has each of the cases run by itself, and gives those that were the first to reach blocks."""
         found = []
         for start in range(0, len(cases), AT_ONCE):
@@ -307,10 +309,9 @@ class Exploration:
             if not small:
                 continue
             self.pool.append(small.lines)
-            if small.rows is not None:
-                text = self.asks.kept(small)
-                if len(text) <= MOST_LETTERS and all(it.isprintable() for it in text.split("\n")):
-                    self.rows.append(text)
+            text = "" if small.rows is None else self.asks.kept(small)
+            if 0 < len(text) <= MOST_LETTERS and text not in self.rows and all(it.isprintable() for it in text.split("\n")):
+                self.rows.append(text)
 
     # the whole
 
