@@ -51,7 +51,8 @@ def places_changed(draw, text):
         at = draw.randrange(len(text) - size + 1) // min(size, 4) * min(size, 4)
         old = int.from_bytes(text[at : at + size], "little")
         target = draw.randrange(len(text)) // 4 * 4
-        new = draw.choice((number(draw), old + 1, old - 1, old + draw.choice((4, 8, -4, -8)), target - at, at - target, old ^ 1 << draw.randrange(8 * size)))
+        moved, flipped = old + draw.choice((1, -1, 4, 8, -4, -8)), old ^ 1 << draw.randrange(8 * size)
+        new = draw.choice((number(draw), moved, moved, target - at, at - target, flipped))
         text[at : at + size] = (new % (1 << 8 * size)).to_bytes(size, "little")
     return bytes(text)
 
@@ -187,15 +188,17 @@ def digits_changed(draw, digits):
     return draw.choice((digits + "a", digits[1:], "", "t"))
 
 
-TOKENS = ("{", "}", "[", "]", ":", ",", '"', "\\", "\\u00e9", "\\ud83d\\ude00", "\\n", "\\x", "\t", "\u20ac", "0", "-", "-0", "01", "1.5", "1e5", "1E+", "true", "nul",
-          "false", "null", '"a"', '"a":1,', "18446744073709551616", "-9223372036854775809", "\x7f", "\x00", "/", " ", "\r\n", "NaN")
+TOKENS = ("{", "}", "[", "]", ":", ",", '"', "\\", "\\u00e9", "\\ud83d\\ude00", "\\n", "\\x", "\t", "\u20ac", "0", "-", "-0", "01", "1.5", "1e5",
+          "1E+", "true", "nul", "false", "null", '"a"', '"a":1,', "18446744073709551616", "-9223372036854775809", "\x7f", "\x00", "/", " ", "\r\n",
+          "NaN")
 
 
 def tokens_changed(draw, text):
-    """The text of a value of JSON with another piece at some place, between its pieces or inside one."""
-    pieces = re.findall(rb'[0-9.eE+-]+|[a-z_]+|\s+|.', text, re.DOTALL)
-    place = draw.randint(0, len(pieces))
-    pieces[place : place + draw.choice((0, 0, 1, 1, 2, 8))] = draw.choice(([], [draw.choice(TOKENS).encode()], [draw.choice(TOKENS).encode()], pieces[place : place + 3] * 2))
+    """The text of a value of JSON with another piece at some place, between its pieces or instead of some."""
+    pieces = re.findall(rb"[0-9.eE+-]+|[a-z_]+|\s+|.", text, re.DOTALL)
+    place, drawn = draw.randint(0, len(pieces)), draw.choice(TOKENS).encode()
+    new = draw.choice(([], [drawn], [drawn], pieces[place : place + 3] * 2))
+    pieces[place : place + draw.choice((0, 0, 1, 1, 2, 8))] = new
     return b"".join(pieces)[:MOST_BYTES]
 
 
@@ -222,12 +225,6 @@ def shorter(text):
         size = (size + 1) // 2
         for at in range(0, len(text), size):
             yield text[:at] + text[at + size :]
-
-
-def with_shorter(items, place):
-    """The list with this item shorter."""
-    for it in shorter(items[place]):
-        yield [*items[:place], it, *items[place + 1 :]]
 
 
 def shorter_json(text):

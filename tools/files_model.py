@@ -7,8 +7,8 @@ import json
 import re
 
 from calls_model import Unjudged
-from paxos_model import IN_MESSAGE, IN_RECORD, KINDS, MESSAGE, RECORD, HEAD, Slot, encoding, is_majority, is_safe, kept_line_of, may_follow
-from paxos_model import line_of, parts_of, promisers, shown_ballot, shown_value, was_proposed
+from paxos_model import HEAD, IN_MESSAGE, IN_RECORD, KINDS, MESSAGE, RECORD, Slot, encoding, is_majority, is_safe, kept_line_of, line_of
+from paxos_model import may_follow, parts_of, promisers, was_proposed
 from runs_model import Run
 from tables_model import MOST_BATCHES, is_table_name
 from wire_model import MAX_FRAME_PAYLOAD, Faults

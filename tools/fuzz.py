@@ -2,9 +2,9 @@
 """Gives the programs of stories, and the commands of `flightd` that read a file or standard input, inputs that are drawn from what reached
 something new, and keeps each input that does. It is no part of the gate.
 
-    tools/fuzz.py [SECONDS] [FOLDER]
+    tools/fuzz.py [SECONDS] [FOLDER] [TARGET ..]
 
-Of each target (tools/targets.py) inputs are drawn for SECONDS (60), from few plain ones, from those kept before, and from those that are kept on
+Of each TARGET (of tools/targets.py, or all of them) inputs are drawn for SECONDS (60), from few plain ones, from those kept before, and from those that are kept on
 the way: some of their bytes are changed, or what these say. The programs are those that stand in FOLDER/crates/NAME/out as the gate built them
 (FOLDER is this repository); nothing is built again but the driver that runs them, in a folder of its own. tools/blocks.py says how it is seen
 which basic blocks an input is the first to reach: a breakpoint stands at each that no input has reached.
@@ -47,11 +47,13 @@ TOGETHER, AT_ONCE = 40, 8
 # Runs of many inputs that take no more than these seconds, and twice those of the dearest input, are not looked at one by one.
 DOUBT = 0.004
 # So many smaller inputs are tried of one that reached something new; what is longer than this is not kept as rows.
-MOST_SMALLER, MOST_LETTERS = 64, 4000
+MOST_SMALLER, MOST_LETTERS = 32, 4000
 # Of the inputs to draw from, as many are among the last ones as among all.
 LAST = 24
-HEAD = ("# Inputs that reached something new in the program, one behind the other, each made small. The notation is that of the other files. Made by\n"
-        "# tools/fuzz.py, with what the models say of them, as tools/reached.py --check tries, and not by hand.\n")
+HEAD = """\
+# Inputs that reached something new in the program, one behind the other, each made small. The notation is that of the other files. Made by
+# tools/fuzz.py, with what the models say of them, as tools/reached.py --check tries, and not by hand.
+"""
 
 
 class Case(NamedTuple):
@@ -127,12 +129,15 @@ class Stories:
         """What is wrong with a run of one case."""
         answers = outcome.output.decode(errors="replace").splitlines()
         if outcome.status or len(answers) != case.count:
-            return Wrong("answer", f"status {os.waitstatus_to_exitcode(outcome.status)}, {len(answers)} of {case.count} answers, {outcome.errors[:200]!r}")
+            status = os.waitstatus_to_exitcode(outcome.status)
+            return Wrong("answer", f"status {status}, {len(answers)} of {case.count} answers, {outcome.errors[:200]!r}")
         return self.wrong(case, answers)
 
     @staticmethod
     def kept(case):
-        return "".join(f"{command}\n" + "".join(f"  {it}\n" for it in told) for command, told in case.rows)
+        """The rows of a case that is judged, and told something of."""
+        is_told = case.rows is not None and any(told for _, told in case.rows)
+        return "".join(f"{command}\n" + "".join(f"  {it}\n" for it in told) for command, told in case.rows) if is_told else ""
 
 
 class Files:
@@ -159,7 +164,7 @@ class Files:
         return None
 
     def kept(self, case):
-        return file_row(self.command, case.given) + "\n"
+        return "" if case.rows is None else file_row(self.command, case.given) + "\n"
 
 
 # ---- smaller inputs
@@ -220,9 +225,9 @@ class Exploration:
     # runs
 
     def case(self, lines):
-        """The case of these lines, None where they ask for nothing that there is."""
+        """The case of these lines, None where they ask for nothing that there is, or depend on others."""
         with contextlib.suppress(LookupError, ValueError):
-            return self.asks.case(lines)
+            return self.asks.case(lines) if self.target.stands_alone(lines) else None
         return None
 
     def together(self, cases):
@@ -309,7 +314,7 @@ class Exploration:
             if not small:
                 continue
             self.pool.append(small.lines)
-            text = "" if small.rows is None else self.asks.kept(small)
+            text = self.asks.kept(small)
             if 0 < len(text) <= MOST_LETTERS and text not in self.rows and all(it.isprintable() for it in text.split("\n")):
                 self.rows.append(text)
 
@@ -386,24 +391,31 @@ def row_of(it):
     return [it.target.name, *map(str, counts), f"{seconds:.4f} s", str(size)]
 
 
+def explored(target, program, seconds):
+    """Explores a target, and keeps what was found, also where that is interrupted."""
+    with tempfile.TemporaryDirectory() as folder:
+        exploration = Exploration(target, program, folder)
+        try:
+            exploration.begin(lines_kept(target))
+            exploration.explore(seconds)
+        finally:
+            write_kept(target, exploration.rows)
+    return exploration
+
+
 def main(seconds=60, folder=TOP, *names):
     rows, status = [list(NAMES)], 0
     for target in targets():
         program = program_of(target, folder)
         if names and target.name not in names:
             continue
-        if not program.exists():
+        if program.exists():
+            exploration = explored(target, program, seconds)
+            rows.append(row_of(exploration))
+            status |= bool(exploration.wrong)
+        else:
             print(f"fuzz: {program} is not built")
             status = 1
-            continue
-        with tempfile.TemporaryDirectory() as place:
-            exploration = Exploration(target, program, place)
-            exploration.begin(lines_kept(target))
-            exploration.explore(seconds)
-        write_kept(target, exploration.rows)
-        rows.append(row_of(exploration))
-        status |= bool(exploration.wrong)
-        print(*row_of(exploration), sep=", ", flush=True)
     printed(rows)
     return status
 

@@ -20,10 +20,10 @@ from calls_model import Unjudged
 from files_model import COMMANDS, audit
 from paxos_model import told_message, told_record
 from runs import digest, told_line
-from runs_model import Refused, Run, Upload
+from runs_model import Run, Upload
 from tables_model import upload_of
 from tellers.wire import MESSAGES
-from wire_model import Faults, told, told_as, told_fields, told_frames, told_front
+from wire_model import told, told_as, told_fields, told_frames, told_front
 
 TOP = Path(__file__).resolve().parent.parent
 PROGRAM_ROWS = TOP / "tools" / "program" / "reached.txt"

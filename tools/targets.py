@@ -1,39 +1,48 @@
 """What tools/fuzz.py gives inputs to: programs of stories, and commands of `flightd`. An input is a list of lines: commands of a story, as
-docs/TESTS.md has them, or one line `COMMAND HEX` of a file. Of each target there is a way to draw another input from one or two; the first
-ones are few and plain, so that what is reached is found, and kept."""
+docs/TESTS.md has them, or of a file one line `COMMAND BYTES`. Each target has a way to draw another input from two. Its first ones
+are few and plain, so that what is reached is found, and kept."""
 import json
-import re
 
 from batch_model import lay_out, type_of
-from batches import FLAT, NESTED, batch_of, bytes_of, drawn, read_line, spelled
-from calls import C, LOCATIONS, U, W, X, Z, data, descriptor, opening, put
-from changes import (bytes_changed, field_text, fields_changed, frames_changed, json_changed, list_changed, number, places_changed, signed,
-                     value_changed)
-from files_model import audit
-from headers_model import MOST_BUFFERS, header_of, written
-from runs import spelled as spelled_upload
+from batches import FLAT, NESTED, WAYS, batch_of, bytes_of, drawn, read_line, spelled
+from calls import LOCATIONS, C, U, W, X, Z, data, descriptor, opening
+from changes import bytes_changed, fields_changed, frames_changed, json_changed, list_changed, places_changed, signed, value_changed
+from headers_model import MOST_BUFFERS, MOST_NODES, canonical, header_of, written
+from runs import spelled as packed
 from runs_model import Upload as RunUpload
-from tables import A, POOL, PAIR, ROW, TEXTS, schema
-from tables_model import Upload, ticket_text, upload_of
+from tables import POOL
+from tables_model import Upload, ticket_text, type_in, upload_of
+from tellers.batch import field_of
 from wire_model import Faults, bytes_field
 
 ID = "000102030405060708090a0b0c0d0e0f"
-# A batch that is drawn has no more rows than this, or more than a batch may have.
-MOST_ROWS = 2000
+TYPE_WORDS = FLAT + NESTED
+# A batch that is drawn has no more rows than this, or more than a batch may have; and a header no more bytes, a service no more calls.
+MOST_ROWS, MOST_HEADER, MOST_CALLS, MOST_EVENTS = 2000, 4096, 8, 60
 
 
-def hexadecimal(line):
-    """The bytes that a line ends with."""
+def bytes_at_end(line):
+    """The bytes that a line has behind its first word."""
     return bytes_of(line.partition(" ")[2])
 
 
-class Target:
-    """A program and what it is asked. `words` are the program's, and `@` among them its input as a file; `crate` is that of its stories."""
+def line_of(word, text):
+    return f"{word} {text.hex()}".rstrip()
 
-    crate, words = None, ()
+
+class Target:
+    """A program and what it is asked: `crate` is that of its stories, or `flightd`, and `words` are those that it is called with, `@` for the
+    name of the input. Commands of the words `behind` depend on what came before them, from a command `first` on."""
+
+    crate, words, first, behind = None, (), None, ()
 
     def __init__(self, name):
         self.name = name
+
+    def stands_alone(self, lines):
+        """Whether what is told of the lines depends on no others."""
+        words = [it.split(" ")[0] for it in lines]
+        return not set(self.behind).intersection(words[: words.index(self.first)] if self.first in words else words)
 
 
 # ---- frames and messages
@@ -47,14 +56,12 @@ class WireTarget(Target):
     names = [it[0].split(" ")[0] for it in seeds]
 
     def other(self, draw, lines, others):
-        name, text = lines[0].split(" ")[0], hexadecimal(lines[0])
+        name, text = lines[0].split(" ")[0], bytes_at_end(lines[0])
         if draw.random() < 0.1:
             name = draw.choice(self.names)
         if name == "frames" and draw.random() < 0.5:
-            text = frames_changed(draw, text, hexadecimal(others[0]), inside=bytes_changed)
-        else:
-            text = draw.choice((bytes_changed, fields_changed))(draw, text)
-        return [f"{name} {text.hex()}".rstrip()]
+            return [line_of(name, frames_changed(draw, text, bytes_at_end(others[0]), inside=bytes_changed))]
+        return [line_of(name, draw.choice((bytes_changed, fields_changed))(draw, text))]
 
 
 # ---- headers
@@ -66,223 +73,205 @@ def header_lines(text):
         is_written = written(header_of(text)) is not None
     except Faults:
         is_written = False
-    digits = spelled_upload(text)
+    digits = packed(text)
     return [f"header {digits}".rstrip(), *([f"respelled {digits}"] if is_written else [])]
 
 
-TYPE_WORDS = FLAT + NESTED
-
-
-def column(draw, word, levels=2):
-    """A field of a type, as canonical.py has it, with some metadata."""
-    from tellers.batch import field_of
-    said = {**field_of(type_of(word)), "nullable": draw.random() < 0.5, "name": draw.choice(("", "a", "\u20ac"))}
+def column(draw, word):
+    """A field of a type, as canonical.py has it."""
+    said = {**field_of(type_of(word)), "nullable": draw.random() < 0.5, "name": draw.choice(("", "a", "\u20ac")), "custom_metadata": []}
     if draw.random() < 0.3:
         said["custom_metadata"] = [{"key": "k", "value": draw.choice(("", "v"))}] * draw.choice((1, 2))
     return said
 
 
+def columns(draw, counts):
+    return [column(draw, draw.choice(TYPE_WORDS)) for _ in range(draw.choice(counts))]
+
+
 def header_drawn(draw):
+    """The text of a header of drawn fields, or of drawn nodes and buffers."""
     if draw.random() < 0.5:
-        fields = [column(draw, draw.choice(TYPE_WORDS)) for _ in range(draw.choice((0, 1, 1, 2, 3)))]
-        return {"header_type": "Schema", "header": {"fields": fields, "custom_metadata": [{"key": "k", "value": "v"}] * draw.choice((0, 0, 1, 2))}}
-    pairs = [{"length": signed(draw) % 2**63, "null_count": 1, "offset": 8, "length": 3} for _ in range(draw.choice((0, 1, 3)))]
-    return {"header_type": "RecordBatch", "header": {"length": 2, "nodes": pairs, "buffers": pairs}, "bodyLength": 8}
+        metadata = [{"key": "k", "value": "v"}] * draw.choice((0, 0, 1, 2))
+        said = {"header_type": "Schema", "header": {"fields": columns(draw, (0, 1, 1, 2, 3)), "custom_metadata": metadata}}
+    else:
+        pairs = [{"length": signed(draw) % 2**63, "null_count": 1, "offset": 8} for _ in range(draw.choice((0, 1, 3)))]
+        said = {"header_type": "RecordBatch", "header": {"length": 2, "nodes": pairs, "buffers": pairs}, "bodyLength": 8}
+    return bytes.fromhex(canonical.message(said))
 
 
 class HeaderTarget(Target):
     crate = "header"
-
-    @property
-    def seeds(self):
-        return [header_lines(U.schema_text), header_lines(U.parts[0][0])]
+    seeds = [header_lines(U.schema_text), header_lines(U.parts[0][0])]
 
     def other(self, draw, lines, _):
-        text = hexadecimal(lines[0])
         if draw.random() < 0.15:
-            import canonical
-            return header_lines(bytes.fromhex(canonical.message(header_drawn(draw))))
+            return header_lines(header_drawn(draw))
+        text = bytes_at_end(lines[0])
         for _ in range(draw.choice((1, 1, 2))):
             text = draw.choice((places_changed, places_changed, places_changed, bytes_changed))(draw, text)
-        return header_lines(text[:4096])
+        return header_lines(text[:MOST_HEADER])
 
 
 # ---- batches
 
 
-def pair_changed(draw, pair):
-    numbers = list(pair)
-    place = draw.randrange(2)
-    numbers[place] = draw.choice((number_of_64(signed(draw)), numbers[place] + 1, numbers[place] - 1, numbers[place] + 8, 0, 1, 7, 8, 9))
-    return tuple(map(number_of_64, numbers))
-
-
-def number_of_64(value):
+def of_64_bits(value):
     return (value + 2**63) % 2**64 - 2**63
 
 
+def number_changed(draw, value):
+    return of_64_bits(draw.choice((signed(draw), value + 1, value - 1, value + 8, 0, 1, 7, 8, 9)))
+
+
+def pair_changed(draw, pair):
+    first, second = pair
+    return (number_changed(draw, first), second) if draw.random() < 0.5 else (first, number_changed(draw, second))
+
+
+def rows_within(count):
+    return count if count <= MOST_ROWS or count > 1 << 24 else count % MOST_ROWS
+
+
 class BatchTarget(Target):
-    crate = "batch"
+    crate, first, behind = "batch", "schema", ("read",)
     seeds = [["schema Int(8,true)", "read 2 (2,0) | (0,0) (0,2) | 8 0102000000000000"], ["schema Utf8", "read 0 (0,0) | (0,0) (0,0) (0,0) | 0"]]
 
-    def fresh(self, draw):
+    def other(self, draw, lines, _):
+        words, (head, body) = lines[0].partition(" ")[2], batch_of(lines[1])
+        if draw.random() < 0.2:
+            words, head, body = self.laid_out(draw)
+        for _ in range(draw.choice((0, 1, 1, 1, 2))):
+            words, head, body = self.changed(draw, words, head, body)
+        nodes = tuple((rows_within(length), nulls) for length, nulls in head.nodes[:MOST_NODES])
+        head = head._replace(length=rows_within(head.length), nodes=nodes, buffers=head.buffers[:MOST_BUFFERS])
+        return [f"schema {words}".rstrip(), read_line(head, body)]
+
+    @staticmethod
+    def laid_out(draw):
         """A batch of drawn types and cells, laid out in some ways."""
-        from batches import WAYS
         words = [draw.choice(TYPE_WORDS) for _ in range(draw.choice((1, 1, 2)))]
         types, rows = list(map(type_of, words)), draw.choice((0, 1, 2, 3, 9))
-        columns = [[drawn(it, draw, draw.choice((0, 0.3, 1))) for _ in range(rows)] for it in types]
+        cells = [[drawn(it, draw, draw.choice((0, 0.3, 1))) for _ in range(rows)] for it in types]
         ways = draw.sample(sorted(WAYS), draw.choice((0, 1, 3, 8)))
-        return " ".join(words), *lay_out(types, rows, columns, ways, draw.randrange(1000))
-
-    def other(self, draw, lines, _):
-        words = lines[0].partition(" ")[2]
-        head, body = batch_of(lines[1])
-        if draw.random() < 0.2:
-            words, head, body = self.fresh(draw)
-        for _ in range(draw.choice((0, 1, 1, 1, 2))):
-            head, body, words = self.changed(draw, head, body, words)
-        head = head._replace(length=self.rows(head.length), nodes=tuple((self.rows(length), nulls) for length, nulls in head.nodes[:MOST_BUFFERS // 3]))
-        return [f"schema {words}".rstrip(), read_line(head._replace(buffers=head.buffers[:MOST_BUFFERS]), body)]
+        return " ".join(words), *lay_out(types, rows, cells, ways, draw.randrange(1000))
 
     @staticmethod
-    def rows(count):
-        return count if count <= MOST_ROWS or count > 1 << 24 else count % MOST_ROWS
-
-    @staticmethod
-    def changed(draw, head, body, words):
-        kind = draw.randrange(8)
-        if kind == 0:
-            return head._replace(length=pair_changed(draw, (head.length, 0))[0]), body, words
-        if kind in (1, 2):
-            return head._replace(nodes=tuple(list_changed(draw, head.nodes, [(1, 0)], pair_changed))), body, words
-        if kind in (3, 4):
-            return head._replace(buffers=tuple(list_changed(draw, head.buffers, [(0, 0)], pair_changed))), body, words
-        if kind == 5:
-            return head._replace(compressed=draw.random() < 0.1, body_length=pair_changed(draw, (head.body_length, 0))[0]), body, words
-        if kind == 6:
-            others = " ".join(draw.choice(TYPE_WORDS) if draw.random() < 0.3 else it for it in words.split())
-            return head, body, others
-        return head, bytes_changed(draw, body), words
+    def changed(draw, words, head, body):
+        """The batch with another number, node, buffer, body or type."""
+        change = draw.choice(("rows", "nodes", "nodes", "buffers", "buffers", "length", "types", "body", "body"))
+        if change == "rows":
+            head = head._replace(length=number_changed(draw, head.length))
+        elif change == "nodes":
+            head = head._replace(nodes=tuple(list_changed(draw, head.nodes, [(1, 0)], pair_changed)))
+        elif change == "buffers":
+            head = head._replace(buffers=tuple(list_changed(draw, head.buffers, [(0, 0)], pair_changed)))
+        elif change == "length":
+            head = head._replace(compressed=draw.random() < 0.1, body_length=number_changed(draw, head.body_length))
+        elif change == "types":
+            words = " ".join(draw.choice(TYPE_WORDS) if draw.random() < 0.3 else it for it in words.split())
+        else:
+            body = bytes_changed(draw, body)
+        return words, head, body
 
 
 # ---- uploads, tickets and tables
 
 
-def schema_changed(draw, said):
-    """A schema in which a field has another name, type, metadata, nullability or place."""
-    fields = list_changed(draw, said["fields"], [column(draw, draw.choice(TYPE_WORDS))], lambda draw, it: column(draw, draw.choice(TYPE_WORDS)))
-    return {**said, "fields": fields, "custom_metadata": draw.choice(([], [{"key": "k", "value": "v"}]))}
-
-
-def whole_upload(draw):
-    """The bytes of an upload of drawn columns, laid out as it has to be."""
-    fields = [{"custom_metadata": [], **column(draw, draw.choice(TYPE_WORDS))} for _ in range(draw.choice((0, 1, 1, 2)))]
-    said, types = {"fields": fields, "custom_metadata": []}, []
-    upload = Upload(b"t", bytes([draw.randrange(4)] * 16), said, types)
-    found = upload_of(upload.text)
-    if found is None:
-        return upload.text
-    from tables_model import type_in
-    kinds = [type_in(it) for it in found.schema["fields"]]
-    batches = []
+def upload_drawn(draw):
+    """The bytes of an upload of drawn columns, with metadata of its schema or without."""
+    schema = {"fields": columns(draw, (0, 1, 1, 2)), "custom_metadata": draw.choice(([], [{"key": "k", "value": "v"}]))}
+    types, batches = [type_in(it) for it in schema["fields"]], []
     for _ in range(draw.choice((0, 1, 2))):
         rows = draw.choice((0, 1, 2, 9))
-        batches.append((rows, [[drawn(it, draw, 0.3) for _ in range(rows)] for it in kinds]))
-    return Upload(draw.choice((b"t", b"u.2", b"n" * 64)), upload.id, found.schema, batches).text
+        batches.append((rows, [[drawn(it, draw, 0.3) for _ in range(rows)] for it in types]))
+    return Upload(draw.choice((b"t", b"u.2", b"n" * 64)), bytes([draw.randrange(4)] * 16), schema, batches).text
 
 
 def upload_changed(draw, text):
     if draw.random() < 0.2:
-        return whole_upload(draw)
+        return upload_drawn(draw)
     return fields_changed(draw, text, draw.choice((bytes_changed, places_changed))) if draw.random() < 0.7 else bytes_changed(draw, text)
 
 
+def upload_in(line):
+    """The name of an upload, and its bytes."""
+    _, name, *digits = line.split(" ", 2)
+    return name, bytes_of("".join(digits))
+
+
 class TableTarget(Target):
-    crate = "table"
+    crate, first, behind = "table", "new", ("take", "outcome", "tables", "latest", "answer", "frames")
+    seeds = [[f"upload u {spelled(POOL['u'])}"], [f"read-ticket {ticket_text(b't', 1).hex()}"],
+             [*(f"upload {name} {spelled(POOL[name])}" for name in "ucz"), "new", "take u", "outcome u c z", "tables", "latest t", "frames 1 t"]]
+    asked = ["outcome u", "outcome c z", "tables", "latest t", "latest u.2", "answer 1 t", "answer 2 t", "frames 1 t", "frames 3 u.2", "take u",
+             "take c", "take z u", "take noop", "new"]
 
-    @property
-    def seeds(self):
-        u = spelled(POOL["u"])
-        told = [f"upload {name} {spelled(POOL[name])}" for name in "ucz"]
-        return [[f"upload u {u}"], [f"read-ticket {ticket_text(b't', 1).hex()}"],
-                [*told, "new", "take u", "outcome u c z", "tables", "latest t", "frames 1 t"]]
-
-    asked = ["outcome u", "outcome c z", "tables", "latest t", "latest u.2", "answer 1 t", "answer 2 t", "frames 1 t", "frames 3 u.2", "take u", "take c",
-             "take z u", "take noop", "new"]
-
-    def other(self, draw, lines, others):
-        if len(lines) == 1:
-            name, *_ = lines[0].split(" ")
-            if name == "read-ticket":
-                return [f"{name} {draw.choice((bytes_changed, fields_changed))(draw, hexadecimal(lines[0])).hex()}".rstrip()]
-            return [self.line(draw, lines[0])]
-        front = [it for it in lines if it.startswith("upload")]
-        back = [it for it in lines[len(front) :] if it != "new"]
-        if draw.random() < 0.5:
-            place = draw.randrange(len(front))
-            front[place] = self.line(draw, front[place])
+    def other(self, draw, lines, _):
+        if lines[0].startswith("read-ticket"):
+            return [line_of("read-ticket", draw.choice((bytes_changed, fields_changed))(draw, bytes_at_end(lines[0])))]
+        uploads = dict(upload_in(it) for it in lines if it.startswith("upload"))
+        rest = [it for it in lines[len(uploads) :] if it != "new"]
+        if not rest or draw.random() < 0.5:
+            name = draw.choice(sorted(uploads))
+            uploads[name] = upload_changed(draw, uploads[name])
         else:
-            back = list_changed(draw, back, self.asked, lambda draw, _: draw.choice(self.asked))
-        named = {word[1] for word in (it.split(" ", 2) for it in front) if upload_of(bytes_of((word + [""])[2]))}
-        return [*front, "new", *(it for it in back if not it.startswith("outcome") or named.issuperset(it.split(" ")[1:]))]
-
-    @staticmethod
-    def line(draw, line):
-        word, name, digits = (line + " ").split(" ", 2)
-        return f"{word} {name} {spelled(upload_changed(draw, bytes_of(digits)))}".rstrip()
+            rest = list_changed(draw, rest, self.asked, lambda draw, _: draw.choice(self.asked))
+        known = {name for name, text in uploads.items() if upload_of(text)}
+        rest = [it for it in rest if not it.startswith("outcome") or known.issuperset(it.split(" ")[1:])]
+        return [*(f"upload {name} {spelled(text)}".rstrip() for name, text in uploads.items()), *(["new", *rest] if rest else [])]
 
 
 # ---- calls
 
 
-def call_changed(draw, text, other):
-    """The bytes of a call with other frames, of which one may have another message."""
-    def inside(draw, message):
-        if draw.random() < 0.15:
-            upload = upload_of(whole_upload(draw))
-            return opening(upload) if upload else message
-        return fields_changed(draw, message, draw.choice((bytes_changed, places_changed)))
-
-    return frames_changed(draw, text, other, inside=inside) if draw.random() < 0.8 else bytes_changed(draw, text)
-
-
 def frames(*payloads):
+    """The frames of a call, its end behind them."""
     return b"".join(b"\0" + len(it).to_bytes(4, "big") + it for it in payloads) + b"\x80\0\0\0\0"
 
 
 PATH = b"/arrow.flight.protocol.FlightService/"
-
-
-def put_call(upload):
-    return frames(PATH + b"DoPut", opening(upload), *(data(*it) for it in upload.parts))
-
-
-CALLS = {
-    "u": put_call(U), "c": put_call(C), "x": put_call(X), "w": put_call(W), "z": put_call(Z),
+PUTS = {name: frames(PATH + b"DoPut", opening(it), *(data(*part) for part in it.parts)) for name, it in zip("ucxwz", (U, C, X, W, Z))}
+QUESTIONS = {
     "get": frames(PATH + b"DoGet", bytes_field(1, ticket_text(b"t", 1))), "info": frames(PATH + b"GetFlightInfo", descriptor("t")),
     "schema": frames(PATH + b"GetSchema", descriptor("t")), "list": frames(PATH + b"ListFlights", b""),
 }
+CALLS = [*PUTS.values(), *QUESTIONS.values()]
+
+
+def message_changed(draw, message):
+    """Another message of a call: sometimes one that opens an upload of drawn columns."""
+    upload = upload_of(upload_drawn(draw)) if draw.random() < 0.15 else None
+    return opening(upload) if upload else fields_changed(draw, message, draw.choice((bytes_changed, places_changed)))
+
+
+def call_changed(draw, text, other):
+    return frames_changed(draw, text, other, inside=message_changed) if draw.random() < 0.8 else bytes_changed(draw, text)
+
+
+def calls_in(lines):
+    return [bytes_of(it.split(" ", 2)[2]) for it in lines if it.startswith("bytes") and it.count(" ") > 1]
+
+
+def service_lines(service, asked):
+    named = [(f"c{place}", text) for place, text in enumerate(asked[:MOST_CALLS])]
+    return [service, *(line for name, text in named for line in (f"bytes {name} {spelled(text)}".rstrip(), f"call +{name}"))]
 
 
 class CallTarget(Target):
-    crate = "call"
-    seeds = [[f"new 3 {LOCATIONS[0]}", f"bytes {name} {spelled(CALLS[name])}", f"call +{name}"] for name in ("u", "get", "info", "schema", "list")]
+    crate, first, behind = "call", "new", ("call",)
+    seeds = [service_lines(f"new 3 {LOCATIONS[0]}", [it]) for it in (PUTS["u"], *QUESTIONS.values())]
 
     def other(self, draw, lines, others):
-        service = f"new {draw.choice((0, 1, 3, 3, 3))} {' '.join(LOCATIONS[: draw.choice((0, 1, 1, 3))])}".rstrip() if draw.random() < 0.1 else lines[0]
-        asked = [bytes_of(it.split(" ", 2)[2]) for it in lines if it.startswith("bytes") and it.count(" ") > 1]
-        known = [bytes_of(it.split(" ", 2)[2]) for it in others if it.startswith("bytes") and it.count(" ") > 1] + list(CALLS.values())
-        place = draw.randrange(len(asked)) if asked else 0
+        service, asked, known = lines[0], calls_in(lines), calls_in(others) + CALLS
+        if draw.random() < 0.1:
+            service = f"new {draw.choice((0, 1, 3, 3, 3))} {' '.join(LOCATIONS[: draw.choice((0, 1, 1, 3))])}".rstrip()
         if asked and draw.random() < 0.75:
+            place = draw.randrange(len(asked))
             asked[place] = call_changed(draw, asked[place], draw.choice(known))
         else:
-            asked = list_changed(draw, asked, known, lambda draw, it: draw.choice(known))[:8]
-        return self.lines(service, asked)
-
-    @staticmethod
-    def lines(service, asked):
-        named = [(f"c{place}", text) for place, text in enumerate(asked)]
-        return [service, *(line for name, text in named for line in (f"bytes {name} {spelled(text)}".rstrip(), f"call +{name}"))]
+            asked = list_changed(draw, asked, known, lambda draw, _: draw.choice(known))
+        return service_lines(service, asked)
 
 
 # ---- messages, records and recorded runs
@@ -291,96 +280,88 @@ class CallTarget(Target):
 SENT = ["08012801", "08022801", "080210012801", "08042801", "08052801", "080510012801", "080710014a0161", "0806"]
 
 
-def file_line(command, text):
-    return f"{command} {text.hex()}".rstrip()
+def run_file(members, sent):
+    return json.dumps({"members": members, "sent": sent}).encode()
+
+
+def attempts(draw):
+    """Messages of a few attempts for one slot, of which correct nodes may have sent all or not."""
+    sent = []
+    for round_, node in ((1, 0), (2, 1), (3, 0))[: draw.choice((1, 2, 3))]:
+        ballot, by = f"28{round_:02x}30{node:02x}", f"10{node:02x}"
+        sent += [f"080210{sender:02x}{ballot}" for sender in range(draw.choice((1, 2, 3)))]
+        sent.append(f"0804{by}{ballot}4a0161")
+        sent += [f"080510{sender:02x}{ballot}4a0161" for sender in range(draw.choice((0, 1, 2)))]
+    return sent
+
+
+def run_changed(draw, text, other):
+    """Another recorded run: other messages or members, or other JSON."""
+    if draw.random() < 0.75:
+        try:
+            value, others = json.loads(text), json.loads(other)
+            sent = attempts(draw) if draw.random() < 0.1 else value["sent"]
+            sent = list_changed(draw, sent, [*others["sent"], *SENT], lambda draw, it: fields_changed(draw, bytes.fromhex(it)).hex())
+            return run_file(draw.choice((value["members"],) * 8 + (1, 2, 3, 5)), sent)
+        except (ValueError, TypeError, KeyError, AttributeError):
+            pass
+    return json_changed(draw, text)
 
 
 class PaxosTarget(Target):
     crate = "paxos"
-    seeds = [["decode 08012801"], ["decode-record 08011801"], [file_line("audited", json.dumps({"members": 3, "sent": SENT[:2]}).encode())]]
+    seeds = [["decode 08012801"], ["decode-record 08011801"], [line_of("audited", run_file(3, SENT[:2]))]]
 
     def other(self, draw, lines, others):
-        name, text = lines[0].split(" ")[0], hexadecimal(lines[0])
-        if name != "audited":
-            return [file_line(draw.choice((name, name, name, "decode", "decode-record")), draw.choice((bytes_changed, fields_changed))(draw, text))]
-        return [file_line(name, run_changed(draw, text, hexadecimal(others[0]) if others[0].startswith(name) else text))]
-
-
-def lawful_beginning(draw):
-    """Messages that correct nodes send about one slot, and some that they do not."""
-    ballots = [(1, 0), (2, 1), (3, 0)]
-    said = []
-    for round_, node in ballots[: draw.choice((1, 2, 3))]:
-        at = f"28{round_:02x}" + (f"30{node:02x}" if node else "")
-        for sender in range(draw.choice((1, 2, 3))):
-            said.append(f"0802{f'10{sender:02x}' if sender else ''}{at}")
-        said.append(f"0804{f'10{node:02x}' if node else ''}{at}4a0161")
-        said += [f"0805{f'10{sender:02x}' if sender else ''}{at}4a0161" for sender in range(draw.choice((0, 1, 2)))]
-    return said
-
-
-def run_changed(draw, text, other):
-    """Another recorded run: other messages, other members, or other JSON."""
-    if draw.random() < 0.25:
-        return json_changed(draw, text)
-    try:
-        value, others = json.loads(text), json.loads(other)
-        sent, known = list(value["sent"]), [*others["sent"], *SENT]
-        if draw.random() < 0.1:
-            sent = lawful_beginning(draw)
-        sent = list_changed(draw, sent, known, lambda draw, it: fields_changed(draw, bytes.fromhex(it)).hex())
-        members = draw.choice((value["members"],) * 8 + (1, 2, 3, 5))
-        return json.dumps({"members": members, "sent": sent}).encode()
-    except (ValueError, TypeError, KeyError, AttributeError):
-        return json_changed(draw, text)
+        name, text = lines[0].split(" ")[0], bytes_at_end(lines[0])
+        if name == "audited":
+            return [line_of(name, run_changed(draw, text, bytes_at_end(others[0])))]
+        name = draw.choice((name, name, name, "decode", "decode-record"))
+        return [line_of(name, draw.choice((bytes_changed, fields_changed))(draw, text))]
 
 
 # ---- schedules
 
 
-RUN_UPLOADS = [RunUpload(table, f"{id:032x}", name, [[id]]) for table, id, name in (("t", 1, "a"), ("t", 2, "a"), ("t", 1, "b"), ("u", 3, "a"), ("t", 4, "b"))]
-DECIDED = ["put 0 0", "tick 0 0", "deliver 0 0", "deliver 1 0", "deliver 0 1", "deliver 0 2", "deliver 0 3", "deliver 1 3", "deliver 0 4", "deliver 0 5"]
-ASKED = ["outcome 0 0", "get 0 t 1", "info 0 t"]
+NAMED = (("t", 1, "a"), ("t", 2, "a"), ("t", 1, "b"), ("u", 3, "a"), ("t", 4, "b"))
+RUN_UPLOADS = [f"upload {packed(RunUpload(table, f'{id:032x}', name, [[id]]).text)}" for table, id, name in NAMED]
+# An upload is decided by two of three nodes, and asked for.
+DECIDED = ["put 0 0", "tick 0 0", "deliver 0 0", "deliver 1 0", "deliver 0 1", "deliver 0 2", "deliver 0 3", "deliver 1 3", "deliver 0 4",
+           "deliver 0 5", "outcome 0 0", "get 0 t 1", "info 0 t"]
 
 
 def event_drawn(draw, members, sent):
-    node, upload = draw.randrange(members + (draw.random() < 0.05)), draw.randrange(len(RUN_UPLOADS))
+    node, upload = draw.randrange(members + (draw.random() < 0.05)), draw.randrange(len(NAMED))
     message = draw.randrange(sent + 1) if draw.random() < 0.5 else max(0, sent - draw.randrange(4))
     return draw.choice((
-        f"put {node} {upload}", f"tick {node} {draw.choice((0, 0, 0, 1, 7, 8, 255))}", f"deliver {node} {message}", f"deliver {node} {message}",
-        f"deliver {node} {message}", f"deliver {node} {message}", f"tickcut {node} 0", f"delivercut {node} {message}", f"restart {node}",
-        f"get {node} {draw.choice('ttu')} {draw.choice((1, 1, 2))}", f"info {node} t", f"outcome {node} {upload}",
+        f"put {node} {upload}", f"tick {node} {draw.choice((0, 0, 0, 1, 7, 8, 255))}", *[f"deliver {node} {message}"] * 4, f"tickcut {node} 0",
+        f"delivercut {node} {message}", f"restart {node}", f"get {node} {draw.choice('ttu')} {draw.choice((1, 1, 2))}", f"info {node} t",
+        f"outcome {node} {upload}",
     ))
 
 
-class RunTarget(Target):
-    crate = "run"
-    uploads = [f"upload {spelled_upload(it.text)}" for it in RUN_UPLOADS]
+def events_in(lines):
+    return [it for it in lines if it.split(" ")[0] not in ("nodes", "upload", "play", "digest")]
 
-    @property
-    def seeds(self):
-        return [["nodes 3 4", *self.uploads, "tick 0 0", "play", "digest"], ["nodes 3 4", *self.uploads, *DECIDED[:4], "play", "digest"]]
+
+class RunTarget(Target):
+    crate, first = "run", "nodes"
+    behind = ("upload", "put", "tick", "deliver", "tickcut", "delivercut", "restart", "get", "info", "outcome", "play", "digest")
+    seeds = [["nodes 3 4", *RUN_UPLOADS, *events, "play", "digest"] for events in (["tick 0 0"], DECIDED[:4])]
 
     def other(self, draw, lines, others):
-        nodes = lines[0]
-        events, known = ([it for it in these if it.split(" ")[0] not in ("nodes", "upload", "play", "digest")] for these in (lines, others))
+        nodes, events = lines[0], events_in(lines)
         if draw.random() < 0.1:
             nodes = f"nodes {draw.choice((1, 2, 3, 3, 4, 5, 7))} {draw.choice((0, 1, 2, 4, 1_000_000, 1_000_001))}"
         members = int(nodes.split(" ")[1])
         for _ in range(draw.choice((1, 1, 3, 8))):
-            sent = len(events)
-            place, kind = draw.randint(0, len(events)), draw.random()
-            if kind < 0.55:
-                events.append(event_drawn(draw, members, sent))
-            elif kind < 0.7:
-                events.insert(place, event_drawn(draw, members, sent))
-            elif kind < 0.8:
-                events[place : place + 1] = []
-            elif kind < 0.9:
-                events = [*events[:place], *(known or DECIDED + ASKED)[place : place + draw.choice((1, 4))], *events[place:]]
-            elif events:
-                events[place : place + 1] = [event_drawn(draw, members, sent)]
-        return [nodes, *self.uploads, *events[:60], "play", "digest"]
+            drawn_one, place = event_drawn(draw, members, len(events)), draw.randint(0, len(events))
+            more = (events_in(others) or DECIDED)[place : place + draw.choice((1, 4))]
+            # most are put behind the others; some come between them, or in place of one, or one is left out
+            place, end, new = draw.choice((*[(len(events), len(events), [drawn_one])] * 6, (place, place, [drawn_one]), (place, place, more),
+                                           (place, place + 1, [drawn_one]), (place, place + 1, [])))
+            events[place:end] = new
+        return [nodes, *RUN_UPLOADS, *events[:MOST_EVENTS], "play", "digest"]
 
 
 # ---- files
@@ -390,15 +371,20 @@ def text_changed(draw, text):
     return draw.choice((text + "a", text[1:], text.upper(), "", "t", "a b", ID, "put", "get", "tick", "outcome", "\ud800"))
 
 
+def numbered(event):
+    """An event of a schedule, of the words of one in a story."""
+    return [int(it) if it.isdigit() else it for it in event.split(" ")]
+
+
 def schedule_changed(draw, text, _):
-    if draw.random() < 0.6:
+    if draw.random() < 0.5:
         try:
             value = json.loads(text)
-            events = list_changed(draw, value["events"], [it.split(" ") for it in DECIDED + ASKED], lambda draw, it: value_changed(draw, it, 0.4, text_changed))
-            value["events"] = [[int(part) if isinstance(part, str) and part.isdigit() else part for part in it] if isinstance(it, list) else it for it in events]
-            return json.dumps(value).encode(errors="surrogatepass")
+            more = list(map(numbered, DECIDED))
+            value["events"] = list_changed(draw, value["events"], more, lambda draw, it: value_changed(draw, it, 0.4, text_changed))
+            return json.dumps(value).encode()
         except (ValueError, TypeError, KeyError):
-            return json_changed(draw, text, text_changed)
+            pass
     return json_changed(draw, text, text_changed)
 
 
@@ -411,31 +397,33 @@ def conversation_changed(draw, text, other):
 
 
 class FileTarget(Target):
-    """A command of `flightd` that reads a file, or standard input."""
+    """A command of `flightd` that reads a file, or standard input; its lines begin with the command in one word."""
 
     crate = "flightd"
 
-    def __init__(self, command, seeds, change):
+    def __init__(self, command, first, change):
         super().__init__(command)
-        self.words = tuple(command.split()) + (() if command == "acceptor" else ("@",))
-        self.seeds, self.change = [[file_line(command.replace(" ", "_"), it)] for it in seeds], change
+        self.words = (*command.split(" "), *(["@"] if command != "acceptor" else []))
+        self.seeds, self.change = [[line_of(self.word(), first)]], change
+
+    def word(self):
+        return self.name.replace(" ", "_")
 
     def other(self, draw, lines, others):
-        return [file_line(lines[0].split(" ")[0], self.change(draw, hexadecimal(lines[0]), hexadecimal(others[0])))]
+        return [line_of(self.word(), self.change(draw, bytes_at_end(lines[0]), bytes_at_end(others[0])))]
 
 
 UPLOAD = {"table": "t", "id": ID, "values": [[1, None, 3]]}
-SCHEDULE = {"members": 3, "slot_limit": 2, "uploads": [UPLOAD], "events": [["put", 0, 0], ["tick", 0, 0], ["deliver", 0, 0]]}
+SCHEDULE = {"members": 3, "slot_limit": 2, "uploads": [UPLOAD], "events": list(map(numbered, DECIDED[:3]))}
 RECORDS = bytes.fromhex("01040000000801180101040000000802180100")
 TALK = bytes.fromhex("00000000040801280100000000080804100128023001")
 
 
 def targets():
-    run = json.dumps({"members": 3, "sent": SENT[:2]}).encode()
     return [
         WireTarget("frames and messages"), HeaderTarget("headers"), BatchTarget("batches"), TableTarget("uploads and tables"), CallTarget("calls"),
         PaxosTarget("messages, records and runs"), RunTarget("schedules"),
-        FileTarget("audit", [run], run_changed), FileTarget("audit --explain", [run], run_changed),
-        FileTarget("replay", [json.dumps(SCHEDULE).encode()], schedule_changed), FileTarget("records", [RECORDS], records_changed),
-        FileTarget("acceptor", [TALK], conversation_changed),
+        *(FileTarget(command, run_file(3, SENT[:2]), run_changed) for command in ("audit", "audit --explain")),
+        FileTarget("replay", json.dumps(SCHEDULE).encode(), schedule_changed), FileTarget("records", RECORDS, records_changed),
+        FileTarget("acceptor", TALK, conversation_changed),
     ]
