@@ -4,10 +4,10 @@ something new, and keeps each input that does. It is no part of the gate.
 
     tools/fuzz.py [SECONDS] [FOLDER] [TARGET ..]
 
-Of each TARGET (of tools/targets.py, or all of them) inputs are drawn for SECONDS (60), from few plain ones, from those kept before, and from those that are kept on
-the way: some of their bytes are changed, or what these say. The programs are those that stand in FOLDER/crates/NAME/out as the gate built them
-(FOLDER is this repository); nothing is built again but the driver that runs them, in a folder of its own. tools/blocks.py says how it is seen
-which basic blocks an input is the first to reach: a breakpoint stands at each that no input has reached.
+Of each TARGET (of tools/targets.py, or all of them) inputs are drawn for SECONDS (60), from few plain ones, from those kept before, and from those
+that are kept on the way: some of their bytes are changed, or what these say. What is under way then is finished. The programs are those that
+stand in FOLDER/crates/NAME/out as the gate built them (FOLDER is this repository); nothing is built but the driver that runs them, in a folder of
+its own. tools/blocks.py says how it is seen which basic blocks an input is the first to reach: a breakpoint stands at each that none has reached.
 
 An input that reached a block is made smaller, as long as it still does. What the models say of it (tools/reached.py) becomes a row of
 `reached.txt` among the stories of its crate, or in tools/program/, where they judge it and it is small. The answers to every input are

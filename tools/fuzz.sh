@@ -3,9 +3,9 @@
 #
 #     tools/fuzz.sh [SECONDS] [FOLDER] [TARGET ..]
 #
-# Headers, batches, uploads, calls, messages and schedules go to the programs of stories, and files and conversations to `flightd`. SECONDS (60)
-# are those of each of these targets, or of those that are named, and the programs are FOLDER/crates/NAME/out/NAME, those of this repository where no folder is named. It
-# wants x86-64, cc and objdump (GNU binutils). tools/fuzz.py says what is drawn, kept and printed; the status is 1 where an input ended
-# a program, kept it from ending, was answered otherwise than the model says, or cost more than is allowed for its size.
+# Headers, batches, uploads, calls, messages and schedules go to the programs of stories, and files and conversations to `flightd`. SECONDS
+# (60) are those of each TARGET, or of all of them, and the programs are FOLDER/crates/NAME/out/NAME, those of this repository where no folder
+# is named. It wants x86-64, cc and objdump (GNU binutils). tools/fuzz.py says what is drawn, kept and printed; the status is 1 where an
+# input ended a program, kept it from ending, was answered otherwise than the model says, or cost more than is allowed for its size.
 set -euo pipefail
 exec python3 -B "$(dirname "${BASH_SOURCE[0]}")/fuzz.py" "$@"

@@ -9,8 +9,8 @@
  *
  * Each line of standard input asks for a run: a number N, and numbers of blocks, from 0 on, that are given their breakpoint again before.
  * The program reads the file N.input of the folder that it is called in, on standard input, and writes N.output and N.errors; WORDs are its
- * arguments, of which `@` stands for the name of that file. A line answers: how the run ended, as wait(2) has it, the microseconds of the processor, the most memory in KiB, and the
- * numbers of the blocks. */
+ * arguments, of which `@` stands for the name of that file. A line answers: how the run ended, as wait(2) has it, the microseconds of the
+ * processor, the most memory in KiB, and the numbers of the blocks. */
 #define _GNU_SOURCE
 #include <errno.h>
 #include <fcntl.h>
