@@ -234,7 +234,7 @@ def records(file):
                 raise Faults("CutShort")
             lines.append(record_line(len(lines), parts_of(file[at + 5 : end], RECORD, [], IN_RECORD)))
         except Faults:
-            return 1, "", [f"flightd: Damaged\nflightd: byte {at}: no whole record stands behind this gate, which is open\n"]
+            return 1, "", [f"flightd: Damaged\nbyte {at}: no whole record stands behind this gate, which is open\n"]
         at = end
     return 0, "".join(f"{it}\n" for it in lines), [""]
 

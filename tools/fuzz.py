@@ -285,7 +285,8 @@ class Exploration:
     # what reached something new
 
     def made_small(self, case, blocks):
-        """The smallest case that was found to reach these blocks too, None where this one does not do so each time."""
+        """The smallest case that was found to reach these blocks too, None where this one does not do so each time, or that one is told
+        otherwise than the model says."""
         best, tried, candidates = None, 0, iter([case.lines])
         while tried < MOST_SMALLER:
             drawn = filter(None, map(self.case, candidates))
@@ -300,8 +301,10 @@ class Exploration:
                 best, candidates = hit, smaller(hit.lines)
             elif best is None:
                 return None
-        self.traced.run([best.given], blocks)
-        return best
+        (outcome,) = self.traced.run([best.given], blocks)
+        wrong = ended_wrong(outcome) or self.asks.alone(best, outcome)
+        self.look(best, wrong)
+        return None if wrong else best
 
     def keep(self, found):
         """Keeps cases that reached blocks which none had reached, and those that are come upon where they are made smaller."""
