@@ -38,8 +38,8 @@ from repeated import ended
 from targets import targets
 
 SEED = 20261128
-LEAST_SECONDS, SECONDS_A_BYTE = 0.1, 5e-6
-LEAST_HELD, HELD_A_BYTE = 24 << 20, 128
+LEAST_SECONDS, SECONDS_A_BYTE = 0.03, 1e-6
+LEAST_HELD, HELD_A_BYTE = 16 << 20, 64
 # A run that has not ended after so many seconds of the clock hangs.
 MOST_WAIT = 30
 # So many inputs are asked of a program of stories in one run, and so many runs are asked for at once.

@@ -17,7 +17,7 @@ import calls
 import headers_model
 import tables
 from calls_model import Unjudged
-from files_model import COMMANDS, audit
+from files_model import COMMANDS, MOST_SLOTS, audit
 from paxos_model import told_message, told_record
 from runs import digest, told_line
 from runs_model import Run, Upload
@@ -128,6 +128,8 @@ class Runs:
             self.nodes, self.uploads, self.events = tuple(map(int, rest)), [], []
         elif word == "upload":
             self.uploads.append(self.upload(batches.bytes_of(rest[0])))
+        elif word in ("play", "digest") and not 1 <= self.nodes[1] <= MOST_SLOTS:
+            return command, ["BadConfig"]
         elif word == "play":
             return command, [told_line(f"{place} {line}") for place, line in enumerate(self.played()[1])]
         elif word == "digest":
@@ -141,11 +143,12 @@ class Runs:
     def upload(text):
         """The upload of one column of Int8 that the bytes are."""
         found = upload_of(text)
-        column = found.schema["fields"][0]
-        values = [[None if it is None else int.from_bytes(it, "little", signed=True) for it in cells] for _, (cells,) in found.batches]
-        upload = Upload(found.table.decode(), found.id.hex(), column["name"], values)
+        if found is None or len(found.schema["fields"]) != 1:
+            raise LookupError(text)
+        batches_in = [[None if it is None else int.from_bytes(it, "little", signed=True) for it in cells] for _, (cells,) in found.batches]
+        upload = Upload(found.table.decode(), found.id.hex(), found.schema["fields"][0]["name"], batches_in)
         if upload.text != text:
-            raise Unjudged(text)
+            raise LookupError(text)
         return upload
 
     def played(self):
