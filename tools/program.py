@@ -264,7 +264,7 @@ def reached(program):
     for command, given, status, output, said in rows("reached.txt", 5):
         given, output = (bytes.fromhex(it.strip("-")) for it in (given, output))
         outcome = program.run([command], given) if command == "acceptor" else program.over(command, given)
-        lines = [it.replace(" / ", "\n").encode() + b"\n" * bool(it) for it in said.split(" or ")]
+        lines = [it.replace(" / ", "\n").encode() + b"\n" * bool(it) for it in said.split(" // ")]
         yield f"{command} {given.hex()}", outcome[:2] == (int(status), output) and outcome[2] in lines
 
 

@@ -179,7 +179,7 @@ def file_row(command, given):
     """A row of a file: the command, its bytes, and how that ends: the status, the output, and the lines of which one is said."""
     status, output, said = COMMANDS[command](given)
     output = output if isinstance(output, bytes) else output.encode()
-    return "|".join([command, given.hex() or "-", str(status), output.hex() or "-", " or ".join(it.strip().replace("\n", " / ") for it in said)])
+    return "|".join([command, given.hex() or "-", str(status), output.hex() or "-", " // ".join(it.strip().replace("\n", " / ") for it in said)])
 
 
 def retold_files(text):
