@@ -242,7 +242,8 @@ class Exploration:
         answers = iter(answers)
         for case in cases:
             self.look(case, self.asks.wrong(case, list(itertools.islice(answers, case.count))))
-        return self.reachers(cases, set(outcome.reached))
+        # what one of them costs is looked at alone
+        return self.reachers(cases, set(outcome.reached)) + self.one_by_one([self.draw.choice(cases)])
 
     def reachers(self, cases, blocks):
         """Of the cases those that reach these blocks first, each with its own."""

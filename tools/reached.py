@@ -134,6 +134,8 @@ class Runs:
             return command, [told_line(f"{place} {line}") for place, line in enumerate(self.played()[1])]
         elif word == "digest":
             return command, [it.removeprefix("  ") for it in digest(self.played()[0])[1:]]
+        elif word in ("put", "outcome") and int(rest[1]) >= len(self.uploads):
+            raise LookupError(command)
         else:
             self.events.append([word, *(int(it) if it.isdigit() else it for it in rest)])
         return command, []
