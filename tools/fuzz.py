@@ -16,7 +16,8 @@ compared with the model's.
 At the end a table has of each target how many inputs ran, how many blocks they reached of how many there are in the program, how many were kept,
 how many ended by a signal, did not end, were answered otherwise than the model says, or cost too much, and the dearest one. An input costs too
 much where it takes more of the processor than LEAST_SECONDS and SECONDS_A_BYTE for each byte that is read or written, or holds more memory than
-LEAST_HELD and HELD_A_BYTE for each. Each such input is printed, and then the status is 1; so it is where a program is not built."""
+LEAST_HELD and HELD_A_BYTE for each. Each such input is printed, and then the status is 1; so it is where a program is not built.
+Each run draws others."""
 import collections
 import contextlib
 import importlib
@@ -37,7 +38,6 @@ from reached import PROGRAM_ROWS, TOLD, TOP, Unjudged, file_row, plain
 from repeated import ended
 from targets import targets
 
-SEED = 20261128
 LEAST_SECONDS, SECONDS_A_BYTE = 0.03, 1e-6
 LEAST_HELD, HELD_A_BYTE = 16 << 20, 64
 # A run that has not ended after so many seconds of the clock hangs.
@@ -216,7 +216,7 @@ class Exploration:
     """The inputs of a target: those to draw from, those that were kept, and what was counted."""
 
     def __init__(self, target, program, folder):
-        self.target, self.draw = target, random.Random(f"{SEED} {target.name} {time.time_ns()}")
+        self.target, self.draw = target, random.Random()
         self.asks = (Files if target.crate == "flightd" else Stories)(target)
         self.traced = Traced(program, target.words, folder, MOST_WAIT)
         self.reached, self.pool, self.rows, self.pending = set(), [], [], []

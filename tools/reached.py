@@ -23,7 +23,7 @@ from runs import digest, told_line
 from runs_model import Run, Upload
 from tables_model import upload_of
 from tellers.wire import MESSAGES
-from wire_model import told, told_as, told_fields, told_frames, told_front
+from wire_model import Faults, told, told_as, told_fields, told_frames, told_front
 
 TOP = Path(__file__).resolve().parent.parent
 PROGRAM_ROWS = TOP / "tools" / "program" / "reached.txt"
@@ -83,9 +83,12 @@ class Headers(Texts):
     @staticmethod
     def respelled(digits):
         text = batches.bytes_of(digits)
-        written = headers_model.written(headers_model.header_of(text))
+        try:
+            written = headers_model.written(headers_model.header_of(text))
+        except Faults:
+            written = None
         if written is None:
-            raise Unjudged(digits)
+            raise LookupError(digits)
         return ["the same bytes" if written == text.hex() else written]
 
 

@@ -138,8 +138,10 @@ class BatchTarget(Target):
     seeds = [["schema Int(8,true)", "read 2 (2,0) | (0,0) (0,2) | 8 0102000000000000"], ["schema Utf8", "read 0 (0,0) | (0,0) (0,0) (0,0) | 0"]]
 
     def other(self, draw, lines, _):
-        words, (head, body) = lines[0].partition(" ")[2], batch_of(lines[1])
-        if draw.random() < 0.2:
+        words = lines[0].partition(" ")[2]
+        if len(lines) > 1 and draw.random() < 0.8:
+            head, body = batch_of(lines[1])
+        else:
             words, head, body = self.laid_out(draw)
         for _ in range(draw.choice((0, 1, 1, 1, 2))):
             words, head, body = self.changed(draw, words, head, body)
@@ -210,8 +212,8 @@ class TableTarget(Target):
     def other(self, draw, lines, _):
         if lines[0].startswith("read-ticket"):
             return [line_of("read-ticket", draw.choice((bytes_changed, fields_changed))(draw, bytes_at_end(lines[0])))]
-        uploads = dict(upload_in(it) for it in lines if it.startswith("upload"))
-        rest = [it for it in lines[len(uploads) :] if it != "new"]
+        uploads = dict(upload_in(it) for it in lines if it.startswith("upload")) or {"u": POOL["u"]}
+        rest = [it for it in lines if not it.startswith("upload") and it != "new"]
         if not rest or draw.random() < 0.5:
             name = draw.choice(sorted(uploads))
             uploads[name] = upload_changed(draw, uploads[name])
@@ -263,7 +265,8 @@ class CallTarget(Target):
     seeds = [service_lines(f"new 3 {LOCATIONS[0]}", [it]) for it in (PUTS["u"], *QUESTIONS.values())]
 
     def other(self, draw, lines, others):
-        service, asked, known = lines[0], calls_in(lines), calls_in(others) + CALLS
+        service = next((it for it in lines if it.startswith("new")), "new 3")
+        asked, known = calls_in(lines), calls_in(others) + CALLS
         if draw.random() < 0.1:
             service = f"new {draw.choice((0, 1, 3, 3, 3))} {' '.join(LOCATIONS[: draw.choice((0, 1, 1, 3))])}".rstrip()
         if asked and draw.random() < 0.75:
