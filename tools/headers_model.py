@@ -188,15 +188,19 @@ class Reader:
         said["buffers"] = self.pairs(table, 2, "offset", "length")
         return said | ({} if self.tried(self.slot, table, 3) is None else {"compression": {}})
 
+    def header_table(self, message):
+        table = self.reference_in(message, 2)
+        if table is None:
+            raise Faults("BadHeader")
+        return table
+
     def message(self):
         """The header, as far as nothing is wrong with it."""
         message = self.follow(0)
         version = self.tried(self.number_in, message, 0, 2)
         self.found |= {"Version"} if version not in (None, VERSION_5) else set()
-        kind, table = self.tried(self.number_in, message, 1, 1), self.tried(self.reference_in, message, 2)
+        kind, table = self.tried(self.number_in, message, 1, 1), self.tried(self.header_table, message)
         self.found |= {"Dictionary"} if kind == DICTIONARY else {"BadHeader"} if kind not in (None, SCHEMA, BATCH) else set()
-        if table is None and not self.found:
-            self.found.add("BadHeader")
         if self.found:
             return None
         said = {"version": "V5", "header_type": "Schema" if kind == SCHEMA else "RecordBatch"}

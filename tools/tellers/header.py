@@ -29,7 +29,7 @@ def parameter_shown(value):
         return str(value)
     name, held = value
     if name == "Some":
-        return f'"{held[0]}"'
+        return name_shown(held[0])
     return "-" if name == "None" else WIDTHS.get(name, name.upper())
 
 
