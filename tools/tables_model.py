@@ -74,7 +74,8 @@ def parameter(text, table, name, place, word, default):
         return string(text, table, place)
     if found is None:
         return default
-    if word in ("unit", "precision"):
+    # the precision of a Decimal is a number, and that of a FloatingPoint a name
+    if word == "unit" or name == "FloatingPoint":
         names = canonical.VALUES.get(name, "SECOND MILLISECOND MICROSECOND NANOSECOND").split()
         return names[number_in(text, found, 2)]
     return bool(number_in(text, found, 1)) if word == "is_signed" else number_in(text, found, 4, True)
