@@ -37,8 +37,9 @@ from pathlib import Path
 from servers import MOST_CONNECTIONS, PROGRAM, Wrong, felzoren, learned, look, request_of, reset, started
 from felzoren import bytes_field, data_message, frame, schema_header
 
-# The limits of docs/SECURITY.md, and how much later than SILENCE_SECONDS a connection may be seen to end.
-SILENCE_SECONDS, LATE_SECONDS = 60, 10
+# The limits of docs/SECURITY.md, how much later than SILENCE_SECONDS a connection may be seen to end, and for how much longer that is
+# waited for.
+SILENCE_SECONDS, LATE_SECONDS, WAIT_SECONDS = 60, 10, 300
 FIRST_ROOM, MAX_FRAME, MOST_LEFT, MOST_HELD = 64 << 10, 4 << 20, 32 << 20, 48 << 20
 # What the figures of the kernel may differ by beside a bound in memory; and how long it takes until connections are there, or have gone.
 SLACK, SETTLE_SECONDS = 1 << 20, 2
@@ -93,15 +94,13 @@ class Served:
         """So many calls hold at most what the page says."""
         self.at_most("bytes held", self.look().most, self.before.most + calls * MOST_HELD)
 
-    def comes_to(self, threads, seconds):
-        """How long it takes until the server has no more threads than so many."""
-        start = time.monotonic()
-        while self.look().threads > threads:
-            if time.monotonic() - start > seconds:
-                self.wrong.append(f"{self.look().threads} threads after {seconds} s, and at most {threads}")
-                break
+    def ended(self, start, seconds):
+        """How long after the start all connections have ended, as the threads say, which is at most so long."""
+        while self.look().threads > self.before.threads and time.monotonic() - start < seconds + WAIT_SECONDS:
             time.sleep(0.1)
-        return time.monotonic() - start
+        found = time.monotonic() - start
+        self.at_most("seconds until the connections have ended", found, seconds)
+        return found
 
 
 @contextlib.contextmanager
@@ -322,10 +321,10 @@ def unread(served):
         time.sleep(SETTLE_SECONDS)
         served.is_one("threads more", served.look().threads - served.before.threads, READERS)
         yield True
-        served.comes_to(served.before.threads, start + SILENCE_SECONDS + LATE_SECONDS - time.monotonic())
-        seconds = time.monotonic() - start
+        held = served.look().now - served.before.now
+        seconds = served.ended(start, SILENCE_SECONDS + LATE_SECONDS)
         served.held(READERS)
-    return f"{READERS} ended after {seconds:.0f} s"
+    return f"the last ended after {seconds:.0f} s; {held / 2**20 / READERS:.1f} MiB held for each"
 
 
 def read_and_reset(served, request):
@@ -347,9 +346,9 @@ def resetting(served):
     peers = Peers(RESETTERS, read_and_reset, served, large_table(served))
     yield True
     answers = peers.end()
-    seconds = served.comes_to(served.before.threads, GOOD_SECONDS)
+    seconds = served.ended(time.monotonic(), GOOD_SECONDS)
     served.held(RESETTERS)
-    return f"{counted(answers)}; no thread was left after {seconds:.1f} s"
+    return f"{counted(answers)}; the last ended {seconds:.1f} s later"
 
 
 def too_large(served):
