@@ -331,7 +331,7 @@ class Stories(unittest.TestCase):
             elif command.startswith("read"):
                 with self.subTest(command[:200], schema=str(schema)[:100]):
                     counts[self.check_batch(schema, BatchStory(schema, command, lines))] += 1
-        self.assertEqual(sum(counts.values()), 897)
+        self.assertEqual(sum(counts.values()), 913)
         self.assertGreater(min(counts.values()), 150, counts)
 
     def check_batch(self, schema, story):
