@@ -40,8 +40,6 @@ from felzoren import bytes_field, data_message, frame, schema_header
 # The limits of docs/SECURITY.md, how much later than SILENCE_SECONDS a connection may be seen to end, and for how much longer that is
 # waited for.
 SILENCE_SECONDS, LATE_SECONDS, WAIT_SECONDS = 60, 10, 300
-# How often the server waits so long for a peer that reads nothing of a large answer: the system takes some more of it behind each wait.
-READER_WAITS = 3
 FIRST_ROOM, MAX_FRAME, MOST_LEFT, MOST_HELD = 64 << 10, 4 << 20, 32 << 20, 48 << 20
 # What the figures of the kernel may differ by beside a bound in memory; and how long it takes until connections are there, or have gone.
 SLACK, SETTLE_SECONDS = 1 << 20, 2
@@ -324,7 +322,7 @@ def unread(served):
         served.is_one("threads more", served.look().threads - served.before.threads, READERS)
         yield True
         held = served.look().now - served.before.now
-        seconds = served.ended(start, READER_WAITS * SILENCE_SECONDS + LATE_SECONDS)
+        seconds = served.ended(start, SILENCE_SECONDS + LATE_SECONDS)
         served.held(READERS)
     return f"the last ended after {seconds:.0f} s; {held / 2**20 / READERS:.1f} MiB held for each"
 
