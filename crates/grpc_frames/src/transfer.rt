@@ -83,8 +83,10 @@ pub fn read_payload<R: Read>(alloc: Global, r: &mut R, len: usize) -> Result<Vec
 /// Reads more bytes behind those that the vector holds, on the way to `len` bytes: until it holds twice as many, or
 /// [`FIRST_ROOM`] where that is more, or all `len`. It never asks for room for more bytes than these.
 ///
-/// The faults are those of [`read_payload`]. After one, what the vector held stands at its front still.
+/// The faults are those of [`read_payload`]. What the vector held stands at its front still, after a fault too; behind it
+/// may then stand anything.
 pub fn read_more<R: Read>(r: &mut R, bytes: &mut Vec<u8>, len: usize) -> Result<(), FrameFault>
+    ensures front { StartsWith bytes.new.items bytes.old.items }
     ensures grown { OnOk result (vec_len bytes.new ≡ next_len (vec_len bytes.old) len) }
     ensures room { vec_capacity bytes.new ≤ max (vec_capacity bytes.old) (next_len (vec_len bytes.old) len) }
     ensures moved { OnOk result (WhereKnown (R.remaining r.old) (R.remaining r.new)
