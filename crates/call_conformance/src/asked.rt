@@ -30,7 +30,7 @@ const NINTH: &str = "00000000160a140a10000102030405060708090a0b0c0d0e0f1009";
 /// The trailer of a call that was answered, and one of status 14.
 pub(crate) const OK: &str = "800000000100";
 
-const UNAVAILABLE: &str = "800000000c0e556e617661696c61626c65";
+pub(crate) const UNAVAILABLE: &str = "800000000c0e556e617661696c61626c65";
 
 /// A FlightInfo in another spelling: ordered by 255, a field that is not known, and five rows.
 pub(crate) const TOLD: &str = "0000000007200330ff012005";

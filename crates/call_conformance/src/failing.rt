@@ -5,7 +5,7 @@ use crate::gotten::ticket;
 use crate::served::{IO_TRAILER, answer, put};
 use crate::streams::{Broken, Narrow, Slow, Tight};
 use crate::support::{backend, check, upload};
-use client_calls::{ClientFault, call_get, call_info, call_list, call_put};
+use client_calls::{ClientFault, call_get, call_get_frames, call_info, call_list, call_put};
 use flight_calls::{CallFault, serve_call};
 use std::alloc::Global;
 use std::io::{Read, Write};
@@ -14,11 +14,13 @@ use table_backend::TableBackend;
 
 /// What is asked of a service that has one upload.
 #[derive(Clone, Copy, Debug, PartialEq, Eq)]
-enum Asked {
+pub(crate) enum Asked {
     /// DoPut of the same upload once more.
     Put,
     /// DoGet of its version.
     Get,
+    /// The same, of which the frames are given as they come.
+    Frames,
     /// GetFlightInfo of its table.
     Info,
     /// ListFlights.
@@ -37,7 +39,7 @@ fn ended<T: Drop>(told: Result<T, ClientFault>) -> Result<(), ClientFault> {
 }
 
 /// Makes the call over these streams.
-fn ask<R: Read, W: Write>(
+pub(crate) fn ask<R: Read, W: Write>(
     alloc: Global,
     asked: Asked,
     r: &mut R,
@@ -46,6 +48,7 @@ fn ask<R: Read, W: Write>(
     match asked {
         Asked::Put => Ok(ended(call_put(alloc, r, w, &upload(alloc)?))),
         Asked::Get => Ok(ended(call_get(alloc, r, w, &ticket(alloc, 1)?))),
+        Asked::Frames => Ok(ended(call_get_frames(alloc, r, w, &ticket(alloc, 1)?))),
         Asked::Info => Ok(ended(call_info(alloc, r, w, "t"))),
         Asked::List => Ok(ended(call_list(alloc, r, w))),
     }
@@ -69,7 +72,7 @@ fn service(rt: &HostRuntime) -> Result<Box<TableBackend>, Fail> {
 }
 
 /// What the service answers to the call.
-fn answered(rt: &HostRuntime, asked: Asked) -> Result<Vec<u8>, Fail> {
+pub(crate) fn answered(rt: &HostRuntime, asked: Asked) -> Result<Vec<u8>, Fail> {
     let mut backend = service(rt)?;
     answer(
         rt.alloc(),
@@ -224,6 +227,7 @@ fn each_read_and_write_of_the_service_fails(rt: HostRuntime) -> Result<(), Fail>
 fn each_read_and_write_of_the_client_fails(rt: HostRuntime) -> Result<(), Fail> {
     asking_fails(&rt, Asked::Put)?;
     asking_fails(&rt, Asked::Get)?;
+    asking_fails(&rt, Asked::Frames)?;
     asking_fails(&rt, Asked::Info)?;
     asking_fails(&rt, Asked::List)
 }

@@ -13,6 +13,8 @@ mod failing;
 #[cfg(test)]
 mod gotten;
 #[cfg(test)]
+mod left_unread;
+#[cfg(test)]
 mod refused_memory;
 #[cfg(test)]
 mod samples;

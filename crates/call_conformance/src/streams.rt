@@ -51,6 +51,24 @@ impl<'a> Read for Slow<'a> {
     }
 }
 
+/// A reader that gives these bytes, no more than so many in each read, and then ends or fails.
+#[derive(Drop)]
+pub(crate) struct Portions<'a> {
+    pub(crate) left: &'a [u8],
+    pub(crate) most: usize,
+    pub(crate) fails: bool,
+}
+
+impl<'a> Read for Portions<'a> {
+    fn read(&mut self, room: &mut [u8]) -> io::Result<usize> {
+        if self.fails && self.left.is_empty() {
+            return Err(io::ErrorKind::ConnectionReset.into());
+        }
+        let most = room.len().min(self.most);
+        self.left.read(&mut room[..most])
+    }
+}
+
 /// A writer that takes one byte in each write.
 #[derive(Drop)]
 pub(crate) struct Tight {

@@ -119,11 +119,12 @@ module _ (law : NoFrameBeginsAnother) (Holds : List (List ℕ) → Type 0) (coun
   ok_fits : FitsFrame (0 ∷ [])
   ok_fits = omega arith
 
-  pub no_part : (IsResult : List (List ℕ) → Type 0) → IsNoPart now → IsNoAnswer IsResult here
-  no_part IsResult none = record {
+  pub no_part : (IsResult : List (List ℕ) → Type 0) (after : List ℕ) → IsNoPart now → IsNoAnswer IsResult here after
+  no_part IsResult after none = record {
     no_result = λ all rest a is. ends_nowhere all (0 ∷ []) rest none ok_fits (inl refl) a.fit (answer_parts all rest a);
     no_refusal =
         λ code words rest r. ends_nowhere r.messages (code ∷ words) rest none r.trailer_fits (inr (code, words, (refl, r.not_ok, r.utf8))) r.fit r.parts;
+    left = λ all rest a. absurd (ends_nowhere all (0 ∷ []) rest none ok_fits (inl refl) a.fit (answer_parts all rest a));
   }
 
   longer : (all : List (List ℕ)) (end : List ℕ) → GoesOn h.messages all now end → count ≤ length all
@@ -134,16 +135,20 @@ module _ (law : NoFrameBeginsAnother) (Holds : List (List ℕ) → Type 0) (coun
       omega (arith, long, sum, is)
 
   -- as many messages came as there may be frames
-  pub too_many : (IsResult : List (List ℕ) → Type 0) → count ≡ frames_limit → IsNoAnswer IsResult here
-  too_many IsResult full = record {
-    no_result = λ all rest a is.
-        let long = longer all (ok_trailer ++ rest) (trailer_goes_on all (0 ∷ []) rest a.fit (answer_parts all rest a)) in
-        let few = a.few in
-        absurd (omega (arith, long, full, few));
+  no_room : (all : List (List ℕ)) (rest : List ℕ) → count ≡ frames_limit → IsAnswer here all rest → ⊥
+  no_room all rest full a =
+      let long = longer all (ok_trailer ++ rest) (trailer_goes_on all (0 ∷ []) rest a.fit (answer_parts all rest a)) in
+      let few = a.few in
+      omega (arith, long, full, few)
+
+  pub too_many : (IsResult : List (List ℕ) → Type 0) (after : List ℕ) → count ≡ frames_limit → IsNoAnswer IsResult here after
+  too_many IsResult after full = record {
+    no_result = λ all rest a is. no_room all rest full a;
     no_refusal = λ code words rest r.
         let long = longer r.messages (trailer_text code words ++ rest) (trailer_goes_on r.messages (code ∷ words) rest r.fit r.parts) in
         let few = r.few in
         absurd (omega (arith, long, full, few));
+    left = λ all rest a. absurd (no_room all rest full a);
   }
 
   within : count < frames_limit → length h.messages < frames_limit
@@ -172,7 +177,7 @@ module _ (law : NoFrameBeginsAnother) (Holds : List (List ℕ) → Type 0) (coun
   }
 
   -- that of an answer came, and what was held is no result
-  pub is_no_result : (IsResult : List (List ℕ) → Type 0) (after : List ℕ) → now ≡ ok_trailer ++ after → (IsResult h.messages → ⊥) → IsNoAnswer IsResult here
+  pub is_no_result : (IsResult : List (List ℕ) → Type 0) (after : List ℕ) → now ≡ ok_trailer ++ after → (IsResult h.messages → ⊥) → IsNoAnswer IsResult here after
   is_no_result IsResult after end none = record {
     no_result = λ all rest a is.
         let on = trailer_goes_on all (0 ∷ []) rest a.fit (answer_parts all rest a) in
@@ -183,6 +188,11 @@ module _ (law : NoFrameBeginsAnother) (Holds : List (List ℕ) → Type 0) (coun
         let on = trailer_goes_on r.messages (code ∷ words) rest r.fit r.parts in
         let alone = end_alone law on.more (0 ∷ []) (code ∷ words) after rest ok_fits r.trailer_fits (sym end ∙ on.parts) in
         r.not_ok (sym (ap (λ (l : List ℕ). get_or l 0 0) alone.1));
+    left = λ all rest a.
+        let on = trailer_goes_on all (0 ∷ []) rest a.fit (answer_parts all rest a) in
+        let alone = end_alone law on.more (0 ∷ []) (0 ∷ []) after rest ok_fits ok_fits (sym end ∙ on.parts) in
+        let same : ok_trailer ++ after ≡ ok_trailer ++ rest = sym end ∙ on.parts ∙ ap (λ (m : List (List ℕ)). messages_text m ++ (ok_trailer ++ rest)) alone.0 in
+        (law (trailer_frame (0 ∷ [])) (trailer_frame (0 ∷ [])) after rest (is_trailer_frame (0 ∷ []) ok_fits) (is_trailer_frame (0 ∷ []) ok_fits) same).1;
   }
 
 -- ---- where the bytes are told
@@ -245,7 +255,7 @@ module _ {T : Type 0} (law : NoFrameBeginsAnother) (Gives : List (List ℕ) → 
 
   fault_known : (here now after : List ℕ) (fault : ClientFault) → count < frames_limit → HasRead Holds count here now → ReadsPart (Err fault) now after → Receives Gives IsResult (Err fault) here after
   fault_known here now after (faults.Status code words) few h part = is_refused law Holds count here now h code (string_bytes words) after few part
-  fault_known here now after faults.BadAnswer few h part = no_part law Holds count here now h IsResult part
+  fault_known here now after faults.BadAnswer few h part = no_part law Holds count here now h IsResult after part
   fault_known here now after (faults.Call calls.Read) few h part = tt
   fault_known here now after (faults.Call calls.OutOfMemory) few h part = tt
   fault_known here now after (faults.Call calls.Write) few h part = absurd part
@@ -261,7 +271,7 @@ module _ {T : Type 0} (law : NoFrameBeginsAnother) (Gives : List (List ℕ) → 
       → WhereKnown here now (Receives Gives IsResult (Err faults.BadAnswer))
   too_many_came None now full h = tt
   too_many_came (Some here) None full h = absurd h
-  too_many_came (Some here) (Some now) full h = too_many law Holds count here now h IsResult full
+  too_many_came (Some here) (Some now) full h = too_many law Holds count here now h IsResult now full
 
 -- ---- what the messages of an answer say
 
@@ -276,7 +286,7 @@ as_read text messages rest a = record {
 }
 
 -- the messages of the answer that a text begins with are no result, and so there is none
-pub says_nothing : NoFrameBeginsAnother → (IsResult : List (List ℕ) → Type 0) (text : List ℕ) (messages : List (List ℕ)) (rest : List ℕ) → IsAnswer text messages rest → (IsResult messages → ⊥) → IsNoAnswer IsResult text
+pub says_nothing : NoFrameBeginsAnother → (IsResult : List (List ℕ) → Type 0) (text : List ℕ) (messages : List (List ℕ)) (rest : List ℕ) → IsAnswer text messages rest → (IsResult messages → ⊥) → IsNoAnswer IsResult text rest
 unfolding as_read
 says_nothing law IsResult text messages rest a none =
     is_no_result law (λ all. all ≡ messages) (length messages) text (ok_trailer ++ rest) (as_read text messages rest a) IsResult rest refl none
@@ -302,7 +312,7 @@ fault_of_both : {S T : Type 0} (Gives : List (List ℕ) → S → Type 0) (IsRes
     → Receives Further IsFurther (Err fault) here after
 fault_of_both Gives IsResult Further IsFurther here after (faults.Status code words) h wider = h
 fault_of_both Gives IsResult Further IsFurther here after faults.BadAnswer h wider =
-    record { no_result = λ messages rest a is. h.no_result messages rest a (wider messages is); no_refusal = h.no_refusal }
+    record { no_result = λ messages rest a is. h.no_result messages rest a (wider messages is); no_refusal = h.no_refusal; left = h.left }
 fault_of_both Gives IsResult Further IsFurther here after (faults.Call calls.Write) h wider = h
 fault_of_both Gives IsResult Further IsFurther here after (faults.Call calls.Read) h wider = h
 fault_of_both Gives IsResult Further IsFurther here after (faults.Call calls.OutOfMemory) h wider = h

@@ -33,10 +33,12 @@ pub record IsRefused (text : List ℕ) (code : ℕ) (words rest : List ℕ) : Ty
   pub not_ok : code ≢ 0
   pub utf8 : IsUtf8 words
 
--- the text begins neither with an answer of such messages nor with a refusal
-pub record IsNoAnswer (IsResult : List (List ℕ) → Type 0) (text : List ℕ) : Type 0 where
-  pub no_result : (messages : List (List ℕ)) (rest : List ℕ) → IsAnswer text messages rest → ¬ IsResult messages
-  pub no_refusal : (code : ℕ) (words rest : List ℕ) → ¬ IsRefused text code words rest
+-- The text begins neither with an answer of such messages nor with a refusal. Where it begins with an answer of other messages,
+-- what stands behind its trailer is left.
+pub record IsNoAnswer (IsResult : List (List ℕ) → Type 0) (text rest : List ℕ) : Type 0 where
+  pub no_result : (messages : List (List ℕ)) (behind : List ℕ) → IsAnswer text messages behind → ¬ IsResult messages
+  pub no_refusal : (code : ℕ) (words behind : List ℕ) → ¬ IsRefused text code words behind
+  pub left : (messages : List (List ℕ)) (behind : List ℕ) → IsAnswer text messages behind → rest ≡ behind
 
 -- What a call gives of a text of which this is left, where the messages of an answer that is a result give a value: the value of
 -- an answer, the status and the text of a refusal, or that it is neither. A read that failed and refused memory say nothing of
@@ -44,7 +46,7 @@ pub record IsNoAnswer (IsResult : List (List ℕ) → Type 0) (text : List ℕ) 
 abbrev pub Receives : {T : Type 0} → (List (List ℕ) → T → Type 0) → (List (List ℕ) → Type 0) → Result T ClientFault → List ℕ → List ℕ → Type 0
 Receives Gives IsResult (Ok value) text rest = (messages : List (List ℕ)) × IsAnswer text messages rest × Gives messages value
 Receives Gives IsResult (Err (faults.Status code words)) text rest = IsRefused text code (string_bytes words) rest
-Receives Gives IsResult (Err faults.BadAnswer) text rest = IsNoAnswer IsResult text
+Receives Gives IsResult (Err faults.BadAnswer) text rest = IsNoAnswer IsResult text rest
 Receives Gives IsResult (Err (faults.Call calls.Write)) text rest = rest ≡ text
 Receives Gives IsResult (Err (faults.Call calls.Read)) text rest = Unit {0}
 Receives Gives IsResult (Err (faults.Call calls.OutOfMemory)) text rest = Unit {0}

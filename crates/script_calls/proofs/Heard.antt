@@ -53,7 +53,7 @@ fault_of_both : {S T : Type 0} (Gives : List (List ℕ) → S → Type 0) (IsRes
     → Receives Further IsFurther (Err fault) here after
 fault_of_both Gives IsResult Further IsFurther here after (faults.Status code words) h wider = h
 fault_of_both Gives IsResult Further IsFurther here after faults.BadAnswer h wider =
-    record { no_result = λ messages rest a is. h.no_result messages rest a (wider messages is); no_refusal = h.no_refusal }
+    record { no_result = λ messages rest a is. h.no_result messages rest a (wider messages is); no_refusal = h.no_refusal; left = h.left }
 fault_of_both Gives IsResult Further IsFurther here after (faults.Call calls.Write) h wider = h
 fault_of_both Gives IsResult Further IsFurther here after (faults.Call calls.Read) h wider = h
 fault_of_both Gives IsResult Further IsFurther here after (faults.Call calls.OutOfMemory) h wider = h
@@ -89,7 +89,7 @@ module _ (one : (text rest after : List ℕ) (messages others : List (List ℕ))
       meaning info_descriptor q.0 v w (subst (λ (m : List ℕ). IsMessage info_descriptor m v) (head_is p.0 q.0 (sym p.1 ∙ q.1)) p.2) q.2
 
   tells_none : (text rest : List ℕ) (info : FlightInfo) → InfoSays table (info_values info) (Err faults.BadAnswer) → (messages : List (List ℕ)) → IsAnswer text messages rest
-      → GivesInfo messages info → IsNoAnswer (CanTell (informs table)) text
+      → GivesInfo messages info → IsNoAnswer (CanTell (informs table)) text rest
   tells_none text rest info says messages a gives = record {
     no_result = λ others after b can.
         let same = one text rest after messages others a b in
@@ -98,6 +98,7 @@ module _ (one : (text rest after : List ℕ) (messages others : List (List ℕ))
         = means_one messages tells.values (info_values info) (subst (λ (ms : List (List ℕ)). MeansInfo ms tells.values) same.0 tells.means) gives in
         says can.0 can.1 (rw values at tells.served);
     no_refusal = λ code words after r. apart text words rest after messages code a r;
+    left = λ others behind b. (one text rest behind messages others a b).1;
   }
 
   heard : (info : FlightInfo) (r : Result Told ClientFault) (text rest : List ℕ) → InfoSays table (info_values info) r → Receives GivesInfo HasInfo (Ok info) text rest
