@@ -124,3 +124,41 @@ fn lists_and_compares(rt: HostRuntime) -> Result<(), Fail> {
     assert!(rt; got.as_str() == wanted, "{got}");
     Ok(())
 }
+
+/// The lines of version 2 of two uploads with a column of floats, where the last float of the second comes as a NaN
+/// with a sign: what is printed and reported.
+fn got_with_a_sign(alloc: Global, backend: &mut TableBackend) -> Result<String, Fail> {
+    let mut connect = Scripted::with_one_more(alloc, &[])?;
+    drop(done(alloc, &mut connect, Word::Get(Some(2)))?);
+    let Some(request) = connect.sent.pop() else {
+        return Err(Fail::from("nothing sent"));
+    };
+    let mut answer = answer(alloc, backend, &request)?;
+    // The bits of 1.5 are 3ff8 and zeros, from the last byte of the message on. The trailer behind it has six bytes.
+    let place = answer.len().saturating_sub(7);
+    let Some(last) = answer.get_mut(place) else {
+        return Err(Fail::from("no answer"));
+    };
+    if *last != 0x3f {
+        return Err(Fail::from("no float"));
+    }
+    *last = 0xff;
+    let answers = vec![in alloc; answer]?;
+    let mut connect = Scripted::with_one_more(alloc, &answers)?;
+    done(alloc, &mut connect, Word::Get(Some(2)))
+}
+
+/// A NaN with a sign has no line: the rows of its batch are not printed, and those of the batch before are.
+#[test]
+fn prints_no_rows_of_a_batch_without_lines(rt: HostRuntime) -> Result<(), Fail> {
+    let alloc = rt.alloc();
+    let mut backend = backend(&rt)?;
+    let one = "{\"a\":0.5}\n";
+    let two = "{\"a\":0.25}\n{\"a\":1.5}\n";
+    served(alloc, &mut backend, Word::Put(1, one))?;
+    served(alloc, &mut backend, Word::Put(2, two))?;
+    let got = got_with_a_sign(alloc, &mut backend)?;
+    let wanted = "1 {\"a\":0.5}\nflightd: line 2, field 0: OutOfRange\n";
+    assert!(rt; got.as_str() == wanted, "{got}");
+    Ok(())
+}

@@ -1,7 +1,7 @@
 -- Columns of the rows that values tell.
 use Rattle.std.proofs.Common.{◌≡◌, ℕ, zero, suc, ◌+◌, ◌<◌, List, [], ◌∷◌, ◌++◌, map, length, get_or, take, refl, sym, ap, ap₂, subst, ◌∙◌, arith}
 use Rattle.std.specs.List.{AllByRecursion, AllZip}
-use Rattle.serde_json.specs.Data.{Data}
+use Rattle.serde_json.specs.Data.{Data, null}
 use Rattle.header_types.specs.declared.schema.Field.{Field}
 use Rattle.header_types.specs.Fields.{Tree, Forest, no_more, more}
 use Rattle.header_types.specs.Views.{tree_of, forest_of}
@@ -16,7 +16,7 @@ use Rattle.std.proofs.lemmas.List.{take_more, take_all}
 use Rattle.json_rows.specs.Cells.{TellsCell, TellsMembers, forest_in, name_of, told_at}
 use Rattle.json_rows.specs.Lines.{TellsColumn, TellsColumns, TellsSomeRow}
 use Rattle.json_rows.proofs.Told.{TellsMember, members_zip}
-use Rattle.json_rows.proofs.Zipped.{zipped_at, zip_push}
+use Rattle.json_rows.proofs.Zipped.{pair_at, zipped_at, zip_push}
 
 module _ {A B : Type 0} (P : B → Type 0) (see : A → B) where
   pub all_at : (xs : List A) (i : ℕ) (x : A) → AllByRecursion P (map see xs) → i < length xs → x ≡ get_or xs i x → P (see x)
@@ -29,6 +29,11 @@ module _ {A : Type 0} (P : A → Type 0) where
   item_at [] i x all there is = let never : ⊥ = omega arith in absurd never
   item_at (y ∷ xs) zero x all there is = subst P (sym is) all.0
   item_at (y ∷ xs) (suc i) x all there is = item_at xs i x all.1 (omega arith) is
+
+  pub at_place : (xs : List A) (i : ℕ) (x : A) → AllByRecursion P xs → i < length xs → P (get_or xs i x)
+  at_place [] i x all there = let never : ⊥ = omega arith in absurd never
+  at_place (y ∷ xs) zero x all there = all.0
+  at_place (y ∷ xs) (suc i) x all there = at_place xs i x all.1 (omega arith)
 
 -- a row has a cell of each field
 pub column_of_rows : (fields : List Field) (i : ℕ) (x : Field) (ds : List Data) → i < length fields → x ≡ get_or fields i x
@@ -63,6 +68,17 @@ no_columns see [] [] same = tt
 no_columns see [] (column ∷ columns) same = let never : ⊥ = omega (arith, same) in absurd never
 no_columns see (field ∷ fields) [] same = let never : ⊥ = omega (arith, same) in absurd never
 no_columns see (field ∷ fields) (column ∷ columns) same = (tt, no_columns see fields columns (omega (arith, same)))
+
+-- the value of a row tells its cells
+pub row_told : {A : Type 0} (see : A → List Cell) (fields : Forest) (values : List Data) (columns : List A) (row : ℕ) → AllByRecursion (λ column. row < length (see column)) columns
+    → TellsColumns fields values (map see columns) → TellsMembers fields (get_or values row null) (map (λ column. get_or (see column) row null_cell) columns)
+row_told see no_more values [] row long told = tt
+row_told see no_more values (column ∷ columns) row long told = absurd told
+row_told see (more t rest) values [] row long told = absurd told
+row_told see (more t rest) values (column ∷ columns) row long told = (
+  pair_at (λ d cell. TellsCell t (told_at (name_of t) d) cell) values (see column) row null null_cell told.0 long.0,
+  row_told see rest values columns row long.1 told.1,
+)
 
 -- all rows
 pub columns_whole : {A : Type 0} (see : A → List Cell) (rows : ℕ) (columns : List A) → AllByRecursion (λ column. length (see column) ≡ rows) columns → map (take rows) (map see columns) ≡ map see columns

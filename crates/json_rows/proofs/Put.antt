@@ -1,5 +1,5 @@
 -- Texts of cells with others inside them, one part at a time.
-use Rattle.std.proofs.Common.{◌≡◌, inl, inr, ℕ, zero, suc, ◌+◌, ◌<◌, ◌≤◌, List, [], ◌∷◌, ◌++◌, map, drop, length, get_or, Option, Some, refl, sym, ap, subst, ◌∙◌, arith, append_assoc}
+use Rattle.std.proofs.Common.{◌≡◌, inl, inr, ℕ, zero, suc, ◌+◌, ◌<◌, ◌≤◌, List, [], ◌∷◌, ◌++◌, map, drop, length, get_or, Option, Some, refl, sym, ap, subst, ◌∙◌, arith, append_assoc, append-nil}
 use Rattle.std.specs.Prelude.{option_map, option_and_then, unwrap_or, max, true, ◌==◌}
 use Rattle.std.proofs.lemmas.Bool.{eqb-true}
 use Rattle.std.specs.List.{AllZip}
@@ -28,7 +28,7 @@ use Rattle.batch_cells.specs.declared.cell.Cell.{Cell as Plain}
 use Rattle.batch_cells.specs.CellViews.{cell_of}
 use Rattle.column_building.proofs.Shaped.{dropped}
 use Rattle.json_rows.specs.Cells.{TellsCell, TellsElements, TellsFields, TellsMembers, IsNameOf, AreNamesOf, forest_in, name_of}
-use Rattle.json_rows.specs.Written.{WritesValue, ReadAsElements, ReadAsMembers, WritesElements, WritesMembers, WritesMember, HasOwnNames, HaveOwnNames}
+use Rattle.json_rows.specs.Written.{GoesOn, WritesValue, ReadAsElements, ReadAsMembers, WritesElements, WritesMembers, WritesMember, HasOwnNames, HaveOwnNames}
 
 -- ---- cells inside one
 
@@ -51,6 +51,18 @@ tuple_one a b same = sym (cells_again a) ∙ ap fields_seen same ∙ cells_again
 
 pub empty_list : {A : Type 0} (xs : List A) → true ≡ (length xs == 0) → xs ≡ []
 empty_list xs is = nil_from_length xs (eqb-true (length xs) 0 (sym is))
+
+-- ---- tokens that stay in front
+
+pub goes_nowhere : (old new : List Token) → new ≡ old → GoesOn old new
+goes_nowhere old new is = ([], is ∙ sym (append-nil old))
+
+pub goes_by : (old new rest : List Token) → new ≡ old ++ rest → GoesOn old new
+goes_by old new rest is = (rest, is)
+
+pub goes_then : (old mid new : List Token) → GoesOn old mid → GoesOn mid new → GoesOn old new
+goes_then old mid new first second =
+    (first.0 ++ second.0, second.1 ∙ ap (λ (ts : List Token). ts ++ second.0) first.1 ∙ append_assoc old first.0 second.0)
 
 -- ---- names
 

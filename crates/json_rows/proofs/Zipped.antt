@@ -1,5 +1,5 @@
 -- Two lists whose items belong together, one by one, and results that are handed on.
-use Rattle.std.proofs.Common.{◌≡◌, ℕ, zero, suc, ◌+◌, ◌<◌, List, [], ◌∷◌, ◌++◌, map, take, length, get_or, Result, Err, IsErrAnd, IfErr, refl, sym, ap, subst, ◌∙◌, arith}
+use Rattle.std.proofs.Common.{◌≡◌, ℕ, zero, suc, ◌+◌, ◌<◌, List, [], ◌∷◌, ◌++◌, map, take, length, get_or, Result, Ok, Err, IsErrAnd, IfErr, OnErr, refl, sym, ap, subst, ◌∙◌, arith}
 use Rattle.std.specs.List.{AllZip}
 use Rattle.std.proofs.lemmas.List.{map_more}
 use Rattle.std.proofs.lemmas.Result.{err_from_is_err_and}
@@ -47,6 +47,13 @@ module _ {A B : Type 0} (R : A → B → Type 0) where
   zip_push (a ∷ xs) [] x y h r = absurd h
   zip_push (a ∷ xs) (b ∷ ys) x y h r = (h.0, zip_push xs ys x y h.1 r)
 
+  pub pair_at : (xs : List A) (ys : List B) (i : ℕ) (x : A) (y : B) → AllZip R xs ys → i < length ys → R (get_or xs i x) (get_or ys i y)
+  pair_at [] [] i x y all lt = let no : ⊥ = omega arith in absurd no
+  pair_at [] (b ∷ ys) i x y all lt = absurd all
+  pair_at (a ∷ xs) [] i x y all lt = absurd all
+  pair_at (a ∷ xs) (b ∷ ys) zero x y all lt = all.0
+  pair_at (a ∷ xs) (b ∷ ys) (suc i) x y all lt = pair_at xs ys i x y all.1 (omega arith)
+
 -- one item more, of those that are seen as values
 module _ {A B C : Type 0} (R : B → C → Type 0) (see : A → B) where
   pub zip_more : (xs : List A) (i : ℕ) (x : A) (ys : List C) (y : C) → i < length xs → x ≡ get_or xs i x
@@ -70,3 +77,11 @@ handed_on {T = T} {E = E} r fault h = let p = err_from_is_err_and r h in p.1 ∙
 -- is the one that is looked for, where the call's own was
 pub told_on : {T E : Type 0} (r : Result T E) (fault own : E) → IsErrAnd r (λ e. e ≡ fault) → fault ≡ own → IfErr r (λ e. e ≡ own)
 told_on {T = T} {E = E} r fault own h is = subst (λ (a : Result T E). IfErr a (λ e. e ≡ own)) (sym (handed_on r fault h)) is
+
+-- what is said of the fault that is handed on
+pub holds_on : {T E : Type 0} (P : E → Type 0) (r : Result T E) (fault : E) → IsErrAnd r (λ e. e ≡ fault) → P fault → IfErr r P
+holds_on {T = T} {E = E} P r fault h is = subst (λ (a : Result T E). IfErr a P) (sym (handed_on r fault h)) is
+
+pub on_err : {T E : Type 0} (P : Type 0) (r : Result T E) → P → OnErr r P
+on_err P (Ok x) h = tt
+on_err P (Err e) h = h

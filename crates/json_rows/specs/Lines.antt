@@ -81,6 +81,16 @@ IsOfLines (rows.Cell line field fault) = Unit {0}
 IsOfLines (rows.TooLarge line) = ⊥
 IsOfLines rows.OutOfMemory = ⊥
 
+-- the fault says that a cell has no value, or that a value tells no cell
+abbrev pub IsOfCell : RowsFault → Type 0
+IsOfCell rows.BadSchema = ⊥
+IsOfCell rows.NoRows = ⊥
+IsOfCell rows.SameNames = ⊥
+IsOfCell (rows.Line line fault) = ⊥
+IsOfCell (rows.Cell line field fault) = Unit {0}
+IsOfCell (rows.TooLarge line) = ⊥
+IsOfCell rows.OutOfMemory = ⊥
+
 -- the fault says nothing of a row
 abbrev pub IsOfSchema : RowsFault → Type 0
 IsOfSchema rows.BadSchema = Unit {0}

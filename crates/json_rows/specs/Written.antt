@@ -24,6 +24,10 @@ pub record WritesValue (Told : Data → Type 0) (levels : ℕ) (old new : List T
   pub tokens : new ≡ old ++ json_tokens text
   pub reads : ReadsAs Told levels text
 
+-- the tokens stand in front of the new ones
+abbrev pub GoesOn : List Token → List Token → Type 0
+GoesOn old new = (more : List Token) × (new ≡ old ++ more)
+
 -- of such texts, one for each cell
 abbrev pub ReadAsElements : (Data → Cell → Type 0) → ℕ → List Cell → json.Items → Type 0
 ReadAsElements Element levels [] json.no_items = Unit {0}

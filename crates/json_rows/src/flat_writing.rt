@@ -1,6 +1,6 @@
 //! The text of cells with nothing inside them.
 
-ghost use Rattle.std.specs.Prelude.{◌≡◌, ◌≢◌, ◌≤◌, ◌<◌, ◌*◌, ◌^◌, ℕ, ℤ, Bool, List, Some, length, OnOk, IfErr, IfSome, IfNone};
+ghost use Rattle.std.specs.Prelude.{◌≡◌, ◌≢◌, ◌≤◌, ◌<◌, ◌*◌, ◌^◌, ℕ, ℤ, Bool, List, Some, length, OnOk, OnErr, IfErr, IfSome, IfNone};
 ghost use Rattle.serde_json.specs.Data.{Data};
 ghost use Rattle.byteorder.specs.Endian.{little_bytes};
 ghost use Rattle.batch_types.specs.Layouts.{int_size};
@@ -46,6 +46,7 @@ fn put_whole(out: &mut Writer, half: u64, is_signed: bool, number: u64) -> Resul
         0 out.old.tokens out.new.tokens) }
     ensures refused { IfErr result (λ fault. fault ≡ OutOfMemory) }
     ensures before { out.new.before ≡ out.old.before }
+    ensures kept { OnErr result (out.new.tokens ≡ out.old.tokens) }
 {
     if is_signed && half <= number {
         Ok(put_negative(out, 2 * (half - 1) - (number - 1))?)
@@ -65,6 +66,7 @@ pub(crate) fn write_whole(
         out.new.tokens) }
     ensures refused { (d : Data) → TellsWhole width is_signed d bytes.now → IfErr result (λ fault. fault ≡ OutOfMemory) }
     ensures before { out.new.before ≡ out.old.before }
+    ensures kept { OnErr result (out.new.tokens ≡ out.old.tokens) }
 {
     match number_in(width, bytes) {
         Some(number) => put_whole(out, half_of(width), is_signed, number),
@@ -77,6 +79,7 @@ pub(crate) fn write_text(out: &mut Writer, bytes: &[u8]) -> Result<(), CellFault
     ensures written { OnOk result (WritesValue (λ d. TellsText d bytes.now) 0 out.old.tokens out.new.tokens) }
     ensures refused { (d : Data) → TellsText d bytes.now → IfErr result (λ fault. fault ≡ OutOfMemory) }
     ensures before { out.new.before ≡ out.old.before }
+    ensures kept { OnErr result (out.new.tokens ≡ out.old.tokens) }
 {
     match from_utf8(bytes) {
         Ok(text) => Ok(put_text(out, text)?),
@@ -89,6 +92,7 @@ pub(crate) fn write_bytes(alloc: Global, out: &mut Writer, bytes: &[u8]) -> Resu
     ensures written { OnOk result (WritesValue (λ d. TellsBytes d bytes.now) 0 out.old.tokens out.new.tokens) }
     ensures refused { IfErr result (λ fault. fault ≡ OutOfMemory) }
     ensures before { out.new.before ≡ out.old.before }
+    ensures kept { OnErr result (out.new.tokens ≡ out.old.tokens) }
 {
     let digits = hex::encode(alloc, bytes)?;
     Ok(put_text(out, &digits)?)
@@ -122,6 +126,7 @@ fn write_sized(alloc: Global, out: &mut Writer, size: usize, bytes: &[u8]) -> Re
         out.old.tokens out.new.tokens) }
     ensures refused { length bytes.now ≡ size → IfErr result (λ fault. fault ≡ OutOfMemory) }
     ensures before { out.new.before ≡ out.old.before }
+    ensures kept { OnErr result (out.new.tokens ≡ out.old.tokens) }
 {
     if bytes.len() == size {
         write_bytes(alloc, out, bytes)
@@ -141,6 +146,7 @@ fn write_bytes_of(
         out.new.tokens) }
     ensures refused { (d : Data) → TellsFlat form d (bytes_cell bytes.now) → IfErr result (λ fault. fault ≡ OutOfMemory) }
     ensures before { out.new.before ≡ out.old.before }
+    ensures kept { OnErr result (out.new.tokens ≡ out.old.tokens) }
 {
     match form {
         Form::Whole { width, is_signed } => write_whole(out, width, is_signed, bytes),
@@ -161,6 +167,7 @@ fn write_bool(out: &mut Writer, cell: &Cell) -> Result<(), CellFault>
     ensures written { OnOk result (WritesValue (λ d. TellsBool d (seen cell.now)) 0 out.old.tokens out.new.tokens) }
     ensures refused { (d : Data) → TellsBool d (seen cell.now) → IfErr result (λ fault. fault ≡ OutOfMemory) }
     ensures before { out.new.before ≡ out.old.before }
+    ensures kept { OnErr result (out.new.tokens ≡ out.old.tokens) }
 {
     match bit_in(cell) {
         Some(bit) => Ok(put_bool(out, bit)?),
@@ -174,6 +181,7 @@ fn write_span(alloc: Global, out: &mut Writer, form: Form, cell: &Cell) -> Resul
     ensures written { OnOk result (WritesValue (λ d. TellsFlat form d (seen cell.now)) 0 out.old.tokens out.new.tokens) }
     ensures refused { (d : Data) → TellsFlat form d (seen cell.now) → IfErr result (λ fault. fault ≡ OutOfMemory) }
     ensures before { out.new.before ≡ out.old.before }
+    ensures kept { OnErr result (out.new.tokens ≡ out.old.tokens) }
 {
     match bytes_in(cell) {
         Some(bytes) => write_bytes_of(alloc, out, form, bytes),
@@ -191,6 +199,7 @@ pub(crate) fn write_flat(
     ensures written { OnOk result (WritesValue (λ d. TellsFlat form d (seen cell.now)) 0 out.old.tokens out.new.tokens) }
     ensures refused { (d : Data) → TellsFlat form d (seen cell.now) → IfErr result (λ fault. fault ≡ OutOfMemory) }
     ensures before { out.new.before ≡ out.old.before }
+    ensures kept { OnErr result (out.new.tokens ≡ out.old.tokens) }
 {
     match form {
         Form::Bool => write_bool(out, cell),

@@ -1,6 +1,6 @@
 //! The text of floats.
 
-ghost use Rattle.std.specs.Prelude.{◌≡◌, OnOk, IfErr};
+ghost use Rattle.std.specs.Prelude.{◌≡◌, OnOk, OnErr, IfErr};
 ghost use Rattle.serde_json.specs.Data.{Data};
 ghost use Rattle.byteorder.specs.Endian.{little_bytes};
 ghost use Rattle.json_rows.specs.declared.fault.CellFault.TheVariants.{OutOfMemory};
@@ -21,6 +21,7 @@ fn write_finite_double(out: &mut Writer, bits: u64) -> Result<(), CellFault>
         out.new.tokens) }
     ensures refused { (d : Data) → TellsFiniteDouble d (little_bytes 8 bits) → IfErr result (λ fault. fault ≡ OutOfMemory) }
     ensures before { out.new.before ≡ out.old.before }
+    ensures kept { OnErr result (out.new.tokens ≡ out.old.tokens) }
 {
     let double = f64_from_bits_with_nan(bits);
     if !double.is_finite() {
@@ -34,6 +35,7 @@ pub(crate) fn write_double(out: &mut Writer, bytes: &[u8]) -> Result<(), CellFau
     ensures written { OnOk result (WritesValue (λ d. TellsDouble d bytes.now) 0 out.old.tokens out.new.tokens) }
     ensures refused { (d : Data) → TellsDouble d bytes.now → IfErr result (λ fault. fault ≡ OutOfMemory) }
     ensures before { out.new.before ≡ out.old.before }
+    ensures kept { OnErr result (out.new.tokens ≡ out.old.tokens) }
 {
     let Some(bits) = number_in(BitWidth::SixtyFour, bytes) else {
         return Err(CellFault::WrongKind);
@@ -50,6 +52,7 @@ fn write_finite_single(out: &mut Writer, bits: u32) -> Result<(), CellFault>
         out.new.tokens) }
     ensures refused { (d : Data) → TellsFiniteSingle d (little_bytes 4 bits) → IfErr result (λ fault. fault ≡ OutOfMemory) }
     ensures before { out.new.before ≡ out.old.before }
+    ensures kept { OnErr result (out.new.tokens ≡ out.old.tokens) }
 {
     let single = f32_from_bits_with_nan(bits);
     if !single.is_finite() {
@@ -63,6 +66,7 @@ pub(crate) fn write_single(out: &mut Writer, bytes: &[u8]) -> Result<(), CellFau
     ensures written { OnOk result (WritesValue (λ d. TellsSingle d bytes.now) 0 out.old.tokens out.new.tokens) }
     ensures refused { (d : Data) → TellsSingle d bytes.now → IfErr result (λ fault. fault ≡ OutOfMemory) }
     ensures before { out.new.before ≡ out.old.before }
+    ensures kept { OnErr result (out.new.tokens ≡ out.old.tokens) }
 {
     let Some(bits) = number_in(BitWidth::ThirtyTwo, bytes) else {
         return Err(CellFault::WrongKind);

@@ -7,12 +7,13 @@ ghost use Rattle.header_types.specs.Limits.{forest_depth};
 ghost use Rattle.header_types.specs.Views.{schema_of};
 ghost use Rattle.header_types.specs.Profile.{InProfile};
 ghost use Rattle.batch_columns.specs.Batches.{IsBatchOf, rows_of};
+ghost use Rattle.json_rows.specs.declared.fault.CellFault.TheVariants as CellFault;
 ghost use Rattle.json_rows.specs.declared.fault.RowsFault.TheVariants as RowsFault;
 ghost use Rattle.batch_columns.specs.Few.{columns_cells};
 ghost use Rattle.batch_cells.specs.CellViews.{cell_of as seen};
-ghost use Rattle.json_rows.specs.Cells.{TellsFields, forest_in};
+ghost use Rattle.json_rows.specs.Cells.{IsObjectOf, TellsFields, TellsMembers, forest_in};
 ghost use Rattle.json_rows.specs.Written.{HaveOwnNames, WritesMembers, WritesValue};
-ghost use Rattle.json_rows.specs.Lines.{EndsLines, IsOfSchema, TellsLine, TellsRows, TellsValues, WritesLine, WritesRows, cell_at, has_feed};
+ghost use Rattle.json_rows.specs.Lines.{EndsLines, IsOfCell, IsOfSchema, TellsColumns, TellsLine, TellsRows, TellsValues, WritesLine, WritesRows, cell_at, has_feed};
 
 use crate::fault::{CellFault, LineFault, RowsFault};
 use crate::names::have_own_names;
@@ -39,6 +40,8 @@ fn write_row_members(
     requires within { AllByRecursion (λ cells. row < length cells.items) columns.now }
     ensures written { OnOk result (WritesMembers (forest_in fields.now) (map (cell_at row) columns.now) out.old.tokens
         out.new.tokens) }
+    ensures refused { (d : Data) → TellsMembers (forest_in fields.now) d (map (cell_at row) columns.now)
+        → IfErr result (λ fault. fault.1 ≡ CellFault.OutOfMemory) }
     ensures before { out.new.before ≡ out.old.before }
 {
     for index in 0..fields.len() {
@@ -65,6 +68,8 @@ fn write_row(
     requires within { AllByRecursion (λ cells. row < length cells.items) columns.now }
     ensures written { OnOk result (WritesValue (λ d. TellsFields (forest_in fields.now) d (map (cell_at row) columns.now))
         (suc (forest_depth (forest_in fields.now))) out.old.tokens out.new.tokens) }
+    ensures refused { (d : Data) → TellsFields (forest_in fields.now) d (map (cell_at row) columns.now)
+        → IfErr result (λ fault. fault ≡ RowsFault.OutOfMemory) }
     ensures before { out.new.before ≡ out.old.before }
     ensures kind { IfErr result (λ fault. IsOfSchema fault → ⊥) }
 {
@@ -95,6 +100,8 @@ fn row_text(
     requires shallow { forest_depth (forest_in fields.now) ≤ 126 }
     ensures written { IfOk result (λ line. (value : Data) × TellsLine line.items value
         × TellsFields (forest_in fields.now) value (map (cell_at row) columns.now)) }
+    ensures refused { (d : Data) → TellsFields (forest_in fields.now) d (map (cell_at row) columns.now)
+        → IfErr result (λ fault. fault ≡ RowsFault.OutOfMemory) }
     ensures kind { IfErr result (λ fault. IsOfSchema fault → ⊥) }
 {
     let mut out = Writer::new(Vec::new(alloc));
@@ -116,6 +123,8 @@ fn put_line(
     requires shallow { forest_depth (forest_in fields.now) ≤ 126 }
     ensures written { OnOk result (WritesLine (forest_in fields.now) (map (cell_at row) columns.now) text.old.items
         text.new.items) }
+    ensures told { (d : Data) → TellsFields (forest_in fields.now) d (map (cell_at row) columns.now)
+        → IfErr result (λ fault. IsOfCell fault → ⊥) }
     ensures kind { IfErr result (λ fault. IsOfSchema fault → ⊥) }
 {
     let mut line = row_text(alloc, fields, columns, row)?;
@@ -145,6 +154,9 @@ fn lines_text(
     requires shallow { forest_depth (forest_in fields.now) ≤ 126 }
     ensures written { IfOk result (λ text. WritesRows (forest_in fields.now) (map (λ cells. map seen cells.items) columns.now)
         rows text.items) }
+    ensures told { (values : List Data) → length values ≡ rows → AllByRecursion (IsObjectOf (forest_in fields.now)) values
+        → TellsColumns (forest_in fields.now) values (map (λ cells. map seen cells.items) columns.now)
+        → IfErr result (λ fault. IsOfCell fault → ⊥) }
     ensures kind { IfErr result (λ fault. IsOfSchema fault → ⊥) }
 {
     let mut text = Vec::new(alloc);
@@ -176,6 +188,9 @@ pub fn rows_text(alloc: Global, schema: &Schema, batch: &Batch) -> Result<Vec<u8
     ensures written { IfOk result (λ text. (values : List Data) × TellsValues text.items values
         × TellsRows (schema_of schema.now).fields values (rows_of batch.now)) }
     ensures ends { IfOk result (λ text. EndsLines text.items) }
+    // A cell is refused only where no values tell the rows.
+    ensures cell { (values : List Data) → TellsRows (schema_of schema.now).fields values (rows_of batch.now)
+        → IfErr result (λ fault. IsOfCell fault → ⊥) }
     ensures schema { IsErrOf result RowsFault.BadSchema → InProfile (schema_of schema.now)
         → IsBatchOf (schema_of schema.now) batch.now → ⊥ }
     ensures same { IsErrOf result RowsFault.SameNames → HaveOwnNames (schema_of schema.now).fields → ⊥ }

@@ -1,6 +1,6 @@
 //! Values of JSON with nothing inside them, as they are written.
 
-ghost use Rattle.std.specs.Prelude.{◌≡◌, ◌<◌, ◌^◌, negsuc, OnOk, IsTrue};
+ghost use Rattle.std.specs.Prelude.{◌≡◌, ◌<◌, ◌^◌, negsuc, OnOk, OnErr, IsTrue};
 ghost use Rattle.std.specs.Float.{float_is_finite};
 ghost use Rattle.serde_json.specs.Data.{null, boolean, number, string, unsigned, negative, float};
 ghost use Rattle.json_rows.specs.Written.{WritesValue};
@@ -12,6 +12,7 @@ use std::alloc::AllocError;
 pub(crate) fn put_null(out: &mut Writer) -> Result<(), AllocError>
     ensures written { OnOk result (WritesValue (λ d. d ≡ null) 0 out.old.tokens out.new.tokens) }
     ensures before { out.new.before ≡ out.old.before }
+    ensures kept { OnErr result (out.new.tokens ≡ out.old.tokens) }
 {
     out.token(Token::Null)
 }
@@ -20,6 +21,7 @@ pub(crate) fn put_null(out: &mut Writer) -> Result<(), AllocError>
 pub(crate) fn put_bool(out: &mut Writer, bit: bool) -> Result<(), AllocError>
     ensures written { OnOk result (WritesValue (λ d. d ≡ boolean bit) 0 out.old.tokens out.new.tokens) }
     ensures before { out.new.before ≡ out.old.before }
+    ensures kept { OnErr result (out.new.tokens ≡ out.old.tokens) }
 {
     out.token(Token::Bool(bit))
 }
@@ -28,6 +30,7 @@ pub(crate) fn put_bool(out: &mut Writer, bit: bool) -> Result<(), AllocError>
 pub(crate) fn put_text(out: &mut Writer, text: &str) -> Result<(), AllocError>
     ensures written { OnOk result (WritesValue (λ d. d ≡ string text.now) 0 out.old.tokens out.new.tokens) }
     ensures before { out.new.before ≡ out.old.before }
+    ensures kept { OnErr result (out.new.tokens ≡ out.old.tokens) }
 {
     out.string(text)
 }
@@ -36,6 +39,7 @@ pub(crate) fn put_text(out: &mut Writer, text: &str) -> Result<(), AllocError>
 pub(crate) fn put_unsigned(out: &mut Writer, whole: u64) -> Result<(), AllocError>
     ensures written { OnOk result (WritesValue (λ d. d ≡ number (unsigned whole)) 0 out.old.tokens out.new.tokens) }
     ensures before { out.new.before ≡ out.old.before }
+    ensures kept { OnErr result (out.new.tokens ≡ out.old.tokens) }
 {
     out.u64(whole)
 }
@@ -54,6 +58,7 @@ pub(crate) fn put_negative(out: &mut Writer, below: u64) -> Result<(), AllocErro
     ensures written { OnOk result (WritesValue (λ d. d ≡ number (negative (negsuc below))) 0 out.old.tokens
         out.new.tokens) }
     ensures before { out.new.before ≡ out.old.before }
+    ensures kept { OnErr result (out.new.tokens ≡ out.old.tokens) }
 {
     out.i64(below_minus_one(below))
 }
@@ -63,6 +68,7 @@ pub(crate) fn put_float(out: &mut Writer, double: f64) -> Result<(), AllocError>
     requires { IsTrue (float_is_finite double) }
     ensures written { OnOk result (WritesValue (λ d. d ≡ number (float double)) 0 out.old.tokens out.new.tokens) }
     ensures before { out.new.before ≡ out.old.before }
+    ensures kept { OnErr result (out.new.tokens ≡ out.old.tokens) }
 {
     out.float_with_plus(double)
 }

@@ -1,7 +1,7 @@
 //! The text of cells.
 
 ghost use Rattle.std.specs.List.{AllZip};
-ghost use Rattle.std.specs.Prelude.{◌≡◌, ◌↔◌, suc, List, length, map, OnOk, IfErr, IfSome, IfNone, IsTrue};
+ghost use Rattle.std.specs.Prelude.{◌≡◌, ◌↔◌, suc, List, length, map, OnOk, OnErr, IfErr, IfSome, IfNone, IsTrue};
 ghost use Rattle.serde_json.specs.Data.{Data};
 ghost use Rattle.header_types.specs.Views.{tree_of};
 ghost use Rattle.header_types.specs.Limits.{tree_depth, forest_depth};
@@ -9,7 +9,7 @@ ghost use Rattle.batch_types.specs.Cells.{Cell as Seen, null_cell, list_cell, tu
 ghost use Rattle.batch_cells.specs.CellViews.{cell_of as seen};
 ghost use Rattle.json_rows.specs.declared.fault.CellFault.TheVariants.{OutOfMemory};
 ghost use Rattle.json_rows.specs.Cells.{TellsCell, TellsElement, TellsElements, TellsFields, TellsForm, TellsMembers, forest_in};
-ghost use Rattle.json_rows.specs.Written.{WritesValue, WritesElements, WritesMembers, WritesMember, HasOwnNames, HaveOwnNames};
+ghost use Rattle.json_rows.specs.Written.{GoesOn, WritesValue, WritesElements, WritesMembers, WritesMember, HasOwnNames, HaveOwnNames};
 
 use crate::fault::CellFault;
 use crate::flat_writing::write_flat;
@@ -51,7 +51,8 @@ fn fields_in(cell: &Cell) -> Option<&[Cell]>
 
 /// Writes the value that tells a cell of a field, after what `out` holds: a null where the cell is one and the field may
 /// have one, else a value of the field's form. The names of the fields inside it have to differ, side by side. It is
-/// refused exactly where no value tells the cell, memory apart; then a part of its text may stand in `out`.
+/// refused exactly where no value tells the cell, memory apart; then a part of its text may stand behind
+/// what `out` held.
 #[cycle(writing)]
 pub fn write_cell(
     alloc: Global,
@@ -65,6 +66,7 @@ pub fn write_cell(
     ensures refused { (d : Data) → TellsCell (tree_of field.now) d (seen cell.now)
         → IfErr result (λ fault. fault ≡ OutOfMemory) }
     ensures before { out.new.before ≡ out.old.before }
+    ensures begun { OnErr result (GoesOn out.old.tokens out.new.tokens) }
 {
     if !is_null(cell) {
         return write_form(
@@ -98,6 +100,7 @@ fn write_form(
     ensures refused { (d : Data) → TellsForm form (TellsElement (forest_in fields.now))
         (TellsFields (forest_in fields.now)) d (seen cell.now) → IfErr result (λ fault. fault ≡ OutOfMemory) }
     ensures before { out.new.before ≡ out.old.before }
+    ensures begun { OnErr result (GoesOn out.old.tokens out.new.tokens) }
 {
     match form {
         Form::List => match elements_in(cell) {
@@ -140,6 +143,7 @@ fn write_elements(
     ensures refused { (d : Data) → TellsElements (TellsElement (forest_in fields.now)) d (map seen cells.now)
         → IfErr result (λ fault. fault ≡ OutOfMemory) }
     ensures before { out.new.before ≡ out.old.before }
+    ensures begun { OnErr result (GoesOn out.old.tokens out.new.tokens) }
 {
     out.begin_array()?;
     match fields {
@@ -163,6 +167,7 @@ fn write_each(
     ensures refused { (values : List Data) → AllZip (TellsCell (tree_of field.now)) values (map seen cells.now)
         → IfErr result (λ fault. fault ≡ OutOfMemory) }
     ensures before { out.new.before ≡ out.old.before }
+    ensures begun { OnErr result (GoesOn out.old.tokens out.new.tokens) }
 {
     for cell in cells {
         write_cell(alloc, out, field, cell)?;
@@ -184,6 +189,7 @@ fn write_members(
     ensures refused { (d : Data) → TellsFields (forest_in fields.now) d (map seen cells.now)
         → IfErr result (λ fault. fault ≡ OutOfMemory) }
     ensures before { out.new.before ≡ out.old.before }
+    ensures begun { OnErr result (GoesOn out.old.tokens out.new.tokens) }
 {
     if fields.len() != cells.len() {
         return Err(CellFault::WrongKind);
@@ -207,6 +213,7 @@ fn write_each_member(
     ensures refused { (d : Data) → TellsMembers (forest_in fields.now) d (map seen cells.now)
         → IfErr result (λ fault. fault ≡ OutOfMemory) }
     ensures before { out.new.before ≡ out.old.before }
+    ensures begun { OnErr result (GoesOn out.old.tokens out.new.tokens) }
 {
     for index in 0..fields.len() {
         write_member(alloc, out, &fields[index], &cells[index])?;
@@ -227,6 +234,7 @@ pub(crate) fn write_member(
     ensures refused { (d : Data) → TellsCell (tree_of field.now) d (seen cell.now)
         → IfErr result (λ fault. fault ≡ OutOfMemory) }
     ensures before { out.new.before ≡ out.old.before }
+    ensures begun { OnErr result (GoesOn out.old.tokens out.new.tokens) }
 {
     out.key(&field.name)?;
     write_cell(alloc, out, field, cell)

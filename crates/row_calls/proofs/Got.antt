@@ -9,7 +9,7 @@ use Rattle.client_calls.specs.Answers.{Receives, Requests}
 use Rattle.client_calls.specs.Requests.{get_request}
 use Rattle.row_calls.specs.declared.fault.RowCallFault.{RowCallFault}
 use Rattle.row_calls.specs.declared.fault.RowCallFault.TheVariants as faults
-use Rattle.row_calls.specs.Prints.{IsOfPrinting, Prints, batches_in}
+use Rattle.row_calls.specs.Prints.{IsOfPrinting, Prints, RefusesUntold, batches_in}
 use Rattle.row_calls.specs.Gets.{GetsRows, RequestsRows}
 
 module _ (download : Download) where
@@ -29,9 +29,10 @@ module _ (download : Download) where
 
   pub rows_got : (here there before after : Option (List ℕ)) (result : Result (Unit {0}) RowCallFault) → IfErr result IsOfPrinting
       → WhereKnown here there (Receives GivesDownload HasDownload (Ok download))
-      → WhereKnown before after (Prints (schema_of download.schema).fields (batches_in (downloaded_in download)) result) → GetsRows here there before after result
-  rows_got here there before after (Ok done) kind told written = record { download = download; told = told; written = written }
-  rows_got here there before after (Err (faults.Call fault)) kind told written = absurd kind
-  rows_got here there before after (Err (faults.Rows fault)) kind told written = record { download = download; told = told; written = written }
-  rows_got here there before after (Err (faults.Upload fault)) kind told written = absurd kind
-  rows_got here there before after (Err faults.Output) kind told written = record { download = download; told = told; written = written }
+      → WhereKnown before after (Prints (schema_of download.schema).fields (batches_in (downloaded_in download)) result)
+      → RefusesUntold (schema_of download.schema).fields (batches_in (downloaded_in download)) result → GetsRows here there before after result
+  rows_got here there before after (Ok done) kind told written cell = record { download = download; told = told; written = written; cell = cell }
+  rows_got here there before after (Err (faults.Call fault)) kind told written cell = absurd kind
+  rows_got here there before after (Err (faults.Rows fault)) kind told written cell = record { download = download; told = told; written = written; cell = cell }
+  rows_got here there before after (Err (faults.Upload fault)) kind told written cell = absurd kind
+  rows_got here there before after (Err faults.Output) kind told written cell = record { download = download; told = told; written = written; cell = cell }

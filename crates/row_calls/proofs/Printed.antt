@@ -30,6 +30,12 @@ batches_joined fields us vs [] ys p q = subst (λ (l : List Data). TellsBatches 
 batches_joined fields us vs (x ∷ xs) ys p q =
     (p.0, p.1 ++ vs, ap (λ (l : List Data). l ++ vs) p.2 ∙ append_assoc p.0 p.1 vs, p.3, batches_joined fields p.1 vs xs ys p.4 q)
 
+batches_parted : (fields : Forest) (values : List Data) (xs ys : List Rows) → TellsBatches fields values (xs ++ ys)
+    → (us : List Data) × (vs : List Data) × TellsBatches fields us xs × TellsBatches fields vs ys
+batches_parted fields values [] ys told = ([], values, refl, told)
+batches_parted fields values (x ∷ xs) ys told =
+    let rest = batches_parted fields told.1 xs ys told.4 in (told.0 ++ rest.0, rest.1, (told.0, rest.0, refl, told.3, rest.2), rest.3)
+
 no_text : (fields : Forest) → IsTextOf fields [] []
 no_text fields = record { values = []; told = tt; rows = refl; ends = λ behind. refl }
 
@@ -142,6 +148,13 @@ module _ {X : Type 0} (f : X → List Rows) (xs : List X) (i : ℕ) (x : X) (lt 
       subst (λ (l : List Rows). WhereKnown old new (Prints fields l (Err fault))) whole_parts
       (print_fails fields fault (flat_map f (take i xs) ++ f x) (flat_map f (drop (i + 1) xs)) old new
       (print_follows fields (Err fault) (flat_map f (take i xs)) (f x) old mid new p q))
+
+  -- what is told of the whole is told of the part
+  pub part_told : (fields : Forest) (values : List Data) → TellsBatches fields values (flat_map f xs) → (here : List Data) × TellsBatches fields here (f x)
+  part_told fields values told =
+      let behind = batches_parted fields values (flat_map f (take i xs) ++ f x) (flat_map f (drop (i + 1) xs)) (subst (TellsBatches fields values) (sym whole_parts) told) in
+      let part = batches_parted fields behind.0 (flat_map f (take i xs)) (f x) behind.2 in
+      (part.1, part.3)
 
 -- ---- the batches of a download
 

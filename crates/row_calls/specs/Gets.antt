@@ -10,7 +10,7 @@ use Rattle.client_calls.specs.Answers.{Receives, Requests}
 use Rattle.client_calls.specs.Requests.{get_request}
 use Rattle.row_calls.specs.declared.fault.RowCallFault.{RowCallFault}
 use Rattle.row_calls.specs.declared.fault.RowCallFault.TheVariants as faults
-use Rattle.row_calls.specs.Prints.{Prints, batches_in}
+use Rattle.row_calls.specs.Prints.{Prints, RefusesUntold, batches_in}
 
 -- what has gone out: the request for the version, or a beginning of it where it could not be written
 abbrev pub RequestsRows : TableVersion → Result (Unit {0}) RowCallFault → List ℕ → List ℕ → Type 0
@@ -25,6 +25,7 @@ pub record PrintsWhatCame (here there before after : Option (List ℕ)) (result 
   pub download : Download
   pub told : WhereKnown here there (Receives GivesDownload HasDownload (Ok download))
   pub written : WhereKnown before after (Prints (schema_of download.schema).fields (batches_in (downloaded_in download)) result)
+  pub cell : RefusesUntold (schema_of download.schema).fields (batches_in (downloaded_in download)) result
 
 -- what came back, from a reader that had this and has that left, and what was written of it, where that stood and this stands; of
 -- a call without an answer nothing is

@@ -1,5 +1,5 @@
 -- Which lines are written of a download. What lines tell is that of `json_rows`, and a download that of `downloads`.
-use Rattle.std.specs.Prelude.{◌≡◌, ℕ, List, [], ◌∷◌, ◌++◌, Result, Ok, Err}
+use Rattle.std.specs.Prelude.{◌≡◌, ℕ, List, [], ◌∷◌, ◌++◌, Result, Ok, Err, IfErr}
 use Rattle.std.specs.List.{flat_map}
 use Rattle.serde_json.specs.Data.{Data}
 use Rattle.grpc_frames.specs.FrameFaults.{IsBeginning}
@@ -9,7 +9,7 @@ use Rattle.batch_columns.specs.declared.batch.Batch.{Batch}
 use Rattle.batch_columns.specs.Batches.{rows_of}
 use Rattle.downloads.specs.declared.download.ServedUpload.{ServedUpload as Served}
 use Rattle.downloads.specs.Downloads.{Downloaded, ServedUpload}
-use Rattle.json_rows.specs.Lines.{EndsLines, TellsBatches, TellsValues}
+use Rattle.json_rows.specs.Lines.{EndsLines, IsOfCell, TellsBatches, TellsValues}
 use Rattle.row_calls.specs.declared.fault.RowCallFault.{RowCallFault}
 use Rattle.row_calls.specs.declared.fault.RowCallFault.TheVariants as faults
 
@@ -44,6 +44,18 @@ IsOfPrinting (faults.Call fault) = ⊥
 IsOfPrinting (faults.Rows fault) = Unit {0}
 IsOfPrinting (faults.Upload fault) = ⊥
 IsOfPrinting faults.Output = Unit {0}
+
+-- the fault says that a cell has no value
+abbrev pub RefusesCell : RowCallFault → Type 0
+RefusesCell (faults.Call fault) = ⊥
+RefusesCell (faults.Rows fault) = IsOfCell fault
+RefusesCell (faults.Upload fault) = ⊥
+RefusesCell faults.Output = ⊥
+
+-- a cell is refused only where no values tell the rows of these batches
+abbrev pub RefusesUntold : Forest → List Rows → Result (Unit {0}) RowCallFault → Type 0
+RefusesUntold fields batches result =
+    (values : List Data) → TellsBatches fields values batches → IfErr result (λ fault. RefusesCell fault → ⊥)
 
 -- ---- for private clauses: the batches of a part
 

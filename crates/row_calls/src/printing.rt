@@ -5,7 +5,7 @@ ghost use Rattle.std.specs.List.{flat_map};
 ghost use Rattle.grpc_frames.specs.FrameFaults.{WhereKnown};
 ghost use Rattle.header_types.specs.Views.{schema_of};
 ghost use Rattle.downloads.specs.Taken.{downloaded_in};
-ghost use Rattle.row_calls.specs.Prints.{IsOfPrinting, Prints, batches_in, rows_alone, rows_served};
+ghost use Rattle.row_calls.specs.Prints.{IsOfPrinting, Prints, RefusesUntold, batches_in, rows_alone, rows_served};
 
 use crate::fault::RowCallFault;
 use batch_columns::Batch;
@@ -25,6 +25,7 @@ fn write_batch<O: Write>(
 ) -> Result<(), RowCallFault>
     ensures written { WhereKnown (O.contents out.old) (O.contents out.new)
         (Prints (schema_of schema.now).fields (rows_alone batch.now) result) }
+    ensures cell { RefusesUntold (schema_of schema.now).fields (rows_alone batch.now) result }
     ensures kind { IfErr result IsOfPrinting }
 {
     let text = match rows_text(alloc, schema, batch) {
@@ -46,6 +47,7 @@ fn write_batches<O: Write>(
 ) -> Result<(), RowCallFault>
     ensures written { WhereKnown (O.contents out.old) (O.contents out.new)
         (Prints (schema_of schema.now).fields (flat_map rows_alone batches.now) result) }
+    ensures cell { RefusesUntold (schema_of schema.now).fields (flat_map rows_alone batches.now) result }
     ensures kind { IfErr result IsOfPrinting }
 {
     for batch in batches {
@@ -65,6 +67,7 @@ fn write_uploads<O: Write>(
 ) -> Result<(), RowCallFault>
     ensures written { WhereKnown (O.contents out.old) (O.contents out.new)
         (Prints (schema_of schema.now).fields (flat_map rows_served uploads.now) result) }
+    ensures cell { RefusesUntold (schema_of schema.now).fields (flat_map rows_served uploads.now) result }
     ensures kind { IfErr result IsOfPrinting }
 {
     for upload in uploads {
@@ -90,6 +93,8 @@ pub fn write_rows<O: Write>(
 ) -> Result<(), RowCallFault>
     ensures written { WhereKnown (O.contents out.old) (O.contents out.new)
         (Prints (schema_of download.now.schema).fields (batches_in (downloaded_in download.now)) result) }
+    // A cell is refused only where no values tell the rows.
+    ensures cell { RefusesUntold (schema_of download.now.schema).fields (batches_in (downloaded_in download.now)) result }
     ensures kind { IfErr result IsOfPrinting }
 {
     write_uploads(alloc, out, &download.schema, &download.uploads)

@@ -11,4 +11,6 @@ mod lines;
 #[cfg(test)]
 mod schemas;
 #[cfg(test)]
+mod untold;
+#[cfg(test)]
 mod untyped;

@@ -1,14 +1,15 @@
-use Rattle.std.proofs.Common.{◌≡◌, ◌∙◌, refl, sym, ap, ◌+◌, ◌<◌, ◌++◌, ◌∷◌, [], List, ℕ, map, length, Vec, Global, false, arith}
+use Rattle.std.proofs.Common.{◌≡◌, ◌∙◌, refl, sym, ap, ◌+◌, ◌<◌, ◌++◌, ◌∷◌, [], List, ℕ, map, length, get_or, Vec, Global, false, arith}
 use Rattle.std.proofs.lemmas.List.{length_push}
+use Rattle.serde_json.specs.Data.{null}
 use Rattle.batch_types.specs.Cells.{Cell as Seen}
 use Rattle.batch_cells.specs.declared.cell.Cell.{Cell as Plain}
 use Rattle.batch_cells.specs.CellViews.{cell_of as seen}
 use Rattle.std.proofs.lemmas.List.{length-map}
 use Rattle.json_rows.specs.Cells.{IsObjectOf, forest_in}
-use Rattle.json_rows.specs.Lines.{TellsLine, WritesLine, cell_at, has_feed}
-use Rattle.json_rows.proofs.Columns.{all_same, columns_then, no_columns}
+use Rattle.json_rows.specs.Lines.{IsOfCell, TellsLine, WritesLine, cell_at, has_feed}
+use Rattle.json_rows.proofs.Columns.{all_same, at_place, columns_then, no_columns, row_told}
 use Rattle.json_rows.proofs.Cut.{all_then, text_joined}
-use Rattle.json_rows.proofs.Zipped.{zip_push}
+use Rattle.json_rows.proofs.Zipped.{holds_on, zip_push}
 use Rattle.json_rows.proofs.row_lines.lines_text.Goals as goal
 
 abbrev column : Vec Plain Global → List Seen
@@ -48,3 +49,14 @@ loop-row-preserved c =
       objects = all_then (IsObjectOf forest) done.values line.value done.objects line.told.0;
       told = columns_then column forest done.values line.value c.args.columns.now row within done.told line.told.1;
     }
+
+pub returns-in_err-put_line-clause-told : goal.returns-in_err-put_line-clause-told
+returns-in_err-put_line-clause-told c = λ values long objects told.
+    let forest = forest_in c.args.fields.now in
+    let row = c.loop-row.row in
+    let within = all_same (λ cells. length cells.items ≡ c.args.rows) (λ cells. row < length (column cells))
+    (λ cells is. omega (arith, is, c.loop-row-test.true, length-map cells.items seen)) c.args.columns.now c.requires.long in
+    let cells = row_told column forest values c.args.columns.now row within told in
+    let object = at_place (IsObjectOf forest) values row null objects (omega (arith, long, c.loop-row-test.true)) in
+    holds_on (λ fault. IsOfCell fault → ⊥) c.from_residual.result c.in_err-put_line.field-0.0 c.from_residual.ensures.1
+    (c.in_err-put_line.ensures.told (get_or values row null) (object, cells))

@@ -6,7 +6,9 @@ use Rattle.header_types.specs.Limits.{forest_depth}
 use Rattle.json_rows.specs.Cells.{TellsFields, forest_in}
 use Rattle.json_rows.specs.Lines.{TellsLine, cell_at}
 use Rattle.json_rows.specs.Written.{WritesValue}
+use Rattle.json_rows.specs.declared.fault.RowsFault.TheVariants.{OutOfMemory}
 use Rattle.json_rows.proofs.Texts.{read_back}
+use Rattle.json_rows.proofs.Zipped.{told_on}
 use Rattle.json_rows.proofs.row_lines.row_text.Goals as goal
 
 pub returns : goal.returns
@@ -25,5 +27,10 @@ returns c =
         subst (λ (l : List ℕ). TellsLine l w.reads.value) (sym line) (record { is_text = c.into_inner.ensures.utf8; value = read }),
         w.reads.told,
       );
+      refused = λ d told. tt;
       kind = tt;
     }
+
+pub returns-in_err-write_row-clause-refused : goal.returns-in_err-write_row-clause-refused
+returns-in_err-write_row-clause-refused c = λ d told.
+    told_on c.from_residual.result c.in_err-write_row.field-0.0 OutOfMemory c.from_residual.ensures.1 (c.in_err-write_row.ensures.refused d told)

@@ -63,3 +63,14 @@ returns-clause-written c =
 
 pub returns-clause-ends : goal.returns-clause-ends
 returns-clause-ends c = if_ok _ _ c.lines_text.result (λ text w. ends_lines text.items w.lines w.text_is w.whole) c.lines_text.ensures.written
+
+pub returns-clause-cell : goal.returns-clause-cell
+returns-clause-cell c = λ values told.
+    let fields = c.args.schema.now.fields.items in
+    let all = c.in_ok-columns.columns.items in
+    let same : map column all ≡ columns_cells c.args.batch.now.columns.items = c.in_ok-columns.ensures ∙ ap columns_cells c.deref.ensures.value in
+    let columns : map column c.deref-2.result.now ≡ columns_cells c.args.batch.now.columns.items = ap (map column) c.deref-2.ensures.value ∙ same in
+    let in_fields = sym c.as_slice-fields.ensures.value in
+    c.lines_text.ensures.told values (sym told.count) (subst (λ fs. AllByRecursion (IsObjectOf (forest_in fs)) values) in_fields told.objects)
+    (subst (λ fs. TellsColumns (forest_in fs) values (map column c.deref-2.result.now)) in_fields
+    (subst (TellsColumns (forest_in fields) values) (sym columns) told.columns))

@@ -11,7 +11,8 @@ use Rattle.json_rows.specs.Cells.{forest_in}
 use Rattle.json_rows.specs.Written.{WritesMember, WritesMembers}
 use Rattle.json_rows.specs.Lines.{cell_at}
 use Rattle.json_rows.proofs.Columns.{item_at}
-use Rattle.json_rows.proofs.Put.{names_at, member_then}
+use Rattle.json_rows.proofs.Told.{TellsMember, members_zip}
+use Rattle.json_rows.proofs.Put.{names_at, member_then, zipped_both}
 use Rattle.json_rows.proofs.row_lines.write_row_members.Goals as goal
 
 pub write_member-requires : goal.write_member-requires
@@ -44,3 +45,17 @@ returns-in-Ok-clause-written c =
     c.loop-index.invariant.1 end
     (subst (λ (fs : List Field). WritesMembers (forest_in fs) (map see (drop c.loop-index.index c.args.columns.now)) out end) (sym fields)
     (subst (λ l. WritesMembers (forest_in []) (map see l) out end) (sym columns) (json.no_members, closed, tt)))
+
+pub returns-in-Err-clause-refused : goal.returns-in-Err-clause-refused
+returns-in-Err-clause-refused c = λ d told.
+    let row = c.args.row in
+    let fields = c.args.fields.now in
+    let i = c.loop-index.index in
+    let x = c.index-fields-index.result in
+    let cells = c.index-columns-index.result in
+    let fits : i < length c.args.columns.now = omega (arith, c.loop-index-test.true, c.requires.counts) in
+    let there = item_at (λ (column : Vec Plain Global). row < length column.items) c.args.columns.now i cells c.requires.within fits c.index-columns-index.is in
+    let same : cell_at row cells ≡ seen c.index.result.now = get_or-map seen cells.items row c.index.result.now null_cell there ∙ ap seen (sym c.index.ensures) in
+    let zip = members_zip (map tree_of fields) d (map (cell_at row) c.args.columns.now) told in
+    let here = zipped_both (TellsMember d) tree_of (cell_at row) fields c.args.columns.now i x cells zip c.loop-index-test.true fits c.index-fields-index.is c.index-columns-index.is in
+    c.in-Err.ensures.refused _ (subst (λ (cell : Seen). TellsMember d (tree_of x) cell) same here)

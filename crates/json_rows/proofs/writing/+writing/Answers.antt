@@ -2,7 +2,7 @@ use Rattle.std.proofs.Common.{rules, arith, sym, ap, subst, ◌∙◌, ◌≡◌
 use Rattle.std.specs.List.{AllZip}
 use Rattle.std.proofs.lemmas.List.{length-map, drop_all}
 use Rattle.std.proofs.lemmas.Bool.{false≢true}
-use Rattle.std.proofs.lemmas.Result.{on_ok_weaker}
+use Rattle.std.proofs.lemmas.Result.{on_err_weaker, on_ok_weaker}
 use Rattle.json.specs.Token.{Token}
 use Rattle.json.specs.Token as token
 use Rattle.json.specs.Json as json
@@ -21,8 +21,8 @@ use Rattle.json_rows.specs.Cells.{TellsCell, TellsElement, TellsElements, TellsF
 use Rattle.json_rows.specs.Written.{WritesElements, WritesMembers, WritesValue}
 use Rattle.json_rows.proofs.Told.{TellsMember, form_closed, form_of_value, members_zip, flat_alike, no_element, zip_long, not_empty}
 use Rattle.json_rows.proofs.Texts.{written_weaker}
-use Rattle.json_rows.proofs.Put.{empty_list, list_one, tuple_one, names_at, depth_inside, depth_first, array_written, deeper_elements, element_then, member_then, object_written, zipped_right, zipped_both}
-use Rattle.json_rows.proofs.Zipped.{told_on}
+use Rattle.json_rows.proofs.Put.{goes_by, goes_nowhere, goes_then, empty_list, list_one, tuple_one, names_at, depth_inside, depth_first, array_written, deeper_elements, element_then, member_then, object_written, zipped_right, zipped_both}
+use Rattle.json_rows.proofs.Zipped.{on_err, told_on}
 use Rattle.json_rows.proofs.writing.+writing.Goals as goal
 
 pub write_cell-returns-then-not-is_null-clause-written : goal.write_cell-returns-then-not-is_null-clause-written
@@ -42,6 +42,10 @@ write_cell-returns-then-not-is_null-clause-refused t c = λ d told.
     (form_of_value c.args.field.now c.form_of.result c.as_slice.result.now d (seen c.args.cell.now) c.form_of.ensures c.as_slice.ensures.value
     (λ is. false≢true (c.if-not-is_null.ensures.1 is)) told)
 
+pub write_each-returns-in_err-write_cell-clause-begun : goal.write_each-returns-in_err-write_cell-clause-begun
+write_each-returns-in_err-write_cell-clause-begun t c =
+    on_err _ c.from_residual.result (goes_then _ _ _ c.loop-cell.invariant.1 c.in_err-write_cell.ensures.begun)
+
 pub write_each-returns-in_err-write_cell-clause-refused : goal.write_each-returns-in_err-write_cell-clause-refused
 write_each-returns-in_err-write_cell-clause-refused t c = λ values told.
     let here = zipped_right (TellsCell (tree_of c.args.field.now)) seen values c.args.cells.now c.loop-cell.cell-index c.cell-item.result told c.loop-cell-test.true c.cell-item.is in
@@ -51,7 +55,8 @@ pub write_each-loop-cell-preserved : goal.write_each-loop-cell-preserved
 write_each-loop-cell-preserved t c =
     let T = tree_of c.args.field.now in (
       c.in_ok-write_cell.ensures.before ∙ c.loop-cell.invariant.0,
-      λ end rest. c.loop-cell.invariant.1 end
+      goes_then _ _ _ c.loop-cell.invariant.1 (goes_by _ _ _ c.in_ok-write_cell.ensures.written.tokens),
+      λ end rest. c.loop-cell.invariant.2 end
           (element_then (TellsCell T) (tree_depth T) c.args.cells.now c.loop-cell.cell-index c.cell-item.result c.loop-cell.out.tokens c.write_cell.new.out.tokens end
           c.loop-cell-test.true c.cell-item.is c.in_ok-write_cell.ensures.written rest),
     )
@@ -62,7 +67,7 @@ write_each-returns-clause-written t c =
     let end = c.end_array.new.self.tokens in
     let closed : end ≡ c.loop-cell.out.tokens ++ token.end_array ∷ [] = search rules in
     let none = drop_all c.loop-cell.cell-index c.args.cells.now (omega (arith, c.loop-cell-test.false)) in
-    c.loop-cell.invariant.1 end
+    c.loop-cell.invariant.2 end
     (subst (λ (l : List Plain). WritesElements (TellsCell T) (tree_depth T) (map seen l) c.loop-cell.out.tokens end) (sym none) (json.no_items, closed, tt))
 
 pub write_each_member-write_member-requires : goal.write_each_member-write_member-requires
@@ -70,6 +75,10 @@ write_each_member-write_member-requires t c =
     let x = c.index-fields-index.result in
     let there = height_there c.args.fields.now c.loop-index.index x c.loop-index-test.true c.index-fields-index.is in
     (subst (λ n. 8 * height (field_shape x) + 1 < n) c.decreases (omega (arith, there)), names_at c.args.fields.now c.loop-index.index x c.loop-index-test.true c.index-fields-index.is c.requires.names)
+
+pub write_each_member-returns-in_err-write_member-clause-begun : goal.write_each_member-returns-in_err-write_member-clause-begun
+write_each_member-returns-in_err-write_member-clause-begun t c =
+    on_err _ c.from_residual.result (goes_then _ _ _ c.loop-index.invariant.1 c.in_err-write_member.ensures.begun)
 
 pub write_each_member-returns-in_err-write_member-clause-refused : goal.write_each_member-returns-in_err-write_member-clause-refused
 write_each_member-returns-in_err-write_member-clause-refused t c = λ d told.
@@ -83,7 +92,8 @@ write_each_member-returns-in_err-write_member-clause-refused t c = λ d told.
 pub write_each_member-loop-index-preserved : goal.write_each_member-loop-index-preserved
 write_each_member-loop-index-preserved t c = (
   c.in_ok-write_member.ensures.before ∙ c.loop-index.invariant.0,
-  λ end rest. c.loop-index.invariant.1 end
+  goes_then _ _ _ c.loop-index.invariant.1 (goes_by _ _ _ c.in_ok-write_member.ensures.written.1),
+  λ end rest. c.loop-index.invariant.2 end
       (member_then seen c.args.fields.now c.args.cells.now c.loop-index.index c.index-fields-index.result c.index-cells-index.result c.loop-index.out.tokens c.write_member.new.out.tokens end
       c.loop-index-test.true (omega (arith, c.loop-index-test.true, c.requires.counts)) c.index-fields-index.is c.index-cells-index.is c.in_ok-write_member.ensures.written rest),
 )
@@ -95,7 +105,7 @@ write_each_member-returns-clause-written t c =
     let closed : end ≡ out ++ token.end_object ∷ [] = search rules in
     let fields = drop_all c.loop-index.index c.args.fields.now (omega (arith, c.loop-index-test.false)) in
     let cells = drop_all c.loop-index.index c.args.cells.now (omega (arith, c.loop-index-test.false, c.requires.counts)) in
-    c.loop-index.invariant.1 end
+    c.loop-index.invariant.2 end
     (subst (λ (fs : List Field). WritesMembers (forest_in fs) (map seen (drop c.loop-index.index c.args.cells.now)) out end) (sym fields)
     (subst (λ (l : List Plain). WritesMembers (forest_in []) (map seen l) out end) (sym cells) (json.no_members, closed, tt)))
 
@@ -174,6 +184,7 @@ write_form-returns-in-Null t c =
           c.write_flat.ensures.written;
       refused = λ d told. c.write_flat.ensures.refused d ((flat_alike (TellsElement inside) (TellsFields inside) d cell c.args.form c.in-Null.is).0 told);
       before = c.write_flat.ensures.before;
+      begun = on_err_weaker c.write_flat.result (λ is. goes_nowhere _ _ is) c.write_flat.ensures.kept;
     }
 
 pub write_members-returns-then-fields-cells-clause-refused : goal.write_members-returns-then-fields-cells-clause-refused

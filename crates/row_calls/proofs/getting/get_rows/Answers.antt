@@ -8,4 +8,4 @@ returns-in-Ok-clause-sent g c =
 pub returns-in-Ok-clause-told : goal.returns-in-Ok-clause-told
 returns-in-Ok-clause-told g c =
     rows_got c.in-Ok.download (g.R.Read.remaining c.args.r.now) (g.R.Read.remaining c.call_get.new.r) (g.O.Write.contents c.args.out.now) (g.O.Write.contents c.write_rows.new.out)
-    c.write_rows.result c.write_rows.ensures.kind c.in-Ok.ensures.told c.write_rows.ensures.written
+    c.write_rows.result c.write_rows.ensures.kind c.in-Ok.ensures.told c.write_rows.ensures.written c.write_rows.ensures.cell

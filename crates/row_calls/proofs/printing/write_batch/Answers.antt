@@ -15,3 +15,6 @@ returns-clause-written g c =
     let is = text_of_batch fields c.args.batch.now c.in-Ok.text.items c.in-Ok.ensures.written c.in-Ok.ensures.ends in
     batch_cut fields c.args.batch.now c.deref.result.now c.in-Err-put.field-0 Output (g.O.Write.contents c.args.out.now) (g.O.Write.contents c.put.new.w)
     (subst (λ (text : List ℕ). IsTextOf fields (rows_alone c.args.batch.now) text) (sym c.deref.ensures.value) is) c.in-Err-put.ensures.written
+
+pub returns-in-Err-clause-cell : goal.returns-in-Err-clause-cell
+returns-in-Err-clause-cell g c = λ values told. c.in-Err.ensures.cell told.0 told.3
