@@ -1,5 +1,5 @@
 -- Events that are applied one after the other.
-use Rattle.std.proofs.Common.{◌≡◌, ℕ, Bool, List, [], ◌∷◌, ◌++◌, length, map, refl, sym, ap, subst, ◌∙◌}
+use Rattle.std.proofs.Common.{◌≡◌, ℕ, Bool, List, [], ◌∷◌, ◌++◌, length, map, Result, Ok, Err, OnErr, refl, sym, ap, subst, ◌∙◌}
 use Rattle.std.proofs.lemmas.List.{map_push}
 use Rattle.ballots.specs.declared.message.Message.{Message}
 use Rattle.lawful_histories.specs.Lawful.{IsLawful}
@@ -85,3 +85,18 @@ come_to_end lawful safe Have config trace events configured come =
       lawful = lawful (history_of trace) follows;
       safe = safe (history_of trace) follows;
     }
+
+-- ---- nodes that have what they had
+
+pub kept_come : (Old New : (ℕ → Seat) → Type 0) (trace : Traced) (events : List Event) → ((seats : ℕ → Seat) → Old seats → New seats) → HasCome Old trace events → HasCome New trace events
+kept_come Old New trace events kept come = record {
+  recovered = come.recovered;
+  seats = come.seats;
+  reached = come.reached;
+  have = kept come.seats come.have;
+  one_for_one = come.one_for_one;
+}
+
+pub any_err : {T E : Type 0} (P : Type 0) (result : Result T E) → P → OnErr result P
+any_err P (Ok x) h = tt
+any_err P (Err e) h = h

@@ -1,11 +1,12 @@
 -- What one event does to nodes, and what events that are applied one after the other reach.
-use Rattle.std.specs.Prelude.{◌≡◌, ℕ, Bool, List, ◌++◌, length, map, Result, Ok, Err}
+use Rattle.std.specs.Prelude.{◌≡◌, ℕ, Bool, List, ◌++◌, length, map, take, Result, Ok, Err}
 use Rattle.ballots.specs.declared.message.Message.{Message}
 use Rattle.agreement_rules.specs.Views.{Config}
 use Rattle.histories.specs.EventResult.{count_of}
 use Rattle.histories.specs.Following.{Seat, StepFollows, IsAsked}
 use Rattle.node_events.specs.declared.event.Event.{Event}
 use Rattle.node_events.specs.declared.event_result.EventResult.{EventResult}
+use Rattle.schedule_runner.specs.declared.config.Config.{Config as RunConfig}
 use Rattle.schedule_runner.specs.declared.step.Step.{Step}
 use Rattle.schedule_runner.specs.Told.{event_of, result_of}
 use Rattle.schedule_runner.specs.Traced.{Traced, TraceReaches}
@@ -37,3 +38,10 @@ pub record HasCome (Have : (ℕ → Seat) → Type 0) (trace : Traced) (events :
   pub reached : TraceReaches trace recovered seats
   pub have : Have seats
   pub one_for_one : map (λ (step : Step). step.event) trace.steps ≡ events
+
+-- A beginning of these events was applied, and the nodes have what it left them.
+pub record HasBegun (Have : (ℕ → Seat) → Type 0) (config : RunConfig) (events : List Event) : Type 0 where
+  pub count : ℕ
+  pub trace : Traced
+  pub config_is : trace.config ≡ config
+  pub come : HasCome Have trace (take count events)

@@ -1,10 +1,10 @@
 //! Events that are applied one after the other.
 
-ghost use Rattle.std.specs.Prelude.{◌≡◌, ◌↔◌, List, ◌∷◌, ◌++◌, [], Err, IfOk, OnOk};
+ghost use Rattle.std.specs.Prelude.{◌≡◌, ◌↔◌, List, ◌∷◌, ◌++◌, [], Err, IfOk, OnOk, OnErr};
 ghost use Rattle.histories.specs.Following.{at_first};
 ghost use Rattle.node_events.specs.declared.event.Event.{Event as EventSpec};
 ghost use Rattle.schedule_runner.specs.Told.{config_of};
-ghost use Rattle.schedule_runner.specs.Applying.{HasCome};
+ghost use Rattle.schedule_runner.specs.Applying.{HasBegun, HasCome};
 ghost use Rattle.schedule_runner.specs.Runs.{IsRunOf};
 ghost use Rattle.schedule_runner.specs.Limits.{IsWithinLimits};
 ghost use Rattle.schedule_runner.specs.declared.fault.RunFault.TheVariants.{BadConfig};
@@ -32,6 +32,9 @@ fn take_step<N: Nodes>(
     ensures come { OnOk result ((events : List EventSpec)
         → HasCome (N.have nodes.old (config_of trace.old.config)) trace.old events
         → HasCome (N.have nodes.new (config_of trace.old.config)) trace.new (events ++ event.now ∷ [])) }
+    ensures kept { OnErr result ((events : List EventSpec)
+        → HasCome (N.have nodes.old (config_of trace.old.config)) trace.old events
+        → HasCome (N.have nodes.new (config_of trace.old.config)) trace.old events) }
 {
     one_step_more_reaches();
     trace.steps.reserve(1)?;
@@ -52,7 +55,8 @@ fn take_step<N: Nodes>(
 /// configuration, each as it is at first: up, and with nothing.
 ///
 /// [`AllocError`] says that memory for the trace was refused: for its steps, or for the messages that went out. A node
-/// that wants memory for itself refuses its event, and the run goes on.
+/// that wants memory for itself refuses its event, and the run goes on. The nodes are then as a beginning of the events
+/// left them; behind a whole run, as all events left them.
 pub fn run_on<N: Nodes>(
     alloc: Global,
     config: Config,
@@ -60,7 +64,9 @@ pub fn run_on<N: Nodes>(
     events: &[Event],
 ) -> Result<Trace, AllocError>
     requires { N.have nodes.old (config_of config) at_first }
-    ensures { IfOk result (IsRunOf config events.now) }
+    ensures run { IfOk result (IsRunOf config events.now) }
+    ensures nodes { IfOk result (λ trace. HasCome (N.have nodes.new (config_of config)) trace events.now) }
+    ensures begun { OnErr result (HasBegun (N.have nodes.new (config_of config)) config events.now) }
 {
     nothing_reaches_the_start();
     let mut trace = Trace::new(alloc, config);

@@ -5,7 +5,7 @@ use Rattle.schedule_runner.specs.declared.config.Config.{Config}
 use Rattle.schedule_runner.specs.Told.{config_of}
 use Rattle.schedule_runner.specs.Traced.{Traced}
 use Rattle.schedule_runner.specs.Applying.{HasCome}
-use Rattle.schedule_runner.proofs.Coming.{at_start, come_to_end}
+use Rattle.schedule_runner.proofs.Coming.{any_err, at_start, come_to_end}
 use Rattle.schedule_runner.proofs.running.run_on.Goals as goal
 
 pub loop-event-init : goal.loop-event-init
@@ -31,8 +31,26 @@ loop-event-preserved g c =
           (ap (λ (e : Event). take i events ++ e ∷ []) c.event-item.is ∙ sym (take_more events i event c.loop-event-test.true)) come,
     )
 
-pub returns : goal.returns
-returns g c =
+pub returns-in_err-take_step-clause-begun : goal.returns-in_err-take_step-clause-begun
+returns-in_err-take_step-clause-begun g c =
+    let Have = g.N.Nodes.have c.take_step.new.nodes in
+    let old = c.loop-event.trace in
+    let events = take c.loop-event.event-index c.args.events.now in
+    any_err _ c.from_residual.result (record {
+      count = c.loop-event.event-index;
+      trace = old;
+      config_is = c.loop-event.invariant.0;
+      come = subst (λ (config : Config). HasCome (g.N.Nodes.have c.loop-event.nodes (config_of config)) old events → HasCome (Have (config_of config)) old events)
+          c.loop-event.invariant.0 (c.in_err-take_step.ensures.kept events) c.loop-event.invariant.1;
+    })
+
+pub returns-clause-run : goal.returns-clause-run
+returns-clause-run g c =
     let Have = g.N.Nodes.have c.loop-event.nodes (config_of c.args.config) in
     come_to_end c.replicas_agree.ensures.lawful c.replicas_agree.ensures.safe Have c.args.config c.loop-event.trace c.args.events.now c.loop-event.invariant.0
     (subst (λ (l : List Event). HasCome Have c.loop-event.trace l) (take_all c.loop-event.event-index c.args.events.now c.loop-event-test.false) c.loop-event.invariant.1)
+
+pub returns-clause-nodes : goal.returns-clause-nodes
+returns-clause-nodes g c =
+    let Have = g.N.Nodes.have c.loop-event.nodes (config_of c.args.config) in
+    subst (λ (l : List Event). HasCome Have c.loop-event.trace l) (take_all c.loop-event.event-index c.args.events.now c.loop-event-test.false) c.loop-event.invariant.1

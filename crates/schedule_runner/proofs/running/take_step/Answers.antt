@@ -5,7 +5,7 @@ use Rattle.schedule_runner.specs.declared.step.Step.{Step}
 use Rattle.schedule_runner.specs.Told.{config_of}
 use Rattle.schedule_runner.specs.Traced.{Traced}
 use Rattle.schedule_runner.specs.Applying.{HasCome}
-use Rattle.schedule_runner.proofs.Coming.{come_more}
+use Rattle.schedule_runner.proofs.Coming.{come_more, kept_come}
 use Rattle.schedule_runner.specs.contracts.trace.Trace.{the_view}
 use Rattle.schedule_runner.proofs.running.take_step.Goals as goal
 
@@ -22,3 +22,7 @@ returns-in-Ok-clause-come g c =
     (come_more c.one_step_more_reaches.ensures (g.N.Nodes.have c.args.nodes.now (config_of old.config)) New old next c.apply.new.sent.items events step
     (c.in-Ok.ensures (config_of old.config)) come
     (record { config_is = refl; sent_is = refl; steps_are = c.put_step.ensures ∙ ap (λ (l : List Step). l ++ step ∷ []) c.in_ok-reserve.ensures.items })))
+
+pub returns-in-Err-clause-kept : goal.returns-in-Err-clause-kept
+returns-in-Err-clause-kept g c = λ events come.
+    kept_come _ _ _ events (λ seats have. (c.in-Err.ensures (config_of c.args.trace.now.config) seats have).0) come
