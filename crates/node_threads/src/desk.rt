@@ -50,9 +50,9 @@ impl Desk {
         }
     }
 
-    /// Sends the worker a note. One that finds no memory is lost.
-    pub(crate) fn tell<R: Wait>(&self, rt: &R, note: Note) {
-        let _ = self.notes.send(rt, note);
+    /// Sends the worker a note, and says whether it went. One that finds no memory is lost.
+    pub(crate) fn tell<R: Wait>(&self, rt: &R, note: Note) -> bool {
+        self.notes.send(rt, note).is_ok()
     }
 
     /// Has an upload wait; its end is told there. [`AllocError`] says that memory was refused.

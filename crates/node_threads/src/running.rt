@@ -11,7 +11,7 @@ use crate::faults::fault_of;
 use crate::gate::Gate;
 use crate::steps::Taken;
 use crate::workplace::NodeWorkplace;
-use crossbeam_channel::{Receiver, unbounded};
+use crossbeam_channel::{Receiver, bounded, unbounded};
 use growing_log::Naming;
 use node_core::Refusal;
 use node_work::{Note, PutId, end_each, end_of, look_at_each};
@@ -20,6 +20,8 @@ use stable_records::Stable;
 use std::alloc::{AllocError, Global};
 use std::ops::Range;
 use std::sync::Wait;
+use std::sync::atomic::AtomicBool;
+use std::sync::atomic::Ordering::SeqCst;
 use table_types::Ticket;
 use table_versions::Answer;
 use uploads::Upload;
@@ -48,6 +50,7 @@ pub struct Running<const N: usize, S: Stable + Drop, J: Naming, G: Gate + Drop> 
     cluster: Cluster<N, S, J>,
     gate: G,
     desks: Vec<Desk>,
+    is_stopping: AtomicBool,
 }
 
 impl<const N: usize, S: Stable + Drop, J: Naming, G: Gate + Drop> Running<N, S, J, G> {
@@ -69,6 +72,7 @@ impl<const N: usize, S: Stable + Drop, J: Naming, G: Gate + Drop> Running<N, S, 
             cluster,
             gate,
             desks,
+            is_stopping: AtomicBool::new(false),
         };
         Ok((running, receivers))
     }
@@ -150,11 +154,21 @@ impl<const N: usize, S: Stable + Drop, J: Naming, G: Gate + Drop> Running<N, S, 
         }
     }
 
-    /// Ends the work of all nodes, and with it the puts that wait.
+    /// Ends the work of all nodes, and with it the puts that wait: a worker ends behind the notes that it was sent before. It
+    /// needs no memory: where there is none for a note, the workers end once they look, [`LOOK_MILLISECONDS`] later at most.
+    ///
+    /// [`LOOK_MILLISECONDS`]: crate::LOOK_MILLISECONDS
     pub fn stop<R: Wait>(&self, rt: &R) {
         for desk in &self.desks {
-            desk.tell(rt, Note::Stop);
+            if !desk.tell(rt, Note::Stop) {
+                self.is_stopping.store(true, SeqCst);
+            }
         }
+    }
+
+    /// Whether the work of all nodes is to end though a worker could not be told.
+    pub(crate) fn is_stopping(&self) -> bool {
+        self.is_stopping.load(SeqCst)
     }
 
     /// Starts the node again, with the records that it kept, and enters that. The puts that wait at it end as
@@ -209,7 +223,8 @@ fn begin<R: Wait>(
     desk: &Desk,
     upload: Upload,
 ) -> Result<(PutId, Pending), AllocError> {
-    let (reply, ending) = match unbounded(alloc) {
+    // There is room for the one end that is told, so that telling it needs no memory.
+    let (reply, ending) = match bounded(alloc, 1) {
         Ok(channel) => channel,
         Err(refused) => {
             drop(upload);

@@ -111,7 +111,7 @@ impl<const N: usize, S: Stable + Drop, J: Naming> Cluster<N, S, J> {
 
     /// What the node answers to a ticket, entered: the frames of a version, or `None` where it has none.
     ///
-    /// The faults are those of [`Cluster::ask`].
+    /// The faults are those of [`Cluster::ask`]; and want of memory for a copy of the answer, where the question stands entered.
     pub fn get<R: Wait, G: Gate>(
         &self,
         rt: &R,

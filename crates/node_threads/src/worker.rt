@@ -26,7 +26,12 @@ impl<const N: usize, S: Stable + Drop, J: Naming, G: Gate + Drop> Running<N, S, 
         };
         let mut watch = Stopwatch::start(rt);
         for _ in rt.forever() {
-            let (waited, note) = next_note(rt, &mut watch, notes);
+            let (waited, heard) = next_note(rt, &mut watch, notes);
+            let note = if self.is_stopping() {
+                Some(Note::Stop)
+            } else {
+                heard
+            };
             if step(&mut place, &mut pace, waited, note) == Next::End {
                 return;
             }
