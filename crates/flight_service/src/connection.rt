@@ -5,6 +5,7 @@ ghost use Rattle.grpc_frames.specs.FrameFaults.{WhereKnown};
 ghost use Rattle.flight_service.specs.Connections.{ServesAt};
 
 use crate::service::Service;
+use crate::timely::TimelyWriter;
 use call_words::CallFault;
 use cluster_backend::{ClusterBackend, Nodes, Receipts};
 use flight_calls::serve_call;
@@ -14,7 +15,10 @@ use std::net::{Shutdown, TcpStream};
 use std::sync::Wait;
 use std::time::{Clock, Duration};
 
-/// How long a peer may let no byte pass while one is waited for, in seconds.
+/// How long a peer may let no byte pass while one is waited for, in seconds; and in how long it has to take the bytes of one
+/// write, [`MOST_WRITE_BYTES`] at most.
+///
+/// [`MOST_WRITE_BYTES`]: crate::MOST_WRITE_BYTES
 pub const SILENCE_SECONDS: u64 = 60;
 
 /// How many bytes of a request are read and let go behind its answer, at most, so that the answer is not lost with them.
@@ -54,7 +58,7 @@ pub(crate) fn answer_peer<R: Wait + Clock, C: Nodes + Drop, K: Receipts + Drop>(
     let _ = stream.set_nodelay(true);
     let (Ok(mut input), Ok(mut output)) = (
         BufReader::new(alloc, stream),
-        BufWriter::new(alloc, stream),
+        BufWriter::new(alloc, TimelyWriter::new(stream)),
     ) else {
         return;
     };

@@ -12,7 +12,7 @@
 //!
 //! [`serve_connection`] serves one call over any reader and writer; its contract says what goes out. What a peer may hold is
 //! bounded: at most [`MOST_CONNECTIONS`] calls are under way at a node, further connections wait unaccepted, and a peer that
-//! lets [`SILENCE_SECONDS`] pass without a byte is cut off.
+//! lets [`SILENCE_SECONDS`] pass without a byte, or does not take [`MOST_WRITE_BYTES`] in them, is cut off ([`TimelyWriter`]).
 #![tactic(auto)]
 
 mod cluster;
@@ -22,6 +22,7 @@ mod listening;
 mod opening;
 mod places;
 mod service;
+mod timely;
 mod works;
 
 pub use cluster::{Started, config_of, five_nodes, open_seat, start_nodes, three_nodes};
@@ -31,4 +32,5 @@ pub use listening::{bind_all, start_listening};
 pub use opening::{OpenService, join_all, open_service};
 pub use places::{MOST_CONNECTIONS, Places};
 pub use service::Service;
+pub use timely::{MOST_WRITE_BYTES, TimelyWriter};
 pub use works::{Works, start_workers};
