@@ -2,11 +2,11 @@
 
 ghost use Rattle.std.specs.Prelude.{◌≡◌};
 
-use crate::support::{Nodes, Why, check, members, three, ticket, told, upload};
+use crate::support::{Nodes, Why, check, deliver_from, members, put, three, ticket, told};
 use ballots::NodeId;
 use crossbeam_channel::Receiver;
 use growing_log::{Naming, Opened};
-use node_threads::{Note, OpenGate, OwnEntry, Pace, Pending, Receipt, SeatFault, SeatInput};
+use node_threads::{Note, OpenGate, OwnEntry, Pace, Receipt, SeatFault, SeatInput};
 use schedule_runner::audit;
 use std::alloc::Global;
 use std::hash::RandomState;
@@ -15,42 +15,6 @@ use std::sync::Wait;
 use std::test::Fail;
 use std::time::Clock;
 use table_versions::{Answer, Outcome};
-
-/// More messages than an upload takes.
-const MANY: u64 = 100;
-
-// Hands an upload of this number to the node.
-fn put<R: Wait, J: Naming>(
-    rt: &R,
-    alloc: Global,
-    nodes: &Nodes<J, OpenGate>,
-    node: usize,
-    number: u64,
-) -> Result<Pending, Why> {
-    let upload = upload(alloc, number)?;
-    match nodes.put(rt, node, &upload) {
-        Ok(pending) => Ok(pending),
-        Err(_) => Err("a put fails"),
-    }
-}
-
-// Hands each message from this number on to each node, until no more are sent.
-fn deliver_from<R: Wait, J: Naming>(
-    rt: &R,
-    nodes: &Nodes<J, OpenGate>,
-    first: u64,
-) -> Result<(), Why> {
-    for number in first..MANY {
-        for node in 0..3 {
-            match nodes.cluster().deliver(rt, &OpenGate, node, number) {
-                Ok(taken) => drop(taken),
-                Err(SeatFault::NotSent) => return Ok(()),
-                Err(_) => return Err("a message is not taken"),
-            }
-        }
-    }
-    Err("messages without end")
-}
 
 // The first version at this node.
 fn first_version<R: Wait, J: Naming>(
