@@ -1,14 +1,16 @@
 //! Calls that are refused memory, and then are made again: a service answers with the trailer of that name alone, and a
-//! client is told so, behind a beginning of its request.
+//! client is told so, behind a beginning of its request, and has read nothing behind the trailer.
 //! Run with every allocation refused in turn, each test ends as before or for want of memory.
 
-use crate::asked::{FIRST, INFO, OK, PUT, TOLD};
+use crate::asked::{FIRST, INFO, OK, PUT, TOLD, UNAVAILABLE};
 use crate::gotten::ticket;
 use crate::support::{backend, bytes, upload};
-use client_calls::{ClientFault, Download, call_get, call_info, call_put};
+use client_calls::{
+    ClientFault, Download, call_get, call_get_frames, call_info, call_list, call_put,
+};
 use flight_calls::{CallFault, serve_call};
 use proto_wire::FlightInfo;
-use std::alloc::Global;
+use std::alloc::{AllocError, Global};
 use std::test::Fail;
 use table_backend::TableBackend;
 use table_types::Ticket;
@@ -79,6 +81,36 @@ fn each_call_is_served_again(rt: HostRuntime) -> Result<(), Fail> {
     Ok(())
 }
 
+/// What stands behind the trailers here, and is not read.
+const BEHIND: &str = "0000";
+
+/// Where a client may stand in an answer when it is refused memory: in front of it, behind the five bytes in front of a
+/// payload, and behind a payload. In that of a version, whose frames have 160, 189 and 6 bytes.
+const OF_GET: [usize; 7] = [0, 5, 160, 165, 349, 354, 355];
+
+/// In the answer to a put, whose frames have 27 and 6 bytes.
+const OF_PUT: [usize; 5] = [0, 5, 27, 32, 33];
+
+/// In what is told of a table, in 12 and 6 bytes, and of two.
+const OF_INFO: [usize; 5] = [0, 5, 12, 17, 18];
+
+const OF_LIST: [usize; 7] = [0, 5, 12, 17, 24, 29, 30];
+
+/// In an answer with a message of 70,000 bytes, of which room for 65,536 is made first.
+const OF_LONG: [usize; 6] = [0, 5, 65_541, 70_005, 70_010, 70_011];
+
+/// In a refusal.
+const OF_REFUSAL: [usize; 3] = [0, 5, 17];
+
+/// Whether so many bytes of an answer were read as may be: up to one of these places where memory was refused, else to
+/// the last.
+fn is_read<T>(told: &Result<T, ClientFault>, taken: usize, places: &[usize]) -> bool {
+    match told {
+        Err(ClientFault::Call(CallFault::OutOfMemory)) => places.contains(&taken),
+        Ok(_) | Err(_) => places.last() == Some(&taken),
+    }
+}
+
 /// What a client gets of an answer, and a beginning of the request.
 fn get(
     alloc: Global,
@@ -89,10 +121,11 @@ fn get(
     let mut writer = Vec::with_capacity(alloc, 100)?;
     let got = call_get(alloc, &mut reader, &mut writer, ticket);
     let request = bytes(alloc, &[GET_PATH, TICKET])?;
-    if request.starts_with(writer.as_slice()) {
+    let taken = answer.len().saturating_sub(reader.len());
+    if request.starts_with(writer.as_slice()) && is_read(&got, taken, &OF_GET) {
         return Ok(got);
     }
-    Err(Fail::from("another request"))
+    Err(Fail::from("another request or rest"))
 }
 
 /// The version; where memory is refused, it is got again.
@@ -108,24 +141,88 @@ fn gotten(alloc: Global, answer: &[u8], ticket: &Ticket) -> Result<Download, Fai
 fn a_version_is_got_again(rt: HostRuntime) -> Result<(), Fail> {
     let mut backend = backend(&rt)?;
     served(rt.alloc(), &mut backend, &[PUT])?;
-    let answer = served(rt.alloc(), &mut backend, &[GET_PATH, TICKET])?;
+    let mut answer = served(rt.alloc(), &mut backend, &[GET_PATH, TICKET])?;
+    answer.extend_from_slice(bytes(rt.alloc(), &[BEHIND])?.as_slice())?;
     let ticket = ticket(rt.alloc(), 1)?;
     let download = gotten(rt.alloc(), answer.as_slice(), &ticket)?;
     assert!(rt; download.uploads.len() == 1 && download.schema.fields.len() == 1);
     Ok(())
 }
 
+/// The frames that a client gets of an answer, and a beginning of the request.
+fn frames(
+    alloc: Global,
+    answer: &[u8],
+    ticket: &Ticket,
+    places: &[usize],
+) -> Result<Result<Vec<u8>, ClientFault>, Fail> {
+    let mut reader = answer;
+    let mut writer = Vec::with_capacity(alloc, 100)?;
+    let got = call_get_frames(alloc, &mut reader, &mut writer, ticket);
+    let request = bytes(alloc, &[GET_PATH, TICKET])?;
+    let taken = answer.len().saturating_sub(reader.len());
+    if request.starts_with(writer.as_slice()) && is_read(&got, taken, places) {
+        return Ok(got);
+    }
+    Err(Fail::from("another request or rest"))
+}
+
+/// The frames; where memory is refused, they are got again.
+fn gotten_frames(
+    alloc: Global,
+    answer: &[u8],
+    ticket: &Ticket,
+    places: &[usize],
+) -> Result<Vec<u8>, Fail> {
+    let got = match frames(alloc, answer, ticket, places)? {
+        Err(ClientFault::Call(CallFault::OutOfMemory)) => frames(alloc, answer, ticket, places)?,
+        got => got,
+    };
+    Ok(got?)
+}
+
+#[test]
+fn frames_are_got_again(rt: HostRuntime) -> Result<(), Fail> {
+    let mut backend = backend(&rt)?;
+    served(rt.alloc(), &mut backend, &[PUT])?;
+    let mut answer = served(rt.alloc(), &mut backend, &[GET_PATH, TICKET])?;
+    answer.extend_from_slice(bytes(rt.alloc(), &[BEHIND])?.as_slice())?;
+    let ticket = ticket(rt.alloc(), 1)?;
+    let got = gotten_frames(rt.alloc(), answer.as_slice(), &ticket, &OF_GET)?;
+    assert!(rt; got.len() == 349 && answer.starts_with(got.as_slice()));
+    Ok(())
+}
+
+/// An answer with a message of 70,000 bytes, and two bytes behind its trailer.
+fn long_answer(alloc: Global) -> Result<Vec<u8>, AllocError> {
+    let mut answer = Vec::from_slice(alloc, &[0, 0, 1, 0x11, 0x70])?;
+    let payload = vec![in alloc; 7; 70_000]?;
+    answer.extend_from_slice(payload.as_slice())?;
+    answer.extend_from_slice(b"\x80\x00\x00\x00\x01\x00\x00\x00")?;
+    Ok(answer)
+}
+
+#[test]
+fn a_long_message_is_got_again(rt: HostRuntime) -> Result<(), Fail> {
+    let answer = long_answer(rt.alloc())?;
+    let ticket = ticket(rt.alloc(), 1)?;
+    let got = gotten_frames(rt.alloc(), answer.as_slice(), &ticket, &OF_LONG)?;
+    assert!(rt; got.len() == 70_005 && answer.starts_with(got.as_slice()));
+    Ok(())
+}
+
 /// What a client makes of the answer to a put, behind a beginning of its request.
 fn put(alloc: Global, upload: &Upload) -> Result<Result<u64, ClientFault>, Fail> {
-    let answer = bytes(alloc, &[FIRST, OK])?;
+    let answer = bytes(alloc, &[FIRST, OK, BEHIND])?;
     let mut reader = answer.as_slice();
     let mut writer = Vec::with_capacity(alloc, 1_000)?;
     let told = call_put(alloc, &mut reader, &mut writer, upload);
     let request = bytes(alloc, &[PUT])?;
-    if request.starts_with(writer.as_slice()) {
+    let taken = answer.len().saturating_sub(reader.len());
+    if request.starts_with(writer.as_slice()) && is_read(&told, taken, &OF_PUT) {
         return Ok(told);
     }
-    Err(Fail::from("another request"))
+    Err(Fail::from("another request or rest"))
 }
 
 #[test]
@@ -141,15 +238,16 @@ fn a_version_is_told_again(rt: HostRuntime) -> Result<(), Fail> {
 
 /// What a client makes of what is told of t, behind a beginning of its request.
 fn info(alloc: Global) -> Result<Result<FlightInfo, ClientFault>, Fail> {
-    let answer = bytes(alloc, &[TOLD, OK])?;
+    let answer = bytes(alloc, &[TOLD, OK, BEHIND])?;
     let mut reader = answer.as_slice();
     let mut writer = Vec::with_capacity(alloc, 100)?;
     let told = call_info(alloc, &mut reader, &mut writer, "t");
     let request = bytes(alloc, &[INFO])?;
-    if request.starts_with(writer.as_slice()) {
+    let taken = answer.len().saturating_sub(reader.len());
+    if request.starts_with(writer.as_slice()) && is_read(&told, taken, &OF_INFO) {
         return Ok(told);
     }
-    Err(Fail::from("another request"))
+    Err(Fail::from("another request or rest"))
 }
 
 #[test]
@@ -159,5 +257,58 @@ fn a_table_is_told_again(rt: HostRuntime) -> Result<(), Fail> {
         told => told,
     };
     assert!(rt; told?.total_records == 5);
+    Ok(())
+}
+
+/// What a client makes of what these digits tell of all tables, behind a beginning of its request.
+fn list(
+    alloc: Global,
+    parts: &[&str],
+    places: &[usize],
+) -> Result<Result<Vec<FlightInfo>, ClientFault>, Fail> {
+    let answer = bytes(alloc, parts)?;
+    let mut reader = answer.as_slice();
+    let mut writer = Vec::with_capacity(alloc, 100)?;
+    let told = call_list(alloc, &mut reader, &mut writer);
+    let request = bytes(alloc, &[LIST_PATH, ALL])?;
+    let taken = answer.len().saturating_sub(reader.len());
+    if request.starts_with(writer.as_slice()) && is_read(&told, taken, places) {
+        return Ok(told);
+    }
+    Err(Fail::from("another request or rest"))
+}
+
+#[test]
+fn tables_are_told_again(rt: HostRuntime) -> Result<(), Fail> {
+    let answer = [TOLD, TOLD, OK, BEHIND];
+    let told = match list(rt.alloc(), &answer, &OF_LIST)? {
+        Err(ClientFault::Call(CallFault::OutOfMemory)) => list(rt.alloc(), &answer, &OF_LIST)?,
+        told => told,
+    };
+    assert!(rt; told?.len() == 2);
+    Ok(())
+}
+
+/// Whether a refusal of status 14 is told, or why not.
+fn is_refused(told: Result<Vec<FlightInfo>, ClientFault>) -> Result<bool, ClientFault> {
+    match told {
+        Ok(_) => Ok(false),
+        Err(ClientFault::Status(status, text)) => {
+            Ok(status == 14 && text.as_str() == "Unavailable")
+        }
+        Err(fault) => Err(fault),
+    }
+}
+
+#[test]
+fn a_refusal_is_told_again(rt: HostRuntime) -> Result<(), Fail> {
+    let answer = [UNAVAILABLE, BEHIND];
+    let told = match list(rt.alloc(), &answer, &OF_REFUSAL)? {
+        Err(ClientFault::Call(CallFault::OutOfMemory)) => {
+            list(rt.alloc(), &answer, &OF_REFUSAL)?
+        }
+        told => told,
+    };
+    assert!(rt; is_refused(told)?);
     Ok(())
 }

@@ -1,9 +1,11 @@
 //! A message and a record with an upload that are refused memory as they are read and as they are written, and then are
-//! read and written again: the refusal has its name, and what was written before stands alone.
+//! read and written again: the refusal has its name, and what was written before stands alone. Lines of values and of
+//! messages that are refused memory as they are read, and then are read again: no other fault is told of them; and lines
+//! that mean nothing, whose own fault is told then.
 //! Run with every allocation refused in turn, each test ends as before or for want of memory.
 
 use crate::support::{ballot, long_value, node, slot};
-use ballots::{Acceptance, Body, Message, MessageFault, Record};
+use ballots::{Acceptance, Body, LineFault, Message, MessageFault, Record, Value};
 use std::alloc::Global;
 use std::test::Fail;
 
@@ -84,4 +86,95 @@ fn a_record_comes_back(rt: HostRuntime) -> Result<(), Fail> {
     let read = read_record(rt.alloc(), text)?;
     assert!(rt; read == record);
     Ok(())
+}
+
+/// The value that the line means; where memory is refused, it is read again.
+fn line_value(alloc: Global, line: &str) -> Result<Value, LineFault> {
+    match Value::from_str(alloc, line) {
+        Err(LineFault::OutOfMemory) => Value::from_str(alloc, line),
+        read => read,
+    }
+}
+
+#[test]
+fn a_value_of_a_line_comes_back(rt: HostRuntime) -> Result<(), Fail> {
+    let value = long_value(rt.alloc(), 300)?;
+    let line = value.to_string(rt.alloc())?;
+    let read = line_value(rt.alloc(), line.as_str())?;
+    assert!(rt; read == value);
+    Ok(())
+}
+
+/// The message that the line means; where memory is refused, it is read again.
+fn line_message(alloc: Global, line: &str) -> Result<Message, LineFault> {
+    match Message::from_str(alloc, line) {
+        Err(LineFault::OutOfMemory) => Message::from_str(alloc, line),
+        read => read,
+    }
+}
+
+/// Whether the message is what its own line says.
+fn is_its_line(alloc: Global, message: &Message) -> Result<bool, Fail> {
+    let line = message.to_string(alloc)?;
+    let read = line_message(alloc, line.as_str())?;
+    Ok(read == *message)
+}
+
+#[test]
+fn a_promise_of_a_line_comes_back(rt: HostRuntime) -> Result<(), Fail> {
+    let message = promise(rt.alloc())?;
+    assert!(rt; is_its_line(rt.alloc(), &message)?);
+    Ok(())
+}
+
+/// Whether the message of this body is what its own line says.
+fn body_is_its_line(alloc: Global, body: Body) -> Result<bool, Fail> {
+    let sender = node(0)?;
+    let slot = slot(5)?;
+    is_its_line(alloc, &Message { sender, slot, body })
+}
+
+/// An upload that is proposed, that is accepted and that is decided.
+#[test]
+fn messages_of_lines_come_back(rt: HostRuntime) -> Result<(), Fail> {
+    let alloc = rt.alloc();
+    assert!(rt; body_is_its_line(alloc, Body::Accept(acceptance(alloc)?))?);
+    assert!(rt; body_is_its_line(alloc, Body::Accepted(acceptance(alloc)?))?);
+    let value = long_value(alloc, 300)?;
+    assert!(rt; body_is_its_line(alloc, Body::Decided { value })?);
+    Ok(())
+}
+
+/// Whether the line of a message has this fault; where memory is refused, as it is read again.
+fn has_fault(alloc: Global, line: &str, fault: LineFault) -> bool {
+    match line_message(alloc, line) {
+        Ok(message) => {
+            drop(message);
+            false
+        }
+        Err(told) => told == fault,
+    }
+}
+
+/// Lines that begin as those of messages do, with an upload that ends in half a byte, with a digit that is none, and with
+/// a word that no message has.
+#[test]
+fn faults_of_lines_are_told_again(rt: HostRuntime) -> Result<(), Fail> {
+    let alloc = rt.alloc();
+    let half = "node 0 slot 5 Accept 2.1 000102030";
+    assert!(rt; has_fault(alloc, half, LineFault::BadValue));
+    let other = "node 0 slot 5 Promise 3.2 accepted 2.1 0001020g";
+    assert!(rt; has_fault(alloc, other, LineFault::BadValue));
+    let none = "node 0 slot 5 Chosen 2.1 00010203";
+    assert!(rt; has_fault(alloc, none, LineFault::BadMessage));
+    match line_value(alloc, "0001020g") {
+        Ok(value) => {
+            drop(value);
+            Err(Fail::from("a value of digits that are none"))
+        }
+        Err(fault) => {
+            assert!(rt; fault == LineFault::BadValue);
+            Ok(())
+        }
+    }
 }

@@ -16,15 +16,21 @@ const PUT: &str =
 /// The trailer of a call that was answered.
 const OK: &str = "800000000100";
 
-/// The line of this call over these bytes, with the number 7, or why there is none.
-fn line(alloc: Global, call: &str, digits: &[&str]) -> Result<String, Fail> {
-    let mut answer = Vec::new(alloc);
+/// The bytes of all these digits.
+fn bytes(alloc: Global, digits: &[&str]) -> Result<Vec<u8>, Fail> {
+    let mut all = Vec::new(alloc);
     for some in digits {
         let Ok(bytes) = hex::decode(alloc, some.as_bytes()) else {
             return Err(Fail::from("no digits"));
         };
-        answer.extend_from_slice(&bytes)?;
+        all.extend_from_slice(&bytes)?;
     }
+    Ok(all)
+}
+
+/// The line of this call over these bytes, with the number 7, or why there is none.
+fn line(alloc: Global, call: &str, digits: &[&str]) -> Result<String, Fail> {
+    let answer = bytes(alloc, digits)?;
     let call = only_call(alloc, call)?;
     let line = match told_by(alloc, &call, &answer) {
         Ok(told) => told.line(alloc, 7)?,
@@ -81,8 +87,8 @@ fn is_told(alloc: Global, fields: &str, wanted: &str) -> Result<bool, Fail> {
     is_line(alloc, INFO, &[framed.as_str(), OK], wanted)
 }
 
-/// One endpoint with the ticket for version 5 of t: with one location, with none, with two, behind fields that are not looked at.
-/// A ticket is a message in a field of its own, whose bytes are the table's name and the version.
+/// One endpoint with the ticket for version 5 of t: with one location, with none, with two, behind fields that are not
+/// looked at. A ticket is a message in a field of its own, whose bytes are the table's name and the version.
 #[test]
 fn tells_the_latest_version_and_its_locations(rt: HostRuntime) -> Result<(), Fail> {
     let alloc = rt.alloc();
@@ -99,7 +105,8 @@ fn tells_the_latest_version_and_its_locations(rt: HostRuntime) -> Result<(), Fai
     Ok(())
 }
 
-/// No endpoint, two, one without a ticket, and tickets of another table, of no version, of another encoding and of nothing.
+/// No endpoint, two, one without a ticket, and tickets of another table, of no version, of another encoding and of
+/// nothing.
 #[test]
 fn takes_one_endpoint_of_the_table(rt: HostRuntime) -> Result<(), Fail> {
     let alloc = rt.alloc();
@@ -193,6 +200,53 @@ fn fails_to_write(alloc: Global, call: &str) -> Result<bool, Fail> {
 fn tells_a_request_that_can_not_be_written(rt: HostRuntime) -> Result<(), Fail> {
     for call in [PUT, GET, INFO] {
         assert!(rt; fails_to_write(rt.alloc(), call)?, "{call}");
+    }
+    Ok(())
+}
+
+/// How many of these bytes are left when the call has ended.
+fn left(alloc: Global, call: &str, digits: &[&str]) -> Result<usize, Fail> {
+    let answer = bytes(alloc, digits)?;
+    let call = only_call(alloc, call)?;
+    let mut reader = answer.as_slice();
+    let told = ask(alloc, &mut reader, &mut Vec::new(alloc), &call.asked);
+    drop(told);
+    Ok(reader.len())
+}
+
+/// Nothing is read behind a trailer, whatever came before it, nor behind the five bytes in front of a payload that no
+/// frame of an answer may have; and all that came of an answer that is cut short.
+#[test]
+fn reads_nothing_behind_what_ends_a_call(rt: HostRuntime) -> Result<(), Fail> {
+    let alloc = rt.alloc();
+    for call in [PUT, GET, INFO] {
+        assert!(rt; left(alloc, call, &[OK, "ffff"])? == 2, "{call}");
+        assert!(rt;
+            left(alloc, call, &["00000000022003", OK, "ff"])? == 1,
+            "{call}"
+        );
+        assert!(rt;
+            left(alloc, call, &["0000000001ff", OK, OK])? == 6,
+            "{call}"
+        );
+        assert!(rt;
+            left(alloc, call, &["800000000c0e556e617661696c61626c65", OK])? == 6,
+            "{call}"
+        );
+        assert!(rt; left(alloc, call, &["8000000000", OK])? == 6, "{call}");
+        assert!(rt;
+            left(alloc, call, &["0000000000", "0200000000", OK])? == 6,
+            "{call}"
+        );
+        assert!(rt;
+            left(alloc, call, &["0100000001", "ff", OK])? == 7,
+            "{call}"
+        );
+        assert!(rt; left(alloc, call, &["0000400001", OK])? == 6, "{call}");
+        assert!(rt;
+            left(alloc, call, &["0000000001ff", "0000000002ab"])? == 0,
+            "{call}"
+        );
     }
     Ok(())
 }
