@@ -64,6 +64,11 @@ def file_limit(count):
     return limit
 
 
+def limited(kind, count):
+    """Has a process started so stay within so much of a resource (getrlimit(2))."""
+    return lambda: resource.setrlimit(kind, (count, count))
+
+
 def started(program, nodes, folder, limit=None):
     """A server of so many nodes with their records in this folder, its clients, and the port of its first node."""
     port = free_port(nodes)

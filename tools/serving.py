@@ -4,16 +4,21 @@
     tools/serving.py [PROGRAM]
 
 It plays the scripts of examples/scripts, and compares the lines with those beside them. Then it starts `PROGRAM serve`
-(crates/flightd/out/flightd) with three nodes and then with five, at ports that it finds free, and looks at what a user sees: the lines with the nodes' addresses, an upload that is put at one node and got at each, what comes of it when it is
-put again or its id is another's, puts of several callers at once, calls that are cut off in their midst, peers that stay silent, a
-port that can't be had, the words of a client and what they show of a slow call, and the files that the nodes keep their records in: which it takes, and that each upload that was acknowledged
-stands there at most nodes, also where the server is killed while it takes others. The status is 1 where anything is not as it has to be."""
+(crates/flightd/out/flightd) with three nodes and then with five, at ports that it finds free, and looks at what a user sees: the
+lines with the nodes' addresses, an upload that is put at one node and got at each, what comes of it when it is put again or its id is
+another's, puts of several callers at once, calls that are cut off in their midst, peers that stay silent, the words of a client and what
+they show of a slow call, and the files that the nodes keep their records in: which it takes, and that each upload that was acknowledged
+stands there at most nodes, also where the server is killed while it takes others. It has each fault come that keeps a server or a
+script from being started or told of, but want of memory, which tools/refused_program.py brings about. The status is 1 where anything is
+not as it has to be."""
 import concurrent.futures
 import contextlib
+import fcntl
 import os
 import pty
 import random
 import re
+import resource
 import socket
 import subprocess
 import sys
@@ -22,12 +27,14 @@ import threading
 import time
 from pathlib import Path
 
-from servers import CALL_SECONDS, LEARN_SECONDS, MOST_CONNECTIONS, PROGRAM, TOP, Wrong, felzoren, file_limit, free_port, got, records_in
-from servers import request_of, reset, server, started, want
+from servers import CALL_SECONDS, LEARN_SECONDS, MOST_CONNECTIONS, PROGRAM, TOP, Wrong, felzoren, file_limit, free_port, got, limited
+from servers import records_in, request_of, reset, server, started, want
 
 # For how long an answer is held back: a call says nothing of itself for a second.
 HELD_SECONDS = 1.5
 CALLERS, PUTS = 8, 6
+# In which steps a process is given more memory, and not more than this, in bytes.
+MEMORY_STEP, MOST_MEMORY = 4 << 20, 1 << 30
 CUTS, SEED = 60, 20261127
 ROWS = [{"shop": "Bern", "sold": 3}, {"shop": "Zürich", "sold": None}]
 
@@ -134,10 +141,81 @@ def taken_port(program, port):
         not_served(program, folder, "Bind", port - 1)
 
 
-def full_output(program):
-    """Where the nodes are served can't be written."""
-    with open("/dev/full", "w", encoding="utf-8") as full, tempfile.TemporaryDirectory() as folder:
-        not_served(program, folder, "Io", stdout=full)
+def ended(words, stdout=subprocess.PIPE, stderr=subprocess.PIPE, limit=None):
+    """What a program of these words ends with, prints and reports."""
+    ran = subprocess.run(words, stdout=stdout, stderr=stderr, text=True, timeout=CALL_SECONDS, check=False, preexec_fn=limit)
+    return ran.returncode, ran.stdout or "", ran.stderr or ""
+
+
+def into_room(words, room):
+    """The same, where its files have room for so many bytes, of which its standard output is one."""
+    with tempfile.TemporaryFile("w+", encoding="utf-8") as file:
+        status, _, error = ended(words, stdout=file, limit=file_limit(room))
+        file.seek(0)
+        return status, file.read(), error
+
+
+def into_nothing(words):
+    """What a program ends with and reports whose standard output takes nothing: a full disk, a pipe that nobody reads, and none at all."""
+    read, write = os.pipe()
+    os.close(read)
+    with open("/dev/full", "w", encoding="utf-8") as full, os.fdopen(write, "w") as unread:
+        for output, limit in ((full, None), (unread, None), (None, lambda: os.close(1))):
+            status, _, error = ended(words, stdout=output, limit=limit)
+            yield status, error
+
+
+def lost_addresses(program):
+    """Where the nodes are served can't be written, or not all of it: a beginning of the lines stands there."""
+    port = free_port(3)
+    lines = "".join(f"node {number} at 127.0.0.1:{port + number}\n" for number in range(3))
+    with tempfile.TemporaryDirectory() as folder:
+        words = [program, "serve", "--port", str(port), "--data", folder]
+        want(list(into_nothing(words)), [(1, "flightd: Io\n")] * 3)
+        for room in (1, 24, 25, 26, len(lines) - 1):
+            want(into_room(words, room), (1, lines[:room], "flightd: Io\n"))
+
+
+def without_descriptors(program):
+    """A process that may have few files and sockets open, of which three are its standard streams and a fourth is there to load it: of a server
+    first a file, then a port can't be had, and of a script a port, then a connection."""
+    for count, name in ((4, "Open"), (5, "Open"), (6, "Open"), (7, "Bind"), (8, "Bind")):
+        with tempfile.TemporaryDirectory() as folder:
+            not_served(program, folder, name, limit=limited(resource.RLIMIT_NOFILE, count))
+    for count, name in ((4, "Bind"), (5, "Bind"), (6, "Io")):
+        found = ended([program, "script", SCRIPT], limit=limited(resource.RLIMIT_NOFILE, count))
+        want(found, (1, "", f"flightd: {name}\n"))
+
+
+def with_memory(size):
+    return limited(resource.RLIMIT_AS, size)
+
+
+def starts(program, size):
+    """Whether a server with so much memory tells where its nodes are. Where it does not, it has ended for want of memory."""
+    with tempfile.TemporaryDirectory() as folder:
+        port = free_port(3)
+        words = [program, "serve", "--port", str(port), "--data", folder]
+        lines = "".join(f"node {number} at 127.0.0.1:{port + number}\n" for number in range(3))
+        with subprocess.Popen(words, stdout=subprocess.PIPE, stderr=subprocess.PIPE, text=True, preexec_fn=with_memory(size)) as process:
+            told_of = "".join(process.stdout.readline() for _ in range(3))
+            process.terminate()
+            output, error = process.communicate(timeout=CALL_SECONDS)
+        if told_of == lines:
+            want((process.returncode, output, error), (-15, "", ""))
+            return True
+        want((process.returncode, lines.startswith(told_of + output), error), (1, True, "flightd: OutOfMemory\n"))
+        return False
+
+
+def little_memory(program):
+    """A process that may have little memory (RLIMIT_AS), from the least on with which the program tells its version: each thread asks for more
+    of it. A server ends for want of memory until it has enough to start; a script that has the least ends so too."""
+    sizes = iter(range(MEMORY_STEP, MOST_MEMORY, MEMORY_STEP))
+    least = next(it for it in sizes if ended([program, "--version"], limit=with_memory(it))[0] == 0)
+    want(ended([program, "script", SCRIPT], limit=with_memory(least)), (1, "", "flightd: OutOfMemory\n"))
+    tries = next(count for count, size in enumerate(sizes) if starts(program, size))
+    want(tries > 1, True)
 
 
 # ---- the words of a client
@@ -146,6 +224,7 @@ ID = "101112131415161718191a1b1c1d1e1f"
 # The port of node 0 of a script's cluster.
 FIRST_PORT = 42_000
 LINES = '{"shop":"Bern","sold":3}\n{"shop":"Zürich","sold":null}\n'
+SCRIPT = str(TOP / "examples" / "scripts" / "first_upload.json")
 # The frame at the end of a request.
 END_FRAME = bytes.fromhex("8000000000")
 
@@ -288,10 +367,36 @@ def bad_script(program):
 
 
 def script_without_a_port(program):
-    """A script whose second node can't have its port, which another has."""
-    file = sorted((TOP / "examples" / "scripts").glob("*.json"))[0]
-    with socket.create_server(("127.0.0.1", FIRST_PORT + 1)):
-        want(told(program, ["script", str(file)]), (1, "", "flightd: Bind\n"))
+    """A script one of whose nodes can't have its port, which another has."""
+    for node in range(3):
+        with socket.create_server(("127.0.0.1", FIRST_PORT + node)):
+            want(told(program, ["script", SCRIPT]), (1, "", "flightd: Bind\n"))
+
+
+def unread_script(program):
+    """A script that isn't there, and a folder in its place."""
+    for name in ("/no/such/file", "/"):
+        want(told(program, ["script", name]), (1, "", "flightd: Io\n"))
+
+
+def lost_lines(program):
+    """A script whose lines can't be written, or not all of them: a beginning of them stands there. With room for all of them it is played."""
+    words, lines = [program, "script", SCRIPT], Path(SCRIPT).with_suffix(".lines").read_text(encoding="utf-8")
+    want(list(into_nothing(words)), [(1, "flightd: Io\n")] * 3)
+    first = lines.index("\n")
+    for room in (0, 1, first, first + 1, first + 2, len(lines) // 2, lines.index("receipts"), len(lines) - 1):
+        want(into_room(words, room), (1, lines[:room], "flightd: Io\n"))
+    want(into_room(words, len(lines)), (0, lines, ""))
+
+
+def lost_fault(program):
+    """Where a fault can't be reported the status alone tells."""
+    with socket.create_server(("127.0.0.1", FIRST_PORT)), open("/dev/full", "w", encoding="utf-8") as full:
+        for stderr, limit in ((full, None), (None, lambda: os.close(2))):
+            want(ended([program, "script", SCRIPT], stderr=stderr, limit=limit), (1, "", ""))
+            with tempfile.TemporaryDirectory() as folder:
+                words = [program, "serve", "--port", str(FIRST_PORT - 2), "--data", folder]
+                want(ended(words, stderr=stderr, limit=limit), (1, "", ""))
 
 
 # ---- the files of records
@@ -329,18 +434,32 @@ def old_and_locked_files(program, nodes):
 
 
 def bad_files(program):
-    """Files that are damaged, that can't be written, and a folder that can't be one."""
-    with tempfile.TemporaryDirectory() as folder:
-        Path(f"{folder}/node-1.rec").write_bytes(bytes.fromhex("0104000000080118"))
-        not_served(program, folder, "Damaged")
+    """For each node in turn a file that is damaged, that has records, that another process has, and a folder in its place."""
+    for number in range(3):
+        for text, name in (("0104000000080118", "Damaged"), ("01040000000801180100", "OldRecords")):
+            with tempfile.TemporaryDirectory() as folder:
+                file = Path(f"{folder}/node-{number}.rec")
+                file.write_bytes(bytes.fromhex(text))
+                not_served(program, folder, name)
+                want(file.read_bytes(), bytes.fromhex(text))
+        with tempfile.TemporaryDirectory() as folder, open(f"{folder}/node-{number}.rec", "wb") as file:
+            fcntl.flock(file, fcntl.LOCK_EX)
+            not_served(program, folder, "Locked")
+        with tempfile.TemporaryDirectory() as folder:
+            os.mkdir(f"{folder}/node-{number}.rec")
+            not_served(program, folder, "Open")
+
+
+def no_folder(program):
+    """A folder in which nothing can be written or made, and what is none."""
     with tempfile.TemporaryDirectory() as folder:
         not_served(program, folder, "Device", limit=file_limit(0))
-    with tempfile.TemporaryDirectory() as folder:
-        os.mkdir(f"{folder}/node-0.rec")
-        not_served(program, folder, "Open")
         Path(f"{folder}/file").write_bytes(b"")
         not_served(program, f"{folder}/file", "Open")
         not_served(program, f"{folder}/file/below", "Open")
+        os.symlink("itself", f"{folder}/itself")
+        not_served(program, f"{folder}/itself", "Open")
+    not_served(program, "/proc/none", "Open")
 
 
 def full_later(program):
@@ -414,9 +533,15 @@ def main(program):
         old_and_locked_files(program, nodes)
     lost_answer(program)
     bad_script(program)
+    unread_script(program)
     script_without_a_port(program)
-    full_output(program)
+    lost_lines(program)
+    lost_addresses(program)
+    lost_fault(program)
+    without_descriptors(program)
+    little_memory(program)
     bad_files(program)
+    no_folder(program)
     full_later(program)
     counts = [killed(program, nodes, seconds) for nodes in (3, 5) for seconds in (1, 2)]
     print(f"{sum(counts)} uploads were acknowledged by servers that were then killed, and each stands in the files of most nodes")
