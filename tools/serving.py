@@ -477,8 +477,8 @@ def full_later(program):
 
 
 def killed(program, nodes, seconds, look=None, least=1):
-    """A server that is killed while callers put: each upload that was acknowledged stands at most nodes, of which there are at least so
-    many. The files are looked at too, where this is asked for."""
+    """A server that is killed while callers put, after so many seconds and once so many uploads were acknowledged: each of these stands
+    at most nodes. The files are looked at too, where this is asked for."""
     acknowledged = []
 
     def puts(client):
@@ -492,6 +492,9 @@ def killed(program, nodes, seconds, look=None, least=1):
         for caller in callers:
             caller.start()
         time.sleep(seconds)
+        until = time.monotonic() + CALL_SECONDS
+        while len(acknowledged) < least and time.monotonic() < until:
+            time.sleep(0.01)
         process.kill()
         process.communicate(timeout=CALL_SECONDS)
         for caller in callers:
