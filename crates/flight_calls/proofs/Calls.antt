@@ -1,15 +1,18 @@
 -- What serving a call gives, of what its parts give.
 use Rattle.std.proofs.Common.{◌≡◌, ◌⊎◌, ℕ, List, [], ◌∷◌, ◌++◌, Option, Some, None, Result, Ok, Err, refl, ap, subst, inl, inr, ◌∙◌}
 use Rattle.grpc_frames.specs.FrameFaults.{WhereKnown}
+use Rattle.call_words.specs.declared.back_fault.BackFault.TheVariants as backs
 use Rattle.call_words.specs.declared.refusal.Refusal.{Refusal}
+use Rattle.call_words.specs.declared.refusal.Refusal.TheVariants as refusals
 use Rattle.call_reading.specs.declared.request.FlightRequest.{FlightRequest}
 use Rattle.call_reading.specs.Requests.{Request, describes, shows, lists, serves, puts, IsCall}
 use Rattle.call_reading.specs.Reading.{request_of, ReadsCall}
+use Rattle.call_reading.specs.Faults.{RefusalStands, IsOfTheMachine}
 use Rattle.call_words.specs.declared.call_fault.CallFault.{CallFault}
 use Rattle.call_words.specs.declared.call_fault.CallFault.TheVariants as faults
 use Rattle.flight_calls.specs.declared.outgoing.Outgoing.{Outgoing}
-use Rattle.flight_calls.specs.Replies.{Reply, reply_text}
-use Rattle.flight_calls.specs.Serving.{MayAnswer, Handed, Leaves, Stays, Responds, IsDue, Serves}
+use Rattle.flight_calls.specs.Replies.{Reply, refuses, reply_text}
+use Rattle.flight_calls.specs.Serving.{MayAnswer, Handed, Leaves, Stays, HandsOneAtMost, Responds, IsDue, Serves}
 use Rattle.flight_calls.specs.Responding.{AnswersIn, RespondsBy, AnswersText}
 use Rattle.flight_calls.specs.Sending.{SendsReply}
 
@@ -72,6 +75,14 @@ hands may handed leaves stays (puts text) old new reply h =
       | inr refused ↦ inl refused.1
     ]
 
+pub hands_one : {B : Type 0} (may : MayAnswer B) (handed : Handed B) (leaves : Leaves B) (stays : Stays B) (old new : B) (asked : FlightRequest) (r : Result Outgoing Refusal)
+    → RespondsBy may handed leaves stays (request_of asked) old new r → HandsOneAtMost handed old new
+hands_one may handed leaves stays old new asked r responds =
+    elim (hands may handed leaves stays (request_of asked) old new responds.0 responds.1) [
+      | inl nothing ↦ inl nothing
+      | inr put ↦ inr (put.0, put.2)
+    ]
+
 pub handed_behind_an_end : {B : Type 0} (may : MayAnswer B) (handed : Handed B) (leaves : Leaves B) (stays : Stays B) (text rest : List ℕ) (old new : B) (reply : Reply) → IsDue may handed leaves stays text rest old new reply
     → (handed new ≡ handed old) ⊎ ((upload : List ℕ) × IsCall text (puts upload) rest × (handed new ≡ handed old ++ upload ∷ []))
 handed_behind_an_end may handed leaves stays text rest old new reply due =
@@ -83,6 +94,28 @@ handed_behind_an_end may handed leaves stays text rest old new reply due =
             | inr put ↦ inr (put.0, subst (λ (request : Request). IsCall text request rest) put.1 asked.1, put.2)
           ]
     ]
+
+-- what an ended put hands over: its upload; or nothing, where memory was refused or a read failed
+abbrev pub HandsOver : {B : Type 0} → Handed B → List ℕ → B → B → Reply → Type 0
+HandsOver handed upload old new reply =
+    (handed new ≡ handed old ++ upload ∷ [])
+    ⊎ ((refusal : Refusal) × IsOfTheMachine refusal × (reply ≡ refuses refusal) × (handed new ≡ handed old))
+
+module _ (one : (text a b : List ℕ) (x y : Request) → IsCall text x a → IsCall text y b → (x ≡ y) × (a ≡ b))
+    (faultless : (text rest after : List ℕ) (request : Request) (refusal : Refusal) → IsCall text request rest → RefusalStands refusal text after → IsOfTheMachine refusal) where
+  pub ended_hands : {B : Type 0} (may : MayAnswer B) (handed : Handed B) (leaves : Leaves B) (stays : Stays B) (text rest left upload : List ℕ) (old new : B) (reply : Reply) → IsCall text (puts upload) rest
+      → IsDue may handed leaves stays text left old new reply → HandsOver handed upload old new reply
+  ended_hands may handed leaves stays text rest left upload old new reply call due =
+      elim due [
+        | inl refused ↦ inr (refused.0, faultless text rest left (puts upload) refused.0 call refused.1, refused.3, ap handed refused.2)
+        | inr asked ↦
+            let same = one text left rest asked.0 (puts upload) asked.1 call in
+            let responds = subst (λ (request : Request). Responds may handed leaves stays request old new reply) same.0 asked.2 in
+            elim responds.hands [
+              | inl put ↦ inl put
+              | inr refused ↦ inr (refusals.Back backs.OutOfMemory, inl refl, refused.0, refused.1)
+            ]
+      ]
 
 -- ---- and what it takes
 

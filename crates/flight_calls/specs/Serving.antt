@@ -53,6 +53,10 @@ Hands handed text old new reply =
     (handed new ≡ handed old ++ text ∷ [])
     ⊎ ((reply ≡ refuses (refusals.Back backs.OutOfMemory)) × (handed new ≡ handed old))
 
+-- nothing was handed over, or one upload
+abbrev pub HandsOneAtMost : {B : Type 0} → Handed B → B → B → Type 0
+HandsOneAtMost handed old new = (handed new ≡ handed old) ⊎ ((text : List ℕ) × (handed new ≡ handed old ++ text ∷ []))
+
 -- the backend was handed this upload, and no other
 pub record Puts {B : Type 0} (may : MayAnswer B) (handed : Handed B) (leaves : Leaves B) (stays : Stays B) (text : List ℕ) (old new : B)
     (reply : Reply) : Type 0 where

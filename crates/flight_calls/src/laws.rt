@@ -6,11 +6,13 @@ ghost use Rattle.proto_wire.specs.Flight.{put_result_descriptor};
 ghost use Rattle.table_types.specs.Valid.{IsId};
 ghost use Rattle.call_words.specs.declared.refusal.Refusal.{Refusal as Refused};
 ghost use Rattle.call_reading.specs.Requests.{Request, puts, IsCall};
+ghost use Rattle.call_reading.specs.Faults.{IsOfTheMachine};
 ghost use Rattle.flight_calls.specs.Replies.{BackAnswer, Reply, Replies, answers, refuses, reply_text};
 ghost use Rattle.call_words.specs.Results.{applied_descriptor, put_result};
 ghost use Rattle.flight_calls.specs.Serving.{IsDue};
 
 use crate::backend::Backend;
+use call_reading::laws::{calls_are_not_refused, calls_ask_for_one_thing};
 use call_words::laws::refusals_are_told;
 use proto_messages::laws::canonical_messages_are_messages;
 use table_types::laws::uploads_have_one_encoding;
@@ -23,6 +25,18 @@ pub fn uploads_are_handed_behind_an_end<B: Backend>()
         → (B.handed new ≡ B.handed old) ⊎ ((upload : List ℕ) × IsCall text (puts upload) rest
         × (B.handed new ≡ B.handed old ++ upload ∷ [])) }
 {}
+
+/// A call that asks to take an upload, and has come with its end, hands over that upload, and no other, once. Where a read failed or
+/// memory was refused it may hand over nothing, and that is what it is refused for.
+pub fn ended_puts_are_handed<B: Backend>()
+    ensures { (text rest left upload : List ℕ) (old new : B) (reply : Reply) → IsCall text (puts upload) rest
+        → IsDue B.may_answer B.handed B.leaves B.stays text left old new reply
+        → (B.handed new ≡ B.handed old ++ upload ∷ []) ⊎ ((refusal : Refused) × IsOfTheMachine refusal
+        × (reply ≡ refuses refusal) × (B.handed new ≡ B.handed old)) }
+{
+    calls_ask_for_one_thing();
+    calls_are_not_refused();
+}
 
 /// A backend takes an upload only by a call that asks for it, which has come with its end, and no other; by all other calls
 /// it takes nothing.

@@ -2,7 +2,7 @@
 
 ghost use Rattle.std.specs.Prelude.{◌≡◌};
 ghost use Rattle.grpc_frames.specs.FrameFaults.{WhereKnown};
-ghost use Rattle.flight_calls.specs.Serving.{Serves};
+ghost use Rattle.flight_calls.specs.Serving.{Serves, HandsOneAtMost};
 ghost use Rattle.flight_calls.specs.Responding.{AnswersText};
 
 use crate::backend::Backend;
@@ -16,8 +16,9 @@ use std::io::{Read, Write};
 
 /// Reads a call to its end, or to the first fault that stands in it, and asks the backend once the end was read.
 fn answer<R: Read, B: Backend>(alloc: Global, r: &mut R, b: &mut B) -> Result<Outgoing, Refusal>
-    ensures { WhereKnown (R.remaining r.old) (R.remaining r.new)
+    ensures answers { WhereKnown (R.remaining r.old) (R.remaining r.new)
         (AnswersText B.may_answer B.handed B.leaves B.stays b.old b.new result) }
+    ensures once { HandsOneAtMost B.handed b.old b.new }
 {
     match read_call(alloc, r) {
         Ok(asked) => respond(alloc, b, &asked),
@@ -30,16 +31,18 @@ fn answer<R: Read, B: Backend>(alloc: Global, r: &mut R, b: &mut B) -> Result<Ou
 ///
 /// A refusal that was written as a trailer is `Ok`. [`CallFault::Read`] says that a read failed, of which the trailer
 /// `Io` tells; [`CallFault::Write`] that a write failed, and that a beginning of what was due has gone out. It is never
-/// [`CallFault::OutOfMemory`]: the trailer of that name takes no memory.
+/// [`CallFault::OutOfMemory`]: the trailer of that name takes no memory. Whatever reader and writer it is over, one upload is
+/// handed over at most.
 pub fn serve_call<R: Read, W: Write, B: Backend>(
     alloc: Global,
     r: &mut R,
     w: &mut W,
     b: &mut B,
 ) -> Result<(), CallFault>
-    ensures { WhereKnown (R.remaining r.old) (R.remaining r.new)
+    ensures served { WhereKnown (R.remaining r.old) (R.remaining r.new)
         (λ text rest. WhereKnown (W.contents w.old) (W.contents w.new)
         (Serves B.may_answer B.handed B.leaves B.stays result b.old b.new text rest)) }
+    ensures once { HandsOneAtMost B.handed b.old b.new }
 {
     let answered = answer(alloc, r, b);
     send_answer(w, answered)
