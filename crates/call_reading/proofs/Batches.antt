@@ -1,5 +1,5 @@
 -- An upload on its way, before and behind a message.
-use Rattle.std.proofs.Common.{◌≡◌, ◌≤◌, ◌<◌, ◌+◌, ◌⊎◌, ℕ, List, [], ◌∷◌, ◌++◌, length, map, refl, sym, ap, subst, ◌∙◌, append-nil, arith, string_bytes, inl, inr, Bool, true, Result, Ok, Err, OnOk, IfOk, IfErr}
+use Rattle.std.proofs.Common.{◌≡◌, ◌≤◌, ◌<◌, ◌+◌, ◌⊎◌, ℕ, List, [], ◌∷◌, ◌++◌, length, map, Some, refl, sym, ap, subst, ◌∙◌, append-nil, arith, string_bytes, inl, inr, Bool, true, Result, Ok, Err, OnOk, IfOk, IfErr}
 use Rattle.std.specs.List.{AllByRecursion}
 use Rattle.std.proofs.lemmas.Bool.{cases_lt}
 use Rattle.std.proofs.lemmas.List.{map_push, length_push}
@@ -7,6 +7,7 @@ use Rattle.grpc_frames.specs.Frame.{payload_limit}
 use Rattle.proto_messages.specs.Descriptor.{IsMessage}
 use Rattle.proto_wire.specs.Flight.{data_descriptor}
 use Rattle.header_types.specs.Fields.{SchemaTree}
+use Rattle.header_types.specs.Header.{schema_header, ShowsHeader}
 use Rattle.header_types.specs.Views.{schema_of}
 use Rattle.header_types.specs.Profile.{InProfile}
 use Rattle.batch_columns.specs.Batches.{rows_of, IsBatchOf}
@@ -22,12 +23,12 @@ use Rattle.upload_writing.specs.Sized.{parts_held}
 use Rattle.call_words.specs.declared.refusal.Refusal.{Refusal}
 use Rattle.call_words.specs.Names.{Descriptor, NamesUpload}
 use Rattle.call_reading.specs.declared.upload_builder.UploadBuilder.{UploadBuilder}
-use Rattle.call_reading.specs.Requests.{Data, header_in, body_in, IsBlank, HasBatch, Adds}
+use Rattle.call_reading.specs.Requests.{Data, header_in, body_in, Opens, IsBlank, HasBatch, Adds}
 use Rattle.call_reading.specs.declared.upload_builder.Addition.{Addition}
 use Rattle.call_reading.specs.declared.upload_builder.Addition.TheVariants as additions
 use Rattle.call_reading.specs.Additions.{HasAddition, AddsAs, HasRoom}
 use Rattle.call_reading.specs.Faults.{MeansAtFault, OpeningFault, SchemaFault, HeadFault, BatchFaultIn, FurtherFault}
-use Rattle.call_reading.specs.Builder.{IsTooMuch, IsOnItsWay, Holds, HoldsMore, SizeWith, IsCounted, with_more, Grows}
+use Rattle.call_reading.specs.Builder.{IsTooMuch, OpensSome, IsOnItsWay, Holds, HoldsMore, SizeWith, IsCounted, with_more, Grows}
 
 -- ---- lists
 
@@ -412,6 +413,22 @@ room_as count (Ok (additions.Built batch)) room = room
 room_as count (Ok additions.LeftOut) room = room
 
 -- a schema at fault in a first message
+pub opens_some : (message header : List ℕ) (values : Data) (descriptor : Descriptor) (table id : List ℕ) (schema : SchemaTree) → IsMessage data_descriptor message values
+    → values.0 ≡ Some descriptor → NamesUpload descriptor table id → header ≡ header_in values → ShowsHeader header (schema_header schema) → OpensSome message
+opens_some message header values descriptor table id schema means is names same shown = (
+  table,
+  id,
+  schema,
+  record {
+    values = values;
+    means = means;
+    descriptor = descriptor;
+    descriptor_is = is;
+    names = names;
+    shows_schema = subst (λ h. ShowsHeader h (schema_header schema)) same shown;
+  },
+)
+
 pub opening_schema : (message header : List ℕ) (values : Data) (refusal : Refusal) → IsMessage data_descriptor message values → header ≡ header_in values → SchemaFault header refusal
     → MeansAtFault data_descriptor OpeningFault message refusal
 opening_schema message header values refusal means is fault =

@@ -61,7 +61,7 @@ one_breaks method P F h here after refusal breaks =
                 elim further [
                   | inl m ↦
                       at_front method here after refusal h.none
-                      (inr (inl (m.0, m.1, m.2, elim m.3 [ inl f ↦ inl (h.fault m.0 refusal f) | inr refused ↦ inr refused ])))
+                      (inr (inl (m.0, m.1, m.2, elim m.3 [ inl f ↦ inl (h.fault m.0 refusal f) | inr refused ↦ inr (h.one m.0 refused.0, refused.1) ])))
                   | inr b ↦
                       record {
                         before = b.0 ∷ [];

@@ -24,13 +24,14 @@ use Rattle.table_types.specs.Valid.{FitsFrame, batches_limit}
 use Rattle.table_types.specs.Ticket.{TableVersion}
 use Rattle.upload_writing.specs.Making.{IsSmall}
 use Rattle.call_words.specs.declared.method.Method.{Method}
+use Rattle.call_words.specs.declared.method.Method.TheVariants as methods
 use Rattle.call_words.specs.declared.refusal.Refusal.{Refusal}
 use Rattle.call_words.specs.declared.refusal.Refusal.TheVariants as refusals
 use Rattle.call_words.specs.Methods.{path_text, PathFault}
 use Rattle.call_words.specs.Names.{Descriptor, NamesTable, NamesUpload, TableFault, UploadNameFault}
 use Rattle.call_words.specs.Texts.{messages_text, end_text}
 use Rattle.call_reading.specs.Requests.{Request, describes, shows, lists, serves, puts, AsksForTable, AsksForAll, AsksForVersion, HasOne, Data, header_in, body_in, Opens, HasBatch, Adds, AddAll, Brings, BringsUpload, method_of, MessagesMean, messages_limit, IsCall}
-use Rattle.call_reading.specs.Faults.{IsNoMessage, MeansAtFault, CriteriaFault, TicketFault, IsNoHeader, OpeningFault, FurtherFault, BatchFaultIn, OneFault, UploadFault, MessageFault, EndsEarly, UploadEndFault, EndFault, FrameBreaks, BreaksMessages, RefusalStands, IsOfMemory, IsOfTheMachine}
+use Rattle.call_reading.specs.Faults.{IsNoMessage, MeansAtFault, CriteriaFault, TicketFault, IsNoHeader, OpeningFault, FurtherFault, BatchFaultIn, OneFault, UploadFault, MessageFault, EndsEarly, UploadEndFault, EndFault, IsOneOrNone, IsUploadOrNone, IsFaultlessSoFar, IsFaultlessEnd, FrameBreaks, BreaksMessages, RefusalStands, IsOfMemory, IsOfTheMachine}
 use Rattle.call_reading.proofs.Apart.{message_frame, end_frame, is_message, is_end, front_message, no_end_here, path_fits, call_parts, MessagesAreOne, HeadersAreOne, BatchesAreOne, TablesAreOne, NamesAreOne, TicketsAreOne, nothing_shown, same_head, same_first, one_opening, one_list, one_upload}
 
 -- ---- frames
@@ -120,6 +121,12 @@ one_stands P F apart messages [] others message refusal h are fault =
 one_stands P F apart messages (b ∷ bs) others message refusal h are fault =
     absurd (not_behind bs others message (same_first h.0 b [] (bs ++ message ∷ others) (sym h.1 ∙ are)).1)
 
+one_faultless : (P : List ℕ → Type 0) (F : List ℕ → Refusal → Type 0) → ((m : List ℕ) (r : Refusal) → P m → F m r → IsOfMemory r)
+    → (before : List (List ℕ)) (message : List ℕ) (refusal : Refusal) → IsOneOrNone P (before ++ message ∷ []) → OneFault F before message refusal → IsOfMemory refusal
+one_faultless P F apart [] message refusal h fault = apart message refusal h fault
+one_faultless P F apart (b ∷ []) message refusal h fault = absurd h
+one_faultless P F apart (b ∷ c ∷ bs) message refusal h fault = absurd h
+
 one_ends : (P : List ℕ → Type 0) (messages : List (List ℕ)) (refusal : Refusal) → HasOne P messages → EndsEarly messages refusal → IsOfMemory refusal
 one_ends P messages refusal h early = absurd (not_none messages [] h.0 h.1 early.0)
 
@@ -173,7 +180,7 @@ module _ (messages_one : MessagesAreOne) (messages_apart : MessagesApart) where
   version_stands : (asked : TableVersion) (m : List ℕ) (r : Refusal) → AsksForVersion m asked → MeansAtFault ticket_descriptor TicketFault m r → IsOfMemory r
   version_stands asked m r a fault =
       meant ticket_descriptor TicketFault m (a.ticket, tt) r a.means
-      (λ f. elim f [ inl none ↦ absurd (none.0 asked a.is_ticket) | inr refused ↦ subst (λ x. IsOfMemory x) (sym refused.1) tt ]) fault
+      (λ f. absurd (f.0 asked a.is_ticket)) fault
 
 -- ---- uploads
 
@@ -320,6 +327,48 @@ module _ (messages_one : MessagesAreOne) (headers_one : HeadersAreOne) (batches_
   end_stands (serves v) messages refusal mean fault = one_ends (λ m. AsksForVersion m v) messages refusal mean fault
   end_stands (puts text) messages refusal mean fault = upload_ends text messages refusal mean fault
 
+  -- ---- messages without fault so far
+
+  upload_faultless : (before : List (List ℕ)) (message : List ℕ) (refusal : Refusal) → IsUploadOrNone (before ++ message ∷ []) → UploadFault before message refusal → IsOfMemory refusal
+  upload_faultless [] message refusal h fault =
+      let front = same_first h.1.first message h.1.others [] (sym h.1.messages_are) in
+      opening_stands message h.0.table h.0.id h.0.schema refusal (subst (λ m. Opens m h.0.table h.0.id h.0.schema) front.0 h.1.opens) fault
+  upload_faultless (f ∷ bs) message refusal h fault =
+      elim fault [
+        | inl full ↦ absurd (omega (arith, full.0, h.3, length-append (f ∷ bs) (message ∷ [])))
+        | inr further ↦ further_stands ((f ∷ bs) ++ message ∷ []) bs [] f message h.0 further.0 refusal h.1 h.2 refl further.1 further.2
+      ]
+
+  pub message_faultless : (method : Method) (before : List (List ℕ)) (message : List ℕ) (refusal : Refusal) → IsFaultlessSoFar method (before ++ message ∷ []) → MessageFault method before message refusal
+      → IsOfMemory refusal
+  message_faultless methods.GetFlightInfo before message refusal h fault =
+      one_faultless (λ m. (table : List ℕ) × AsksForTable m table) (MeansAtFault flight_descriptor_descriptor TableFault)
+      (λ m r a f. table_stands messages_one messages_apart tables_apart a.0 m r a.1 f) before message refusal h fault
+  message_faultless methods.GetSchema before message refusal h fault =
+      one_faultless (λ m. (table : List ℕ) × AsksForTable m table) (MeansAtFault flight_descriptor_descriptor TableFault)
+      (λ m r a f. table_stands messages_one messages_apart tables_apart a.0 m r a.1 f) before message refusal h fault
+  message_faultless methods.ListFlights before message refusal h fault =
+      one_faultless AsksForAll (MeansAtFault criteria_descriptor CriteriaFault) (all_stand messages_one messages_apart) before message refusal h fault
+  message_faultless methods.DoGet before message refusal h fault =
+      one_faultless (λ m. (asked : TableVersion) × AsksForVersion m asked) (MeansAtFault ticket_descriptor TicketFault)
+      (λ m r a f. version_stands messages_one messages_apart a.0 m r a.1 f) before message refusal h fault
+  message_faultless methods.DoPut before message refusal h fault = upload_faultless before message refusal h fault
+
+  pub end_faultless : (method : Method) (messages : List (List ℕ)) (refusal : Refusal) → IsFaultlessEnd method messages → EndFault method messages refusal → IsOfMemory refusal
+  end_faultless methods.GetFlightInfo messages refusal some fault = absurd (some fault.0)
+  end_faultless methods.GetSchema messages refusal some fault = absurd (some fault.0)
+  end_faultless methods.ListFlights messages refusal some fault = absurd (some fault.0)
+  end_faultless methods.DoGet messages refusal some fault = absurd (some fault.0)
+  end_faultless methods.DoPut messages refusal h fault =
+      elim fault [
+        | inl none ↦ absurd (not_none messages h.1.others h.1.first h.1.messages_are none.0)
+        | inr large ↦
+            let same = one_upload messages_one headers_one batches_one tables_one names_one tickets_one messages h.0 large.0 h.1 large.1 in
+            absurd (large.2 (subst (λ x. IsSmall x) same h.2))
+      ]
+
+  -- ---- a whole call
+
   of_memory : (refusal : Refusal) → refusal ≡ refusals.OutOfMemory → IsOfMemory refusal
   of_memory refusal is = subst (λ r. IsOfMemory r) (sym is) tt
 
@@ -338,13 +387,13 @@ module _ (messages_one : MessagesAreOne) (headers_one : HeadersAreOne) (batches_
                   let next = next_is law no_fault y.more b.place rest after m.0 y.fit m.2 y.front m.1 in
                   elim m.3 [
                     | inl fault ↦ message_stands request messages b.before next.0 m.0 refusal mean few (y.are ∙ ap (λ l. b.before ++ l) next.1) fault
-                    | inr memory ↦ of_memory refusal memory
+                    | inr memory ↦ of_memory refusal memory.1
                   ]
               | inr ended ↦
                   let none = none_is law no_fault y.more b.place rest after y.fit y.front ended.0 in
                   elim ended.1 [
                     | inl fault ↦ end_stands request messages refusal mean (subst (λ ms. EndFault (method_of request) ms refusal) (whole b.before messages y.more y.are none) fault)
-                    | inr memory ↦ of_memory refusal memory
+                    | inr memory ↦ of_memory refusal memory.1
                   ]
             ])
       ]

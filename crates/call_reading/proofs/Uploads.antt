@@ -1,5 +1,5 @@
 -- An upload that is read message by message.
-use Rattle.std.proofs.Common.{string_bytes, Vec, true, false, ◌≡◌, ℕ, ◌+◌, ◌≤◌, ◌⊎◌, List, [], ◌∷◌, ◌++◌, length, Option, Some, None, Result, Ok, Err, refl, sym, ap, subst, ◌∙◌, append-nil, append_assoc, arith, inl, inr}
+use Rattle.std.proofs.Common.{string_bytes, Vec, true, false, ◌≡◌, ℕ, ◌+◌, ◌≤◌, ◌⊎◌, List, [], ◌∷◌, ◌++◌, length, length-append, Option, Some, None, Result, Ok, Err, refl, sym, ap, subst, ◌∙◌, append-nil, append_assoc, arith, inl, inr}
 use Rattle.std.specs.List.{AllByRecursion}
 use Rattle.std.specs.declared.alloc.Global.{Global}
 use Rattle.grpc_frames.specs.FrameFaults.{WhereKnown}
@@ -19,7 +19,7 @@ use Rattle.call_words.specs.Texts.{messages_text, end_text}
 use Rattle.call_reading.specs.declared.upload_builder.UploadBuilder.{UploadBuilder}
 use Rattle.call_reading.specs.Requests.{Adds, AddAll, Brings, messages_limit}
 use Rattle.call_reading.specs.Faults.{MeansAtFault, FurtherFault, MessageFault, IsFaultlessSoFar, BreaksMessages}
-use Rattle.call_reading.specs.Builder.{with_more, IsOnItsWay, Holds, Grows, Finishes}
+use Rattle.call_reading.specs.Builder.{with_more, IsOnItsWay, Holds, OpensSome, AddsWithin, Grows, Finishes}
 use Rattle.call_reading.specs.declared.frames.CallPart.{CallPart}
 use Rattle.call_reading.specs.declared.frames.CallPart.TheVariants as parts
 use Rattle.call_reading.specs.Reading.{ReadsPart}
@@ -78,6 +78,26 @@ full_count count left sum none = omega (arith, sum, none)
 again : (messages : List (List ℕ)) (upload : Upload) (b : Brings messages upload) → Brings (b.first ∷ b.others) upload
 again messages upload b = subst (λ (m : List (List ℕ)). Brings m upload) b.messages_are b
 
+-- a further message is none, and there may be so many
+faultless_more : (first : List ℕ) (others : List (List ℕ)) (upload : Upload) (message : List ℕ) (schema : SchemaTree) (count : ℕ) → Brings (first ∷ others) upload
+    → schema ≡ upload.schema → count ≡ length upload.batches → length (first ∷ others) + 1 ≤ messages_limit → AddsWithin schema count message
+    → IsFaultlessSoFar methods.DoPut (first ∷ (others ++ message ∷ []))
+faultless_more first others upload message schema count b is counted room adds = (
+  with_more upload adds.0,
+  brings_more (first ∷ others) upload message adds.0 b (subst (λ (s : SchemaTree). Adds s message adds.0) is adds.1),
+  omega (arith, adds.2, counted, length-append upload.batches adds.0),
+  omega (arith, room, length_push (first ∷ others) message),
+)
+
+-- nor is the first
+faultless_opening : (message : List ℕ) → OpensSome message → IsFaultlessSoFar methods.DoPut (message ∷ [])
+faultless_opening message o = (
+  record { table = o.0; id = o.1; schema = o.2; batches = [] },
+  record { first = message; others = []; messages_are = refl; opens = o.3; adds = refl },
+  omega arith,
+  omega arith,
+)
+
 -- a further message is at fault, or none can be read
 pub further_breaks : (count left : ℕ) (i j : UploadBuilder) (here now after : List ℕ) (refusal : Refusal) → count + left ≡ messages_limit → IsOnItsWay i → HasTaken count i here now
     → ReadsFurther left i j (Err refusal) now after → BreaksMessages methods.DoPut here after refusal
@@ -118,7 +138,13 @@ further_breaks count left i j here now after refusal sum way h breaks =
                                 subst (λ (s : SchemaTree). MeansAtFault data_descriptor (FurtherFault s (length upload.batches)) m.0 refusal) (sym h.holds.schema_is)
                                     (subst (λ (n : ℕ). MeansAtFault data_descriptor (FurtherFault (schema_of i.schema) n) m.0 refusal) batches_are fault),
                               )))
-                          | inr refused ↦ inr refused
+                          | inr refused ↦
+                              inr (
+                                subst (λ (ms : List (List ℕ)). IsFaultlessSoFar methods.DoPut (ms ++ m.0 ∷ [])) (sym shape)
+                                    (faultless_more b.first b.others upload m.0 (schema_of i.schema) i.count like
+                                    (sym h.holds.schema_is) batches_are (omega (arith, within, count_is, sum, refused.0)) refused.1),
+                                refused.2,
+                              )
                         ]
                   ],
                 ))
@@ -139,7 +165,8 @@ opening_faults here after refusal breaks = record {
         | inr behind ↦
             elim behind [
               | inl ended ↦ inr (inr (ended.0, inl (inl (refl, ended.1))))
-              | inr m ↦ inr (inl (m.0, m.1, m.2, m.3))
+              | inr m ↦
+                  inr (inl (m.0, m.1, m.2, elim m.3 [ inl fault ↦ inl fault | inr refused ↦ inr (faultless_opening m.0 refused.0, refused.1) ]))
             ]
       ];
 }
@@ -173,7 +200,7 @@ finished count i here now after (Err refusal) few way h front fin =
             front,
             elim fin [
               | inl large ↦ inl (inr (h.upload, b, large.0, large.1))
-              | inr refused ↦ inr refused
+              | inr refused ↦ inr ((h.upload, b, refused.0), refused.1)
             ],
           ));
     }
@@ -224,15 +251,19 @@ opening_breaks None after refusal opens = tt
 opening_breaks (Some x) None refusal opens = absurd opens
 opening_breaks (Some x) (Some y) refusal opens = opening_faults x y refusal opens
 
--- a further message that is at fault
+-- what is told of a further message that is not taken
+abbrev pub IsToldOfFurther : UploadBuilder → List ℕ → Refusal → Type 0
+IsToldOfFurther i text refusal =
+    MeansAtFault data_descriptor (FurtherFault (schema_of i.schema) i.count) text refusal
+    ⊎ (AddsWithin (schema_of i.schema) i.count text × (refusal ≡ refusals.OutOfMemory))
+
+-- a further message that is at fault, or for which memory was refused
 pub further_read : (left : ℕ) (i j : UploadBuilder) (here after : Option (List ℕ)) (part : CallPart) (message : Vec ℕ Global) (text : List ℕ) (refusal : Refusal)
     → WhereKnown here after (ReadsPart (Ok part)) → part ≡ parts.Message message → text ≡ message.items
-    → MeansAtFault data_descriptor (FurtherFault (schema_of i.schema) i.count) text refusal ⊎ (refusal ≡ refusals.OutOfMemory)
-    → WhereKnown here after (ReadsFurther left i j (Err refusal))
-further_read left i j None after part message text refusal reads is same fault = tt
-further_read left i j (Some x) None part message text refusal reads is same fault = absurd reads
-further_read left i j (Some x) (Some y) part message text refusal reads is same fault =
+    → 1 ≤ left → IsToldOfFurther i text refusal → WhereKnown here after (ReadsFurther left i j (Err refusal))
+further_read left i j None after part message text refusal reads is same some fault = tt
+further_read left i j (Some x) None part message text refusal reads is same some fault = absurd reads
+further_read left i j (Some x) (Some y) part message text refusal reads is same some fault =
     let read : ReadsPart (Ok (parts.Message message)) x y = subst (λ p. ReadsPart (Ok p) x y) is reads in
-    let at : MeansAtFault data_descriptor (FurtherFault (schema_of i.schema) i.count) message.items refusal ⊎ (refusal ≡ refusals.OutOfMemory) =
-    subst (λ m. MeansAtFault data_descriptor (FurtherFault (schema_of i.schema) i.count) m refusal ⊎ (refusal ≡ refusals.OutOfMemory)) same fault in
-    inr (message.items, read.1, read.0, inr at)
+    let at : IsToldOfFurther i message.items refusal = subst (λ m. IsToldOfFurther i m refusal) same fault in
+    inr (message.items, read.1, read.0, inr (elim at [ inl wrong ↦ inl wrong | inr refused ↦ inr (some, refused.0, refused.1) ]))

@@ -52,6 +52,14 @@ IsOpened message i =
     Opens message (string_bytes i.table) i.id (schema_of i.schema)
     × Holds i (upload_of (string_bytes i.table) i.id (schema_of i.schema) [])
 
+-- some upload is opened by this message
+abbrev pub OpensSome : List ℕ → Type 0
+OpensSome message = (table id : List ℕ) × (schema : SchemaTree) × Opens message table id schema
+
+-- a message adds to so many batches, and they are not too many with what it adds
+abbrev pub AddsWithin : SchemaTree → ℕ → List ℕ → Type 0
+AddsWithin schema count message = (more : List Rows) × Adds schema message more × (count + length more ≤ batches_limit)
+
 -- a head and a body lay out no batch, or there is one more than an upload may have
 abbrev pub LayFault : SchemaTree → ℕ → Head → List ℕ → Refusal → Type 0
 LayFault schema count head body refusal =
@@ -93,4 +101,5 @@ pub record Grows (message : List ℕ) (old new : UploadBuilder) : Type 0 where
 -- what the end of an upload gives
 abbrev pub Finishes : Upload → Result (List ℕ) Refusal → Type 0
 Finishes upload (Ok text) = IsUpload upload × (text ≡ upload_text upload)
-Finishes upload (Err refusal) = ((¬ IsSmall upload) × (refusal ≡ refusals.TooLarge)) ⊎ (refusal ≡ refusals.OutOfMemory)
+Finishes upload (Err refusal) =
+    ((¬ IsSmall upload) × (refusal ≡ refusals.TooLarge)) ⊎ (IsSmall upload × (refusal ≡ refusals.OutOfMemory))

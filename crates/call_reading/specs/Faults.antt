@@ -50,11 +50,9 @@ MeansAtFault type IsAtFault message refusal =
 abbrev pub CriteriaFault : Values criteria_descriptor → Refusal → Type 0
 CriteriaFault values refusal = (values.0 ≢ []) × (refusal ≡ refusals.Criteria)
 
--- no ticket; or one, and memory was refused
+-- no ticket
 abbrev pub TicketFault : Values ticket_descriptor → Refusal → Type 0
-TicketFault values refusal =
-    (((asked : TableVersion) → ¬ IsTicket values.0 asked) × (refusal ≡ refusals.BadTicket))
-    ⊎ (((asked : TableVersion) × IsTicket values.0 asked) × (refusal ≡ refusals.OutOfMemory))
+TicketFault values refusal = ((asked : TableVersion) → ¬ IsTicket values.0 asked) × (refusal ≡ refusals.BadTicket)
 
 -- the header can't be read: a fault stands in it, or it shows one and memory was refused
 pub record IsNoHeader (header : List ℕ) (refusal : Refusal) : Type 0 where
@@ -159,6 +157,14 @@ IsFaultlessSoFar methods.DoGet messages =
     IsOneOrNone (λ message. (asked : TableVersion) × AsksForVersion message asked) messages
 IsFaultlessSoFar methods.DoPut messages = IsUploadOrNone messages
 
+-- the end is no fault behind these messages: there are some; and an upload that they bring is not too large
+abbrev pub IsFaultlessEnd : Method → List (List ℕ) → Type 0
+IsFaultlessEnd methods.GetFlightInfo messages = messages ≢ []
+IsFaultlessEnd methods.GetSchema messages = messages ≢ []
+IsFaultlessEnd methods.ListFlights messages = messages ≢ []
+IsFaultlessEnd methods.DoGet messages = messages ≢ []
+IsFaultlessEnd methods.DoPut messages = (upload : Upload) × Brings messages upload × IsSmall upload
+
 -- no frame can be read here; or the text ends; or an end has a payload
 abbrev pub FrameBreaks : List ℕ → List ℕ → Refusal → Type 0
 FrameBreaks here after refusal =
@@ -173,12 +179,14 @@ PathBreaks text after refusal =
     ((text ≡ end_text ++ after) × (refusal ≡ refusals.BadPath))
     ⊎ ((path : List ℕ) × (text ≡ in_frame path ++ after) × FitsFrame path × PathFault path refusal)
 
--- a message is at fault; or the messages are, once their end has come; or, behind one of both, memory was refused
+-- a message is at fault; or the messages are, once their end has come; or memory was refused, and neither is
 abbrev pub MessageBreaks : Method → List (List ℕ) → List ℕ → List ℕ → Refusal → Type 0
 MessageBreaks method before here after refusal =
     ((message : List ℕ) × (here ≡ in_frame message ++ after) × FitsFrame message
-    × (MessageFault method before message refusal ⊎ (refusal ≡ refusals.OutOfMemory)))
-    ⊎ ((here ≡ end_text ++ after) × (EndFault method before refusal ⊎ (refusal ≡ refusals.OutOfMemory)))
+    × (MessageFault method before message refusal
+    ⊎ (IsFaultlessSoFar method (before ++ message ∷ []) × (refusal ≡ refusals.OutOfMemory))))
+    ⊎ ((here ≡ end_text ++ after)
+    × (EndFault method before refusal ⊎ (IsFaultlessEnd method before × (refusal ≡ refusals.OutOfMemory))))
 
 -- behind messages without fault, one stands
 pub record BreaksMessages (method : Method) (here after : List ℕ) (refusal : Refusal) : Type 0 where

@@ -43,7 +43,7 @@ OneBreaks P IsAtFault here after refusal =
     FrameBreaks here after refusal
     ⊎ ((here ≡ end_text ++ after) × (refusal ≡ refusals.MessageCount))
     ⊎ ((message : List ℕ) × (here ≡ in_frame message ++ after) × FitsFrame message
-    × (IsAtFault message refusal ⊎ (refusal ≡ refusals.OutOfMemory)))
+    × (IsAtFault message refusal ⊎ (P message × (refusal ≡ refusals.OutOfMemory))))
     ⊎ ((message mid : List ℕ) × (here ≡ in_frame message ++ mid) × FitsFrame message × P message × EndBreaks mid after refusal)
 
 -- what a frame says

@@ -13,7 +13,7 @@ use Rattle.call_words.specs.Texts.{messages_text, end_text}
 use Rattle.call_reading.specs.declared.upload_builder.UploadBuilder.{UploadBuilder}
 use Rattle.call_reading.specs.Requests.{puts, Brings}
 use Rattle.call_reading.specs.Faults.{MeansAtFault, OpeningFault, FurtherFault, FrameBreaks, BreaksMessages}
-use Rattle.call_reading.specs.Builder.{Holds, IsOpened, Grows}
+use Rattle.call_reading.specs.Builder.{Holds, IsOpened, OpensSome, AddsWithin, Grows}
 use Rattle.call_reading.specs.Reading.{AsksFor}
 
 -- the first message, or why there is no such
@@ -24,7 +24,7 @@ ReadsOpening (Err refusal) here after =
     FrameBreaks here after refusal
     ⊎ ((here ≡ end_text ++ after) × (refusal ≡ refusals.NoSchema))
     ⊎ ((message : List ℕ) × (here ≡ in_frame message ++ after) × FitsFrame message
-    × (MeansAtFault data_descriptor OpeningFault message refusal ⊎ (refusal ≡ refusals.OutOfMemory)))
+    × (MeansAtFault data_descriptor OpeningFault message refusal ⊎ (OpensSome message × (refusal ≡ refusals.OutOfMemory))))
 
 -- a further message, or the end, or why neither
 abbrev pub ReadsFurther : ℕ → UploadBuilder → UploadBuilder → Result Bool Refusal → List ℕ → List ℕ → Type 0
@@ -36,7 +36,7 @@ ReadsFurther left old new (Err refusal) here after =
     ⊎ ((message : List ℕ) × (here ≡ in_frame message ++ after) × FitsFrame message
     × (((left ≡ 0) × (refusal ≡ refusals.MessageCount))
     ⊎ MeansAtFault data_descriptor (FurtherFault (schema_of old.schema) old.count) message refusal
-    ⊎ (refusal ≡ refusals.OutOfMemory)))
+    ⊎ ((1 ≤ left) × AddsWithin (schema_of old.schema) old.count message × (refusal ≡ refusals.OutOfMemory))))
 
 -- so many messages came, which bring an upload that is on its way, and this is left
 pub record HasTaken (count : ℕ) (i : UploadBuilder) (here now : List ℕ) : Type 0 where

@@ -1,10 +1,11 @@
 //! Laws of what a text asks for as a call.
 
-ghost use Rattle.std.specs.Prelude.{◌≡◌, ◌++◌, ℕ, List};
+ghost use Rattle.std.specs.Prelude.{◌≡◌, ◌++◌, ◌∷◌, [], ℕ, List};
 ghost use Rattle.call_words.specs.Texts.{end_text};
+ghost use Rattle.call_words.specs.declared.method.Method.{Method as MethodModel};
 ghost use Rattle.call_words.specs.declared.refusal.Refusal.{Refusal as Refused};
 ghost use Rattle.call_reading.specs.Requests.{Request, IsCall};
-ghost use Rattle.call_reading.specs.Faults.{RefusalStands, IsOfTheMachine};
+ghost use Rattle.call_reading.specs.Faults.{MessageFault, EndFault, IsFaultlessSoFar, IsFaultlessEnd, RefusalStands, IsOfMemory, IsOfTheMachine};
 
 use batch_types::laws::batches_are_one;
 use call_words::laws::{descriptors_name_one, paths_are_one};
@@ -42,6 +43,25 @@ pub fn calls_are_not_refused()
     no_frame_begins_another();
     grpc_frames::laws::faults_stand_apart();
     paths_are_one();
+    descriptors_name_one();
+    tickets_have_one_encoding();
+    messages_are_one();
+    proto_messages::laws::faults_stand_apart();
+    headers_are_one();
+    header_reading::laws::faults_stand_apart();
+    batches_are_one();
+    refusals_are_right();
+}
+
+/// Where memory is refused, no fault stands: a message with which there is no fault so far has none, and neither has an
+/// end that is no fault.
+pub fn memory_is_refused_where_no_fault_stands()
+    ensures messages { (method : MethodModel) (before : List (List ℕ)) (message : List ℕ) (refusal : Refused)
+        → IsFaultlessSoFar method (before ++ message ∷ []) → MessageFault method before message refusal
+        → IsOfMemory refusal }
+    ensures ends { (method : MethodModel) (messages : List (List ℕ)) (refusal : Refused)
+        → IsFaultlessEnd method messages → EndFault method messages refusal → IsOfMemory refusal }
+{
     descriptors_name_one();
     tickets_have_one_encoding();
     messages_are_one();

@@ -35,7 +35,8 @@ pub(crate) fn decoded<M: ProtoMessage + Drop>(alloc: Global, message: &[u8]) -> 
 fn table_asked(alloc: Global, message: &[u8]) -> Result<String, Refusal>
     ensures asks { IfOk result (λ table. AsksForTable message.now (string_bytes table)) }
     ensures fault { IfErr result (λ refusal.
-        MeansAtFault flight_descriptor_descriptor TableFault message.now refusal ⊎ (refusal ≡ OutOfMemory)) }
+        MeansAtFault flight_descriptor_descriptor TableFault message.now refusal
+        ⊎ (((table : List ℕ) × AsksForTable message.now table) × (refusal ≡ OutOfMemory))) }
 {
     let descriptor = decoded::<FlightDescriptor>(alloc, message)?;
     let table = match table_in(&descriptor) {
@@ -61,7 +62,9 @@ fn check_criteria(alloc: Global, message: &[u8]) -> Result<(), Refusal>
 /// The version that a ticket asks for.
 fn version_asked(alloc: Global, message: &[u8]) -> Result<Ticket, Refusal>
     ensures asks { IfOk result (AsksForVersion message.now) }
-    ensures fault { IfErr result (MeansAtFault ticket_descriptor TicketFault message.now) }
+    ensures fault { IfErr result (λ refusal.
+        MeansAtFault ticket_descriptor TicketFault message.now refusal
+        ⊎ (((asked : TableVersion) × AsksForVersion message.now asked) × (refusal ≡ OutOfMemory))) }
 {
     let asked = decoded::<TicketMessage>(alloc, message)?;
     match Ticket::decode(alloc, &asked.ticket) {

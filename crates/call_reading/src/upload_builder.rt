@@ -13,7 +13,7 @@ ghost use Rattle.table_types.specs.Valid.{batches_limit, upload_limit};
 ghost use Rattle.call_words.specs.declared.refusal.Refusal.TheVariants.{OutOfMemory};
 ghost use Rattle.call_reading.specs.Requests.{IsBlank};
 ghost use Rattle.call_reading.specs.Faults.{IsNoHeader, MeansAtFault, OpeningFault, SchemaFault, HeadFault, BatchFaultIn, FurtherFault};
-ghost use Rattle.call_reading.specs.Builder.{IsOnItsWay, Holds, HoldsMore, IsOpened, SizeWith, IsCounted, Grows, Finishes, LayFault};
+ghost use Rattle.call_reading.specs.Builder.{IsOnItsWay, Holds, HoldsMore, IsOpened, OpensSome, AddsWithin, SizeWith, IsCounted, Grows, Finishes, LayFault};
 ghost use Rattle.call_reading.specs.Additions.{IsBuilt, IsLeftOut, HasAddition, AddsAs, HasRoom};
 
 use crate::one::decoded;
@@ -214,7 +214,8 @@ impl UploadBuilder {
         ensures opened { IfOk result (IsOpened message.now) }
         ensures on_its_way { IfOk result IsOnItsWay }
         ensures fault { IfErr result (λ refusal.
-            MeansAtFault data_descriptor OpeningFault message.now refusal ⊎ (refusal ≡ OutOfMemory)) }
+            MeansAtFault data_descriptor OpeningFault message.now refusal
+            ⊎ (OpensSome message.now × (refusal ≡ OutOfMemory))) }
     {
         shown_schemas_are_in_profile();
         let data = decoded::<FlightData>(alloc, message)?;
@@ -247,7 +248,7 @@ impl UploadBuilder {
         ensures on_its_way { IsOnItsWay self.new }
         ensures fault { IfErr result (λ refusal. MeansAtFault data_descriptor
             (FurtherFault (schema_of self.old.schema) self.old.count) message.now refusal
-            ⊎ (refusal ≡ OutOfMemory)) }
+            ⊎ (AddsWithin (schema_of self.old.schema) self.old.count message.now × (refusal ≡ OutOfMemory))) }
     {
         let wanted = self.is_within_limit();
         match addition_of(alloc, &self.schema, self.count, wanted, message) {

@@ -1,4 +1,4 @@
-use Rattle.std.proofs.Common.{arith, refl, ap, subst, inl, ◌∙◌}
+use Rattle.std.proofs.Common.{arith, refl, ap, subst, inl, inr, ◌∙◌}
 use Rattle.header_types.specs.Views.{schema_of}
 use Rattle.table_types.specs.Uploads.{upload_text}
 use Rattle.table_types.specs.Valid.{IsUpload}
@@ -22,3 +22,11 @@ returns-in-Err-TooLarge c = λ upload holds.
     subst (λ f. AreRefused c.deref.result.now c.args.self.now.id (schema_of c.args.self.now.schema) c.deref-2.result.now f) c.in-Err-TooLarge.field-0-is
     c.in-Err-TooLarge.ensures.fault in
     inl (subst (λ u. ¬ IsSmall u) is fault.3, refl)
+
+pub returns-in-Err-OutOfMemory : goal.returns-in-Err-OutOfMemory
+returns-in-Err-OutOfMemory c = λ upload holds.
+    let is = made_is c.args.self.now upload holds (omega (arith, c.if-self-gt-SIZE_LIMIT.false)) c.deref.result.now c.deref-2.result.now c.deref.ensures c.deref-2.ensures.value in
+    let made =
+    subst (λ f. AreRefused c.deref.result.now c.args.self.now.id (schema_of c.args.self.now.schema) c.deref-2.result.now f) c.in-Err-OutOfMemory.field-0-is
+    c.in-Err-OutOfMemory.ensures.fault in
+    inr (subst (λ u. IsSmall u) is made.small, refl)
