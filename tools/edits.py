@@ -11,7 +11,7 @@ of each crate are tried, as the gate would try them, whose sources, definitions 
 --all those of the crates that are named. An edit of a definition that a crate above refuses, and not its own, has a line
 `law: CRATE`, and is tried there. Where all edits of a crate were refused, its line in `edits-refused.txt` says for which
 sources, definitions and edits that was, by their checksum. With --old nothing is tried: the crates are counted whose lines
-are of other files.
+are of other files, and the status is 1 where an edit names a text that does not stand once in its file.
 
 Without these words the edits of one crate are tried one after the other over one copy of it. Of each is said how many
 processor seconds it took and which goals refused it; an edit that the prover takes is shown as TAKEN, and the status is then
@@ -74,6 +74,18 @@ def changes(edit):
     return found
 
 
+def edited(folder, edit):
+    """The files of a crate that an edit changes, with their texts behind it. Each old text stands once in its file."""
+    texts = {}
+    for file, old, new in changes(edit):
+        path = folder / file
+        text = texts.get(path) or path.read_text(encoding="utf-8")
+        if text.count(old) != 1:
+            raise ValueError(f"{edit.parent.parent.name}/{edit.name}: `{old}` stands {text.count(old)} times in {file}")
+        texts[path] = text.replace(old, new)
+    return texts
+
+
 def check(folder):
     """Checks the crate: whether it is proved, the processor seconds, and what is printed."""
     before = resource.getrusage(resource.RUSAGE_CHILDREN)
@@ -100,16 +112,12 @@ def refusals(printed):
 
 def try_edit(folder, edit):
     """Checks the crate with the edit, and takes the edit back."""
-    whole = {}
-    for file, old, new in changes(edit):
-        path = folder / file
-        text = path.read_text(encoding="utf-8")
-        whole.setdefault(path, text)
-        if text.count(old) != 1:
-            sys.exit(f"{edit.name}: `{old}` stands {text.count(old)} times in {file}")
-        path.write_text(text.replace(old, new), encoding="utf-8")
-    result = check(folder)
+    whole = edited(folder, edit)
+    before = {path: path.read_text(encoding="utf-8") for path in whole}
     for path, text in whole.items():
+        path.write_text(text, encoding="utf-8")
+    result = check(folder)
+    for path, text in before.items():
         path.write_text(text, encoding="utf-8")
     return result
 
@@ -209,6 +217,16 @@ def old_lines_of(crates):
     return [crate for crate in crates if kept.get(crate) != checksum(crate)]
 
 
+def lost_edits():
+    """What says of each edit that can't be made to its crate's files why not."""
+    for crate in crates_with_edits():
+        for edit in edits_of(crate):
+            try:
+                edited(TOP / "crates" / crate, edit)
+            except (OSError, ValueError) as fault:
+                yield str(fault)
+
+
 def changed_since(commit):
     """The crates whose sources, definitions or edits are not those of the commit."""
     words = ["git", "diff", "--name-only", "--no-renames", commit, "--", "crates"]
@@ -287,9 +305,8 @@ def is_refused_above(edit):
     with tempfile.TemporaryDirectory() as scratch:
         folder, crate = Path(scratch), edit.parent.parent.name
         put_together(folder, [])
-        for file, old, new in changes(edit):
-            path = folder / "crates" / crate / file
-            path.write_text(path.read_text(encoding="utf-8").replace(old, new), encoding="utf-8")
+        for path, text in edited(folder / "crates" / crate, edit).items():
+            path.write_text(text, encoding="utf-8")
         return any(re.match(r"logic=not-proved", line) for line in lines_of_gate(folder, [law_of(edit)]))
 
 
@@ -317,14 +334,20 @@ def main():
     if words == ["--old"]:
         old, total = old_lines_of(crates_with_edits()), len(crates_with_edits())
         print(f"edits: of {len(old)} of {total} crates not all edits were tried as they stand: {' '.join(old) or 'none'}")
-        return 0
+        lost = list(lost_edits())
+        for fault in lost:
+            print(f"edits: {fault}")
+        return 1 if lost else 0
     if "--since" in words and len(names) == 1:
         return 0 if try_all(changed_since(names[0])) else 1
     if "--all" in words and names:
         return 0 if try_all(names) else 1
     if not names:
         sys.exit(__doc__)
-    return 0 if try_edits(names[0], edits_of(names[0], names[1:]), "--answer" in words) else 1
+    try:
+        return 0 if try_edits(names[0], edits_of(names[0], names[1:]), "--answer" in words) else 1
+    except ValueError as fault:
+        sys.exit(str(fault))
 
 
 if __name__ == "__main__":
