@@ -5,6 +5,7 @@ ghost use Rattle.client_calls.specs.Parts.{fault_of_wire};
 
 use call_words::CallFault;
 use proto_fields::WireFault;
+use std::alloc::AllocError;
 use thiserror::Error;
 
 /// Why a call has no answer.
@@ -19,6 +20,18 @@ pub enum ClientFault {
     /// The call could not be carried to its end.
     #[error("{0}")]
     Call(CallFault),
+}
+
+impl From<AllocError> for ClientFault {
+    ghost use Rattle.std.specs.Prelude.{◌≡◌};
+    ghost use Rattle.call_words.specs.declared.call_fault.CallFault.TheVariants.{OutOfMemory};
+    ghost use Rattle.client_calls.specs.declared.client_fault.ClientFault.TheVariants.{Call};
+
+    ghost from_gives = { λ _ fault. fault ≡ Call OutOfMemory };
+
+    fn from(_refused: AllocError) -> ClientFault {
+        ClientFault::Call(CallFault::OutOfMemory)
+    }
 }
 
 impl ClientFault {

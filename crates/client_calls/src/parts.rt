@@ -41,10 +41,8 @@ fn trailer_says(alloc: Global, payload: &[u8]) -> Result<AnswerPart, ClientFault
     let Ok(text) = str::from_utf8(text) else {
         return Err(ClientFault::BadAnswer);
     };
-    match String::from_str(alloc, text) {
-        Ok(text) => Err(ClientFault::Status(*code, text)),
-        Err(_) => Err(ClientFault::Call(CallFault::OutOfMemory)),
-    }
+    let text = String::from_str(alloc, text)?;
+    Err(ClientFault::Status(*code, text))
 }
 
 /// What a frame says.

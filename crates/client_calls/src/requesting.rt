@@ -49,9 +49,7 @@ fn descriptor_of(alloc: Global, table: &str) -> Result<FlightDescriptor, AllocEr
 fn table_message(alloc: Global, table: &str) -> Result<Vec<u8>, CallFault>
     ensures { IsText (table_message table.now) result }
 {
-    let Ok(descriptor) = descriptor_of(alloc, table) else {
-        return Err(CallFault::OutOfMemory);
-    };
+    let descriptor = descriptor_of(alloc, table)?;
     let mut message = Vec::new(alloc);
     match descriptor.encode(&mut message) {
         Ok(()) => Ok(message),
@@ -120,11 +118,9 @@ pub(crate) fn send_list_request<W: Write>(alloc: Global, w: &mut W) -> Result<()
 fn ticket_message(alloc: Global, ticket: &Ticket) -> Result<Vec<u8>, CallFault>
     ensures { IsText (ticket_message ticket.now) result }
 {
-    let Ok(bytes) = ticket.encode(alloc) else {
-        return Err(CallFault::OutOfMemory);
-    };
+    let ticket = ticket.encode(alloc)?;
     let mut message = Vec::new(alloc);
-    match (TicketMessage { ticket: bytes }).encode(&mut message) {
+    match (TicketMessage { ticket }).encode(&mut message) {
         Ok(()) => Ok(message),
         Err(_) => Err(CallFault::OutOfMemory),
     }

@@ -89,13 +89,9 @@ fn descriptor_of(alloc: Global, upload: &Upload) -> Result<FlightDescriptor, All
 fn opening_of(alloc: Global, upload: &Upload) -> Result<Vec<u8>, CallFault>
     ensures { (u : Uploaded) → IsUpload u → upload_text u ≡ upload.now → IsText (opening_message u) result }
 {
-    let Ok(descriptor) = descriptor_of(alloc, upload) else {
-        return Err(CallFault::OutOfMemory);
-    };
-    match described_message(alloc, &Some(descriptor), upload.schema_bytes()) {
-        Ok(message) => Ok(message),
-        Err(_) => Err(CallFault::OutOfMemory),
-    }
+    let descriptor = descriptor_of(alloc, upload)?;
+    let message = described_message(alloc, &Some(descriptor), upload.schema_bytes())?;
+    Ok(message)
 }
 
 /// Writes the first message of an upload.

@@ -104,9 +104,7 @@ fn frames_everywhere_at<C: Connect, E: Write>(
 fn download_of(alloc: Global, mut frames: Vec<u8>) -> Result<Download, CommandFault>
     ensures { FramesSay frames.items result }
 {
-    if frames.extend_from_slice(&OK_TRAILER).is_err() {
-        return Err(CommandFault::OutOfMemory);
-    }
+    frames.extend_from_slice(&OK_TRAILER)?;
     let mut reader = frames.as_slice();
     match read_download(alloc, &mut reader) {
         Ok(download) => Ok(download),

@@ -9,6 +9,7 @@ use client_calls::ClientFault;
 use client_connections::ConnectFault;
 use json_rows::RowsFault;
 use row_calls::RowCallFault;
+use std::alloc::AllocError;
 use thiserror::Error;
 use uploads::UploadFault;
 
@@ -50,6 +51,17 @@ pub enum CommandFault {
     /// Not all locations give the same bytes.
     #[error("Differs")]
     Differs,
+}
+
+impl From<AllocError> for CommandFault {
+    ghost use Rattle.std.specs.Prelude.{◌≡◌};
+    ghost use Rattle.client_command.specs.declared.fault.CommandFault.TheVariants.{OutOfMemory};
+
+    ghost from_gives = { λ _ fault. fault ≡ OutOfMemory };
+
+    fn from(_refused: AllocError) -> CommandFault {
+        CommandFault::OutOfMemory
+    }
 }
 
 /// Whether this status refuses an upload however often it is put (gRPC, "Status codes and their use in gRPC").

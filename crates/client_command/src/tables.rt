@@ -51,10 +51,8 @@ fn with_line(mut text: String, line: &str) -> Result<String, CommandFault>
     ensures more { IfOk result (λ more. string_bytes more ≡ string_bytes text ++ line.now) }
     ensures fault { IfErr result (λ fault. fault ≡ OutOfMemory) }
 {
-    match text.push_str(line) {
-        Ok(()) => Ok(text),
-        Err(_) => Err(CommandFault::OutOfMemory),
-    }
+    text.push_str(line)?;
+    Ok(text)
 }
 
 /// The lines of what is told of tables.

@@ -72,10 +72,8 @@ fn tell_location<E: Write>(
         → Appends (E.contents err.old) (E.contents err.new) (same_line uri.now)) }
     ensures fault { IfErr result IsOfLines }
 {
-    match location_line(alloc, uri, compared) {
-        Ok(line) => write_text(err, line.as_bytes()),
-        Err(_) => Err(CommandFault::OutOfMemory),
-    }
+    let line = location_line(alloc, uri, compared)?;
+    write_text(err, line.as_bytes())
 }
 
 /// Asks the server at the location of this URI, and writes its line.

@@ -103,9 +103,7 @@ fn id_by(word: Option<&str>, other: [u8; 16]) -> Result<[u8; 16], CommandFault>
 pub(crate) fn ticket_by(alloc: Global, table: &str, version: u64) -> Result<Ticket, CommandFault>
     ensures { TicketBy table.now version result }
 {
-    let Ok(table) = String::from_str(alloc, table) else {
-        return Err(CommandFault::OutOfMemory);
-    };
+    let table = String::from_str(alloc, table)?;
     match Ticket::new(table, version) {
         Some(ticket) => Ok(ticket),
         None => Err(CommandFault::BadTable),

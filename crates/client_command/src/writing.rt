@@ -42,9 +42,7 @@ pub(crate) fn tell_put<O: Write>(
     ensures written { WhereKnown (O.contents out.old) (O.contents out.new) (WritesText (put_line id version) result) }
     ensures fault { IfErr result IsOfLines }
 {
-    let Ok(line) = put_line(alloc, id, version) else {
-        return Err(CommandFault::OutOfMemory);
-    };
+    let line = put_line(alloc, id, version)?;
     write_text(out, line.as_bytes())
 }
 
@@ -65,8 +63,6 @@ pub(crate) fn tell_repeat<E: Write>(
     ensures written { WhereKnown (E.contents err.old) (E.contents err.new) (WritesText (repeat_line id) result) }
     ensures fault { IfErr result IsOfLines }
 {
-    let Ok(line) = repeat_line(alloc, id) else {
-        return Err(CommandFault::OutOfMemory);
-    };
+    let line = repeat_line(alloc, id)?;
     write_text(err, line.as_bytes())
 }

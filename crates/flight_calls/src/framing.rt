@@ -37,13 +37,9 @@ fn append_frame(out: &mut Vec<u8>, message: &[u8]) -> Result<(), Refusal>
     if message.len() > MAX_FRAME_PAYLOAD {
         return Err(Refusal::TooLarge);
     }
-    if append_header(out, message.len()).is_err() {
-        return Err(Refusal::OutOfMemory);
-    }
-    match out.extend_from_slice(message) {
-        Ok(()) => Ok(()),
-        Err(_) => Err(Refusal::OutOfMemory),
-    }
+    append_header(out, message.len())?;
+    out.extend_from_slice(message)?;
+    Ok(())
 }
 
 /// The frame of a message. The refusals are those of [`append_frame`].
@@ -62,10 +58,8 @@ pub(crate) fn schema_frame(alloc: Global, schema: &[u8]) -> Result<Outgoing, Ref
     requires { FitsFrame schema.now }
     ensures { Frames (schema_told schema.now ∷ []) result }
 {
-    match schema_message(alloc, schema) {
-        Ok(message) => frame_of(alloc, &message),
-        Err(_) => Err(Refusal::OutOfMemory),
-    }
+    let message = schema_message(alloc, schema)?;
+    frame_of(alloc, &message)
 }
 
 /// The frame of what is told of a table.
@@ -73,10 +67,8 @@ pub(crate) fn info_frame(alloc: Global, described: &TableDescription) -> Result<
     requires { CanBeTold described.now }
     ensures { Frames (message_of described.now ∷ []) result }
 {
-    match info_message(alloc, described) {
-        Ok(message) => frame_of(alloc, &message),
-        Err(_) => Err(Refusal::OutOfMemory),
-    }
+    let message = info_message(alloc, described)?;
+    frame_of(alloc, &message)
 }
 
 /// Appends the frame of what is told of a table. The refusals are those of [`append_frame`].
@@ -91,10 +83,8 @@ fn append_info(
     ensures fault { IfErr result (λ refusal.
         ((refusal ≡ TooLarge) × (¬ FitsFrame (message_of described.now))) ⊎ (refusal ≡ OutOfMemory)) }
 {
-    match info_message(alloc, described) {
-        Ok(message) => append_frame(frames, &message),
-        Err(_) => Err(Refusal::OutOfMemory),
-    }
+    let message = info_message(alloc, described)?;
+    append_frame(frames, &message)
 }
 
 /// The frames of what is told of each table. The refusals are those of [`append_frame`].

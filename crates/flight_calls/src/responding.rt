@@ -69,10 +69,8 @@ fn applied_frame(alloc: Global, upload: &Upload, version: u64) -> Result<Outgoin
         → Frames (put_result u.id version ∷ []) result }
 {
     let _text = upload.as_slice();
-    match put_message(alloc, upload.id(), version) {
-        Ok(message) => frame_of(alloc, &message),
-        Err(_) => Err(Refusal::OutOfMemory),
-    }
+    let message = put_message(alloc, upload.id(), version)?;
+    frame_of(alloc, &message)
 }
 
 /// The frame of what has become of an upload, where it counts, and else why it does not.

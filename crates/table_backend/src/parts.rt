@@ -53,10 +53,8 @@ pub(crate) fn described(
         × (map string_bytes found.locations.items ≡ map string_bytes locations.now)) }
     ensures fault { IfErr result (λ fault. fault ≡ OutOfMemory) }
 {
-    match copies(alloc, locations) {
-        Ok(locations) => Ok(TableDescription { info, locations }),
-        Err(_) => Err(BackFault::OutOfMemory),
-    }
+    let locations = copies(alloc, locations)?;
+    Ok(TableDescription { info, locations })
 }
 
 /// The message with the schema of a table of which this is told.
