@@ -4,3 +4,4 @@ pub mod Messages
 pub mod Calls
 pub mod Counted
 pub mod Versions
+pub mod Places

@@ -1,6 +1,6 @@
 //! Laws of what a client writes, as a service reads it, and of what it is given.
 
-ghost use Rattle.std.specs.Prelude.{◌≡◌, ◌≤◌, ◌++◌, ℕ, List, length, Some, Result};
+ghost use Rattle.std.specs.Prelude.{◌≡◌, ◌≤◌, ◌⊎◌, ◌++◌, ℕ, List, length, Some, Result};
 ghost use Rattle.ballots.specs.declared.value.Value.{Value};
 ghost use Rattle.table_types.specs.Uploads.{Upload};
 ghost use Rattle.table_types.specs.Valid.{IsTableName, IsUpload};
@@ -9,7 +9,9 @@ ghost use Rattle.table_types.specs.Tables.{Version, version_of};
 ghost use Rattle.table_types.specs.Answers.{answer_messages, answer_of};
 ghost use Rattle.table_versions.specs.State.{values_limit, TablesState, HasTaken};
 ghost use Rattle.table_versions.specs.Values.{AreUploadsIn};
+ghost use Rattle.call_words.specs.declared.refusal.Refusal.{Refusal as Refused};
 ghost use Rattle.call_words.specs.Statuses.{ok_trailer};
+ghost use Rattle.call_reading.specs.Faults.{RefusalStands, IsOfTheMachine};
 ghost use Rattle.downloads.specs.declared.download.Download.{Download};
 ghost use Rattle.downloads.specs.Downloads.{IsServedVersion};
 ghost use Rattle.downloads.specs.Taken.{GivesDownload, HasDownload};
@@ -21,10 +23,11 @@ ghost use Rattle.request_laws.specs.Asked.{InfoRequestsAreCalls, GetRequestsAreC
 ghost use Rattle.request_laws.specs.Versions.{IsMadeOf};
 
 use batch_types::laws::written_rows_are_laid_out;
-use call_reading::laws::calls_are_not_refused;
-use call_words::laws::descriptors_name_one;
+use call_reading::laws::{calls_are_not_refused, memory_is_refused_where_no_fault_stands};
+use call_words::laws::{descriptors_name_one, paths_are_one};
 use client_calls::laws::versions_are_given;
 use flatbuf_meta::laws::{written_headers_are_shown, written_schemas_are_short};
+use grpc_frames::laws::{no_frame_begins_another, readings_are_one};
 use proto_messages::laws::canonical_messages_are_messages;
 use table_types::laws::{
     batches_have_headers, shapes_are_without_metadata, tables_have_one_shape,
@@ -59,6 +62,19 @@ pub fn requests_are_not_refused()
 {
     requests_are_calls();
     calls_are_not_refused();
+}
+
+/// A text is refused at one place: whichever two refusals stand in it, of which neither says that a read failed or that
+/// memory was refused, the same is left behind both. So where two services read one text and refuse it for what stands in
+/// it, they have read the same of it.
+pub fn texts_are_refused_at_one_place()
+    ensures { (text a b : List ℕ) (x y : Refused) → RefusalStands x text a → RefusalStands y text b
+        → IsOfTheMachine x ⊎ IsOfTheMachine y ⊎ (a ≡ b) }
+{
+    no_frame_begins_another();
+    readings_are_one();
+    paths_are_one();
+    memory_is_refused_where_no_fault_stands();
 }
 
 /// Each version that uploads make can be got. It is one that is served; and where the uploads are at most

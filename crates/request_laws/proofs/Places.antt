@@ -1,0 +1,334 @@
+-- A text is refused at one place.
+use Rattle.std.proofs.Common.{length, length-append, ◌≤◌, ◌≡◌, ◌≢◌, ◌⊎◌, ℕ, List, [], ◌∷◌, ◌++◌, Option, Some, None, Result, Ok, Err, refl, sym, ap, subst, ◌∙◌, append-nil, append_assoc, arith, inl, inr}
+use Rattle.std.specs.List.{AllByRecursion}
+use Rattle.grpc_frames.specs.Frame.{Frame}
+use Rattle.grpc_frames.specs.FrameFaults.{FrameFaultStands, LeavesAfter, ReadsFrame}
+use Rattle.grpc_frames.specs.FrameLaws.{NoFrameBeginsAnother, ReadingsAreOne, IsDecided}
+use Rattle.grpc_frames.specs.declared.fault.FrameFault.{FrameFault}
+use Rattle.grpc_frames.specs.declared.fault.FrameFault.TheVariants as frames
+use Rattle.header_types.specs.Fields.{SchemaTree}
+use Rattle.batch_types.specs.Cells.{Rows}
+use Rattle.table_types.specs.Served.{in_frame}
+use Rattle.table_types.specs.Valid.{FitsFrame}
+use Rattle.table_types.specs.Ticket.{TableVersion}
+use Rattle.call_words.specs.declared.method.Method.{Method}
+use Rattle.call_words.specs.declared.method.Method.TheVariants as methods
+use Rattle.call_words.specs.declared.refusal.Refusal.{Refusal}
+use Rattle.call_words.specs.declared.refusal.Refusal.TheVariants as refusals
+use Rattle.call_words.specs.Methods.{path_text, PathFault}
+use Rattle.call_words.specs.Texts.{messages_text, end_text}
+use Rattle.call_reading.specs.Requests.{AsksForTable, AsksForAll, AsksForVersion, Adds, AddAll, Brings}
+use Rattle.call_reading.specs.Faults.{MessageFault, IsOneOrNone, IsUploadOrNone, IsFaultlessSoFar, FrameBreaks, PathBreaks, MessageBreaks, BreaksMessages, RefusalStands, IsOfMemory, IsOfTheMachine}
+use Rattle.call_reading.proofs.Apart.{message_frame, end_frame, is_message, is_end, front_message, no_end_here, path_fits}
+
+-- ---- what stands next
+
+-- it is no message and no end
+abbrev IsNeither : Result (Option Frame) FrameFault → Type 0
+IsNeither (Err fault) = Unit {0}
+IsNeither (Ok None) = Unit {0}
+IsNeither (Ok (Some frame)) = (frame.flag ≡ 128) × (frame.payload ≢ [])
+
+-- what is read next, by the text alone
+record Next (here after : List ℕ) : Type 0 where
+  pub read : Result (Option Frame) FrameFault
+  pub decided : IsDecided read
+  pub reads : ReadsFrame read here after
+
+abbrev NextIsNeither : List ℕ → List ℕ → Type 0
+NextIsNeither here after = (next : Next here after) × IsNeither next.read
+
+fault_next : (here after : List ℕ) (refusal : Refusal) (fault : FrameFault) → FrameFaultStands fault here → LeavesAfter fault here after → refusal ≡ refusals.Frame fault
+    → IsOfTheMachine refusal ⊎ NextIsNeither here after
+fault_next here after refusal frames.Truncated stands leaves is = inr (record { read = Err frames.Truncated; decided = (λ same. cc, λ same. cc); reads = (stands, leaves) }, tt)
+fault_next here after refusal frames.BadFlag stands leaves is = inr (record { read = Err frames.BadFlag; decided = (λ same. cc, λ same. cc); reads = (stands, leaves) }, tt)
+fault_next here after refusal frames.Compressed stands leaves is = inr (record { read = Err frames.Compressed; decided = (λ same. cc, λ same. cc); reads = (stands, leaves) }, tt)
+fault_next here after refusal frames.TooLong stands leaves is = inr (record { read = Err frames.TooLong; decided = (λ same. cc, λ same. cc); reads = (stands, leaves) }, tt)
+fault_next here after refusal frames.Io stands leaves is = inl (subst (λ r. IsOfTheMachine r) (sym is) (inr refl))
+fault_next here after refusal frames.OutOfMemory stands leaves is = inl (subst (λ r. IsOfTheMachine r) (sym is) (inl refl))
+
+frame_next : (here after : List ℕ) (refusal : Refusal) → FrameBreaks here after refusal → IsOfTheMachine refusal ⊎ NextIsNeither here after
+frame_next here after refusal breaks =
+    elim breaks [
+      | inl fault ↦ fault_next here after refusal fault.0 fault.1 fault.2 fault.3
+      | inr behind ↦
+          elim behind [
+            | inl none ↦ inr (record { read = Ok None; decided = tt; reads = (none.0, none.1) }, tt)
+            | inr ended ↦
+                inr (
+                  record {
+                    read = Ok (Some (record { flag = 128; payload = ended.0 }));
+                    decided = tt;
+                    reads = (record { flag = inr refl; payload = ended.2 }, ended.3);
+                  },
+                  (refl, ended.1),
+                )
+          ]
+    ]
+
+message_next : (here after message : List ℕ) → FitsFrame message → here ≡ in_frame message ++ after → Next here after
+message_next here after message fits front =
+    record { read = Ok (Some (message_frame message)); decided = tt; reads = (is_message message fits, front) }
+
+end_next : (here after : List ℕ) → here ≡ end_text ++ after → Next here after
+end_next here after front = record { read = Ok (Some end_frame); decided = tt; reads = (is_end, front) }
+
+abbrev Breaks : Method → List (List ℕ) → List ℕ → List ℕ → Refusal → Type 0
+Breaks method before here after refusal = FrameBreaks here after refusal ⊎ MessageBreaks method before here after refusal
+
+abbrev BreaksInFront : List ℕ → List ℕ → Refusal → Type 0
+BreaksInFront text after refusal = FrameBreaks text after refusal ⊎ PathBreaks text after refusal
+
+any_next : (here after : List ℕ) (refusal : Refusal) → FrameBreaks here after refusal → IsOfTheMachine refusal ⊎ Next here after
+any_next here after refusal frame = elim (frame_next here after refusal frame) [ inl machine ↦ inl machine | inr next ↦ inr next.0 ]
+
+breaks_next : (method : Method) (before : List (List ℕ)) (here after : List ℕ) (refusal : Refusal) → Breaks method before here after refusal → IsOfTheMachine refusal ⊎ Next here after
+breaks_next method before here after refusal breaks =
+    elim breaks [
+      | inl frame ↦ any_next here after refusal frame
+      | inr messages ↦
+          elim messages [
+            | inl m ↦ inr (message_next here after m.0 m.2 m.1)
+            | inr ended ↦ inr (end_next here after ended.0)
+          ]
+    ]
+
+front_next : (text after : List ℕ) (refusal : Refusal) → BreaksInFront text after refusal → IsOfTheMachine refusal ⊎ Next text after
+front_next text after refusal breaks =
+    elim breaks [
+      | inl frame ↦ any_next text after refusal frame
+      | inr at_path ↦
+          elim at_path [
+            | inl none ↦ inr (end_next text after none.0)
+            | inr path ↦ inr (message_next text after path.0 path.2 path.1)
+          ]
+    ]
+
+-- ---- messages without fault so far, and those of them that came first
+
+one_before : (P : List ℕ → Type 0) (before more : List (List ℕ)) (message : List ℕ) → IsOneOrNone P (before ++ message ∷ more) → IsOneOrNone P (before ++ message ∷ [])
+one_before P [] [] message h = h
+one_before P [] (m ∷ ms) message h = absurd h
+one_before P (b ∷ []) more message h = absurd h
+one_before P (b ∷ c ∷ bs) more message h = absurd h
+
+-- some of them are added by the messages up to one of them
+record AddedBefore (schema : SchemaTree) (messages : List (List ℕ)) (all : List Rows) : Type 0 where
+  pub some : List Rows
+  pub added : AddAll schema messages some
+  pub few : length some ≤ length all
+
+added_before : (schema : SchemaTree) (before more : List (List ℕ)) (message : List ℕ) (all : List Rows) → AddAll schema (before ++ message ∷ more) all → AddedBefore schema (before ++ message ∷ []) all
+added_before schema [] more message all h = record {
+  some = h.0;
+  added = (h.0, [], h.2, refl, sym (append-nil h.0));
+  few = omega (arith, ap length h.4, length-append h.0 h.1);
+}
+added_before schema (b ∷ bs) more message all h =
+    let first = added_before schema bs more message h.1 h.3 in
+    record {
+      some = h.0 ++ first.some;
+      added = (h.0, first.some, h.2, first.added, refl);
+      few = omega (arith, first.few, ap length h.4, length-append h.0 h.1, length-append h.0 first.some);
+    }
+
+first_of : (x y : List ℕ) (xs ys : List (List ℕ)) → x ∷ xs ≡ y ∷ ys → (x ≡ y) × (xs ≡ ys)
+first_of x y xs ys same = (cc, cc)
+
+upload_before : (before more : List (List ℕ)) (message : List ℕ) → IsUploadOrNone (before ++ message ∷ more) → IsUploadOrNone (before ++ message ∷ [])
+upload_before [] more message h =
+    let b = h.1 in
+    let fronts = first_of b.first message b.others more (sym b.messages_are) in (
+      record { table = h.0.table; id = h.0.id; schema = h.0.schema; batches = [] },
+      record { first = b.first; others = []; messages_are = ap (λ m. m ∷ []) (sym fronts.0); opens = b.opens; adds = refl },
+      omega arith,
+      omega arith,
+    )
+upload_before (f ∷ bs) more message h =
+    let b = h.1 in
+    let fronts = first_of b.first f b.others (bs ++ message ∷ more) (sym b.messages_are) in
+    let some = added_before h.0.schema bs more message h.0.batches (subst (λ l. AddAll h.0.schema l h.0.batches) fronts.1 b.adds) in (
+      record { table = h.0.table; id = h.0.id; schema = h.0.schema; batches = some.some },
+      record { first = b.first; others = bs ++ message ∷ []; messages_are = ap (λ m. m ∷ (bs ++ message ∷ [])) (sym fronts.0); opens = b.opens; adds = some.added },
+      omega (arith, some.few, h.2),
+      omega (arith, h.3, length-append bs (message ∷ more), length-append bs (message ∷ [])),
+    )
+
+faultless_before : (method : Method) (before more : List (List ℕ)) (message : List ℕ) → IsFaultlessSoFar method (before ++ message ∷ more) → IsFaultlessSoFar method (before ++ message ∷ [])
+faultless_before methods.GetFlightInfo before more message h = one_before (λ m. (table : List ℕ) × AsksForTable m table) before more message h
+faultless_before methods.GetSchema before more message h = one_before (λ m. (table : List ℕ) × AsksForTable m table) before more message h
+faultless_before methods.ListFlights before more message h = one_before AsksForAll before more message h
+faultless_before methods.DoGet before more message h = one_before (λ m. (asked : TableVersion) × AsksForVersion m asked) before more message h
+faultless_before methods.DoPut before more message h = upload_before before more message h
+
+-- ---- two places of one text
+
+-- the second list goes on behind the first, and so does its text behind the first place
+record GoesOn (xs ys : List (List ℕ)) (a b : List ℕ) : Type 0 where
+  pub message : List ℕ
+  pub more : List (List ℕ)
+  pub are : ys ≡ xs ++ message ∷ more
+  pub fits : FitsFrame message
+  pub front : a ≡ in_frame message ++ (messages_text more ++ b)
+
+abbrev Places : List (List ℕ) → List (List ℕ) → List ℕ → List ℕ → Type 0
+Places xs ys a b = ((xs ≡ ys) × (a ≡ b)) ⊎ GoesOn xs ys a b ⊎ GoesOn ys xs b a
+
+places_behind : (x y : List ℕ) (xs ys : List (List ℕ)) (a b : List ℕ) → x ≡ y → Places xs ys a b → Places (x ∷ xs) (y ∷ ys) a b
+places_behind x y xs ys a b first places =
+    elim places [
+      | inl same ↦ inl (ap (λ m. m ∷ xs) first ∙ ap (λ l. y ∷ l) same.0, same.1)
+      | inr other ↦
+          inr (elim other [
+            | inl on ↦
+                inl (record {
+                  message = on.message;
+                  more = on.more;
+                  are = ap (λ m. m ∷ ys) (sym first) ∙ ap (λ l. x ∷ l) on.are;
+                  fits = on.fits;
+                  front = on.front;
+                })
+            | inr on ↦
+                inr (record {
+                  message = on.message;
+                  more = on.more;
+                  are = ap (λ m. m ∷ xs) first ∙ ap (λ l. y ∷ l) on.are;
+                  fits = on.fits;
+                  front = on.front;
+                })
+          ])
+    ]
+
+module _ (law : NoFrameBeginsAnother) where
+  two_places : (xs ys : List (List ℕ)) (a b : List ℕ) → AllByRecursion FitsFrame xs → AllByRecursion FitsFrame ys → messages_text xs ++ a ≡ messages_text ys ++ b → Places xs ys a b
+  two_places [] [] a b fit other same = inl (refl, same)
+  two_places [] (y ∷ ys) a b fit other same =
+      inr (inl (record { message = y; more = ys; are = refl; fits = other.0; front = same ∙ append_assoc (in_frame y) (messages_text ys) b }))
+  two_places (x ∷ xs) [] a b fit other same =
+      inr (inr (record { message = x; more = xs; are = refl; fits = fit.0; front = sym same ∙ append_assoc (in_frame x) (messages_text xs) a }))
+  two_places (x ∷ xs) (y ∷ ys) a b fit other same =
+      let front = front_message law x y (messages_text xs ++ a) (messages_text ys ++ b) fit.0 other.0
+      (sym (append_assoc (in_frame x) (messages_text xs) a) ∙ same ∙ append_assoc (in_frame y) (messages_text ys) b) in
+      places_behind x y xs ys a b front.0 (two_places xs ys a b fit.1 other.1 front.1)
+
+abbrev pub MemoryIsLast : Type 0
+MemoryIsLast =
+    (method : Method) (before : List (List ℕ)) (message : List ℕ) (refusal : Refusal) → IsFaultlessSoFar method (before ++ message ∷ []) → MessageFault method before message refusal
+    → IsOfMemory refusal
+
+not_neither : (message : List ℕ) → ¬ IsNeither (Ok (Some (message_frame message)))
+not_neither message is = omega (arith, is.0)
+
+module _ (law : NoFrameBeginsAnother) (readings : ReadingsAreOne) (memory : MemoryIsLast) where
+  one_after : (here a b : List ℕ) → Next here a → Next here b → a ≡ b
+  one_after here a b x y = (readings here a b x.read y.read x.decided y.decided x.reads y.reads).1
+
+  -- no frame breaks where a message stands
+  no_frame_breaks : (here after rest message : List ℕ) (refusal : Refusal) → FitsFrame message → here ≡ in_frame message ++ rest → FrameBreaks here after refusal → IsOfTheMachine refusal
+  no_frame_breaks here after rest message refusal fits front frame =
+      elim (frame_next here after refusal frame) [
+        | inl machine ↦ machine
+        | inr next ↦
+            let same = (readings here after rest next.0.read (Ok (Some (message_frame message))) next.0.decided tt next.0.reads (is_message message fits, front)).0 in
+            absurd (not_neither message (subst (λ r. IsNeither r) same next.1))
+      ]
+
+  -- nor does anything where it is without fault
+  none_breaks : (method : Method) (before : List (List ℕ)) (here after rest message : List ℕ) (refusal : Refusal) → FitsFrame message → here ≡ in_frame message ++ rest
+      → IsFaultlessSoFar method (before ++ message ∷ []) → Breaks method before here after refusal → IsOfTheMachine refusal
+  none_breaks method before here after rest message refusal fits front faultless breaks =
+      elim breaks [
+        | inl frame ↦ no_frame_breaks here after rest message refusal fits front frame
+        | inr messages ↦
+            elim messages [
+              | inl m ↦
+                  let same = (front_message law m.0 message after rest m.2 fits (sym m.1 ∙ front)).0 in
+                  inl (elim m.3 [
+                    | inl fault ↦ memory method before message refusal faultless (subst (λ k. MessageFault method before k refusal) same fault)
+                    | inr refused ↦ subst (λ r. IsOfMemory r) (sym refused.1) tt
+                  ])
+              | inr ended ↦ absurd (no_end_here law message rest after fits (sym front ∙ ended.0))
+            ]
+      ]
+
+  behind_the_path : (method : Method) (here a b : List ℕ) (x y : Refusal) → BreaksMessages method here a x → BreaksMessages method here b y → IsOfTheMachine x ⊎ IsOfTheMachine y ⊎ (a ≡ b)
+  behind_the_path method here a b x y p q =
+      elim (two_places law p.before q.before p.place q.place p.fit q.fit (sym p.parts ∙ q.parts)) [
+        | inl same ↦
+            elim (breaks_next method p.before p.place a x p.breaks) [
+              | inl machine ↦ inl machine
+              | inr next ↦
+                  elim (breaks_next method q.before q.place b y q.breaks) [
+                    | inl machine ↦ inr (inl machine)
+                    | inr other ↦ inr (inr (one_after q.place a b (subst (λ h. Next h a) same.1 next) other))
+                  ]
+            ]
+        | inr apart ↦
+            elim apart [
+              | inl on ↦
+                  inl (none_breaks method p.before p.place a (messages_text on.more ++ q.place) on.message x on.fits on.front
+                  (faultless_before method p.before on.more on.message (subst (λ l. IsFaultlessSoFar method l) on.are q.faultless)) p.breaks)
+              | inr on ↦
+                  inr (inl (none_breaks method q.before q.place b (messages_text on.more ++ p.place) on.message y on.fits on.front
+                  (faultless_before method q.before on.more on.message (subst (λ l. IsFaultlessSoFar method l) on.are p.faultless)) q.breaks))
+            ]
+      ]
+
+  -- what is refused in front of a path's method has no such path
+  none_in_front : ((x : Method) (refusal : Refusal) → ¬ PathFault (path_text x) refusal) → (method : Method) (text here after : List ℕ) (refusal : Refusal)
+      → text ≡ in_frame (path_text method) ++ here → BreaksInFront text after refusal → IsOfTheMachine refusal
+  none_in_front apart method text here after refusal front breaks =
+      elim breaks [
+        | inl frame ↦ no_frame_breaks text after here (path_text method) refusal (path_fits method) front frame
+        | inr at_path ↦
+            elim at_path [
+              | inl none ↦ absurd (no_end_here law (path_text method) here after (path_fits method) (sym front ∙ none.0))
+              | inr p ↦
+                  let same = front_message law p.0 (path_text method) after here p.2 (path_fits method) (sym p.1 ∙ front) in
+                  absurd (apart method refusal (subst (λ k. PathFault k refusal) same.0 p.3))
+            ]
+      ]
+
+  both_in_front : (text a b : List ℕ) (x y : Refusal) → BreaksInFront text a x → BreaksInFront text b y → IsOfTheMachine x ⊎ IsOfTheMachine y ⊎ (a ≡ b)
+  both_in_front text a b x y p q =
+      elim (front_next text a x p) [
+        | inl machine ↦ inl machine
+        | inr next ↦
+            elim (front_next text b y q) [
+              | inl machine ↦ inr (inl machine)
+              | inr other ↦ inr (inr (one_after text a b next other))
+            ]
+      ]
+
+  abbrev BreaksBehind : List ℕ → List ℕ → Refusal → Type 0
+  BreaksBehind text after refusal = (method : Method) × (here : List ℕ) × (text ≡ in_frame (path_text method) ++ here) × BreaksMessages method here after refusal
+
+  both_behind : ((x y : Method) → path_text x ≡ path_text y → x ≡ y) → (text a b : List ℕ) (x y : Refusal) → BreaksBehind text a x → BreaksBehind text b y
+      → IsOfTheMachine x ⊎ IsOfTheMachine y ⊎ (a ≡ b)
+  both_behind paths text a b x y p q =
+      let front = front_message law (path_text p.0) (path_text q.0) p.1 q.1 (path_fits p.0) (path_fits q.0) (sym p.2 ∙ q.2) in
+      behind_the_path q.0 q.1 a b x y
+      (subst (λ h. BreaksMessages q.0 h a x) front.1 (subst (λ m. BreaksMessages m p.1 a x) (paths p.0 q.0 front.0) p.3)) q.3
+
+  in_front_or_behind : (text after : List ℕ) (refusal : Refusal) → RefusalStands refusal text after → BreaksInFront text after refusal ⊎ BreaksBehind text after refusal
+  in_front_or_behind text after refusal stands =
+      elim stands [
+        | inl frame ↦ inl (inl frame)
+        | inr other ↦ elim other [ inl path ↦ inl (inr path) | inr behind ↦ inr behind ]
+      ]
+
+  pub one_place : ((x y : Method) → path_text x ≡ path_text y → x ≡ y) → ((x : Method) (refusal : Refusal) → ¬ PathFault (path_text x) refusal)
+      → (text a b : List ℕ) (x y : Refusal) → RefusalStands x text a → RefusalStands y text b → IsOfTheMachine x ⊎ IsOfTheMachine y ⊎ (a ≡ b)
+  one_place paths apart text a b x y p q =
+      elim (in_front_or_behind text a x p) [
+        | inl front ↦
+            elim (in_front_or_behind text b y q) [
+              | inl other ↦ both_in_front text a b x y front other
+              | inr behind ↦ inl (none_in_front apart behind.0 text behind.1 a x behind.2 front)
+            ]
+        | inr behind ↦
+            elim (in_front_or_behind text b y q) [
+              | inl front ↦ inr (inl (none_in_front apart behind.0 text behind.1 b y behind.2 front))
+              | inr other ↦ both_behind paths text a b x y behind other
+            ]
+      ]
