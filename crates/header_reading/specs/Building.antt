@@ -1,13 +1,13 @@
 -- What is built of a schema: a tool of the proofs. What a text shows is defined in `Shown`.
 use Rattle.std.specs.Prelude.{◌≡◌, ℕ, List, length, string_bytes}
-use Rattle.header_reading.specs.declared.build.Built.{Built}
+use Rattle.header_reading.specs.declared.build.FieldHead.{FieldHead as BuiltHead}
 use Rattle.header_types.specs.Fields.{Entry, FieldHead, SchemaTree}
 use Rattle.header_types.specs.Views.{data_type_of}
 use Rattle.header_types.specs.Slots.{VectorRef, ShowsNumber, ShowsVectorRef}
 use Rattle.header_types.specs.Shown.{ShowsEntries, ShowsFieldHead}
 use Rattle.header_types.specs.Header.{ShowsSchema}
 
-abbrev pub field_built : Built → FieldHead
+abbrev pub field_built : BuiltHead → FieldHead
 field_built b = record { name = string_bytes b.name; nullable = b.nullable; data_type = data_type_of b.ty }
 
 -- the table shows this field with this metadata and references to these fields inside it

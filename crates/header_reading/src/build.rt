@@ -120,7 +120,7 @@ fn zoned(alloc: Global, ty: Ty, timezone: Option<&str>) -> Result<Ty, MetaFault>
 
 /// A field but for those inside it, to which there are references.
 #[derive(Drop)]
-struct Built {
+struct FieldHead {
     /// Its name.
     name: String,
     /// Whether it may hold nulls.
@@ -140,7 +140,7 @@ fn build_field(
     buf: &[u8],
     table: usize,
     seen: SchemaTotals,
-) -> Result<(Built, SchemaTotals), MetaFault>
+) -> Result<(FieldHead, SchemaTotals), MetaFault>
     requires within { IsWithin (totals_of seen) }
     ensures read { IfOk result (λ b. BuildsField buf.now table (field_built b.0) (map entry_of b.0.metadata.items)
         (vector_ref_of b.0.children)) }
@@ -155,14 +155,14 @@ fn build_field(
     let name = String::from_str(alloc, field.name)?;
     let (nullable, children) = (field.nullable, field.children);
     let ty = zoned(alloc, field.ty, field.timezone)?;
-    let built = Built {
+    let head = FieldHead {
         name,
         nullable,
         ty,
         children,
         metadata,
     };
-    Ok((built, seen))
+    Ok((head, seen))
 }
 
 /// The fields whose references these are, no deeper than so many levels, and what was read with them and those inside
