@@ -3,7 +3,7 @@
 
 use batch_columns::{Batch, Column, ColumnFault};
 use header_types::{BatchHead, Field, Schema, Ty};
-use record_batches::{body_length, write_body};
+use record_batches::{append_body, batch_head, body_length, write_body};
 use std::alloc::{AllocError, Global};
 use std::test::Fail;
 
@@ -89,5 +89,37 @@ fn thousands_of_texts_are_written(rt: HostRuntime) -> Result<(), Fail> {
     let batch = batch(rt.alloc())?;
     let is_written = is_written(rt.alloc(), &schema, &batch)?;
     assert!(rt; is_written);
+    Ok(())
+}
+
+/// What stands before the body.
+const BEFORE: &[u8] = b"before";
+
+/// Whether the body is put behind what stands there, and the header that is made without it is the same.
+fn is_appended(alloc: Global, schema: &Schema, batch: &Batch) -> Result<bool, AllocError> {
+    if !batch.is_of(schema) {
+        return Ok(false);
+    }
+    let Some(length) = body_length(batch) else {
+        return Ok(false);
+    };
+    let head = batch_head(alloc, schema, batch)?;
+    let mut text = Vec::from_slice(alloc, BEFORE)?;
+    append_body(&mut text, batch)?;
+    let wanted = body(alloc)?;
+    Ok(
+        is_head(&head)
+            && wanted.len() as u64 == length
+            && text.get(..BEFORE.len()) == Some(BEFORE)
+            && text.get(BEFORE.len()..) == Some(wanted.as_slice()),
+    )
+}
+
+#[test]
+fn a_body_is_appended_behind_what_stands_there(rt: HostRuntime) -> Result<(), Fail> {
+    let schema = table(rt.alloc())?;
+    let batch = batch(rt.alloc())?;
+    let is_appended = is_appended(rt.alloc(), &schema, &batch)?;
+    assert!(rt; is_appended);
     Ok(())
 }

@@ -17,7 +17,7 @@ use Rattle.batch_columns.specs.Held.{shapes_held, height, heights}
 use Rattle.batch_columns.specs.Kept.{HasElements, HaveFields, HaveInside}
 use Rattle.record_batches.specs.Parts.{parts_held}
 use Rattle.record_batches.specs.Adds.{Adds}
-use Rattle.record_batches.specs.declared.writer.Writer.{Writer}
+use Rattle.record_batches.specs.declared.head.HeadWriter.{HeadWriter}
 use Rattle.record_batches.proofs.Adding.{adds_none, adds_both}
 
 -- ---- the columns inside one
@@ -52,7 +52,7 @@ inside_held (list_layout offset) cells inside have = elements_held 0 cells insid
 inside_held (fixed_size_list_layout size) cells inside have = elements_held size cells inside have
 inside_held struct_layout cells inside have = fields_held 0 cells inside have
 
-parts_by_shape : (s : Shape) (cells : List Cell) → parts_of s cells
+pub parts_by_shape : (s : Shape) (cells : List Cell) → parts_of s cells
     ≡ both_parts (own_parts (layout_of_shape s) cells) (parts_inside (layout_of_shape s) (elements_parts (shapes_of_shape s) cells) (fields_parts (shapes_of_shape s) 0 cells))
 parts_by_shape (shape layout inside) cells = refl
 
@@ -122,12 +122,12 @@ module _ (columns : List Contents) (i : ℕ) (x : Contents) (there : i < length 
         (few_parts (own_parts (layout_in x) x.cells).nodes (parts_held inside).nodes
         (subst HaveFew (column_parts x inside shapes have) (few_next few).0)).1
 
-    pub adds_next : (u v w after : Writer) → Adds u v (own_parts (layout_in x) x.cells) → Adds v w (parts_held inside)
+    pub adds_next : (u v w after : HeadWriter) → Adds u v (own_parts (layout_in x) x.cells) → Adds v w (parts_held inside)
         → Adds w after (parts_held (drop (i + 1) columns)) → Adds u after (parts_held (drop i columns))
     adds_next u v w after own inner rest =
         subst (Adds u after) (sym (columns_next ∙ ap (λ p. both_parts p (parts_held (drop (i + 1) columns))) (column_parts x inside shapes have)))
         (adds_both u w after (both_parts (own_parts (layout_in x) x.cells) (parts_held inside)) (parts_held (drop (i + 1) columns))
         (adds_both u v w (own_parts (layout_in x) x.cells) (parts_held inside) own inner) rest)
 
-pub adds_end : (w : Writer) (columns : List Contents) (i : ℕ) → length columns ≤ i → Adds w w (parts_held (drop i columns))
+pub adds_end : (w : HeadWriter) (columns : List Contents) (i : ℕ) → length columns ≤ i → Adds w w (parts_held (drop i columns))
 adds_end w columns i over = subst (λ l. Adds w w (parts_held l)) (sym (drop_of_length-le columns over)) (adds_none w)

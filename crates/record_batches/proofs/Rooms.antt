@@ -1,5 +1,5 @@
 -- There is room in all columns of a batch, those inside others too, so that what is written of it lays out its rows.
-use Rattle.std.proofs.Common.{◌≡◌, refl, sym, ap, subst, ◌∙◌, ℕ, suc, ◌+◌, ◌<◌, ◌≤◌, List, [], ◌∷◌, length, slice_index_or, drop, arith}
+use Rattle.std.proofs.Common.{◌≡◌, sym, subst, ℕ, suc, ◌+◌, ◌<◌, ◌≤◌, List, [], ◌∷◌, length, slice_index_or, drop}
 use Rattle.std.specs.List.{AllByRecursion}
 use Rattle.std.proofs.lemmas.List.{at_drop_more}
 use Rattle.std.proofs.Math.ListN.{drop_of_length-le}
@@ -11,7 +11,7 @@ use Rattle.batch_types.specs.Canonical.{canonical_head, canonical_body}
 use Rattle.batch_types.specs.LaysOut.{LaysOut}
 use Rattle.batch_types.specs.Layouts.{Layout, null_layout, bits_layout, bytes_layout, binary_layout, utf8_layout}
 use Rattle.batch_types.specs.Layouts.{list_layout, fixed_size_list_layout, struct_layout}
-use Rattle.batch_types.specs.Shapes.{Shape, shape, shapes_of}
+use Rattle.batch_types.specs.Shapes.{Shape, shape}
 use Rattle.batch_types.specs.Typed.{IsCellOf, AreColumnsOfRows}
 use Rattle.batch_types.specs.Written.{HasRoom, HasInside, AreRooms, AreElementRooms, AreFieldRooms, HaveRooms, CanBeWritten}
 use Rattle.batch_columns.specs.Batches.{rows_of, IsBatchOf}
@@ -102,8 +102,8 @@ module _ (schema : SchemaTree) (batch : Batch) (columns : List Contents) (of_sch
     room = subst (λ s. HaveRooms s (columns_cells batch.columns.items)) of_schema.shapes (in_rows batch.columns.items held);
   }
 
-  pub laid_out : IsLaidOut → (head : Head) (body : List ℕ) → head ≡ canonical_head schema (rows_of batch) → body ≡ canonical_body schema (rows_of batch)
-      → InProfile schema → LaysOut schema head body (rows_of batch)
-  laid_out law head body head_is body_is profile =
-      subst (λ h. LaysOut schema h body (rows_of batch)) (sym head_is)
-      (subst (λ b. LaysOut schema (canonical_head schema (rows_of batch)) b (rows_of batch)) (sym body_is) (law schema (rows_of batch) profile written))
+pub laid_out : (schema : SchemaTree) (rows : Rows) → CanBeWritten schema rows → IsLaidOut → (head : Head) (body : List ℕ)
+    → head ≡ canonical_head schema rows → body ≡ canonical_body schema rows → InProfile schema → LaysOut schema head body rows
+laid_out schema rows written law head body head_is body_is profile =
+    subst (λ h. LaysOut schema h body rows) (sym head_is)
+    (subst (λ b. LaysOut schema (canonical_head schema rows) b rows) (sym body_is) (law schema rows profile written))

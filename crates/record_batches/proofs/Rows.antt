@@ -1,10 +1,10 @@
 -- A batch of a schema is its rows.
-use Rattle.std.proofs.Common.{◌≡◌, refl, sym, ap, ap₂, ◌∙◌, ℕ, List, [], ◌∷◌, map}
+use Rattle.std.proofs.Common.{◌≡◌, refl, sym, ap, ap₂, ◌∙◌, ℕ, List, [], ◌∷◌}
 use Rattle.header_types.specs.Fields.{SchemaTree}
 use Rattle.header_types.specs.Header.{Head}
 use Rattle.batch_types.specs.Cells.{Cell, Rows}
 use Rattle.batch_types.specs.LaysOut.{LaysOut}
-use Rattle.batch_types.specs.Shapes.{Shape, Shapes, no_shape, shape_then, shapes_of}
+use Rattle.batch_types.specs.Shapes.{Shape, Shapes, no_shape, shape_then}
 use Rattle.batch_columns.specs.Batches.{rows_of, IsBatchOf}
 use Rattle.batch_columns.specs.Contents.{Contents}
 use Rattle.batch_columns.specs.Few.{columns_cells}

@@ -13,7 +13,7 @@ ghost use Rattle.batch_columns.specs.Batches.{rows_of, IsBatchOf};
 ghost use Rattle.record_batches.specs.Parts.{parts_held};
 ghost use Rattle.record_batches.specs.Sound.{AreSound};
 
-use crate::writer::padding;
+use crate::buffers::padding;
 use batch_columns::{Batch, Column};
 
 /// How many bytes are too many for a header, which says it as a signed number of 64 bits.
@@ -41,7 +41,7 @@ fn own_length(column: &Column) -> u64
 
 /// How many bytes the buffers of columns and of those inside them have in a body; the largest number where they are
 /// more.
-pub(crate) fn columns_length(columns: &[Column]) -> u64
+fn columns_length(columns: &[Column]) -> u64
     ensures length { result ≡ min (length (body_with (parts_held columns.now).buffers)) (2 ^ 64 - 1) }
     ensures sound { AreSound columns.now }
 {

@@ -9,8 +9,9 @@ ghost use Rattle.batch_types.specs.LaysOut.{LaysOut};
 ghost use Rattle.batch_types.specs.Written.{CanBeWritten};
 ghost use Rattle.batch_columns.specs.Batches.{rows_of, IsBatchOf};
 
-use crate::length::columns_length;
-use crate::writer::{Writer, put_columns};
+use crate::body::append_body;
+use crate::head::batch_head;
+use crate::length::body_length;
 use batch_columns::Batch;
 use batch_types::laws::written_rows_are_laid_out;
 use header_types::{BatchHead, Schema};
@@ -25,7 +26,7 @@ use std::alloc::{AllocError, Global};
 /// and no others, so that they are read again as they were.
 ///
 /// The body is asked of memory at once, [`crate::body_length`] bytes, and buffers are copied whole. [`AllocError`] says
-/// that memory was refused, and nothing is left of what was begun.
+/// that memory was refused, as it is for 2^63 bytes or more, and nothing is left of what was begun.
 pub fn write_body(
     alloc: Global,
     schema: &Schema,
@@ -41,18 +42,11 @@ pub fn write_body(
     ensures room { OnOk result (CanBeWritten (schema_of schema.now) (rows_of batch.now)) }
 {
     written_rows_are_laid_out();
-    let mut writer = Writer {
-        nodes: Vec::new(alloc),
-        buffers: Vec::new(alloc),
-        body: Vec::with_capacity(alloc, columns_length(&batch.columns) as usize)?,
+    let Some(length) = body_length(batch) else {
+        return Err(AllocError);
     };
-    put_columns(&mut writer, &batch.columns)?;
-    let head = BatchHead {
-        length: batch.rows as i64,
-        body_length: writer.body.len() as i64,
-        nodes: writer.nodes,
-        buffers: writer.buffers,
-        compressed: false,
-    };
-    Ok((head, writer.body))
+    let head = batch_head(alloc, schema, batch)?;
+    let mut body = Vec::with_capacity(alloc, length as usize)?;
+    append_body(&mut body, batch)?;
+    Ok((head, body))
 }

@@ -11,7 +11,7 @@ use Rattle.batch_columns.specs.Batches.{rows_of, IsBatchOf}
 use Rattle.batch_columns.specs.declared.batch.Batch.{Batch}
 use Rattle.table_types.specs.Uploads.{upload_text, schema_text}
 use Rattle.upload_parts.specs.Parts.{batch_parts, batch_text, batches_text}
-use Rattle.upload_parts.proofs.CallerLemmas.{part, parts_text}
+use Rattle.upload_parts.proofs.CallerLemmas.{part, kept, parts_text}
 use Rattle.upload_writing.specs.Making.{upload_of}
 use Rattle.upload_writing.specs.Sized.{parts_held}
 use Rattle.upload_writing.specs.Written.{AreShort}
@@ -46,9 +46,24 @@ batch_put old text n header body a b c long key counted first second =
         flat_map-append field_text (present (bytes_field 1 header ∷ [])) (present (bytes_field 2 body ∷ []) ++ [])
         ∙ ap (λ fs. header_field ++ fields_text fs) (append-nil (present (bytes_field 2 body ∷ [])))
 
-pub same_parts : (old new h b header body : List ℕ) → h ≡ header → b ≡ body → new ≡ old ++ part 4 (batch_text (h, b)) → new ≡ old ++ part 4 (batch_text (header, body))
-same_parts old new h b header body first second put =
-    subst (λ l. new ≡ old ++ part 4 (batch_text (l, body))) first (subst (λ l. new ≡ old ++ part 4 (batch_text (h, l))) second put)
+-- no field is written of no byte
+pub no_body : (old body : List ℕ) → length body ≡ 0 → old ≡ old ++ fields_text (present (bytes_field 2 body ∷ []))
+no_body old [] none = sym (append-nil old)
+no_body old (x ∷ body) none = absurd (omega (arith, none))
+
+-- a key, a length and the bytes
+pub body_put : (old body a b text : List ℕ) (count : ℕ) → ¬ (count ≡ 0) → length body ≡ count → a ≡ old ++ varint_text 18 → b ≡ a ++ varint_text count
+    → text ≡ b ++ body → text ≡ old ++ fields_text (present (bytes_field 2 body ∷ []))
+body_put old body a b text count some long key counted put =
+    put
+    ∙ ap (λ l. l ++ body) (counted ∙ ap (λ l. l ++ varint_text count) key)
+    ∙ append_assoc (old ++ varint_text 18) (varint_text count) body
+    ∙ append_assoc old (varint_text 18) (varint_text count ++ body)
+    ∙ ap (λ n. old ++ (varint_text 18 ++ (varint_text n ++ body))) (sym long)
+    ∙ ap (λ l. old ++ l) (sym (append-nil (part 2 body)) ∙ ap fields_text (sym (kept 2 body (omega (arith, some, long)))))
+
+pub same_parts : (old new h header body : List ℕ) → h ≡ header → new ≡ old ++ part 4 (batch_text (h, body)) → new ≡ old ++ part 4 (batch_text (header, body))
+same_parts old new h header body same put = subst (λ l. new ≡ old ++ part 4 (batch_text (l, body))) same put
 
 -- ---- one batch after the other
 

@@ -1,9 +1,10 @@
 //! The encoding of an upload, written part by part (Protocol Buffers, "Encoding").
 
-ghost use Rattle.std.specs.Prelude.{◌≡◌, ◌≤◌, ◌++◌, ℕ, List, length, map, IfOk, OnOk};
+ghost use Rattle.std.specs.Prelude.{◌≡◌, ◌≤◌, ◌++◌, ℕ, List, [], ◌∷◌, length, map, IfOk, OnOk};
 ghost use Rattle.std.specs.List.{AllByRecursion};
-ghost use Rattle.proto_fields.specs.Field.{field_text};
+ghost use Rattle.proto_fields.specs.Field.{field_text, fields_text, present};
 ghost use Rattle.proto_messages.specs.Canonical.{bytes_field};
+ghost use Rattle.header_types.specs.Fields.{SchemaTree};
 ghost use Rattle.header_types.specs.Header.{batch_header};
 ghost use Rattle.header_types.specs.HeaderViews.{head_of};
 ghost use Rattle.header_types.specs.Profile.{InProfile};
@@ -24,13 +25,16 @@ use batch_columns::Batch;
 use header_types::{BatchHead, Schema};
 use header_writing::{write_batch, write_schema};
 use proto_fields::{append_number, write_bytes, write_nonempty_bytes};
-use record_batches::write_body;
+use record_batches::{append_body, batch_head};
 use std::alloc::{AllocError, Global};
 use table_types::laws::batches_have_headers;
 use upload_parts::field_length;
 
 /// The key of the field of a batch, whose number is 4 and which holds bytes.
 const BATCH_KEY: u64 = 4 * 8 + 2;
+
+/// The key of the field of a batch's body, whose number is 2 and which holds bytes.
+const BODY_KEY: u64 = 2 * 8 + 2;
 
 /// Puts the field of a schema.
 fn put_schema(text: &mut Vec<u8>, schema: &Schema) -> Result<(), AllocError>
@@ -54,21 +58,36 @@ fn head_bytes(alloc: Global, head: &BatchHead) -> Result<Vec<u8>, AllocError>
     Ok(text)
 }
 
-/// Puts the field of a batch of which this is the header and this the body.
-fn put_parts(text: &mut Vec<u8>, header: &[u8], body: &[u8]) -> Result<(), AllocError>
-    requires header_small { length header.now ≤ upload_limit }
-    requires body_small { length body.now ≤ upload_limit }
-    ensures { OnOk result
-        (text.new.items ≡ text.old.items ++ field_text (bytes_field 4 (batch_text (header.now, body.now)))) }
+/// Puts the field of a batch's body, which has so many bytes: none where it has no byte.
+fn put_body(text: &mut Vec<u8>, batch: &Batch, count: u64) -> Result<(), AllocError>
+    ensures { OnOk result ((schema : SchemaTree) → IsBatchOf schema batch.now
+        → length (canonical_body schema (rows_of batch.now)) ≡ count → text.new.items
+        ≡ text.old.items ++ fields_text (present (bytes_field 2 (canonical_body schema (rows_of batch.now)) ∷ []))) }
 {
-    let length = field_length(1, header.len() as u64) + field_length(2, body.len() as u64);
+    if count == 0 {
+        return Ok(());
+    }
+    append_number(text, BODY_KEY)?;
+    append_number(text, count)?;
+    append_body(text, batch)
+}
+
+/// Puts the field of a batch of which this is the header, and of which the body has so many bytes.
+fn put_parts(text: &mut Vec<u8>, header: &[u8], batch: &Batch, count: u64) -> Result<(), AllocError>
+    requires header_small { length header.now ≤ upload_limit }
+    requires body_small { count ≤ upload_limit }
+    ensures { OnOk result ((schema : SchemaTree) → IsBatchOf schema batch.now
+        → length (canonical_body schema (rows_of batch.now)) ≡ count → text.new.items ≡ text.old.items
+        ++ field_text (bytes_field 4 (batch_text (header.now, canonical_body schema (rows_of batch.now))))) }
+{
+    let length = field_length(1, header.len() as u64) + field_length(2, count);
     append_number(text, BATCH_KEY)?;
     append_number(text, length)?;
     write_nonempty_bytes(text, 1, header)?;
-    write_nonempty_bytes(text, 2, body)
+    put_body(text, batch, count)
 }
 
-/// Puts the field of a batch.
+/// Puts the field of a batch, whose body goes from the columns into it at once.
 fn put_batch(text: &mut Vec<u8>, schema: &Schema, batch: &Batch) -> Result<(), AllocError>
     requires profile { InProfile (schema_of schema.now) }
     requires of_schema { IsBatchOf (schema_of schema.now) batch.now }
@@ -79,9 +98,14 @@ fn put_batch(text: &mut Vec<u8>, schema: &Schema, batch: &Batch) -> Result<(), A
 {
     batches_have_headers();
     let alloc = *text.allocator();
-    let (head, body) = write_body(alloc, schema, batch)?;
+    let head = batch_head(alloc, schema, batch)?;
     let header = head_bytes(alloc, &head)?;
-    put_parts(text, header.as_slice(), body.as_slice())
+    put_parts(
+        text,
+        header.as_slice(),
+        batch,
+        head.body_length.unsigned_abs(),
+    )
 }
 
 /// Puts the fields of some batches.

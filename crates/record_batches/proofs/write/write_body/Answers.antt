@@ -1,36 +1,24 @@
-use Rattle.std.proofs.Common.{◌≡◌, pos, length, arith, rules, w64, to_z}
-use Rattle.std.proofs.lemmas.Int.{ints}
+use Rattle.std.proofs.Common.{ap, ◌∙◌, ◌++◌, arith}
 use Rattle.header_types.specs.Views.{schema_of}
-use Rattle.record_batches.proofs.Rooms.{laid_out, written}
-use Rattle.record_batches.proofs.Whole.{few_values, body_written, head_written}
+use Rattle.batch_columns.specs.Batches.{rows_of}
+use Rattle.batch_types.specs.Canonical.{canonical_body}
+use Rattle.record_batches.proofs.Rooms.{laid_out}
 use Rattle.record_batches.proofs.write.write_body.Goals as goal
 
-pub put_columns-requires : goal.put_columns-requires
-put_columns-requires c = record {
-  few = few_values (schema_of c.args.schema.now) c.args.batch.now c.deref-2.result.now c.requires.of_schema c.deref-2.ensures.value;
+pub batch_head-requires : goal.batch_head-requires
+batch_head-requires c = record {
+  of_schema = c.requires.of_schema;
+  short =
+      let known = c.in-Some.ensures.known (schema_of c.args.schema.now) c.requires.of_schema.shapes in
+      omega (arith, known, c.in-Some.ensures.fits);
 }
-
-pub returns-clause-head : goal.returns-clause-head
-returns-clause-head c =
-    let rows : to_z w64 c.args.batch.now.rows ≡ pos c.args.batch.now.rows = omega (arith, ints, c.requires.of_schema.rows_few) in
-    let bytes : to_z w64 c.len.result ≡ pos (length c.put_columns.new.writer.body.items) = search rules in
-    head_written (schema_of c.args.schema.now) c.args.batch.now c.deref-2.result.now c.requires.of_schema c.deref-2.ensures.value
-    (record { nodes = c.new.result; buffers = c.new-2.result; body = c.in_ok-with_capacity.field-0 }) c.put_columns.new.writer
-    c.new.ensures.items c.new-2.ensures.items c.in_ok-with_capacity.ensures.items c.in_ok-put_columns.ensures.adds
-    (to_z w64 c.args.batch.now.rows) (to_z w64 c.len.result) rows bytes
 
 pub returns-clause-body : goal.returns-clause-body
 returns-clause-body c =
-    body_written (schema_of c.args.schema.now) c.args.batch.now c.deref-2.result.now c.requires.of_schema c.deref-2.ensures.value
-    (record { nodes = c.new.result; buffers = c.new-2.result; body = c.in_ok-with_capacity.field-0 }) c.put_columns.new.writer
-    c.new.ensures.items c.new-2.ensures.items c.in_ok-with_capacity.ensures.items c.in_ok-put_columns.ensures.adds
+    c.in_ok-append_body.ensures.appended (schema_of c.args.schema.now) c.requires.of_schema
+    ∙ ap (λ l. l ++ canonical_body (schema_of c.args.schema.now) (rows_of c.args.batch.now)) c.in_ok-body.ensures.items
 
 pub returns-clause-laid : goal.returns-clause-laid
 returns-clause-laid c =
-    laid_out (schema_of c.args.schema.now) c.args.batch.now c.deref-2.result.now c.requires.of_schema
-    c.deref-2.ensures.value c.in_ok-put_columns.ensures.sound c.written_rows_are_laid_out.ensures.laid _ _ (returns-clause-head c) (returns-clause-body c)
-
-pub returns-clause-room : goal.returns-clause-room
-returns-clause-room c =
-    written (schema_of c.args.schema.now) c.args.batch.now c.deref-2.result.now c.requires.of_schema
-    c.deref-2.ensures.value c.in_ok-put_columns.ensures.sound
+    laid_out (schema_of c.args.schema.now) (rows_of c.args.batch.now) c.in_ok-head.ensures.room c.written_rows_are_laid_out.ensures.laid _ _
+    c.in_ok-head.ensures.head (returns-clause-body c)
