@@ -21,7 +21,7 @@ use std::io::Read;
 use table_types::{Ticket, TicketFault as BadTicket};
 
 /// The message that these bytes mean.
-pub(crate) fn decoded<M: ProtoMessage + Drop>(alloc: Global, message: &[u8]) -> Result<M, Refusal>
+fn decoded<M: ProtoMessage + Drop>(alloc: Global, message: &[u8]) -> Result<M, Refusal>
     ensures read { IfOk result (λ read. IsMessage M.descriptor message.now (M.values read)) }
     ensures fault { IfErr result (IsNoMessage M.descriptor message.now) }
 {

@@ -7,25 +7,26 @@ ghost use Rattle.header_types.specs.Profile.{InProfile};
 ghost use Rattle.header_types.specs.Views.{schema_of};
 ghost use Rattle.batch_columns.specs.Batches.{rows_of, IsBatchOf};
 ghost use Rattle.record_batches.specs.Reading.{IsToldOf};
+ghost use Rattle.proto_messages.specs.Descriptor.{IsMessage};
 ghost use Rattle.proto_wire.specs.Flight.{data_descriptor};
+ghost use Rattle.flight_data.specs.Lent.{lent_values};
 ghost use Rattle.table_types.specs.Uploads.{Upload as Uploaded};
 ghost use Rattle.table_types.specs.Valid.{batches_limit, upload_limit};
 ghost use Rattle.call_words.specs.declared.refusal.Refusal.TheVariants.{OutOfMemory};
 ghost use Rattle.call_reading.specs.Requests.{IsBlank};
-ghost use Rattle.call_reading.specs.Faults.{IsNoHeader, MeansAtFault, OpeningFault, SchemaFault, HeadFault, BatchFaultIn, FurtherFault};
+ghost use Rattle.call_reading.specs.Faults.{IsNoMessage, IsNoHeader, MeansAtFault, OpeningFault, SchemaFault, HeadFault, BatchFaultIn, FurtherFault};
 ghost use Rattle.call_reading.specs.Builder.{IsOnItsWay, Holds, HoldsMore, IsOpened, OpensSome, AddsWithin, SizeWith, IsCounted, Grows, Finishes, LayFault};
 ghost use Rattle.call_reading.specs.Additions.{IsBuilt, IsLeftOut, HasAddition, AddsAs, HasRoom};
 
-use crate::one::decoded;
 use batch_checking::check_batch;
 use batch_columns::Batch;
 use batch_types::BatchFault;
 use call_words::{Refusal, upload_in};
+use flight_data::LentFlightData;
 use grpc_frames::MAX_FRAME_PAYLOAD;
 use header_reading::read_message;
 use header_types::laws::shown_schemas_are_in_profile;
 use header_types::{BatchHead, Header, Schema};
-use proto_wire::FlightData;
 use record_batches::read_batch_within;
 use std::alloc::{AllocError, Global};
 use upload_writing::batch_size;
@@ -60,6 +61,17 @@ enum Addition {
     Built(Batch),
     /// A batch that was judged and not built, since there is no upload with it: it would be too large.
     LeftOut,
+}
+
+/// What a message means, of which the bytes stay where they came.
+fn data_in(alloc: Global, message: &[u8]) -> Result<LentFlightData<'_>, Refusal>
+    ensures read { IfOk result (λ read. IsMessage data_descriptor message.now (lent_values read)) }
+    ensures fault { IfErr result (IsNoMessage data_descriptor message.now) }
+{
+    match LentFlightData::read(alloc, message) {
+        Ok(read) => Ok(read),
+        Err(fault) => Err(Refusal::Wire(fault)),
+    }
 }
 
 /// What a header shows.
@@ -199,9 +211,8 @@ fn addition_of(
     ensures fault { IfErr result
         (MeansAtFault data_descriptor (FurtherFault (schema_of schema.now) count) message.now) }
 {
-    let data = decoded::<FlightData>(alloc, message)?;
-    let header = data.data_header.as_slice();
-    let body = data.data_body.as_slice();
+    let data = data_in(alloc, message)?;
+    let (header, body) = (data.data_header, data.data_body);
     if is_blank(header, body) {
         return Ok(Addition::Nothing);
     }
@@ -218,7 +229,7 @@ impl UploadBuilder {
             ⊎ (OpensSome message.now × (refusal ≡ OutOfMemory))) }
     {
         shown_schemas_are_in_profile();
-        let data = decoded::<FlightData>(alloc, message)?;
+        let data = data_in(alloc, message)?;
         let Some(descriptor) = &data.flight_descriptor else {
             return Err(Refusal::BadDescriptor);
         };
@@ -226,7 +237,7 @@ impl UploadBuilder {
             Ok(names) => names,
             Err(refusal) => return Err(refusal),
         };
-        let schema = match schema_in(alloc, data.data_header.as_slice()) {
+        let schema = match schema_in(alloc, data.data_header) {
             Ok(schema) => schema,
             Err(refusal) => return Err(refusal),
         };

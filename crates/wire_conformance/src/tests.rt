@@ -4,6 +4,7 @@
 mod appended;
 mod frame_streams;
 mod frames;
+mod lent;
 mod one_encoding;
 mod refused_memory;
 mod samples;

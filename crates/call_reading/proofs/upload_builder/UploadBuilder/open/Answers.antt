@@ -6,7 +6,7 @@ use Rattle.call_reading.proofs.upload_builder.UploadBuilder.open.Goals as goal
 
 pub returns-in-Err-schema_in-clause-fault : goal.returns-in-Err-schema_in-clause-fault
 returns-in-Err-schema_in-clause-fault c =
-    inl (opening_schema c.args.message.now c.as_slice.result.now _ c.in-Err-schema_in.refusal c.in_ok-data.ensures.read c.as_slice.ensures.value c.in-Err-schema_in.ensures.fault)
+    inl (opening_schema c.args.message.now _ _ c.in-Err-schema_in.refusal c.in_ok-data.ensures.read refl c.in-Err-schema_in.ensures.fault)
 
 pub returns-clause-on_its_way : goal.returns-clause-on_its_way
 returns-clause-on_its_way c =
@@ -16,6 +16,6 @@ returns-clause-on_its_way c =
 pub returns-in_err-table-clause-fault : goal.returns-in_err-table-clause-fault
 returns-in_err-table-clause-fault c =
     let p = err_from_is_err_and c.from_residual-in_err-table.result c.from_residual-in_err-table.ensures.1 in
-    let opens = opens_some c.args.message.now c.as_slice.result.now _ _ _ _ (schema_of c.in-Ok-schema_in.schema) c.in_ok-data.ensures.read
-    (search rules steps 300000) c.in-Ok.ensures.named c.as_slice.ensures.value c.in-Ok-schema_in.ensures.shown in
+    let opens = opens_some c.args.message.now _ _ _ _ _ (schema_of c.in-Ok-schema_in.schema) c.in_ok-data.ensures.read
+    (search rules steps 300000) c.in-Ok.ensures.named refl c.in-Ok-schema_in.ensures.shown in
     rw p.1 (inr (opens, p.2))
