@@ -155,7 +155,7 @@ kinds_differ : (schema : SchemaTree) (head : Head) → batch_header head ≡ sch
 kinds_differ schema head same = cc
 
 module _ (messages_one : MessagesAreOne) (messages_apart : MessagesApart) where
-  means_none : (type : MessageType) (message : List ℕ) (v : Values type) (refusal : Refusal) → IsMessage type message v → IsNoMessage type message refusal → IsOfMemory refusal
+  pub means_none : (type : MessageType) (message : List ℕ) (v : Values type) (refusal : Refusal) → IsMessage type message v → IsNoMessage type message refusal → IsOfMemory refusal
   means_none type message v refusal means n =
       elim n.stands [
         | inl memory ↦ subst (λ r. IsOfMemory r) (sym n.is) memory
@@ -184,7 +184,7 @@ module _ (messages_one : MessagesAreOne) (messages_apart : MessagesApart) where
 
 -- ---- uploads
 
-no_header : HeadersApart → (header : List ℕ) (shown : Header) (refusal : Refusal) → ShowsHeader header shown → IsNoHeader header refusal → IsOfMemory refusal
+pub no_header : HeadersApart → (header : List ℕ) (shown : Header) (refusal : Refusal) → ShowsHeader header shown → IsNoHeader header refusal → IsOfMemory refusal
 no_header apart header shown refusal is_shown n =
     elim n.stands [
       | inl fault ↦ absurd (apart header n.fault shown fault is_shown)

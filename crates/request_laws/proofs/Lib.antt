@@ -4,4 +4,5 @@ pub mod Messages
 pub mod Calls
 pub mod Counted
 pub mod Versions
+pub mod Agreeing
 pub mod Places

@@ -1,4 +1,4 @@
--- A text is refused at one place.
+-- A text is refused at one place, and for one fault there.
 use Rattle.std.proofs.Common.{length, length-append, ◌≤◌, ◌≡◌, ◌≢◌, ◌⊎◌, ℕ, List, [], ◌∷◌, ◌++◌, Option, Some, None, Result, Ok, Err, refl, sym, ap, subst, ◌∙◌, append-nil, append_assoc, arith, inl, inr}
 use Rattle.std.specs.List.{AllByRecursion}
 use Rattle.grpc_frames.specs.Frame.{Frame}
@@ -17,9 +17,11 @@ use Rattle.call_words.specs.declared.refusal.Refusal.{Refusal}
 use Rattle.call_words.specs.declared.refusal.Refusal.TheVariants as refusals
 use Rattle.call_words.specs.Methods.{path_text, PathFault}
 use Rattle.call_words.specs.Texts.{messages_text, end_text}
-use Rattle.call_reading.specs.Requests.{AsksForTable, AsksForAll, AsksForVersion, Adds, AddAll, Brings}
-use Rattle.call_reading.specs.Faults.{MessageFault, IsOneOrNone, IsUploadOrNone, IsFaultlessSoFar, FrameBreaks, PathBreaks, MessageBreaks, BreaksMessages, RefusalStands, IsOfMemory, IsOfTheMachine}
+use Rattle.call_reading.specs.Requests.{AsksForTable, AsksForAll, AsksForVersion, AddAll}
+use Rattle.call_reading.specs.Faults.{MessageFault, IsOneOrNone, IsUploadOrNone, IsFaultlessSoFar, IsFaultlessEnd, EndFault, FrameBreaks, PathBreaks, MessageBreaks, BreaksMessages, RefusalStands, IsOfMemory, IsOfTheMachine}
 use Rattle.call_reading.proofs.Apart.{message_frame, end_frame, is_message, is_end, front_message, no_end_here, path_fits}
+use Rattle.request_laws.specs.Agreeing.{Agree}
+use Rattle.request_laws.proofs.Agreeing.{Both, ends_agree, paths_agree}
 
 -- ---- what stands next
 
@@ -35,25 +37,31 @@ record Next (here after : List ℕ) : Type 0 where
   pub decided : IsDecided read
   pub reads : ReadsFrame read here after
 
-abbrev NextIsNeither : List ℕ → List ℕ → Type 0
-NextIsNeither here after = (next : Next here after) × IsNeither next.read
+-- what it is refused for
+abbrev refused_for : Result (Option Frame) FrameFault → Refusal
+refused_for (Err fault) = refusals.Frame fault
+refused_for (Ok None) = refusals.NoEnd
+refused_for (Ok (Some frame)) = refusals.EndPayload
+
+abbrev NextIsNeither : List ℕ → List ℕ → Refusal → Type 0
+NextIsNeither here after refusal = (next : Next here after) × IsNeither next.read × (refusal ≡ refused_for next.read)
 
 fault_next : (here after : List ℕ) (refusal : Refusal) (fault : FrameFault) → FrameFaultStands fault here → LeavesAfter fault here after → refusal ≡ refusals.Frame fault
-    → IsOfTheMachine refusal ⊎ NextIsNeither here after
-fault_next here after refusal frames.Truncated stands leaves is = inr (record { read = Err frames.Truncated; decided = (λ same. cc, λ same. cc); reads = (stands, leaves) }, tt)
-fault_next here after refusal frames.BadFlag stands leaves is = inr (record { read = Err frames.BadFlag; decided = (λ same. cc, λ same. cc); reads = (stands, leaves) }, tt)
-fault_next here after refusal frames.Compressed stands leaves is = inr (record { read = Err frames.Compressed; decided = (λ same. cc, λ same. cc); reads = (stands, leaves) }, tt)
-fault_next here after refusal frames.TooLong stands leaves is = inr (record { read = Err frames.TooLong; decided = (λ same. cc, λ same. cc); reads = (stands, leaves) }, tt)
+    → IsOfTheMachine refusal ⊎ NextIsNeither here after refusal
+fault_next here after refusal frames.Truncated stands leaves is = inr (record { read = Err frames.Truncated; decided = (λ same. cc, λ same. cc); reads = (stands, leaves) }, tt, is)
+fault_next here after refusal frames.BadFlag stands leaves is = inr (record { read = Err frames.BadFlag; decided = (λ same. cc, λ same. cc); reads = (stands, leaves) }, tt, is)
+fault_next here after refusal frames.Compressed stands leaves is = inr (record { read = Err frames.Compressed; decided = (λ same. cc, λ same. cc); reads = (stands, leaves) }, tt, is)
+fault_next here after refusal frames.TooLong stands leaves is = inr (record { read = Err frames.TooLong; decided = (λ same. cc, λ same. cc); reads = (stands, leaves) }, tt, is)
 fault_next here after refusal frames.Io stands leaves is = inl (subst (λ r. IsOfTheMachine r) (sym is) (inr refl))
 fault_next here after refusal frames.OutOfMemory stands leaves is = inl (subst (λ r. IsOfTheMachine r) (sym is) (inl refl))
 
-frame_next : (here after : List ℕ) (refusal : Refusal) → FrameBreaks here after refusal → IsOfTheMachine refusal ⊎ NextIsNeither here after
+frame_next : (here after : List ℕ) (refusal : Refusal) → FrameBreaks here after refusal → IsOfTheMachine refusal ⊎ NextIsNeither here after refusal
 frame_next here after refusal breaks =
     elim breaks [
       | inl fault ↦ fault_next here after refusal fault.0 fault.1 fault.2 fault.3
       | inr behind ↦
           elim behind [
-            | inl none ↦ inr (record { read = Ok None; decided = tt; reads = (none.0, none.1) }, tt)
+            | inl none ↦ inr (record { read = Ok None; decided = tt; reads = (none.0, none.1) }, tt, none.2)
             | inr ended ↦
                 inr (
                   record {
@@ -62,13 +70,10 @@ frame_next here after refusal breaks =
                     reads = (record { flag = inr refl; payload = ended.2 }, ended.3);
                   },
                   (refl, ended.1),
+                  ended.4,
                 )
           ]
     ]
-
-message_next : (here after message : List ℕ) → FitsFrame message → here ≡ in_frame message ++ after → Next here after
-message_next here after message fits front =
-    record { read = Ok (Some (message_frame message)); decided = tt; reads = (is_message message fits, front) }
 
 end_next : (here after : List ℕ) → here ≡ end_text ++ after → Next here after
 end_next here after front = record { read = Ok (Some end_frame); decided = tt; reads = (is_end, front) }
@@ -78,31 +83,6 @@ Breaks method before here after refusal = FrameBreaks here after refusal ⊎ Mes
 
 abbrev BreaksInFront : List ℕ → List ℕ → Refusal → Type 0
 BreaksInFront text after refusal = FrameBreaks text after refusal ⊎ PathBreaks text after refusal
-
-any_next : (here after : List ℕ) (refusal : Refusal) → FrameBreaks here after refusal → IsOfTheMachine refusal ⊎ Next here after
-any_next here after refusal frame = elim (frame_next here after refusal frame) [ inl machine ↦ inl machine | inr next ↦ inr next.0 ]
-
-breaks_next : (method : Method) (before : List (List ℕ)) (here after : List ℕ) (refusal : Refusal) → Breaks method before here after refusal → IsOfTheMachine refusal ⊎ Next here after
-breaks_next method before here after refusal breaks =
-    elim breaks [
-      | inl frame ↦ any_next here after refusal frame
-      | inr messages ↦
-          elim messages [
-            | inl m ↦ inr (message_next here after m.0 m.2 m.1)
-            | inr ended ↦ inr (end_next here after ended.0)
-          ]
-    ]
-
-front_next : (text after : List ℕ) (refusal : Refusal) → BreaksInFront text after refusal → IsOfTheMachine refusal ⊎ Next text after
-front_next text after refusal breaks =
-    elim breaks [
-      | inl frame ↦ any_next text after refusal frame
-      | inr at_path ↦
-          elim at_path [
-            | inl none ↦ inr (end_next text after none.0)
-            | inr path ↦ inr (message_next text after path.0 path.2 path.1)
-          ]
-    ]
 
 -- ---- messages without fault so far, and those of them that came first
 
@@ -216,10 +196,36 @@ MemoryIsLast =
     (method : Method) (before : List (List ℕ)) (message : List ℕ) (refusal : Refusal) → IsFaultlessSoFar method (before ++ message ∷ []) → MessageFault method before message refusal
     → IsOfMemory refusal
 
+-- one of them says that memory was refused or a read failed, or the same is left behind both, and they agree
+abbrev Refused : List ℕ → List ℕ → Refusal → Refusal → Type 0
+Refused a b x y = IsOfTheMachine x ⊎ IsOfTheMachine y ⊎ ((a ≡ b) × Agree x y)
+
+with_place : (a b : List ℕ) (x y : Refusal) → a ≡ b → Both x y → Refused a b x y
+with_place a b x y left both =
+    elim both [
+      | inl machine ↦ inl machine
+      | inr other ↦ elim other [ inl machine ↦ inr (inl machine) | inr agree ↦ inr (inr (left, agree)) ]
+    ]
+
+abbrev pub MessagesAgree : Type 0
+MessagesAgree =
+    (method : Method) (before : List (List ℕ)) (message : List ℕ) (x y : Refusal) → MessageFault method before message x → MessageFault method before message y → Both x y
+
+-- a message is at fault, or memory was refused; or the end is, or memory was
+abbrev AtAMessage : Method → List (List ℕ) → List ℕ → Refusal → Type 0
+AtAMessage method before message refusal =
+    MessageFault method before message refusal ⊎ (IsFaultlessSoFar method (before ++ message ∷ []) × (refusal ≡ refusals.OutOfMemory))
+
+abbrev AtTheEnd : Method → List (List ℕ) → Refusal → Type 0
+AtTheEnd method before refusal = EndFault method before refusal ⊎ (IsFaultlessEnd method before × (refusal ≡ refusals.OutOfMemory))
+
+not_neither_end : ¬ IsNeither (Ok (Some end_frame))
+not_neither_end is = is.1 refl
+
 not_neither : (message : List ℕ) → ¬ IsNeither (Ok (Some (message_frame message)))
 not_neither message is = omega (arith, is.0)
 
-module _ (law : NoFrameBeginsAnother) (readings : ReadingsAreOne) (memory : MemoryIsLast) where
+module _ (law : NoFrameBeginsAnother) (readings : ReadingsAreOne) (memory : MemoryIsLast) (messages_agree : MessagesAgree) where
   one_after : (here a b : List ℕ) → Next here a → Next here b → a ≡ b
   one_after here a b x y = (readings here a b x.read y.read x.decided y.decided x.reads y.reads).1
 
@@ -251,18 +257,97 @@ module _ (law : NoFrameBeginsAnother) (readings : ReadingsAreOne) (memory : Memo
             ]
       ]
 
-  behind_the_path : (method : Method) (here a b : List ℕ) (x y : Refusal) → BreaksMessages method here a x → BreaksMessages method here b y → IsOfTheMachine x ⊎ IsOfTheMachine y ⊎ (a ≡ b)
+  -- nor where the end does
+  no_frame_at_an_end : (here after rest : List ℕ) (refusal : Refusal) → here ≡ end_text ++ rest → FrameBreaks here after refusal → IsOfTheMachine refusal
+  no_frame_at_an_end here after rest refusal front frame =
+      elim (frame_next here after refusal frame) [
+        | inl machine ↦ machine
+        | inr next ↦
+            let read = (readings here after rest next.0.read (Ok (Some end_frame)) next.0.decided tt next.0.reads (is_end, front)).0 in
+            absurd (not_neither_end (subst (λ r. IsNeither r) read next.1))
+      ]
+
+  frames_agree : (here a b : List ℕ) (x y : Refusal) → FrameBreaks here a x → FrameBreaks here b y → Refused a b x y
+  frames_agree here a b x y p q =
+      elim (frame_next here a x p) [
+        | inl machine ↦ inl machine
+        | inr next ↦
+            elim (frame_next here b y q) [
+              | inl machine ↦ inr (inl machine)
+              | inr other ↦
+                  let both = readings here a b next.0.read other.0.read next.0.decided other.0.decided next.0.reads other.0.reads in
+                  inr (inr (both.1, inl (inl (next.2 ∙ ap refused_for both.0 ∙ sym other.2))))
+            ]
+      ]
+
+  messages_at_one_place : (method : Method) (before : List (List ℕ)) (message : List ℕ) (a b : List ℕ) (x y : Refusal) → a ≡ b
+      → AtAMessage method before message x → AtAMessage method before message y → Refused a b x y
+  messages_at_one_place method before message a b x y left p q =
+      elim p [
+        | inl fault ↦
+            elim q [
+              | inl other ↦ with_place a b x y left (messages_agree method before message x y fault other)
+              | inr refused ↦ inr (inl (inl (subst (λ r. IsOfMemory r) (sym refused.1) tt)))
+            ]
+        | inr refused ↦ inl (inl (subst (λ r. IsOfMemory r) (sym refused.1) tt))
+      ]
+
+  ends_at_one_place : (method : Method) (before : List (List ℕ)) (a b : List ℕ) (x y : Refusal) → a ≡ b
+      → AtTheEnd method before x → AtTheEnd method before y → Refused a b x y
+  ends_at_one_place method before a b x y left p q =
+      elim p [
+        | inl fault ↦
+            elim q [
+              | inl other ↦ inr (inr (left, inl (inl (ends_agree method before x y fault other))))
+              | inr refused ↦ inr (inl (inl (subst (λ r. IsOfMemory r) (sym refused.1) tt)))
+            ]
+        | inr refused ↦ inl (inl (subst (λ r. IsOfMemory r) (sym refused.1) tt))
+      ]
+
+  at_one_place : (method : Method) (before : List (List ℕ)) (here a b : List ℕ) (x y : Refusal) → Breaks method before here a x
+      → Breaks method before here b y → Refused a b x y
+  at_one_place method before here a b x y p q =
+      elim p [
+        | inl frame ↦
+            elim q [
+              | inl other ↦ frames_agree here a b x y frame other
+              | inr others ↦
+                  elim others [
+                    | inl k ↦ inl (no_frame_breaks here a b k.0 x k.2 k.1 frame)
+                    | inr ended ↦ inl (no_frame_at_an_end here a b x ended.0 frame)
+                  ]
+            ]
+        | inr messages ↦
+            elim messages [
+              | inl m ↦
+                  elim q [
+                    | inl frame ↦ inr (inl (no_frame_breaks here b a m.0 y m.2 m.1 frame))
+                    | inr others ↦
+                        elim others [
+                          | inl k ↦
+                              let front = front_message law m.0 k.0 a b m.2 k.2 (sym m.1 ∙ k.1) in
+                              messages_at_one_place method before k.0 a b x y front.1 (subst (λ n. AtAMessage method before n x) front.0 m.3) k.3
+                          | inr ended ↦ absurd (no_end_here law m.0 a b m.2 (sym m.1 ∙ ended.0))
+                        ]
+                  ]
+              | inr ended ↦
+                  elim q [
+                    | inl frame ↦ inr (inl (no_frame_at_an_end here b a y ended.0 frame))
+                    | inr others ↦
+                        elim others [
+                          | inl k ↦ absurd (no_end_here law k.0 b a k.2 (sym k.1 ∙ ended.0))
+                          | inr other ↦ ends_at_one_place method before a b x y (one_after here a b (end_next here a ended.0) (end_next here b other.0)) ended.1 other.1
+                        ]
+                  ]
+            ]
+      ]
+
+  behind_the_path : (method : Method) (here a b : List ℕ) (x y : Refusal) → BreaksMessages method here a x → BreaksMessages method here b y → Refused a b x y
   behind_the_path method here a b x y p q =
       elim (two_places law p.before q.before p.place q.place p.fit q.fit (sym p.parts ∙ q.parts)) [
         | inl same ↦
-            elim (breaks_next method p.before p.place a x p.breaks) [
-              | inl machine ↦ inl machine
-              | inr next ↦
-                  elim (breaks_next method q.before q.place b y q.breaks) [
-                    | inl machine ↦ inr (inl machine)
-                    | inr other ↦ inr (inr (one_after q.place a b (subst (λ h. Next h a) same.1 next) other))
-                  ]
-            ]
+            at_one_place method q.before q.place a b x y
+            (subst (λ l. Breaks method l q.place a x) same.0 (subst (λ h. Breaks method p.before h a x) same.1 p.breaks)) q.breaks
         | inr apart ↦
             elim apart [
               | inl on ↦
@@ -289,14 +374,43 @@ module _ (law : NoFrameBeginsAnother) (readings : ReadingsAreOne) (memory : Memo
             ]
       ]
 
-  both_in_front : (text a b : List ℕ) (x y : Refusal) → BreaksInFront text a x → BreaksInFront text b y → IsOfTheMachine x ⊎ IsOfTheMachine y ⊎ (a ≡ b)
+  paths_at_one_place : (text a b : List ℕ) (x y : Refusal) → PathBreaks text a x → PathBreaks text b y → Refused a b x y
+  paths_at_one_place text a b x y p q =
+      elim p [
+        | inl none ↦
+            elim q [
+              | inl other ↦ inr (inr (one_after text a b (end_next text a none.0) (end_next text b other.0), inl (inl (none.1 ∙ sym other.1))))
+              | inr k ↦ absurd (no_end_here law k.0 b a k.2 (sym k.1 ∙ none.0))
+            ]
+        | inr m ↦
+            elim q [
+              | inl none ↦ absurd (no_end_here law m.0 a b m.2 (sym m.1 ∙ none.0))
+              | inr k ↦
+                  let front = front_message law m.0 k.0 a b m.2 k.2 (sym m.1 ∙ k.1) in
+                  inr (inr (front.1, inl (inl (paths_agree k.0 x y (subst (λ n. PathFault n x) front.0 m.3) k.3))))
+            ]
+      ]
+
+  both_in_front : (text a b : List ℕ) (x y : Refusal) → BreaksInFront text a x → BreaksInFront text b y → Refused a b x y
   both_in_front text a b x y p q =
-      elim (front_next text a x p) [
-        | inl machine ↦ inl machine
-        | inr next ↦
-            elim (front_next text b y q) [
-              | inl machine ↦ inr (inl machine)
-              | inr other ↦ inr (inr (one_after text a b next other))
+      elim p [
+        | inl frame ↦
+            elim q [
+              | inl other ↦ frames_agree text a b x y frame other
+              | inr at_path ↦
+                  elim at_path [
+                    | inl none ↦ inl (no_frame_at_an_end text a b x none.0 frame)
+                    | inr k ↦ inl (no_frame_breaks text a b k.0 x k.2 k.1 frame)
+                  ]
+            ]
+        | inr path ↦
+            elim q [
+              | inl frame ↦
+                  elim path [
+                    | inl none ↦ inr (inl (no_frame_at_an_end text b a y none.0 frame))
+                    | inr m ↦ inr (inl (no_frame_breaks text b a m.0 y m.2 m.1 frame))
+                  ]
+              | inr other ↦ paths_at_one_place text a b x y path other
             ]
       ]
 
@@ -304,7 +418,7 @@ module _ (law : NoFrameBeginsAnother) (readings : ReadingsAreOne) (memory : Memo
   BreaksBehind text after refusal = (method : Method) × (here : List ℕ) × (text ≡ in_frame (path_text method) ++ here) × BreaksMessages method here after refusal
 
   both_behind : ((x y : Method) → path_text x ≡ path_text y → x ≡ y) → (text a b : List ℕ) (x y : Refusal) → BreaksBehind text a x → BreaksBehind text b y
-      → IsOfTheMachine x ⊎ IsOfTheMachine y ⊎ (a ≡ b)
+      → Refused a b x y
   both_behind paths text a b x y p q =
       let front = front_message law (path_text p.0) (path_text q.0) p.1 q.1 (path_fits p.0) (path_fits q.0) (sym p.2 ∙ q.2) in
       behind_the_path q.0 q.1 a b x y
@@ -318,7 +432,7 @@ module _ (law : NoFrameBeginsAnother) (readings : ReadingsAreOne) (memory : Memo
       ]
 
   pub one_place : ((x y : Method) → path_text x ≡ path_text y → x ≡ y) → ((x : Method) (refusal : Refusal) → ¬ PathFault (path_text x) refusal)
-      → (text a b : List ℕ) (x y : Refusal) → RefusalStands x text a → RefusalStands y text b → IsOfTheMachine x ⊎ IsOfTheMachine y ⊎ (a ≡ b)
+      → (text a b : List ℕ) (x y : Refusal) → RefusalStands x text a → RefusalStands y text b → Refused a b x y
   one_place paths apart text a b x y p q =
       elim (in_front_or_behind text a x p) [
         | inl front ↦

@@ -10,6 +10,7 @@ ghost use Rattle.table_types.specs.Answers.{answer_messages, answer_of};
 ghost use Rattle.table_versions.specs.State.{values_limit, TablesState, HasTaken};
 ghost use Rattle.table_versions.specs.Values.{AreUploadsIn};
 ghost use Rattle.call_words.specs.declared.refusal.Refusal.{Refusal as Refused};
+ghost use Rattle.call_words.specs.declared.refusal.Refusal.TheVariants.{BadPath, NoCall, MessageCount, BadTicket, NoSchema, TooLarge};
 ghost use Rattle.call_words.specs.Statuses.{ok_trailer};
 ghost use Rattle.call_reading.specs.Faults.{RefusalStands, IsOfTheMachine};
 ghost use Rattle.downloads.specs.declared.download.Download.{Download};
@@ -19,16 +20,18 @@ ghost use Rattle.client_calls.specs.declared.client_fault.ClientFault.{ClientFau
 ghost use Rattle.client_calls.specs.Answers.{IsAnswer, Receives};
 ghost use Rattle.client_calls.specs.Requests.{info_request, get_request, put_request};
 ghost use Rattle.client_calls.specs.Results.{GivesServed};
+ghost use Rattle.request_laws.specs.Agreeing.{Agree};
 ghost use Rattle.request_laws.specs.Asked.{InfoRequestsAreCalls, GetRequestsAreCalls, PutRequestsAreCalls, IsFaultless};
 ghost use Rattle.request_laws.specs.Versions.{IsMadeOf};
 
-use batch_types::laws::written_rows_are_laid_out;
+use batch_types::laws::{batches_are_one, written_rows_are_laid_out};
 use call_reading::laws::{calls_are_not_refused, memory_is_refused_where_no_fault_stands};
 use call_words::laws::{descriptors_name_one, paths_are_one};
 use client_calls::laws::versions_are_given;
 use flatbuf_meta::laws::{written_headers_are_shown, written_schemas_are_short};
 use grpc_frames::laws::{no_frame_begins_another, readings_are_one};
-use proto_messages::laws::canonical_messages_are_messages;
+use header_types::laws::headers_are_one;
+use proto_messages::laws::{canonical_messages_are_messages, messages_are_one};
 use table_types::laws::{
     batches_have_headers, shapes_are_without_metadata, tables_have_one_shape,
     tickets_have_one_encoding, uploads_count_once,
@@ -64,16 +67,28 @@ pub fn requests_are_not_refused()
     calls_are_not_refused();
 }
 
-/// A text is refused at one place: whichever two refusals stand in it, of which neither says that a read failed or that
-/// memory was refused, the same is left behind both. So where two services read one text and refuse it for what stands in
-/// it, they have read the same of it.
+/// A text is refused at one place, and for one fault there: whichever two refusals stand in it, of which neither says that
+/// a read failed or that memory was refused, the same is left behind both, and they are the same. Where a message or a
+/// header has several faults, any of them is told; and of a first message with a bad descriptor and a bad schema, of a
+/// batch that is at fault and one too many, and of an upload's message that is at fault and one too many, either fault is.
+/// Others do not agree, as the last clause shows of some. So where two services read one text and refuse it for what stands in it, they have read the same of it.
 pub fn texts_are_refused_at_one_place()
-    ensures { (text a b : List ℕ) (x y : Refused) → RefusalStands x text a → RefusalStands y text b
+    ensures place { (text a b : List ℕ) (x y : Refused) → RefusalStands x text a → RefusalStands y text b
         → IsOfTheMachine x ⊎ IsOfTheMachine y ⊎ (a ≡ b) }
+    ensures fault { (text a b : List ℕ) (x y : Refused) → RefusalStands x text a → RefusalStands y text b
+        → IsOfTheMachine x ⊎ IsOfTheMachine y ⊎ Agree x y }
+    ensures apart { (¬ Agree BadPath NoCall) × (¬ Agree MessageCount BadTicket) × (¬ Agree NoSchema TooLarge) }
 {
     no_frame_begins_another();
     readings_are_one();
     paths_are_one();
+    descriptors_name_one();
+    tickets_have_one_encoding();
+    messages_are_one();
+    proto_messages::laws::faults_stand_apart();
+    headers_are_one();
+    header_reading::laws::faults_stand_apart();
+    batches_are_one();
     memory_is_refused_where_no_fault_stands();
 }
 
