@@ -5,7 +5,6 @@ use Rattle.table_types.specs.Answers.{answer_of}
 use Rattle.histories.specs.EventResult as results
 use Rattle.node_events.specs.declared.event_result.EventResult.{EventResult}
 use Rattle.node_events.specs.declared.event_result.EventResult.TheVariants as given
-use Rattle.node_events.specs.Told.{result_of}
 use Rattle.seats.specs.declared.query.Query.{Query}
 use Rattle.seats.specs.declared.query.Query.TheVariants as query
 use Rattle.seats.specs.Steps.{AnswersQuery}

@@ -1,6 +1,6 @@
 //! The line of each event: its number, and what it gave.
 
-ghost use Rattle.std.specs.Prelude.{◌≡◌, ◌+◌, ◌++◌, suc, IfOk, OnOk, codes, decimal, string_bytes};
+ghost use Rattle.std.specs.Prelude.{◌≡◌, ◌+◌, ◌++◌, IfOk, OnOk, codes, decimal, string_bytes};
 ghost use Rattle.hex.specs.Hex.{encode_lower};
 ghost use Rattle.replay_command.specs.Lines.{numbers_text, sent_text, done_text, outcome_text, reason_text, result_text, line_of};
 
