@@ -15,11 +15,12 @@
 #   replay of 10,000 events 20.3 ms, and 11.5 ms `run` itself: 1.76
 #
 # An answer shares the frames that the tables keep, and each is written where it stands. Before that an answer was made whole, one
-# copy of all its frames, and a DoGet took three times as long as in plain Rust. A body is copied five times on its way into the
-# tables: out of the message, into a column, into the body that is written, into the upload's encoding, and into its frame. It
-# was nine times while an upload was decoded again when it was taken. Of the 110 million instructions of the replay (valgrind,
-# an earlier run) 64 are those of `run`; 16 read the file as one value of JSON and 5 let go of it, which alone makes 1.33; some
-# 10 make the 500 uploads, and the others the events, and a line for each.
+# copy of all its frames, and a DoGet took three times as long as in plain Rust. A body is copied three times on its way into the
+# tables: out of its frame into a column, into the upload's encoding, and into the frame that is served of it (47.3 MB for the
+# 15.7 MB of a DoPut, by valgrind --tool=dhat --mode=copy). It was five times while a message was read with copies of its bytes and
+# a body written apart, and nine times while an upload was decoded again when it was taken. Of the 110 million instructions of the
+# replay (valgrind, an earlier run) 64 are those of `run`; 16 read the file as one value of JSON and 5 let go of it, which alone
+# makes 1.33; some 10 make the 500 uploads, and the others the events, and a line for each.
 set -euo pipefail
 cd "$(dirname "${BASH_SOURCE[0]}")/.."
 work=$(mktemp -d)
