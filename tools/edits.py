@@ -11,7 +11,7 @@ of each crate are tried, as the gate would try them, whose sources, definitions 
 --all those of the crates that are named. An edit of a definition that a crate above refuses, and not its own, has a line
 `law: CRATE`, and is tried there. Where all edits of a crate were refused, its line in `edits-refused.txt` says for which
 sources, definitions and edits that was, by their checksum. With --old nothing is tried: the crates are counted whose lines
-are of other files, and the status is 1 where an edit names a text that does not stand once in its file.
+are of other files, and the status is 1 where an edit names a text that does not stand once in its file, or changes nothing.
 
 Without these words the edits of one crate are tried one after the other over one copy of it. Of each is said how many
 processor seconds it took and which goals refused it; an edit that the prover takes is shown as TAKEN, and the status is then
@@ -83,6 +83,8 @@ def edited(folder, edit):
         if text.count(old) != 1:
             raise ValueError(f"{edit.parent.parent.name}/{edit.name}: `{old}` stands {text.count(old)} times in {file}")
         texts[path] = text.replace(old, new)
+        if old == new:
+            raise ValueError(f"{edit.parent.parent.name}/{edit.name}: it changes nothing in {file}")
     return texts
 
 
