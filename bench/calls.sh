@@ -9,9 +9,9 @@
 # Seen on four processors that several other tasks shared:
 #
 #                              ours   plain Rust  ratio
-#   DoGet of 64 MiB         12.5 ms      13.6 ms   0.92   5,105 MiB/s, 1.41 of a raw copy's speed (17.7 ms); 132 MiB held, 134 MiB
-#   DoPut of 15 MiB         44.0 ms      41.0 ms   1.07   341 MiB/s; 246 MiB held for 120 MiB, and 249 MiB in plain Rust
-#   GetFlightInfo            2.8 us       2.8 us   0.99
+#   DoGet of 64 MiB         14.5 ms      20.8 ms   0.70   4,414 MiB/s, 1.09 of a raw copy's speed (15.9 ms); 131 MiB held, 134 MiB
+#   DoPut of 15 MiB         36.4 ms      35.2 ms   1.03   412 MiB/s; 249 MiB held for 120 MiB, and 256 MiB in plain Rust
+#   GetFlightInfo            2.5 us       2.8 us   0.87
 #   replay of 10,000 events 20.3 ms, and 11.5 ms `run` itself: 1.76
 #
 # An answer shares the frames that the tables keep, and each is written where it stands. Before that an answer was made whole, one
