@@ -15,6 +15,7 @@ use Rattle.batch_types.specs.Placed.{is_valid, value_at, start_of, length_of}
 use Rattle.batch_types.specs.Canonical.{is_null, blank_of, cells_in, elements_or, own_buffers, offsets_of, elements_lengths}
 use Rattle.batch_types.specs.Typed.{IsList, AllCells, count_of, FitsLayout, IsCellOf, IsElementOf, AreFieldsOf}
 use Rattle.batch_types.specs.Written.{HasRoom, blanks_under, written_elements, written_fields, written_cell}
+use Rattle.batch_columns.specs.Buffers.{offsets_among}
 use Rattle.batch_columns.specs.Contents.{Contents, layout_of_shape, shapes_of_shape, layout_in, shapes_in}
 use Rattle.batch_columns.specs.Held.{shapes_held, elements_held, fields_held, height, heights}
 use Rattle.batch_columns.specs.Kept.{HasElements, HaveFields, HaveInside}
@@ -160,36 +161,34 @@ module _ (law : ReadsBack) (column : Contents) (row : ℕ) (there : IsThere colu
     (fit : AllByRecursion (IsCellOf column.shape) column.cells) (room : HasRoom (layout_in column) column.cells)
     (inside : List Contents) (held : HaveInside (layout_in column) column.cells inside) (shapes : shapes_held inside ≡ shapes_in column) where
   pub list_there : layout_in column ≡ list_layout 4
-      → list_cell (elements_held inside (range_with_len (start_of 4 (get_or (own_buffers (layout_in column) column.cells) 1 []) row)
-      (length_of 4 (get_or (own_buffers (layout_in column) column.cells) 1 []) row))) ≡ cell_in column row
+      → list_cell (elements_held inside (range_with_len (start_of 4 (offsets_among (layout_in column) (own_buffers (layout_in column) column.cells)) row)
+      (length_of 4 (offsets_among (layout_in column) (own_buffers (layout_in column) column.cells)) row))) ≡ cell_in column row
   list_there is =
-      let second : List ℕ = get_or (own_buffers (layout_in column) column.cells) 1 [] in
-      let third : List ℕ = get_or (own_buffers (layout_in column) column.cells) 2 [] in
+      let buffers : List (List ℕ) = own_buffers (layout_in column) column.cells in
       let has : HasElements 0 column.cells inside = subst (λ l. HaveInside l column.cells inside) is held in
       ap list_cell (elements_same 0 column.cells inside _ has
-      ∙ ap (λ s. written_elements s column.cells 0 (range_with_len (start_of 4 second row) (length_of 4 second row))) shapes)
-      ∙ sym (ap (λ l. value_at l second third (written_elements (shapes_in column) column.cells (blanks_under l)) (written_fields (shapes_in column) 0 column.cells) row) is)
+      ∙ ap (λ s. written_elements s column.cells 0 (range_with_len (start_of 4 (offsets_among (layout_in column) buffers) row) (length_of 4 (offsets_among (layout_in column) buffers) row))) shapes
+      ∙ ap (λ l. written_elements (shapes_in column) column.cells 0 (range_with_len (start_of 4 (offsets_among l buffers) row) (length_of 4 (offsets_among l buffers) row))) is)
+      ∙ sym (ap (λ l. value_at l (get_or buffers 1 []) (get_or buffers 2 []) (written_elements (shapes_in column) column.cells (blanks_under l)) (written_fields (shapes_in column) 0 column.cells) row) is)
       ∙ value_there law column row there fit room
 
   pub block_there : (size : ℕ) → layout_in column ≡ fixed_size_list_layout size
       → list_cell (elements_held inside (range_with_len (size * row) size)) ≡ cell_in column row
   block_there size is =
-      let second : List ℕ = get_or (own_buffers (layout_in column) column.cells) 1 [] in
-      let third : List ℕ = get_or (own_buffers (layout_in column) column.cells) 2 [] in
+      let buffers : List (List ℕ) = own_buffers (layout_in column) column.cells in
       let has : HasElements size column.cells inside = subst (λ l. HaveInside l column.cells inside) is held in
       ap list_cell (elements_same size column.cells inside _ has
       ∙ ap (λ s. written_elements s column.cells size (range_with_len (size * row) size)) shapes)
-      ∙ sym (ap (λ l. value_at l second third (written_elements (shapes_in column) column.cells (blanks_under l)) (written_fields (shapes_in column) 0 column.cells) row) is)
+      ∙ sym (ap (λ l. value_at l (get_or buffers 1 []) (get_or buffers 2 []) (written_elements (shapes_in column) column.cells (blanks_under l)) (written_fields (shapes_in column) 0 column.cells) row) is)
       ∙ value_there law column row there fit room
 
   pub tuple_there : layout_in column ≡ struct_layout → tuple_cell (fields_held inside row) ≡ cell_in column row
   tuple_there is =
-      let second : List ℕ = get_or (own_buffers (layout_in column) column.cells) 1 [] in
-      let third : List ℕ = get_or (own_buffers (layout_in column) column.cells) 2 [] in
+      let buffers : List (List ℕ) = own_buffers (layout_in column) column.cells in
       let have : HaveFields 0 column.cells inside = subst (λ l. HaveInside l column.cells inside) is held in
       ap tuple_cell (fields_same 0 column.cells inside row have
       ∙ ap (λ s. written_fields s 0 column.cells row) shapes)
-      ∙ sym (ap (λ l. value_at l second third (written_elements (shapes_in column) column.cells (blanks_under l)) (written_fields (shapes_in column) 0 column.cells) row) is)
+      ∙ sym (ap (λ l. value_at l (get_or buffers 1 []) (get_or buffers 2 []) (written_elements (shapes_in column) column.cells (blanks_under l)) (written_fields (shapes_in column) 0 column.cells) row) is)
       ∙ value_there law column row there fit room
 
   -- so for the cells from where the row's elements begin up to where they end
@@ -216,11 +215,11 @@ offsets_each lengths (j ∷ js) =
     length-append (little_bytes 4 (sum_by (λ n. n) (take j lengths))) (flat_map (λ i. little_bytes 4 (sum_by (λ n. n) (take i lengths))) js) in
     omega (arith, one, both, offsets_each lengths js)
 
-pub offsets_long : (column : Contents) (second : List ℕ) → layout_in column ≡ list_layout 4
-    → second ≡ get_or (own_buffers (layout_in column) column.cells) 1 [] → length second ≡ 4 * (length column.cells + 1)
-offsets_long column second is same =
+pub offsets_long : (column : Contents) (offsets : List ℕ) → layout_in column ≡ list_layout 4
+    → offsets ≡ offsets_among (layout_in column) (own_buffers (layout_in column) column.cells) → length offsets ≡ 4 * (length column.cells + 1)
+offsets_long column offsets is same =
     let lengths : List ℕ = elements_lengths column.cells in
-    let whole : second ≡ offsets_of 4 (elements_lengths column.cells) = same ∙ ap (λ l. get_or (own_buffers l column.cells) 1 []) is in
+    let whole : offsets ≡ offsets_of 4 (elements_lengths column.cells) = same ∙ ap (λ l. offsets_among l (own_buffers l column.cells)) is in
     let long : length (offsets_of 4 (elements_lengths column.cells)) ≡ 4 * length (range_with_len 0 (length (elements_lengths column.cells) + 1)) =
     offsets_each (elements_lengths column.cells) (range_with_len 0 (length (elements_lengths column.cells) + 1)) in
     let each : length (range_with_len 0 (length (elements_lengths column.cells) + 1)) ≡ length (elements_lengths column.cells) + 1 =

@@ -5,7 +5,6 @@ ghost use Rattle.std.specs.List.{AllByRecursion, range_with_len};
 ghost use Rattle.batch_types.specs.Cells.{null_cell, bit_cell, bytes_cell, list_cell, tuple_cell};
 ghost use Rattle.batch_types.specs.Cells.{cells_of as cells_inside};
 ghost use Rattle.batch_types.specs.Layouts.{list_layout, fixed_size_list_layout};
-ghost use Rattle.batch_types.specs.Placed.{bytes_from, start_of};
 ghost use Rattle.batch_types.specs.Typed.{IsCellOf};
 ghost use Rattle.batch_columns.specs.Contents.{Contents, layout_in, shapes_in};
 ghost use Rattle.batch_columns.specs.Held.{shapes_held, elements_held};
@@ -14,9 +13,8 @@ ghost use Rattle.batch_cells.specs.CellViews.{cell_of};
 ghost use Rattle.batch_cells.specs.Places.{cell_in, IsThere, is_flat};
 
 use crate::cell::Cell;
-use batch_columns::{Column, Layout};
+use batch_columns::{Column, Layout, start_at};
 use batch_types::laws::written_values_are_the_cells;
-use byteorder::{ByteOrder, LittleEndian};
 use std::alloc::{AllocError, Global};
 
 /// Whether there is a cell of this row that is not null.
@@ -66,23 +64,6 @@ fn flat_cell(alloc: Global, column: &Column, row: usize) -> Result<Cell, AllocEr
     }
 }
 
-/// The bytes of block `row` of some, each of so many bytes.
-fn block(bytes: &[u8], size: usize, row: usize) -> &[u8]
-    requires { size * row + size ≤ length bytes.now }
-    ensures { result.now ≡ bytes_from bytes.now (size * row) size }
-{
-    let start = size * row;
-    &bytes[start..start + size]
-}
-
-/// Offset `row` of some of four bytes each, without its sign.
-fn offset_at(offsets: &[u8], row: usize) -> usize
-    requires { 4 * row + 4 ≤ length offsets.now }
-    ensures { result ≡ start_of 4 offsets.now row }
-{
-    LittleEndian::read_int(block(offsets, 4, row), 4).unsigned_abs() as usize
-}
-
 /// Where the elements of a row that is there begin and end in the column inside, in the layout of lists.
 fn list_span(column: &Column, row: usize) -> (usize, usize)
     requires list { layout_in column.now ≡ list_layout 4 }
@@ -92,8 +73,8 @@ fn list_span(column: &Column, row: usize) -> (usize, usize)
         → list_cell (elements_held inside (range_with_len result.0 (result.1 - result.0))) ≡ cell_in column.now row }
 {
     written_values_are_the_cells();
-    let offsets = column.second();
-    (offset_at(offsets, row), offset_at(offsets, row + 1))
+    let offsets = column.offsets();
+    (start_at(offsets, row), start_at(offsets, row + 1))
 }
 
 /// Where the elements of a row begin and end in the column of all elements, so many of each row.
@@ -163,8 +144,8 @@ fn block_at(alloc: Global, column: &Column, size: usize, row: usize) -> Result<C
     ensures { IfOk result (λ cell. cell_of cell ≡ cell_in column.now row) }
 {
     written_values_are_the_cells();
-    // What it says of itself with this buffer: each row that is not null has so many elements.
-    let _blocks = column.second();
+    // What it says of itself with its layout: each row that is not null has so many elements.
+    let _ = column.layout();
     match column.inside() {
         [elements, ..] => {
             let (start, end) = block_span(elements, size, row);

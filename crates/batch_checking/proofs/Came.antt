@@ -1,5 +1,5 @@
 -- A walk over fields that checks their columns, step by step.
-use Rattle.std.proofs.Common.{◌≡◌, inl, inr, refl, sym, ap, ap₂, ◌∙◌, subst, ℕ, zero, suc, ◌+◌, ◌<◌, ◌≤◌, pos, nat_abs, List, [], ◌∷◌, ◌++◌, length, get_or, take, drop, slice_index_or, arith}
+use Rattle.std.proofs.Common.{◌≡◌, inl, inr, refl, sym, ap, ap₂, ◌∙◌, subst, ℕ, zero, suc, ◌+◌, ◌<◌, ◌≤◌, pos, nat_abs, List, [], ◌∷◌, ◌++◌, map, length, get_or, take, drop, slice_index_or, arith}
 use Rattle.std.specs.List.{range_with_len, filter, flat_map}
 use Rattle.header_types.specs.declared.schema.Field.{Field, out-Field}
 use Rattle.header_types.specs.declared.header.BatchHead.{BatchHead}
@@ -8,16 +8,18 @@ use Rattle.header_types.specs.FieldView.{field_head_of, entries_in, fields_in}
 use Rattle.header_types.specs.Limits.{forest_depth}
 use Rattle.header_types.proofs.FieldTrees.{forest_next}
 use Rattle.batch_types.specs.declared.fault.BatchFault.{BatchFault}
-use Rattle.batch_types.specs.Layouts.{Layout, layout_of, buffers_in_layout}
+use Rattle.batch_types.specs.Layouts.{Layout, layout_of, buffers_in_layout, null_layout, bits_layout, bytes_layout, binary_layout, utf8_layout}
+use Rattle.batch_types.specs.Layouts.{list_layout, fixed_size_list_layout, struct_layout}
 use Rattle.batch_types.specs.Laid.{Node, Range, LaidColumns}
-use Rattle.batch_types.specs.Placed.{is_valid}
+use Rattle.batch_types.specs.Placed.{bytes_at, buffer_at, is_valid}
 use Rattle.batch_types.specs.Rules.{places_of, places_inside, asked_inside}
 use Rattle.batch_types.specs.LaysOut.{IsSound, AreSound, HaveFault}
+use Rattle.batch_columns.specs.Buffers.{offsets_among}
 use Rattle.batch_columns.specs.Held.{layout_named}
 use Rattle.batch_columns.specs.declared.place.Place.{Place}
 use Rattle.batch_columns.specs.declared.encoded_column.EncodedColumn.{EncodedColumn}
 use Rattle.batch_columns.specs.Sources.{nodes_of_tree, buffers_of_tree, columns_from}
-use Rattle.batch_columns.specs.Read.{IsSourceOf, column_at}
+use Rattle.batch_columns.specs.Read.{IsSourceOf, column_at, offsets_at}
 use Rattle.batch_checking.specs.declared.around.Around.{Around}
 use Rattle.batch_checking.specs.Around.{source_places, places_around, AreSteady}
 use Rattle.batch_checking.specs.Checked.{KeepsOwn, BreaksOwn, InsideIsSound}
@@ -26,6 +28,24 @@ use Rattle.batch_checking.specs.Walk.{Came}
 use Rattle.batch_checking.proofs.Walking.{around_more, steady_more}
 use Rattle.batch_checking.proofs.Placing.{drop_both, drop_nothing}
 use Rattle.batch_checking.proofs.Going.{reach_inside}
+
+-- ---- the places inside a column are the same by its offsets and by its buffer 1
+
+places_among : (l : Layout) (buffers : List (List ℕ)) (j : ℕ) → places_of l (offsets_among l buffers) j ≡ places_of l (get_or buffers 1 []) j
+places_among null_layout buffers j = refl
+places_among bits_layout buffers j = refl
+places_among (bytes_layout size) buffers j = refl
+places_among (binary_layout offset) buffers j = refl
+places_among (utf8_layout offset) buffers j = refl
+places_among (list_layout offset) buffers j = refl
+places_among (fixed_size_list_layout size) buffers j = refl
+places_among struct_layout buffers j = refl
+
+all_places : (f g : ℕ → List ℕ) → ((j : ℕ) → f j ≡ g j) → (js : List ℕ) → flat_map f js ≡ flat_map g js
+all_places f g same [] = refl
+all_places f g same (j ∷ js) = ap₂ (λ xs ys. xs ++ ys) (same j) (all_places f g same js)
+
+-- ---- on from a column
 
 module _ (body : List ℕ) (head : BatchHead) (asked : ℕ) (around : Around) where
   pub one_may : (x : Field) (rest : Forest) (place : Place) → MayCheck (more (tree_seen x) rest) head place asked around → MayCheckOne x head place asked around
@@ -77,7 +97,7 @@ module _ (body : List ℕ) (head : BatchHead) (asked : ℕ) (around : Around) wh
           subst (λ (cs : LaidColumns). AllReach n cs (places_in next)) (sym columns_inside)
           (subst (AllReach n (inside_of (column_at x head place))) (sym places_next)
           (subst (λ k. AllReach k (inside_of (column_at x head place)) (source_places s (places_in around))) (sym few)
-          (reach_inside s.validity.now s.second.now s.length (places_in around) open_.below s.layout (field_head_of x).data_type (fields_in x)
+          (reach_inside s.validity.now s.offsets.now s.length (places_in around) open_.below s.layout (field_head_of x).data_type (fields_in x)
           (drop 1 (drop place.node head.nodes.items))
           (drop (buffers_in_layout (layout_of (field_head_of x).data_type)) (drop place.buffer head.buffers.items)) of.layout_is may.formed.0.0 open_.leads)));
     }
@@ -93,8 +113,10 @@ module _ (body : List ℕ) (head : BatchHead) (asked : ℕ) (around : Around) wh
 
     places_same : source_places s (places_in around) ≡ places_inside body layout_here ranges_here (places_in around)
     places_same =
-        ap (λ l. source_places_of l s.validity.now s.second.now) of.layout_is
-        ∙ ap₂ (source_places_of layout_here) of.validity_is of.second_is
+        ap (λ l. source_places_of l s.validity.now s.offsets.now) of.layout_is
+        ∙ ap₂ (source_places_of layout_here) of.validity_is of.offsets_is
+        ∙ all_places (places_of layout_here (offsets_at body layout_here ranges_here)) (places_of layout_here (buffer_at body ranges_here 1))
+        (places_among layout_here (map (bytes_at body) ranges_here)) (filter (is_valid layout_here (buffer_at body ranges_here 0)) (places_in around))
 
     asked_same : n ≡ asked_inside layout_here (nat_abs (get_or (drop place.node head.nodes.items) 0 (pos 0, pos 0)).0)
     asked_same = few ∙ ap₂ asked_inside of.layout_is (sym (ap (λ (m : Node). nat_abs m.0) of.node_is))

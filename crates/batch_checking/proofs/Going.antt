@@ -76,19 +76,19 @@ one_inside (fixed_size_binary_type byte_width) count allows is = absurd (true≢
 one_inside (fixed_size_list_type list_size) count allows is = absurd (true≢false is)
 one_inside (duration_type unit) count allows is = absurd (true≢false is)
 
-module _ (validity second : List ℕ) (count : ℕ) (places : List ℕ) (below : Below count places) where
+module _ (validity offsets : List ℕ) (count : ℕ) (places : List ℕ) (below : Below count places) where
   abbrev inside_at : Declared → List ℕ
-  inside_at l = flat_map (places_of (layout_named l) second) (filter (is_valid (layout_named l) validity) places)
+  inside_at l = flat_map (places_of (layout_named l) offsets) (filter (is_valid (layout_named l) validity) places)
 
   -- each place inside stands in a value that is there
-  stands_in : (l : Declared) (x : ℕ) → Holds (inside_at l) x → (row : ℕ) × (row < count) × Holds (places_of (layout_named l) second row) x
+  stands_in : (l : Declared) (x : ℕ) → Holds (inside_at l) x → (row : ℕ) × (row < count) × Holds (places_of (layout_named l) offsets row) x
   stands_in l x held =
-      let (row, there, stands) = flat_held (places_of (layout_named l) second) (filter (is_valid (layout_named l) validity) places) x held in
+      let (row, there, stands) = flat_held (places_of (layout_named l) offsets) (filter (is_valid (layout_named l) validity) places) x held in
       let found = filter_held (is_valid (layout_named l) validity) places row there in
       (row, below_held count places row below found.0, stands)
 
   pub reach_inside : (l : Declared) (d : DataType) (f : Forest) (nodes : List Node) (ranges : List Range) → layout_named l ≡ layout_of d
-      → AllowsChildren d (width f) → LeadsInto (layout_named l) count second (first_length (columns_from f nodes ranges))
+      → AllowsChildren d (width f) → LeadsInto (layout_named l) count offsets (first_length (columns_from f nodes ranges))
       → AllReach (asked_inside (layout_named l) count) (columns_from f nodes ranges) (inside_at l)
   reach_inside Null d f nodes ranges is allows leads = nothing_reaches 0 (columns_from f nodes ranges) (inside_at Null) (λ x held. (stands_in Null x held).2)
   reach_inside Bits d f nodes ranges is allows leads = nothing_reaches 0 (columns_from f nodes ranges) (inside_at Bits) (λ x held. (stands_in Bits x held).2)
@@ -103,17 +103,17 @@ module _ (validity second : List ℕ) (count : ℕ) (places : List ℕ) (below :
       lists : layout_named Lists ≡ layout_of d → true ≡ has_offsets (layout_of d)
       lists same = ap has_offsets same
 
-      leads_within : (x : ℕ) → (row : ℕ) × (row < count) × Holds (places_of (layout_named Lists) second row) x
+      leads_within : (x : ℕ) → (row : ℕ) × (row < count) × Holds (places_of (layout_named Lists) offsets row) x
           → x < first_length (columns_from f nodes ranges)
       leads_within x (row, there, stands) =
-          let ends = value_ends second count (first_length (columns_from f nodes ranges)) row leads there in
-          let within = range_held (start_of 4 second row) (length_of 4 second row) x stands in
+          let ends = value_ends offsets count (first_length (columns_from f nodes ranges)) row leads there in
+          let within = range_held (start_of 4 offsets row) (length_of 4 offsets row) x stands in
           omega (arith, ends.0, ends.1, within.0, within.1)
   reach_inside (FixedSizeList size) d f nodes ranges is allows leads =
       all_reach (size * count) (columns_from f nodes ranges) (inside_at (FixedSizeList size))
       (held_below (size * count) (inside_at (FixedSizeList size)) (λ x held. within_block x (stands_in (FixedSizeList size) x held)))
     where
-      within_block : (x : ℕ) → (row : ℕ) × (row < count) × Holds (places_of (layout_named (FixedSizeList size)) second row) x → x < size * count
+      within_block : (x : ℕ) → (row : ℕ) × (row < count) × Holds (places_of (layout_named (FixedSizeList size)) offsets row) x → x < size * count
       within_block x (row, there, stands) =
           let within = range_held (size * row) size x stands in
           let up : size * suc row ≤ size * count = mul-le-mul_left size (omega arith) in
@@ -122,6 +122,6 @@ module _ (validity second : List ℕ) (count : ℕ) (places : List ℕ) (below :
       all_reach count (columns_from f nodes ranges) (inside_at Struct)
       (held_below count (inside_at Struct) (λ x held. same_row x (stands_in Struct x held)))
     where
-      same_row : (x : ℕ) → (row : ℕ) × (row < count) × Holds (places_of (layout_named Struct) second row) x → x < count
+      same_row : (x : ℕ) → (row : ℕ) × (row < count) × Holds (places_of (layout_named Struct) offsets row) x → x < count
       same_row x (row, there, inl is) = subst (λ k. k < count) is there
       same_row x (row, there, inr none) = absurd none

@@ -6,7 +6,8 @@ use Rattle.bitmaps.specs.Bits.{bit_of}
 use Rattle.batch_types.specs.Layouts.{Layout, null_layout, bits_layout, bytes_layout, binary_layout, utf8_layout}
 use Rattle.batch_types.specs.Layouts.{list_layout, fixed_size_list_layout, struct_layout}
 use Rattle.batch_types.specs.Rules.{HasNullCount}
-use Rattle.batch_checking.specs.SourceRules.{has_values, nulls_counted}
+use Rattle.batch_columns.specs.Looks.{has_values}
+use Rattle.batch_checking.specs.SourceRules.{nulls_counted}
 
 count_mapped : (f : ℕ → Bool) (xs : List ℕ) → count_by (λ j. not (f j)) xs ≡ count_by not (map f xs)
 count_mapped f [] = refl

@@ -23,14 +23,14 @@ block_stands (Some row) size place h = held_range (size * row) size place h.0 h.
 pub fixed_stands : (s : EncodedColumn) (size place : ℕ) (o : Option ℕ) → s.layout ≡ FixedSizeList size
     → IfSome o (λ row. (size * row ≤ place) × (place < size * row + size)) → IfSome o (λ row. StandsInside s row place)
 fixed_stands s size place o is h =
-    subst (λ (l : Declared). IfSome o (λ row. Holds (places_of (layout_named l) s.second.now row) place)) (sym is) (block_stands o size place h)
+    subst (λ (l : Declared). IfSome o (λ row. Holds (places_of (layout_named l) s.offsets.now row) place)) (sym is) (block_stands o size place h)
 
 pub fixed_found : (s : EncodedColumn) (size place : ℕ) (o : Option ℕ) → s.layout ≡ FixedSizeList size
     → ((row : ℕ) → size * row ≤ place → place < size * row + size → o ≡ Some row)
     → (row : ℕ) → row < s.length → StandsInside s row place → o ≡ Some row
 fixed_found s size place o is found row below stands =
     let there : Holds (range_with_len (size * row) size) place =
-    subst (λ (l : Declared). Holds (places_of (layout_named l) s.second.now row) place) is stands in
+    subst (λ (l : Declared). Holds (places_of (layout_named l) s.offsets.now row) place) is stands in
     let within = range_held (size * row) size place there in found row within.0 within.1
 
 -- ---- spans by offsets
@@ -41,9 +41,9 @@ span_stands offsets None count place h = h
 span_stands offsets (Some row) count place h = held_range (start_of 4 offsets row) (length_of 4 offsets row) place h.1.0 (omega (arith, h.1.0, h.1.1))
 
 pub list_stands : (s : EncodedColumn) (place : ℕ) (o : Option ℕ) → s.layout ≡ Lists
-    → IfSome o (λ row. (row < s.length) × StandsIn s.second.now row place) → IfSome o (λ row. StandsInside s row place)
+    → IfSome o (λ row. (row < s.length) × StandsIn s.offsets.now row place) → IfSome o (λ row. StandsInside s row place)
 list_stands s place o is h =
-    subst (λ (l : Declared). IfSome o (λ row. Holds (places_of (layout_named l) s.second.now row) place)) (sym is) (span_stands s.second.now o s.length place h)
+    subst (λ (l : Declared). IfSome o (λ row. Holds (places_of (layout_named l) s.offsets.now row) place)) (sym is) (span_stands s.offsets.now o s.length place h)
 
 stood : (offsets : List ℕ) (row place : ℕ) → Holds (range_with_len (start_of 4 offsets row) (length_of 4 offsets row)) place → StandsIn offsets row place
 stood offsets row place h =
@@ -57,34 +57,34 @@ span_found offsets count place None (inr spread) some none row below stands = ab
 span_found offsets count place (Some r) (inr spread) some none row below stands =
     ap Some (one_row offsets count spread.1 r row place some.0 below some.1 stands)
 
-pub list_spread : (s : EncodedColumn) → s.layout ≡ Lists → IsSteadySource s → AreSpread s.second.now s.length
-list_spread s is steady = subst (λ (l : Declared). IsSteady (layout_named l) s.length s.second.now) is steady.steady
+pub list_spread : (s : EncodedColumn) → s.layout ≡ Lists → IsSteadySource s → AreSpread s.offsets.now s.length
+list_spread s is steady = subst (λ (l : Declared). IsSteady (layout_named l) s.length s.offsets.now) is steady.steady
 
 pub list_found : (s : EncodedColumn) (place : ℕ) (o : Option ℕ) → s.layout ≡ Lists → IsSteadySource s
-    → IfSome o (λ row. (row < s.length) × StandsIn s.second.now row place) → IfNone o ((row : ℕ) → row < s.length → ¬ (StandsIn s.second.now row place))
+    → IfSome o (λ row. (row < s.length) × StandsIn s.offsets.now row place) → IfNone o ((row : ℕ) → row < s.length → ¬ (StandsIn s.offsets.now row place))
     → (row : ℕ) → row < s.length → StandsInside s row place → o ≡ Some row
 list_found s place o is steady some none row below stands =
-    span_found s.second.now s.length place o (list_spread s is steady) some none row below
-    (stood s.second.now row place (subst (λ (l : Declared). Holds (places_of (layout_named l) s.second.now row) place) is stands))
+    span_found s.offsets.now s.length place o (list_spread s is steady) some none row below
+    (stood s.offsets.now row place (subst (λ (l : Declared). Holds (places_of (layout_named l) s.offsets.now row) place) is stands))
 
 -- ---- texts
 
 abbrev Each : Declared → List ℕ → List ℕ → List ℕ → ℕ → List ℕ → Type 0
-Each layout validity second third count places =
-    (row : ℕ) → row < count → Holds places row → is_valid (layout_named layout) validity row ≡ true → IsUtf8 (value_bytes 4 second third row)
+Each layout validity offsets values count places =
+    (row : ℕ) → row < count → Holds places row → is_valid (layout_named layout) validity row ≡ true → IsUtf8 (value_bytes 4 offsets values row)
 
-texts_same : (validity second third : List ℕ) (count : ℕ) (places : List ℕ) → AllByRecursion (λ row. row < count) places
-    → (Each Utf8 validity second third count places → TextsHold (layout_named Utf8) validity second third places)
-    × (TextsHold (layout_named Utf8) validity second third places → Each Utf8 validity second third count places)
-texts_same validity second third count places below = (
+texts_same : (validity offsets values : List ℕ) (count : ℕ) (places : List ℕ) → AllByRecursion (λ row. row < count) places
+    → (Each Utf8 validity offsets values count places → TextsHold (layout_named Utf8) validity offsets values places)
+    × (TextsHold (layout_named Utf8) validity offsets values places → Each Utf8 validity offsets values count places)
+texts_same validity offsets values count places below = (
   λ each row there valid. each row (below_held count places row below there) there valid,
   λ all row within there valid. all row there valid,
 )
 
-pub texts_are : (layout : Declared) (validity second third : List ℕ) (count : ℕ) (places : List ℕ) → layout ≡ Utf8 → AllByRecursion (λ row. row < count) places
-    → (Each layout validity second third count places → TextsHold (layout_named layout) validity second third places)
-    × (TextsHold (layout_named layout) validity second third places → Each layout validity second third count places)
-texts_are layout validity second third count places is below =
-    subst (λ (l : Declared). (Each l validity second third count places → TextsHold (layout_named l) validity second third places)
-    × (TextsHold (layout_named l) validity second third places → Each l validity second third count places)) (sym is)
-    (texts_same validity second third count places below)
+pub texts_are : (layout : Declared) (validity offsets values : List ℕ) (count : ℕ) (places : List ℕ) → layout ≡ Utf8 → AllByRecursion (λ row. row < count) places
+    → (Each layout validity offsets values count places → TextsHold (layout_named layout) validity offsets values places)
+    × (TextsHold (layout_named layout) validity offsets values places → Each layout validity offsets values count places)
+texts_are layout validity offsets values count places is below =
+    subst (λ (l : Declared). (Each l validity offsets values count places → TextsHold (layout_named l) validity offsets values places)
+    × (TextsHold (layout_named l) validity offsets values places → Each l validity offsets values count places)) (sym is)
+    (texts_same validity offsets values count places below)

@@ -12,13 +12,13 @@ use Rattle.batch_checking.proofs.Held.{held_flat, flat_held, held_filter, filter
 
 pub held_inside : (s : EncodedColumn) (places : List ℕ) (row place : ℕ) → Holds places row → IsValidAt s row → StandsInside s row place → Holds (source_places s places) place
 held_inside s places row place there valid stands =
-    held_flat (places_of (layout_named s.layout) s.second.now) (filter (is_valid (layout_named s.layout) s.validity.now) places) row place
+    held_flat (places_of (layout_named s.layout) s.offsets.now) (filter (is_valid (layout_named s.layout) s.validity.now) places) row place
     (held_filter (is_valid (layout_named s.layout) s.validity.now) places row there valid) stands
 
 pub inside_held : (s : EncodedColumn) (places : List ℕ) (place : ℕ) → Holds (source_places s places) place
     → (row : ℕ) × Holds places row × IsValidAt s row × StandsInside s row place
 inside_held s places place held =
-    let (row, there, stands) = flat_held (places_of (layout_named s.layout) s.second.now) (filter (is_valid (layout_named s.layout) s.validity.now) places) place held in
+    let (row, there, stands) = flat_held (places_of (layout_named s.layout) s.offsets.now) (filter (is_valid (layout_named s.layout) s.validity.now) places) place held in
     let (at, valid) = filter_held (is_valid (layout_named s.layout) s.validity.now) places row there in
     (row, at, valid, stands)
 
@@ -105,6 +105,6 @@ no_source = record {
   length = 0;
   nulls = pos 0;
   validity = record { ref_ptr = (0, 0); now = [] };
-  second = record { ref_ptr = (0, 0); now = [] };
-  third = record { ref_ptr = (0, 0); now = [] };
+  offsets = record { ref_ptr = (0, 0); now = [] };
+  values = record { ref_ptr = (0, 0); now = [] };
 }

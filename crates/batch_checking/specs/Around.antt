@@ -24,12 +24,12 @@ IsValidAt source row = is_valid (layout_named source.layout) source.validity.now
 
 -- the place inside belongs to the value at this row
 abbrev pub StandsInside : EncodedColumn → ℕ → ℕ → Type 0
-StandsInside source row place = Holds (places_of (layout_named source.layout) source.second.now row) place
+StandsInside source row place = Holds (places_of (layout_named source.layout) source.offsets.now row) place
 
 -- the places inside the column that belong to those of the values at these places that are valid
 abbrev pub source_places : EncodedColumn → List ℕ → List ℕ
 source_places source places =
-    flat_map (places_of (layout_named source.layout) source.second.now)
+    flat_map (places_of (layout_named source.layout) source.offsets.now)
     (filter (is_valid (layout_named source.layout) source.validity.now) places)
 
 -- the same of columns each around the next
@@ -39,19 +39,19 @@ places_around places (source ∷ rest) = places_around (source_places source pla
 
 -- values of a list begin and end at offsets that are there and do not fall
 abbrev pub IsSteady : Layout → ℕ → List ℕ → Type 0
-IsSteady null_layout count second = Unit {0}
-IsSteady bits_layout count second = Unit {0}
-IsSteady (bytes_layout size) count second = Unit {0}
-IsSteady (binary_layout offset) count second = Unit {0}
-IsSteady (utf8_layout offset) count second = Unit {0}
-IsSteady (list_layout offset) count second = AreSpread second count
-IsSteady (fixed_size_list_layout size) count second = Unit {0}
-IsSteady struct_layout count second = Unit {0}
+IsSteady null_layout count offsets = Unit {0}
+IsSteady bits_layout count offsets = Unit {0}
+IsSteady (bytes_layout size) count offsets = Unit {0}
+IsSteady (binary_layout offset) count offsets = Unit {0}
+IsSteady (utf8_layout offset) count offsets = Unit {0}
+IsSteady (list_layout offset) count offsets = AreSpread offsets count
+IsSteady (fixed_size_list_layout size) count offsets = Unit {0}
+IsSteady struct_layout count offsets = Unit {0}
 
 -- such a column has no more values than one may have
 pub record IsSteadySource (source : EncodedColumn) : Type 0 where
   pub few : source.length ≤ values_limit
-  pub steady : IsSteady (layout_named source.layout) source.length source.second.now
+  pub steady : IsSteady (layout_named source.layout) source.length source.offsets.now
 
 -- each column is one, and has the places that belong to it
 abbrev pub AreSteady : List ℕ → List EncodedColumn → Type 0
@@ -62,13 +62,13 @@ AreSteady places (source ∷ rest) =
 
 -- each valid text at these places is UTF-8
 abbrev pub TextsHold : Layout → List ℕ → List ℕ → List ℕ → List ℕ → Type 0
-TextsHold null_layout validity second third places = Unit {0}
-TextsHold bits_layout validity second third places = Unit {0}
-TextsHold (bytes_layout size) validity second third places = Unit {0}
-TextsHold (binary_layout offset) validity second third places = Unit {0}
-TextsHold (utf8_layout offset) validity second third places =
+TextsHold null_layout validity offsets values places = Unit {0}
+TextsHold bits_layout validity offsets values places = Unit {0}
+TextsHold (bytes_layout size) validity offsets values places = Unit {0}
+TextsHold (binary_layout offset) validity offsets values places = Unit {0}
+TextsHold (utf8_layout offset) validity offsets values places =
     (row : ℕ) → Holds places row → is_valid (utf8_layout offset) validity row ≡ true
-    → IsUtf8 (value_bytes offset second third row)
-TextsHold (list_layout offset) validity second third places = Unit {0}
-TextsHold (fixed_size_list_layout size) validity second third places = Unit {0}
-TextsHold struct_layout validity second third places = Unit {0}
+    → IsUtf8 (value_bytes offset offsets values row)
+TextsHold (list_layout offset) validity offsets values places = Unit {0}
+TextsHold (fixed_size_list_layout size) validity offsets values places = Unit {0}
+TextsHold struct_layout validity offsets values places = Unit {0}

@@ -8,32 +8,33 @@ use Rattle.batch_types.specs.Laid.{LaidColumn, laid}
 use Rattle.batch_types.specs.Order.{column_order, AreKept, IsFirstBroken}
 use Rattle.batch_types.specs.Rules.{AreLong, HasNullCount, asked_inside, places_inside}
 use Rattle.batch_types.specs.LaysOut.{KeepsRule, AreSound, HaveFault}
+use Rattle.batch_columns.specs.Buffers.{behind_validity}
 use Rattle.batch_columns.specs.Held.{layout_named}
 use Rattle.batch_columns.specs.declared.encoded_column.EncodedColumn.{EncodedColumn}
 use Rattle.batch_checking.specs.SourceRules.{OffsetsHold}
 use Rattle.batch_checking.specs.Around.{TextsHold}
 
--- by its layout, its node and its three buffers, with how many values the first column inside it has
+-- by its layout, its node, its validity, offsets and values, with how many values the first column inside it has
 abbrev pub PartsKeep : Layout → ℕ → ℤ → List ℕ → List ℕ → List ℕ → ℕ → ℕ → List ℕ → BatchFault → Type 0
-PartsKeep layout count nulls validity second third first asked places fault.Compressed = Unit {0}
-PartsKeep layout count nulls validity second third first asked places fault.TooManyRows = Unit {0}
-PartsKeep layout count nulls validity second third first asked places fault.NodeCount = Unit {0}
-PartsKeep layout count nulls validity second third first asked places fault.BufferCount = Unit {0}
-PartsKeep layout count nulls validity second third first asked places fault.BufferRange =
-    AreLong layout count nulls (length validity) (length second)
-PartsKeep layout count nulls validity second third first asked places fault.NullCount =
+PartsKeep layout count nulls validity offsets values first asked places fault.Compressed = Unit {0}
+PartsKeep layout count nulls validity offsets values first asked places fault.TooManyRows = Unit {0}
+PartsKeep layout count nulls validity offsets values first asked places fault.NodeCount = Unit {0}
+PartsKeep layout count nulls validity offsets values first asked places fault.BufferCount = Unit {0}
+PartsKeep layout count nulls validity offsets values first asked places fault.BufferRange =
+    AreLong layout count nulls (length validity) (length (behind_validity layout offsets values))
+PartsKeep layout count nulls validity offsets values first asked places fault.NullCount =
     HasNullCount layout validity (pos count, nulls)
-PartsKeep layout count nulls validity second third first asked places fault.OffsetsFall =
-    OffsetsHold layout count second third first
-PartsKeep layout count nulls validity second third first asked places fault.ChildShort = asked ≤ count
-PartsKeep layout count nulls validity second third first asked places fault.NotUtf8 =
-    TextsHold layout validity second third places
-PartsKeep layout count nulls validity second third first asked places fault.OutOfMemory = Unit {0}
+PartsKeep layout count nulls validity offsets values first asked places fault.OffsetsFall =
+    OffsetsHold layout count offsets values first
+PartsKeep layout count nulls validity offsets values first asked places fault.ChildShort = asked ≤ count
+PartsKeep layout count nulls validity offsets values first asked places fault.NotUtf8 =
+    TextsHold layout validity offsets values places
+PartsKeep layout count nulls validity offsets values first asked places fault.OutOfMemory = Unit {0}
 
 abbrev pub SourceKeeps : EncodedColumn → ℕ → ℕ → List ℕ → BatchFault → Type 0
 SourceKeeps source first asked places told =
-    PartsKeep (layout_named source.layout) source.length source.nulls source.validity.now source.second.now
-    source.third.now first asked places told
+    PartsKeep (layout_named source.layout) source.length source.nulls source.validity.now source.offsets.now
+    source.values.now first asked places told
 
 -- the column keeps its own rules
 abbrev pub KeepsOwn : List ℕ → LaidColumn → ℕ → List ℕ → Type 0

@@ -90,17 +90,17 @@ IsBehind fields place next =
 
 -- the values of a list lead into so many of the first column inside it
 abbrev pub LeadsInto : Layout → ℕ → List ℕ → ℕ → Type 0
-LeadsInto null_layout count second first = Unit {0}
-LeadsInto bits_layout count second first = Unit {0}
-LeadsInto (bytes_layout size) count second first = Unit {0}
-LeadsInto (binary_layout offset) count second first = Unit {0}
-LeadsInto (utf8_layout offset) count second first = Unit {0}
-LeadsInto (list_layout offset) count second first = AreSpreadWithin second count first
-LeadsInto (fixed_size_list_layout size) count second first = Unit {0}
-LeadsInto struct_layout count second first = Unit {0}
+LeadsInto null_layout count offsets first = Unit {0}
+LeadsInto bits_layout count offsets first = Unit {0}
+LeadsInto (bytes_layout size) count offsets first = Unit {0}
+LeadsInto (binary_layout offset) count offsets first = Unit {0}
+LeadsInto (utf8_layout offset) count offsets first = Unit {0}
+LeadsInto (list_layout offset) count offsets first = AreSpreadWithin offsets count first
+LeadsInto (fixed_size_list_layout size) count offsets first = Unit {0}
+LeadsInto struct_layout count offsets first = Unit {0}
 
 -- what is read of a column whose places these are
 pub record IsOpen (source : EncodedColumn) (column : LaidColumn) (places : List ℕ) : Type 0 where
   pub steady : IsSteadySource source
   pub below : AllByRecursion (λ row. row < source.length) places
-  pub leads : LeadsInto (layout_named source.layout) source.length source.second.now (first_length (inside_of column))
+  pub leads : LeadsInto (layout_named source.layout) source.length source.offsets.now (first_length (inside_of column))

@@ -1,23 +1,12 @@
 -- The rules of a column, of what is read of it: Apache Arrow, "Arrow Columnar Format", "Physical memory layout".
 -- `Rules` of `batch_types` has the rules themselves.
-use Rattle.std.specs.Prelude.{◌≡◌, ◌⊎◌, ℕ, ◌+◌, ◌*◌, ◌<◌, ◌≤◌, ◌≤ℤ◌, ◌==◌, Bool, true, false, if◌then◌else◌}
+use Rattle.std.specs.Prelude.{◌≡◌, ◌⊎◌, ℕ, ◌+◌, ◌*◌, ◌<◌, ◌≤◌, ◌≤ℤ◌, ◌==◌, if◌then◌else◌}
 use Rattle.std.specs.Prelude.{List, length}
 use Rattle.bitmaps.specs.Bits.{bits_of, zeros}
 use Rattle.batch_types.specs.Layouts.{Layout, null_layout, bits_layout, bytes_layout, binary_layout, utf8_layout}
 use Rattle.batch_types.specs.Layouts.{list_layout, fixed_size_list_layout, struct_layout}
 use Rattle.batch_types.specs.Placed.{offset_at, start_of}
 use Rattle.batch_types.specs.Rules.{OffsetsRise}
-
--- whether a column of this layout may have values that are not null
-abbrev pub has_values : Layout → Bool
-has_values null_layout = false
-has_values bits_layout = true
-has_values (bytes_layout size) = true
-has_values (binary_layout offset) = true
-has_values (utf8_layout offset) = true
-has_values (list_layout offset) = true
-has_values (fixed_size_list_layout size) = true
-has_values struct_layout = true
 
 -- how many values a bitmap says are null
 abbrev pub nulls_counted : List ℕ → ℕ → ℕ
@@ -44,23 +33,23 @@ AreSpreadWithin offsets count limit = AreSpread offsets count × ((count ≡ 0) 
 
 -- texts begin and end within their bytes
 abbrev pub TextsSpread : Layout → ℕ → List ℕ → List ℕ → Type 0
-TextsSpread null_layout count second third = Unit {0}
-TextsSpread bits_layout count second third = Unit {0}
-TextsSpread (bytes_layout size) count second third = Unit {0}
-TextsSpread (binary_layout offset) count second third = Unit {0}
-TextsSpread (utf8_layout offset) count second third = AreSpreadWithin second count (length third)
-TextsSpread (list_layout offset) count second third = Unit {0}
-TextsSpread (fixed_size_list_layout size) count second third = Unit {0}
-TextsSpread struct_layout count second third = Unit {0}
+TextsSpread null_layout count offsets values = Unit {0}
+TextsSpread bits_layout count offsets values = Unit {0}
+TextsSpread (bytes_layout size) count offsets values = Unit {0}
+TextsSpread (binary_layout offset) count offsets values = Unit {0}
+TextsSpread (utf8_layout offset) count offsets values = AreSpreadWithin offsets count (length values)
+TextsSpread (list_layout offset) count offsets values = Unit {0}
+TextsSpread (fixed_size_list_layout size) count offsets values = Unit {0}
+TextsSpread struct_layout count offsets values = Unit {0}
 
 -- offsets begin no lower than at 0, do not fall, and end no higher than at the end of what they lead into: so many
 -- bytes, or the values of the first column inside
 abbrev pub OffsetsHold : Layout → ℕ → List ℕ → List ℕ → ℕ → Type 0
-OffsetsHold null_layout count second third first = Unit {0}
-OffsetsHold bits_layout count second third first = Unit {0}
-OffsetsHold (bytes_layout size) count second third first = Unit {0}
-OffsetsHold (binary_layout offset) count second third first = OffsetsRise offset second count (length third)
-OffsetsHold (utf8_layout offset) count second third first = OffsetsRise offset second count (length third)
-OffsetsHold (list_layout offset) count second third first = OffsetsRise offset second count first
-OffsetsHold (fixed_size_list_layout size) count second third first = Unit {0}
-OffsetsHold struct_layout count second third first = Unit {0}
+OffsetsHold null_layout count offsets values first = Unit {0}
+OffsetsHold bits_layout count offsets values first = Unit {0}
+OffsetsHold (bytes_layout size) count offsets values first = Unit {0}
+OffsetsHold (binary_layout offset) count offsets values first = OffsetsRise offset offsets count (length values)
+OffsetsHold (utf8_layout offset) count offsets values first = OffsetsRise offset offsets count (length values)
+OffsetsHold (list_layout offset) count offsets values first = OffsetsRise offset offsets count first
+OffsetsHold (fixed_size_list_layout size) count offsets values first = Unit {0}
+OffsetsHold struct_layout count offsets values first = Unit {0}

@@ -33,8 +33,8 @@ impl<'a> Around<'a> {
             length: 0,
             nulls: 0,
             validity: &[],
-            second: &[],
-            third: &[],
+            offsets: &[],
+            values: &[],
         };
         Around {
             rows,
@@ -88,7 +88,7 @@ fn row_of(source: &EncodedColumn, place: usize, guess: usize) -> Option<usize>
     match source.layout {
         Layout::Struct => Some(place),
         Layout::FixedSizeList { size } => block_around(size as usize, place),
-        Layout::List => row_around(source.second, source.length, place, guess),
+        Layout::List => row_around(source.offsets, source.length, place, guess),
         Layout::Null | Layout::Bits | Layout::Bytes { .. } | Layout::Binary | Layout::Utf8 => None,
     }
 }

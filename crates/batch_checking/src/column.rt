@@ -5,6 +5,7 @@ ghost use Rattle.std.specs.List.{range_with_len};
 ghost use Rattle.batch_types.specs.Order.{column_order, AreKept, IsFirstBroken};
 ghost use Rattle.batch_types.specs.Rules.{AreLong};
 ghost use Rattle.batch_types.specs.LaysOut.{values_limit};
+ghost use Rattle.batch_columns.specs.Buffers.{behind_validity};
 ghost use Rattle.batch_columns.specs.Held.{layout_named};
 ghost use Rattle.batch_checking.specs.SourceRules.{OffsetsHold};
 ghost use Rattle.batch_checking.specs.Around.{places_around, AreSteady};
@@ -23,15 +24,16 @@ use batch_types::BatchFault;
 fn has_offsets(source: &EncodedColumn, first: usize) -> bool
     requires few { source.now.length ≤ values_limit }
     requires long { AreLong (layout_named source.now.layout) source.now.length source.now.nulls
-        (length source.now.validity.now) (length source.now.second.now) }
-    ensures { IsTrue result ↔ OffsetsHold (layout_named source.now.layout) source.now.length source.now.second.now
-        source.now.third.now first }
+        (length source.now.validity.now)
+        (length (behind_validity (layout_named source.now.layout) source.now.offsets.now source.now.values.now)) }
+    ensures { IsTrue result ↔ OffsetsHold (layout_named source.now.layout) source.now.length source.now.offsets.now
+        source.now.values.now first }
 {
     match source.layout {
         Layout::Binary | Layout::Utf8 => {
-            have_risen(source.second, source.length, source.third.len())
+            have_risen(source.offsets, source.length, source.values.len())
         }
-        Layout::List => have_risen(source.second, source.length, first),
+        Layout::List => have_risen(source.offsets, source.length, first),
         Layout::Null
         | Layout::Bits
         | Layout::Bytes { .. }

@@ -1,38 +1,21 @@
 //! Whether a header keeps its own rules.
 
-ghost use Rattle.std.specs.Prelude.{◌≡◌, ◌↔◌, ◌+◌, ◌*◌, ◌<◌, ◌≤◌, ◌≤ℤ◌, ℕ, pos, map, length, get_or, IsTrue, IfErr, OnOk};
-ghost use Rattle.header_types.specs.Views.{tree_of, forest_of, schema_of};
+ghost use Rattle.std.specs.Prelude.{◌↔◌, ◌<◌, ◌≤ℤ◌, ℕ, pos, length, get_or, IsTrue, IfErr, OnOk};
+ghost use Rattle.header_types.specs.Views.{schema_of};
 ghost use Rattle.header_types.specs.HeaderViews.{head_of};
 ghost use Rattle.header_types.specs.Profile.{InProfile};
-ghost use Rattle.batch_types.specs.Laid.{node_count, buffer_count};
 ghost use Rattle.batch_types.specs.Order.{head_order, AreKept, IsFirstBroken};
 ghost use Rattle.batch_types.specs.LaysOut.{KeepsHeadRule, HasRowsWithin, HasBody, rows_limit, values_limit};
 
-use batch_columns::{Place, layout_of};
+use batch_columns::{Place, ROWS_LIMIT, VALUES_LIMIT, place_behind};
 use batch_types::BatchFault;
-use header_types::{BatchHead, Field, Schema};
+use header_types::{BatchHead, Schema};
 
-/// How many rows a batch may have.
-const MAX_ROWS: i64 = 1_048_576;
+/// How many rows a batch may have, as a header counts them.
+const MAX_ROWS: i64 = ROWS_LIMIT as i64;
 
 /// How many values a node may have.
-const MAX_VALUES: i64 = 16_777_216;
-
-/// Where the columns behind those of these fields stand, if those stand at this place.
-fn place_behind(fields: &[Field], place: Place) -> Place
-    requires node { place.node + node_count (forest_of (map tree_of fields.now)) ≤ 512 }
-    requires buffer { place.buffer ≤ 3 * place.node }
-    ensures node { result.node ≡ place.node + node_count (forest_of (map tree_of fields.now)) }
-    ensures buffer { result.buffer ≡ place.buffer + buffer_count (forest_of (map tree_of fields.now)) }
-    ensures few { result.buffer ≤ 3 * result.node }
-{
-    let mut place = place;
-    for field in fields {
-        let inside = place.inside(layout_of(&field.ty));
-        place = place_behind(&field.children, inside);
-    }
-    place
-}
+const MAX_VALUES: i64 = VALUES_LIMIT as i64;
 
 /// Whether no more values are in a node than one may have, and not less than none.
 fn is_counted(node: (i64, i64)) -> bool

@@ -3,6 +3,7 @@
 ghost use Rattle.std.specs.Prelude.{◌↔◌, ◌*◌, ◌≤◌, IsTrue, length};
 ghost use Rattle.batch_types.specs.Rules.{IsValidityLong, AreOffsetsLong, AreLong};
 ghost use Rattle.batch_types.specs.LaysOut.{values_limit};
+ghost use Rattle.batch_columns.specs.Buffers.{behind_validity};
 ghost use Rattle.batch_columns.specs.Held.{layout_named};
 
 use batch_columns::{EncodedColumn, Layout};
@@ -37,15 +38,16 @@ fn are_values_long(size: u32, count: usize, bytes: usize) -> bool
 pub(crate) fn is_long(source: &EncodedColumn) -> bool
     requires { source.now.length ≤ values_limit }
     ensures { IsTrue result ↔ AreLong (layout_named source.now.layout) source.now.length source.now.nulls
-        (length source.now.validity.now) (length source.now.second.now) }
+        (length source.now.validity.now)
+        (length (behind_validity (layout_named source.now.layout) source.now.offsets.now source.now.values.now)) }
 {
-    let (count, second) = (source.length, source.second.len());
+    let (count, offsets, values) = (source.length, source.offsets.len(), source.values.len());
     let valid = is_validity_long(count, source.nulls, source.validity.len());
     match source.layout {
         Layout::Null => true,
-        Layout::Bits => valid && (count + 7) / 8 <= second,
-        Layout::Bytes { size } => valid && are_values_long(size, count, second),
-        Layout::Binary | Layout::Utf8 | Layout::List => valid && are_offsets_long(count, second),
+        Layout::Bits => valid && (count + 7) / 8 <= values,
+        Layout::Bytes { size } => valid && are_values_long(size, count, values),
+        Layout::Binary | Layout::Utf8 | Layout::List => valid && are_offsets_long(count, offsets),
         Layout::FixedSizeList { .. } | Layout::Struct => valid,
     }
 }

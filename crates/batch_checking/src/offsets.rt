@@ -1,37 +1,12 @@
 //! Offsets, which say where values of any size begin and end.
 
 ghost use Rattle.std.specs.Prelude.{◌≡◌, ◌↔◌, ◌+◌, ◌*◌, ◌<◌, ◌≤◌, ◌≤ℤ◌, ◌⊎◌, ℕ, pos, IsTrue, IfSome, IfNone, length};
-ghost use Rattle.batch_types.specs.Placed.{bytes_from, offset_at as offset_seen, start_of};
+ghost use Rattle.batch_types.specs.Placed.{start_of};
 ghost use Rattle.batch_types.specs.Rules.{AreOffsetsLong, DoRise, OffsetsRise};
 ghost use Rattle.batch_types.specs.LaysOut.{values_limit};
 ghost use Rattle.batch_checking.specs.SourceRules.{Rises, AreSpread, StandsIn};
 
-use byteorder::{ByteOrder, LittleEndian};
-
-/// The four bytes of offset `row`.
-fn block(offsets: &[u8], row: usize) -> &[u8]
-    requires { 4 * row + 4 ≤ length offsets.now }
-    ensures { result.now ≡ bytes_from offsets.now (4 * row) 4 }
-{
-    let start = 4 * row;
-    &offsets[start..start + 4]
-}
-
-/// Offset `row`, a signed number of four bytes (Apache Arrow, "Arrow Columnar Format", "Variable-size Binary Layout").
-pub(crate) fn offset_at(offsets: &[u8], row: usize) -> i64
-    requires { 4 * row + 4 ≤ length offsets.now }
-    ensures { result ≡ offset_seen 4 offsets.now row }
-{
-    LittleEndian::read_int(block(offsets, row), 4)
-}
-
-/// Where value `row` begins, by its offset without its sign.
-pub(crate) fn start_at(offsets: &[u8], row: usize) -> usize
-    requires { 4 * row + 4 ≤ length offsets.now }
-    ensures { result ≡ start_of 4 offsets.now row }
-{
-    offset_at(offsets, row).unsigned_abs() as usize
-}
+use batch_columns::{offset_at, start_at};
 
 /// Whether no offset of so many values is below the one before.
 fn rise(offsets: &[u8], count: usize) -> bool

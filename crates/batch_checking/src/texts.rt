@@ -9,9 +9,8 @@ ghost use Rattle.batch_checking.specs.SourceRules.{AreSpreadWithin, TextsSpread}
 ghost use Rattle.batch_checking.specs.Around.{Holds, IsValidAt, places_around, AreSteady, TextsHold};
 
 use crate::around::belongs;
-use crate::offsets::start_at;
 use crate::validity::is_valid;
-use batch_columns::{EncodedColumn, Layout};
+use batch_columns::{EncodedColumn, Layout, start_at};
 use header_types::MAX_DEPTH;
 use simdutf8::basic::from_utf8;
 
@@ -36,12 +35,12 @@ fn is_utf8(bytes: &[u8]) -> bool
 /// Whether the text of a row that is there is UTF-8, by itself.
 fn is_text(source: &EncodedColumn, row: usize) -> bool
     requires within { row < source.now.length }
-    requires spread { AreSpreadWithin source.now.second.now source.now.length (length source.now.third.now) }
-    ensures { IsTrue result ↔ IsUtf8 (value_bytes 4 source.now.second.now source.now.third.now row) }
+    requires spread { AreSpreadWithin source.now.offsets.now source.now.length (length source.now.values.now) }
+    ensures { IsTrue result ↔ IsUtf8 (value_bytes 4 source.now.offsets.now source.now.values.now row) }
 {
-    let start = start_at(source.second, row);
-    let end = start_at(source.second, row + 1);
-    is_utf8(part(source.third, start, end))
+    let start = start_at(source.offsets, row);
+    let end = start_at(source.offsets, row + 1);
+    is_utf8(part(source.values, start, end))
 }
 
 /// Whether a row that is there has no text, or one in UTF-8, or none that belongs to the batch.
@@ -53,25 +52,25 @@ fn is_fine(
     guesses: &mut [usize; MAX_DEPTH],
 ) -> bool
     requires within { row < source.now.length }
-    requires spread { AreSpreadWithin source.now.second.now source.now.length (length source.now.third.now) }
+    requires spread { AreSpreadWithin source.now.offsets.now source.now.length (length source.now.values.now) }
     requires steady { AreSteady (range_with_len 0 rows) around.now }
     requires few { length around.now ≤ 16 }
     requires room { length guesses.old ≡ 16 }
     ensures room { length guesses.new ≡ 16 }
     ensures fine { IsTrue result ↔ (Holds (places_around (range_with_len 0 rows) around.now) row → IsValidAt source.now row
-        → IsUtf8 (value_bytes 4 source.now.second.now source.now.third.now row)) }
+        → IsUtf8 (value_bytes 4 source.now.offsets.now source.now.values.now row)) }
 {
     !is_valid(source, row) || is_text(source, row) || !belongs(rows, around, row, guesses)
 }
 
 /// Whether each text that belongs to the batch and is valid is UTF-8, one by one.
 fn are_fine(source: &EncodedColumn, rows: usize, around: &[EncodedColumn]) -> bool
-    requires spread { AreSpreadWithin source.now.second.now source.now.length (length source.now.third.now) }
+    requires spread { AreSpreadWithin source.now.offsets.now source.now.length (length source.now.values.now) }
     requires steady { AreSteady (range_with_len 0 rows) around.now }
     requires few { length around.now ≤ 16 }
     ensures { IsTrue result ↔ ((row : ℕ) → row < source.now.length
         → Holds (places_around (range_with_len 0 rows) around.now) row → IsValidAt source.now row
-        → IsUtf8 (value_bytes 4 source.now.second.now source.now.third.now row)) }
+        → IsUtf8 (value_bytes 4 source.now.offsets.now source.now.values.now row)) }
 {
     let mut guesses = [0; MAX_DEPTH];
     for row in 0..source.length {
@@ -98,12 +97,12 @@ fn are_boundaries(text: &str, offsets: &[u8], count: usize) -> bool
 /// Whether the bytes of all texts are one text in UTF-8, of which each is a part that begins and ends between characters.
 fn are_parts(source: &EncodedColumn) -> bool
     requires some { 0 < source.now.length }
-    requires spread { AreSpreadWithin source.now.second.now source.now.length (length source.now.third.now) }
+    requires spread { AreSpreadWithin source.now.offsets.now source.now.length (length source.now.values.now) }
     ensures { IsTrue result → (row : ℕ) → row < source.now.length
-        → IsUtf8 (value_bytes 4 source.now.second.now source.now.third.now row) }
+        → IsUtf8 (value_bytes 4 source.now.offsets.now source.now.values.now row) }
 {
-    match from_utf8(source.third) {
-        Ok(text) => are_boundaries(text, source.second, source.length),
+    match from_utf8(source.values) {
+        Ok(text) => are_boundaries(text, source.offsets, source.length),
         Err(_) => false,
     }
 }
@@ -111,12 +110,12 @@ fn are_parts(source: &EncodedColumn) -> bool
 /// Whether each text that belongs to the batch and is valid is UTF-8. Most often all of them are, and are looked at
 /// together; where they are not, each is looked at by itself.
 fn are_texts(source: &EncodedColumn, rows: usize, around: &[EncodedColumn]) -> bool
-    requires spread { AreSpreadWithin source.now.second.now source.now.length (length source.now.third.now) }
+    requires spread { AreSpreadWithin source.now.offsets.now source.now.length (length source.now.values.now) }
     requires steady { AreSteady (range_with_len 0 rows) around.now }
     requires few { length around.now ≤ 16 }
     ensures { IsTrue result ↔ ((row : ℕ) → row < source.now.length
         → Holds (places_around (range_with_len 0 rows) around.now) row → IsValidAt source.now row
-        → IsUtf8 (value_bytes 4 source.now.second.now source.now.third.now row)) }
+        → IsUtf8 (value_bytes 4 source.now.offsets.now source.now.values.now row)) }
 {
     if source.length > 0 && are_parts(source) {
         return true;
@@ -126,14 +125,14 @@ fn are_texts(source: &EncodedColumn, rows: usize, around: &[EncodedColumn]) -> b
 
 /// The same of a column of any layout: only one of texts has texts.
 pub(crate) fn has_texts(source: &EncodedColumn, rows: usize, around: &[EncodedColumn]) -> bool
-    requires spread { TextsSpread (layout_named source.now.layout) source.now.length source.now.second.now
-        source.now.third.now }
+    requires spread { TextsSpread (layout_named source.now.layout) source.now.length source.now.offsets.now
+        source.now.values.now }
     requires steady { AreSteady (range_with_len 0 rows) around.now }
     requires few { length around.now ≤ 16 }
     requires within { AllByRecursion (λ row. row < source.now.length)
         (places_around (range_with_len 0 rows) around.now) }
-    ensures { IsTrue result ↔ TextsHold (layout_named source.now.layout) source.now.validity.now source.now.second.now
-        source.now.third.now (places_around (range_with_len 0 rows) around.now) }
+    ensures { IsTrue result ↔ TextsHold (layout_named source.now.layout) source.now.validity.now source.now.offsets.now
+        source.now.values.now (places_around (range_with_len 0 rows) around.now) }
 {
     match source.layout {
         Layout::Utf8 => are_texts(source, rows, around),

@@ -9,6 +9,7 @@ use Rattle.batch_types.specs.Canonical.{own_buffers, blank_of, elements_or, fiel
 use Rattle.batch_types.specs.Shapes.{Shape, shape}
 use Rattle.batch_types.specs.Typed.{IsCellOf}
 use Rattle.batch_types.specs.Written.{HasRoom}
+use Rattle.batch_columns.specs.Buffers.{offsets_among, values_among}
 use Rattle.batch_columns.specs.Contents.{Contents, layout_in, shapes_in}
 use Rattle.batch_columns.specs.Held.{shapes_held}
 use Rattle.batch_columns.specs.Kept.{HasElements, HaveFields, HaveInside, IsKept}
@@ -44,29 +45,29 @@ stand x inside same has fit room = record {
 module _ (law : ReadsBack) where
   one_cells : (layout : Layout) (inside : List Contents) (xs ys : List Cell) → Stand layout inside xs → Stand layout inside ys → length xs ≡ length ys
       → get_or (own_buffers layout xs) 0 [] ≡ get_or (own_buffers layout ys) 0 []
-      → get_or (own_buffers layout xs) 1 [] ≡ get_or (own_buffers layout ys) 1 []
-      → get_or (own_buffers layout xs) 2 [] ≡ get_or (own_buffers layout ys) 2 [] → xs ≡ ys
-  one_cells layout inside xs ys left right counts first second third =
-      let mine : IsKept layout xs (nulls_of xs) (get_or (own_buffers layout xs) 0 []) (get_or (own_buffers layout xs) 1 []) (get_or (own_buffers layout xs) 2 []) inside = record {
+      → offsets_among layout (own_buffers layout xs) ≡ offsets_among layout (own_buffers layout ys)
+      → values_among layout (own_buffers layout xs) ≡ values_among layout (own_buffers layout ys) → xs ≡ ys
+  one_cells layout inside xs ys left right counts validity offsets values =
+      let mine : IsKept layout xs (nulls_of xs) (get_or (own_buffers layout xs) 0 []) (offsets_among layout (own_buffers layout xs)) (values_among layout (own_buffers layout xs)) inside = record {
         nulls_counted = refl;
-        first_buffer = refl;
-        second_buffer = refl;
-        third_buffer = refl;
+        validity_kept = refl;
+        offsets_kept = refl;
+        values_kept = refl;
         fit = left.fit;
         held_inside = left.held_inside;
         room = left.room;
       } in
-      let theirs : IsKept layout ys (nulls_of ys) (get_or (own_buffers layout xs) 0 []) (get_or (own_buffers layout xs) 1 []) (get_or (own_buffers layout xs) 2 []) inside = record {
+      let theirs : IsKept layout ys (nulls_of ys) (get_or (own_buffers layout xs) 0 []) (offsets_among layout (own_buffers layout xs)) (values_among layout (own_buffers layout xs)) inside = record {
         nulls_counted = refl;
-        first_buffer = first;
-        second_buffer = second;
-        third_buffer = third;
+        validity_kept = validity;
+        offsets_kept = offsets;
+        values_kept = values;
         fit = right.fit;
         held_inside = right.held_inside;
         room = right.room;
       } in
-      sym (kept_cells law layout xs inside (nulls_of xs) (get_or (own_buffers layout xs) 0 []) (get_or (own_buffers layout xs) 1 []) (get_or (own_buffers layout xs) 2 []) mine (length xs) refl)
-      ∙ kept_cells law layout ys inside (nulls_of ys) (get_or (own_buffers layout xs) 0 []) (get_or (own_buffers layout xs) 1 []) (get_or (own_buffers layout xs) 2 []) theirs (length xs) (sym counts)
+      sym (kept_cells law layout xs inside (nulls_of xs) (get_or (own_buffers layout xs) 0 []) (offsets_among layout (own_buffers layout xs)) (values_among layout (own_buffers layout xs)) mine (length xs) refl)
+      ∙ kept_cells law layout ys inside (nulls_of ys) (get_or (own_buffers layout xs) 0 []) (offsets_among layout (own_buffers layout xs)) (values_among layout (own_buffers layout xs)) theirs (length xs) (sym counts)
 
   pub alike_equal : (x y : Contents) → AllByRecursion (IsCellOf x.shape) x.cells → HasRoom (layout_in x) x.cells
       → AllByRecursion (IsCellOf y.shape) y.cells → HasRoom (layout_in y) y.cells → AreAlike x y → (inside : List Contents)
@@ -79,14 +80,14 @@ module _ (law : ReadsBack) where
       one_contents x y
       (whole_shape x.shape ∙ ap₂ shape alike.layouts (sym xsame ∙ ysame) ∙ sym (whole_shape y.shape))
       (one_cells (layout_in x) inside x.cells y.cells mine theirs alike.counts
-      (alike.first ∙ ap (λ l. get_or (own_buffers l y.cells) 0 []) (sym alike.layouts))
-      (alike.second ∙ ap (λ l. get_or (own_buffers l y.cells) 1 []) (sym alike.layouts))
-      (alike.third ∙ ap (λ l. get_or (own_buffers l y.cells) 2 []) (sym alike.layouts)))
+      (alike.validity ∙ ap (λ l. get_or (own_buffers l y.cells) 0 []) (sym alike.layouts))
+      (alike.offsets ∙ ap (λ l. offsets_among l (own_buffers l y.cells)) (sym alike.layouts))
+      (alike.values ∙ ap (λ l. values_among l (own_buffers l y.cells)) (sym alike.layouts)))
 
 -- ---- equal columns are alike, and so are those inside them
 
 pub equal_alike : (x y : Contents) → x ≡ y → AreAlike x y
-equal_alike x y same = subst (λ z. AreAlike x z) same (record { layouts = refl; counts = refl; first = refl; second = refl; third = refl })
+equal_alike x y same = subst (λ z. AreAlike x z) same (record { layouts = refl; counts = refl; validity = refl; offsets = refl; values = refl })
 
 elements_one : (n : ℕ) (cells : List Cell) (a b : List Contents) → shapes_held a ≡ shapes_held b → HasElements n cells a → HasElements n cells b → a ≡ b
 elements_one n cells [] b same none has = absurd none

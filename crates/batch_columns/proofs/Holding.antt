@@ -9,6 +9,7 @@ use Rattle.batch_types.specs.Canonical.{own_buffers}
 use Rattle.batch_types.specs.Shapes.{shape, Shapes}
 use Rattle.batch_types.specs.Typed.{IsCellOf}
 use Rattle.batch_types.specs.Written.{HasRoom, blanks_under, written_elements, written_fields, written_cell}
+use Rattle.batch_columns.specs.Buffers.{offsets_among, values_among, value_by}
 use Rattle.batch_columns.specs.Contents.{Contents}
 use Rattle.batch_columns.specs.Held.{shapes_held, elements_held, fields_held, cell_held, cells_held}
 use Rattle.batch_columns.specs.Kept.{HasElements, HaveFields, HaveInside, IsKept}
@@ -53,37 +54,38 @@ fields_same k cells (child ∷ rest) j have =
     ap₂ cell_then (ap (λ all. get_or all j null_cell) have.0) (fields_same (suc k) cells rest j have.1)
 
 -- the value at place j, where the buffers are those that are written
-value_same : (layout : Layout) (cells : List Cell) (inside : List Contents) (second third : List ℕ) (j : ℕ) → HaveInside layout cells inside
-    → value_at layout second third (elements_held inside) (fields_held inside) j
-    ≡ value_at layout second third (written_elements (shapes_held inside) cells (blanks_under layout)) (written_fields (shapes_held inside) 0 cells) j
-value_same null_layout cells inside second third j has = refl
-value_same bits_layout cells inside second third j has = refl
-value_same (bytes_layout size) cells inside second third j has = refl
-value_same (binary_layout offset) cells inside second third j has = refl
-value_same (utf8_layout offset) cells inside second third j has = refl
-value_same (list_layout offset) cells inside second third j has = ap list_cell (elements_same 0 cells inside _ has)
-value_same (fixed_size_list_layout size) cells inside second third j has = ap list_cell (elements_same size cells inside _ has)
-value_same struct_layout cells inside second third j has = ap tuple_cell (fields_same 0 cells inside j has)
+value_same : (layout : Layout) (cells : List Cell) (inside : List Contents) (buffers : List (List ℕ)) (j : ℕ) → HaveInside layout cells inside
+    → value_by layout (offsets_among layout buffers) (values_among layout buffers) (elements_held inside) (fields_held inside) j
+    ≡ value_at layout (get_or buffers 1 []) (get_or buffers 2 [])
+    (written_elements (shapes_held inside) cells (blanks_under layout)) (written_fields (shapes_held inside) 0 cells) j
+value_same null_layout cells inside buffers j has = refl
+value_same bits_layout cells inside buffers j has = refl
+value_same (bytes_layout size) cells inside buffers j has = refl
+value_same (binary_layout offset) cells inside buffers j has = refl
+value_same (utf8_layout offset) cells inside buffers j has = refl
+value_same (list_layout offset) cells inside buffers j has = ap list_cell (elements_same 0 cells inside _ has)
+value_same (fixed_size_list_layout size) cells inside buffers j has = ap list_cell (elements_same size cells inside _ has)
+value_same struct_layout cells inside buffers j has = ap tuple_cell (fields_same 0 cells inside j has)
 
 -- ---- all cells
 
-module _ (law : ReadsBack) (layout : Layout) (cells : List Cell) (inside : List Contents) (nulls : ℕ) (validity second third : List ℕ)
-    (kept : IsKept layout cells nulls validity second third inside) where
-  cell_same : (j : ℕ) → cell_held layout validity second third inside j ≡ written_cell layout (shapes_held inside) cells j
+module _ (law : ReadsBack) (layout : Layout) (cells : List Cell) (inside : List Contents) (nulls : ℕ) (validity offsets values : List ℕ)
+    (kept : IsKept layout cells nulls validity offsets values inside) where
+  cell_same : (j : ℕ) → cell_held layout validity offsets values inside j ≡ written_cell layout (shapes_held inside) cells j
   cell_same j =
-      ap (λ bytes. if is_valid layout bytes j then value_at layout second third (elements_held inside) (fields_held inside) j else null_cell) kept.first_buffer
+      ap (λ bytes. if is_valid layout bytes j then value_by layout offsets values (elements_held inside) (fields_held inside) j else null_cell) kept.validity_kept
       ∙ ap (λ value. if is_valid layout (get_or (own_buffers layout cells) 0 []) j then value else null_cell)
-      (ap₂ (λ x y. value_at layout x y (elements_held inside) (fields_held inside) j) kept.second_buffer kept.third_buffer
-      ∙ value_same layout cells inside (get_or (own_buffers layout cells) 1 []) (get_or (own_buffers layout cells) 2 []) j kept.held_inside)
+      (ap₂ (λ x y. value_by layout x y (elements_held inside) (fields_held inside) j) kept.offsets_kept kept.values_kept
+      ∙ value_same layout cells inside (own_buffers layout cells) j kept.held_inside)
 
   -- what the buffers and the columns inside hold are the cells that they were written of
-  pub kept_cells : (count : ℕ) → length cells ≡ count → cells_held layout count validity second third inside ≡ cells
+  pub kept_cells : (count : ℕ) → length cells ≡ count → cells_held layout count validity offsets values inside ≡ cells
   kept_cells count counted =
-      ap (λ n. cells_held layout n validity second third inside) (sym counted)
-      ∙ listed null_cell (cell_held layout validity second third inside) cells 0
+      ap (λ n. cells_held layout n validity offsets values inside) (sym counted)
+      ∙ listed null_cell (cell_held layout validity offsets values inside) cells 0
       (λ j within.
-      ap (cell_held layout validity second third inside) (zero-add j) ∙ cell_same j ∙ law layout (shapes_held inside) cells j kept.fit kept.room within)
+      ap (cell_held layout validity offsets values inside) (zero-add j) ∙ cell_same j ∙ law layout (shapes_held inside) cells j kept.fit kept.room within)
 
   -- what a column keeps of some cells, it keeps of those that it holds
-  pub kept_held : (count : ℕ) → length cells ≡ count → IsKept layout (cells_held layout count validity second third inside) nulls validity second third inside
-  kept_held count counted = subst (λ x. IsKept layout x nulls validity second third inside) (sym (kept_cells count counted)) kept
+  pub kept_held : (count : ℕ) → length cells ≡ count → IsKept layout (cells_held layout count validity offsets values inside) nulls validity offsets values inside
+  kept_held count counted = subst (λ x. IsKept layout x nulls validity offsets values inside) (sym (kept_cells count counted)) kept

@@ -12,6 +12,7 @@ use Rattle.std.proofs.lemmas.List.FromFn.{length-range_with_len}
 use Rattle.batch_types.specs.Cells.{Cell, null_cell, bit_cell, bytes_cell, list_cell, tuple_cell}
 use Rattle.batch_types.specs.Shapes.{Shape, shape}
 use Rattle.batch_types.specs.Typed.{AreBytes, FitsLayout, IsCellOf, IsElementOf, AreFieldsOf}
+use Rattle.batch_columns.specs.Buffers.{offsets_among, values_among}
 use Rattle.batch_columns.specs.Contents.{layout_of_shape}
 use Rattle.batch_types.specs.Layouts.{Layout, null_layout, bits_layout, bytes_layout, binary_layout, utf8_layout}
 use Rattle.batch_types.specs.Layouts.{list_layout, fixed_size_list_layout, struct_layout}
@@ -81,16 +82,16 @@ module _ (size : ℕ) where
 
   module _ (law : (n : ℕ) (cells : List Cell) (j : ℕ) → AllByRecursion (AreBytes (λ bytes. length bytes ≡ n)) cells → j < length cells
       → bytes_from (flat_map (bytes_or (replicate n 0)) cells) (n * j) n ≡ bytes_or (replicate n 0) (get_or cells j null_cell)) where
-    pub sized_block : (s : Shape) (cells : List Cell) (second : List ℕ) (j : ℕ) → layout_of_shape s ≡ bytes_layout size → j < length cells
-        → AllByRecursion (IsCellOf s) cells → second ≡ get_or (own_buffers (layout_of_shape s) cells) 1 []
-        → (size * j + size ≤ length second) × (bytes_from second (size * j) size ≡ bytes_or (replicate size 0) (get_or cells j null_cell))
-    sized_block (shape layout inside) cells second j is within fit same =
+    pub sized_block : (s : Shape) (cells : List Cell) (bytes : List ℕ) (j : ℕ) → layout_of_shape s ≡ bytes_layout size → j < length cells
+        → AllByRecursion (IsCellOf s) cells → bytes ≡ values_among (layout_of_shape s) (own_buffers (layout_of_shape s) cells)
+        → (size * j + size ≤ length bytes) × (bytes_from bytes (size * j) size ≡ bytes_or (replicate size 0) (get_or cells j null_cell))
+    sized_block (shape layout inside) cells bytes j is within fit same =
         let fits : AllByRecursion (AreBytes (λ bytes. length bytes ≡ size)) cells =
         subst (λ l. AllByRecursion (FitsLayout l (IsElementOf inside) (AreFieldsOf inside)) cells) is fit in
-        let whole : second ≡ flat_map (bytes_or (replicate size 0)) cells = same ∙ ap (λ l. get_or (own_buffers l cells) 1 []) is in
+        let whole : bytes ≡ flat_map (bytes_or (replicate size 0)) cells = same ∙ ap (λ l. values_among l (own_buffers l cells)) is in
         let up : size * suc j ≤ size * length cells = mul-le-mul_left size (omega arith) in (
           omega (arith, ap length whole, all_long cells fits, up, mul-suc size j),
-          ap (λ bytes. bytes_from bytes (size * j) size) whole ∙ law size cells j fits within,
+          ap (λ l. bytes_from l (size * j) size) whole ∙ law size cells j fits within,
         )
 
 -- ---- values of any size
@@ -112,9 +113,9 @@ bytes_long (cell ∷ cells) =
 
 -- where a value stands by its offsets, and that it is the cell's
 abbrev IsSpread : List ℕ → List ℕ → ℕ → Cell → Type 0
-IsSpread second third j cell =
-    (4 * (j + 1) + 4 ≤ length second) × (start_of 4 second j ≤ start_of 4 second (j + 1)) × (start_of 4 second (j + 1) ≤ length third)
-    × (bytes_from third (start_of 4 second j) (start_of 4 second (j + 1) - start_of 4 second j) ≡ bytes_or [] cell)
+IsSpread offsets bytes j cell =
+    (4 * (j + 1) + 4 ≤ length offsets) × (start_of 4 offsets j ≤ start_of 4 offsets (j + 1)) × (start_of 4 offsets (j + 1) ≤ length bytes)
+    × (bytes_from bytes (start_of 4 offsets j) (start_of 4 offsets (j + 1) - start_of 4 offsets j) ≡ bytes_or [] cell)
 
 module _ (starts : (size : ℕ) (lengths : List ℕ) (j : ℕ) → sum_by (λ n. n) lengths < 2 ^ (8 * size - 1)
     → j ≤ length lengths → start_of size (offsets_of size lengths) j ≡ sum_by (λ n. n) (take j lengths))
@@ -142,25 +143,25 @@ module _ (starts : (size : ℕ) (lengths : List ℕ) (j : ℕ) → sum_by (λ n.
         values 4 cells j few within,
       )
 
-  spread_as : (cells : List Cell) (second third : List ℕ) (j : ℕ) → j < length cells → (offset : ℕ) → offset ≡ 4
+  spread_as : (cells : List Cell) (offsets bytes : List ℕ) (j : ℕ) → j < length cells → (offset : ℕ) → offset ≡ 4
       → sum_by (λ n. n) (bytes_lengths cells) < 2 ^ (8 * offset - 1)
-      → second ≡ offsets_of offset (bytes_lengths cells) → third ≡ flat_map (bytes_or []) cells → IsSpread second third j (get_or cells j null_cell)
-  spread_as cells second third j within offset four few is whole =
+      → offsets ≡ offsets_of offset (bytes_lengths cells) → bytes ≡ flat_map (bytes_or []) cells → IsSpread offsets bytes j (get_or cells j null_cell)
+  spread_as cells offsets bytes j within offset four few is whole =
       let little : sum_by (λ n. n) (bytes_lengths cells) < 2 ^ (8 * 4 - 1) =
       subst (λ n. sum_by (λ n. n) (bytes_lengths cells) < 2 ^ (8 * n - 1)) four few in
-      subst (λ x. IsSpread x third j (get_or cells j null_cell)) (sym (is ∙ ap (λ n. offsets_of n (bytes_lengths cells)) four))
+      subst (λ x. IsSpread x bytes j (get_or cells j null_cell)) (sym (is ∙ ap (λ n. offsets_of n (bytes_lengths cells)) four))
       (subst (λ x. IsSpread (offsets_of 4 (bytes_lengths cells)) x j (get_or cells j null_cell)) (sym whole) (spread_written cells j little within))
 
-  pub spread_part : (layout : Layout) (cells : List Cell) (second third : List ℕ) (j : ℕ) → has_spread layout ≡ true → j < length cells
-      → HasRoom layout cells → second ≡ get_or (own_buffers layout cells) 1 [] → third ≡ get_or (own_buffers layout cells) 2 []
-      → IsSpread second third j (get_or cells j null_cell)
-  spread_part (binary_layout offset) cells second third j has within room is whole =
-      spread_as cells second third j within offset (eqb-true offset 4 has) room is whole
-  spread_part (utf8_layout offset) cells second third j has within room is whole =
-      spread_as cells second third j within offset (eqb-true offset 4 has) room is whole
-  spread_part null_layout cells second third j has within room is whole = absurd (true≢false (sym has))
-  spread_part bits_layout cells second third j has within room is whole = absurd (true≢false (sym has))
-  spread_part (bytes_layout size) cells second third j has within room is whole = absurd (true≢false (sym has))
-  spread_part (list_layout offset) cells second third j has within room is whole = absurd (true≢false (sym has))
-  spread_part (fixed_size_list_layout size) cells second third j has within room is whole = absurd (true≢false (sym has))
-  spread_part struct_layout cells second third j has within room is whole = absurd (true≢false (sym has))
+  pub spread_part : (layout : Layout) (cells : List Cell) (offsets bytes : List ℕ) (j : ℕ) → has_spread layout ≡ true → j < length cells
+      → HasRoom layout cells → offsets ≡ offsets_among layout (own_buffers layout cells) → bytes ≡ values_among layout (own_buffers layout cells)
+      → IsSpread offsets bytes j (get_or cells j null_cell)
+  spread_part (binary_layout offset) cells offsets bytes j has within room is whole =
+      spread_as cells offsets bytes j within offset (eqb-true offset 4 has) room is whole
+  spread_part (utf8_layout offset) cells offsets bytes j has within room is whole =
+      spread_as cells offsets bytes j within offset (eqb-true offset 4 has) room is whole
+  spread_part null_layout cells offsets bytes j has within room is whole = absurd (true≢false (sym has))
+  spread_part bits_layout cells offsets bytes j has within room is whole = absurd (true≢false (sym has))
+  spread_part (bytes_layout size) cells offsets bytes j has within room is whole = absurd (true≢false (sym has))
+  spread_part (list_layout offset) cells offsets bytes j has within room is whole = absurd (true≢false (sym has))
+  spread_part (fixed_size_list_layout size) cells offsets bytes j has within room is whole = absurd (true≢false (sym has))
+  spread_part struct_layout cells offsets bytes j has within room is whole = absurd (true≢false (sym has))

@@ -41,19 +41,19 @@ nulls_fit (suc n) = (tt, nulls_fit n)
 pub nulls_kept : (n : ℕ) → IsKept null_layout (replicate n null_cell) n [] [] [] []
 nulls_kept n = record {
   nulls_counted = sym (all_null n);
-  first_buffer = refl;
-  second_buffer = refl;
-  third_buffer = refl;
+  validity_kept = refl;
+  offsets_kept = refl;
+  values_kept = refl;
   fit = nulls_fit n;
   held_inside = refl;
   room = tt;
 }
 
-pub nulls_kept_as : (n : ℕ) (validity second third : List ℕ) (inside : List Contents) → validity ≡ [] → second ≡ [] → third ≡ [] → inside ≡ []
-    → IsKept null_layout (replicate n null_cell) n validity second third inside
-nulls_kept_as n validity second third inside v s t i =
-    subst (λ x. IsKept null_layout (replicate n null_cell) n x second third inside) (sym v)
-    (subst (λ x. IsKept null_layout (replicate n null_cell) n [] x third inside) (sym s)
+pub nulls_kept_as : (n : ℕ) (validity offsets values : List ℕ) (inside : List Contents) → validity ≡ [] → offsets ≡ [] → values ≡ [] → inside ≡ []
+    → IsKept null_layout (replicate n null_cell) n validity offsets values inside
+nulls_kept_as n validity offsets values inside v s t i =
+    subst (λ x. IsKept null_layout (replicate n null_cell) n x offsets values inside) (sym v)
+    (subst (λ x. IsKept null_layout (replicate n null_cell) n [] x values inside) (sym s)
     (subst (λ x. IsKept null_layout (replicate n null_cell) n [] [] x inside) (sym t)
     (subst (IsKept null_layout (replicate n null_cell) n [] [] []) (sym i) (nulls_kept n))))
 
@@ -95,14 +95,14 @@ mapped : (cells : List (Option Bool)) → map bit_in (map bit_or_null cells) ≡
 mapped [] = refl
 mapped (o ∷ cells) = ap (λ bits. bit_in (bit_or_null o) ∷ bits) (mapped cells)
 
-pub bits_kept : (cells : List (Option Bool)) (nulls : ℕ) (validity second third : List ℕ) (inside : List Contents) → nulls ≡ zeros (map is_some cells)
-    → validity ≡ validity_bytes (map is_some cells) → second ≡ packed_bytes (map (λ cell. bit_in (bit_or_null cell)) cells) → third ≡ [] → inside ≡ []
-    → IsKept bits_layout (map bit_or_null cells) nulls validity second third inside
-bits_kept cells nulls validity second third inside n v s t i = record {
+pub bits_kept : (cells : List (Option Bool)) (nulls : ℕ) (validity offsets values : List ℕ) (inside : List Contents) → nulls ≡ zeros (map is_some cells)
+    → validity ≡ validity_bytes (map is_some cells) → offsets ≡ [] → values ≡ packed_bytes (map (λ cell. bit_in (bit_or_null cell)) cells) → inside ≡ []
+    → IsKept bits_layout (map bit_or_null cells) nulls validity offsets values inside
+bits_kept cells nulls validity offsets values inside n v s t i = record {
   nulls_counted = n ∙ sym (nulls_marked bit_or_null bit_null cells);
-  first_buffer = v ∙ sym (validity_marked bit_or_null bit_null cells);
-  second_buffer = s ∙ ap packed_bytes (sym (mapped cells));
-  third_buffer = t;
+  validity_kept = v ∙ sym (validity_marked bit_or_null bit_null cells);
+  offsets_kept = s;
+  values_kept = t ∙ ap packed_bytes (sym (mapped cells));
   fit = bits_fit (shapes_held inside) cells;
   held_inside = i;
   room = tt;
@@ -217,16 +217,16 @@ binary_fit offset inside [] = tt
 binary_fit offset inside (None ∷ cells) = (tt, binary_fit offset inside cells)
 binary_fit offset inside (Some bytes ∷ cells) = (tt, binary_fit offset inside cells)
 
-pub binary_kept : (cells : List (Option (Bor (List ℕ)))) (nulls : ℕ) (validity second third : List ℕ) (inside : List Contents)
+pub binary_kept : (cells : List (Option (Bor (List ℕ)))) (nulls : ℕ) (validity offsets values : List ℕ) (inside : List Contents)
     → bytes_in (map bytes_or_null cells) < 2 ^ 31
     → nulls ≡ zeros (map is_some cells) → validity ≡ validity_bytes (map is_some cells)
-    → second ≡ offsets_of 4 (bytes_lengths (map bytes_or_null cells)) → third ≡ flat_map (bytes_or []) (map bytes_or_null cells) → inside ≡ []
-    → IsKept (binary_layout 4) (map bytes_or_null cells) nulls validity second third inside
-binary_kept cells nulls validity second third inside room n v s t i = record {
+    → offsets ≡ offsets_of 4 (bytes_lengths (map bytes_or_null cells)) → values ≡ flat_map (bytes_or []) (map bytes_or_null cells) → inside ≡ []
+    → IsKept (binary_layout 4) (map bytes_or_null cells) nulls validity offsets values inside
+binary_kept cells nulls validity offsets values inside room n v s t i = record {
   nulls_counted = n ∙ sym (nulls_marked bytes_or_null bytes_null cells);
-  first_buffer = v ∙ sym (validity_marked bytes_or_null bytes_null cells);
-  second_buffer = s;
-  third_buffer = t;
+  validity_kept = v ∙ sym (validity_marked bytes_or_null bytes_null cells);
+  offsets_kept = s;
+  values_kept = t;
   fit = binary_fit 4 (shapes_held inside) cells;
   held_inside = i;
   room = room;
@@ -250,16 +250,16 @@ texts_fit : (offset : ℕ) (inside : Shapes) (cells : List Cell) → AllByRecurs
 texts_fit offset inside [] all = tt
 texts_fit offset inside (cell ∷ cells) all = (all.0, texts_fit offset inside cells all.1)
 
-pub texts_kept : (cells : List (Option (Bor (List ℕ)))) (nulls : ℕ) (validity second third : List ℕ) (inside : List Contents)
+pub texts_kept : (cells : List (Option (Bor (List ℕ)))) (nulls : ℕ) (validity offsets values : List ℕ) (inside : List Contents)
     → bytes_in (map bytes_or_null cells) < 2 ^ 31 → AllByRecursion (AreBytes IsUtf8) (map bytes_or_null cells)
     → nulls ≡ zeros (map is_some cells) → validity ≡ validity_bytes (map is_some cells)
-    → second ≡ offsets_of 4 (bytes_lengths (map bytes_or_null cells)) → third ≡ flat_map (bytes_or []) (map bytes_or_null cells) → inside ≡ []
-    → IsKept (utf8_layout 4) (map bytes_or_null cells) nulls validity second third inside
-texts_kept cells nulls validity second third inside room texts n v s t i = record {
+    → offsets ≡ offsets_of 4 (bytes_lengths (map bytes_or_null cells)) → values ≡ flat_map (bytes_or []) (map bytes_or_null cells) → inside ≡ []
+    → IsKept (utf8_layout 4) (map bytes_or_null cells) nulls validity offsets values inside
+texts_kept cells nulls validity offsets values inside room texts n v s t i = record {
   nulls_counted = n ∙ sym (nulls_marked bytes_or_null bytes_null cells);
-  first_buffer = v ∙ sym (validity_marked bytes_or_null bytes_null cells);
-  second_buffer = s;
-  third_buffer = t;
+  validity_kept = v ∙ sym (validity_marked bytes_or_null bytes_null cells);
+  offsets_kept = s;
+  values_kept = t;
   fit = texts_fit 4 (shapes_held inside) (map bytes_or_null cells) texts;
   held_inside = i;
   room = room;
@@ -286,15 +286,15 @@ sized_fit size inside (Some bytes ∷ cells) all =
     let parts = and_parts (length bytes.now == size) (list_all (has_size size) cells) all in
     (eqb-true (length bytes.now) size parts.0, sized_fit size inside cells parts.1)
 
-pub sized_kept : (size : ℕ) (cells : List (Option (Bor (List ℕ)))) (nulls : ℕ) (validity second third : List ℕ) (inside : List Contents)
+pub sized_kept : (size : ℕ) (cells : List (Option (Bor (List ℕ)))) (nulls : ℕ) (validity offsets values : List ℕ) (inside : List Contents)
     → list_all (has_size size) cells ≡ true → nulls ≡ zeros (map is_some cells) → validity ≡ validity_bytes (map is_some cells)
-    → second ≡ flat_map (bytes_or (replicate size 0)) (map bytes_or_null cells) → third ≡ [] → inside ≡ []
-    → IsKept (bytes_layout size) (map bytes_or_null cells) nulls validity second third inside
-sized_kept size cells nulls validity second third inside sizes n v s t i = record {
+    → offsets ≡ [] → values ≡ flat_map (bytes_or (replicate size 0)) (map bytes_or_null cells) → inside ≡ []
+    → IsKept (bytes_layout size) (map bytes_or_null cells) nulls validity offsets values inside
+sized_kept size cells nulls validity offsets values inside sizes n v s t i = record {
   nulls_counted = n ∙ sym (nulls_marked bytes_or_null bytes_null cells);
-  first_buffer = v ∙ sym (validity_marked bytes_or_null bytes_null cells);
-  second_buffer = s;
-  third_buffer = t;
+  validity_kept = v ∙ sym (validity_marked bytes_or_null bytes_null cells);
+  offsets_kept = s;
+  values_kept = t;
   fit = sized_fit size (shapes_held inside) cells sizes;
   held_inside = i;
   room = tt;

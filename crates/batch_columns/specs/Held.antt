@@ -4,8 +4,9 @@ use Rattle.std.specs.Prelude.{ℕ, suc, ◌+◌, if◌then◌else◌, List, [], 
 use Rattle.std.specs.List.{range_with_len}
 use Rattle.batch_types.specs.Cells.{Cell, null_cell, Cells, no_cell, cell_then, cells_of}
 use Rattle.batch_types.specs.Layouts.{Layout}
-use Rattle.batch_types.specs.Placed.{is_valid, value_at}
+use Rattle.batch_types.specs.Placed.{is_valid}
 use Rattle.batch_types.specs.Shapes.{Shape, shape, Shapes, no_shape, shape_then}
+use Rattle.batch_columns.specs.Buffers.{value_by}
 use Rattle.batch_columns.specs.Contents.{Contents}
 use Rattle.batch_columns.specs.declared.layout.Layout.{Layout as Declared}
 use Rattle.batch_columns.specs.declared.layout.Layout.TheVariants.{Null, Bits, Bytes, Binary, Utf8, List as Lists, FixedSizeList, Struct}
@@ -41,21 +42,21 @@ abbrev pub fields_held : List Contents → ℕ → Cells
 fields_held [] j = no_cell
 fields_held (child ∷ rest) j = cell_then (get_or child.cells j null_cell) (fields_held rest j)
 
--- the cell at place j, by the three buffers and the columns inside
+-- the cell at place j, by the buffers and the columns inside
 abbrev pub cell_held : Layout → List ℕ → List ℕ → List ℕ → List Contents → ℕ → Cell
-cell_held layout validity second third inside j =
+cell_held layout validity offsets values inside j =
     if is_valid layout validity j
-    then value_at layout second third (elements_held inside) (fields_held inside) j
+    then value_by layout offsets values (elements_held inside) (fields_held inside) j
     else null_cell
 
 abbrev pub cells_held : Layout → ℕ → List ℕ → List ℕ → List ℕ → List Contents → List Cell
-cells_held layout count validity second third inside =
-    map (cell_held layout validity second third inside) (range_with_len 0 count)
+cells_held layout count validity offsets values inside =
+    map (cell_held layout validity offsets values inside) (range_with_len 0 count)
 
 abbrev pub contents_held : Declared → ℕ → List ℕ → List ℕ → List ℕ → List Contents → Contents
-contents_held layout count validity second third inside = record {
+contents_held layout count validity offsets values inside = record {
   shape = shape (layout_named layout) (shapes_held inside);
-  cells = cells_held (layout_named layout) count validity second third inside;
+  cells = cells_held (layout_named layout) count validity offsets values inside;
 }
 
 -- ---- how deep columns stand in one another

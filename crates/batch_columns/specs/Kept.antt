@@ -10,6 +10,7 @@ use Rattle.batch_types.specs.Canonical.{own_buffers, blank_of, elements_or, fiel
 use Rattle.batch_types.specs.Shapes.{shape}
 use Rattle.batch_types.specs.Typed.{IsCellOf}
 use Rattle.batch_types.specs.Written.{HasRoom}
+use Rattle.batch_columns.specs.Buffers.{offsets_among, values_among}
 use Rattle.batch_columns.specs.Contents.{Contents}
 use Rattle.batch_columns.specs.Held.{shapes_held}
 
@@ -37,12 +38,12 @@ HaveInside (fixed_size_list_layout size) cells inside = HasElements size cells i
 HaveInside struct_layout cells inside = HaveFields 0 cells inside
 
 -- so many nulls, the buffers and the columns inside are those of these cells
-pub record IsKept (layout : Layout) (cells : List Cell) (nulls : ℕ) (validity second third : List ℕ)
+pub record IsKept (layout : Layout) (cells : List Cell) (nulls : ℕ) (validity offsets values : List ℕ)
     (inside : List Contents) : Type 0 where
   pub nulls_counted : nulls ≡ nulls_of cells
-  pub first_buffer : validity ≡ get_or (own_buffers layout cells) 0 []
-  pub second_buffer : second ≡ get_or (own_buffers layout cells) 1 []
-  pub third_buffer : third ≡ get_or (own_buffers layout cells) 2 []
+  pub validity_kept : validity ≡ get_or (own_buffers layout cells) 0 []
+  pub offsets_kept : offsets ≡ offsets_among layout (own_buffers layout cells)
+  pub values_kept : values ≡ values_among layout (own_buffers layout cells)
   pub fit : AllByRecursion (IsCellOf (shape layout (shapes_held inside))) cells
   pub held_inside : HaveInside layout cells inside
   pub room : HasRoom layout cells

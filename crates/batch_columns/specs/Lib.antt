@@ -1,5 +1,6 @@
 pub mod Contents
 pub mod Coding
+pub mod Buffers
 pub mod Held
 pub mod Kept
 pub mod Falls

@@ -16,6 +16,7 @@ ghost use Rattle.batch_types.specs.Typed.{AreBytes};
 use crate::column::Column;
 use crate::fault::ColumnFault;
 use crate::layout::Layout;
+use crate::offsets::put_offset;
 use bitmaps::Bitmap;
 use std::alloc::{AllocError, Global};
 
@@ -80,13 +81,6 @@ fn are_long(cells: &[Option<&[u8]>]) -> bool
         total += more;
     }
     false
-}
-
-/// Appends the lowest four bytes of a number.
-fn put_offset(offsets: &mut Vec<u8>, number: usize) -> Result<(), AllocError>
-    ensures { OnOk result (offsets.new.items ≡ offsets.old.items ++ little_bytes 4 number) }
-{
-    offsets.extend_from_slice(&(number as u64).to_le_bytes()[..4])
 }
 
 /// Appends the bytes of a cell, and the offset where they end.
@@ -247,8 +241,8 @@ fn sized(alloc: Global, size: u32, cells: &[Option<&[u8]>]) -> Result<Column, Al
         cells.len(),
         nulls,
         validity,
-        bytes,
         Vec::new(alloc),
+        bytes,
         Vec::new(alloc),
     ))
 }
@@ -298,14 +292,14 @@ impl Column {
         ensures cells { IfOk result (λ column. column.cells ≡ map bit_or_null cells.now) }
     {
         let (validity, nulls) = validity(alloc, cells)?;
-        let second = bits(alloc, cells)?.into_bytes();
+        let values = bits(alloc, cells)?.into_bytes();
         Ok(Column::from_parts(
             Layout::Bits,
             cells.len(),
             nulls,
             validity,
-            second,
             Vec::new(alloc),
+            values,
             Vec::new(alloc),
         ))
     }

@@ -4,32 +4,16 @@ ghost use Rattle.std.specs.Prelude.{◌≡◌, ◌+◌, ◌-◌, ◌*◌, ◌<�
 ghost use Rattle.batch_types.specs.Cells.{null_cell};
 ghost use Rattle.batch_types.specs.Canonical.{is_null as is_null_cell, bytes_or};
 ghost use Rattle.batch_types.specs.Layouts.{bytes_layout};
-ghost use Rattle.batch_types.specs.Placed.{bytes_from, start_of};
+ghost use Rattle.batch_types.specs.Placed.{bytes_from};
 ghost use Rattle.batch_columns.specs.Contents.{layout_in};
-ghost use Rattle.batch_columns.specs.Looks.{has_spread, has_values as has_values_seen, has_bits as has_bits_seen, null_seen, bit_seen, bytes_seen};
+ghost use Rattle.batch_columns.specs.Looks.{has_spread, has_bits as has_bits_seen, null_seen, bit_seen, bytes_seen};
 ghost use Rattle.batch_columns.specs.Held.{layout_named};
 
 use crate::column::Column;
 use crate::layout::Layout;
+use crate::offsets::start_at;
 use batch_types::laws::written_values_are_the_cells;
 use bitmaps::bit;
-use byteorder::{ByteOrder, LittleEndian};
-
-/// Whether a column of this layout may have cells that are not null.
-fn has_values(layout: Layout) -> bool
-    ensures { result ≡ has_values_seen (layout_named layout) }
-{
-    match layout {
-        Layout::Null => false,
-        Layout::Bits
-        | Layout::Bytes { .. }
-        | Layout::Binary
-        | Layout::Utf8
-        | Layout::List
-        | Layout::FixedSizeList { .. }
-        | Layout::Struct => true,
-    }
-}
 
 /// Whether the cells of this layout that are not null have a bit each.
 fn has_bits(layout: Layout) -> bool
@@ -54,7 +38,7 @@ fn bit_at(column: &Column, row: usize) -> Option<bool>
 {
     written_values_are_the_cells();
     if has_bits(column.layout()) && !is_null_at(column, row) {
-        Some(bit(column.second(), row))
+        Some(bit(column.values(), row))
     } else {
         None
     }
@@ -76,7 +60,7 @@ fn sized_at(column: &Column, size: usize, row: usize) -> &[u8]
     ensures { result.now ≡ bytes_or (replicate size 0) (get_or column.now.cells row null_cell) }
 {
     written_values_are_the_cells();
-    block(column.second(), size, row)
+    block(column.values(), size, row)
 }
 
 /// The bytes of a run of some.
@@ -87,14 +71,6 @@ fn part(bytes: &[u8], start: usize, end: usize) -> &[u8]
     &bytes[start..end]
 }
 
-/// Offset `row` of some of four bytes each, without its sign.
-fn offset_at(offsets: &[u8], row: usize) -> usize
-    requires { 4 * row + 4 ≤ length offsets.now }
-    ensures { result ≡ start_of 4 offsets.now row }
-{
-    LittleEndian::read_int(block(offsets, 4, row), 4).unsigned_abs() as usize
-}
-
 /// The bytes of the value of a row that is there, in a layout of bytes of any number.
 fn spread_at(column: &Column, row: usize) -> &[u8]
     requires spread { has_spread (layout_in column.now) ≡ true }
@@ -102,10 +78,10 @@ fn spread_at(column: &Column, row: usize) -> &[u8]
     ensures { result.now ≡ bytes_or [] (get_or column.now.cells row null_cell) }
 {
     written_values_are_the_cells();
-    let offsets = column.second();
-    let start = offset_at(offsets, row);
-    let end = offset_at(offsets, row + 1);
-    part(column.third(), start, end)
+    let offsets = column.offsets();
+    let start = start_at(offsets, row);
+    let end = start_at(offsets, row + 1);
+    part(column.values(), start, end)
 }
 
 /// Whether the cell of a row that is there is null.
@@ -114,7 +90,7 @@ fn is_null_at(column: &Column, row: usize) -> bool
     ensures { result ≡ is_null_cell (get_or column.now.cells row null_cell) }
 {
     written_values_are_the_cells();
-    if !has_values(column.layout()) {
+    if !column.layout().has_values() {
         return true;
     }
     let validity = column.validity();

@@ -15,8 +15,8 @@ pub struct Column {
     length: usize,
     nulls: usize,
     validity: Vec<u8>,
-    second: Vec<u8>,
-    third: Vec<u8>,
+    offsets: Vec<u8>,
+    values: Vec<u8>,
     inside: Vec<Column>,
 }
 
@@ -31,11 +31,11 @@ impl Model for Column {
     ghost use Rattle.batch_columns.specs.Held.{contents_held, layout_named, height};
     ghost use Rattle.batch_columns.specs.Kept.{IsKept};
 
-    ghost view = { λ a. contents_held a.layout a.length a.validity.items a.second.items a.third.items a.inside.items };
+    ghost view = { λ a. contents_held a.layout a.length a.validity.items a.offsets.items a.values.items a.inside.items };
 
     ghost invariant = { λ a. IsKept (layout_named a.layout)
-        (contents_held a.layout a.length a.validity.items a.second.items a.third.items a.inside.items).cells a.nulls
-        a.validity.items a.second.items a.third.items a.inside.items };
+        (contents_held a.layout a.length a.validity.items a.offsets.items a.values.items a.inside.items).cells a.nulls
+        a.validity.items a.offsets.items a.values.items a.inside.items };
 
     ghost size = { λ c. height c.shape };
 
@@ -53,27 +53,27 @@ impl Column {
     ghost use Rattle.std.specs.List.{AllByRecursion};
     ghost use Rattle.batch_types.specs.Typed.{IsCellOf};
     ghost use Rattle.batch_types.specs.Written.{HasRoom};
+    ghost use Rattle.batch_columns.specs.Buffers.{offsets_among, values_among};
     ghost use Rattle.batch_columns.specs.Contents.{layout_in, shapes_in};
     ghost use Rattle.batch_columns.specs.Held.{layout_named, shapes_held};
     ghost use Rattle.batch_columns.specs.Kept.{IsKept, HaveInside};
 
-    /// The column of some cells, by what is written of them: `count` of them, `nulls` of them null, their validity, what
-    /// the layout has in its second and in its third buffer, and the columns inside it. A buffer that the layout does not
-    /// have is empty.
+    /// The column of some cells, by what is written of them: `count` of them, `nulls` of them null, their validity, their
+    /// offsets, their values, and the columns inside it. A buffer that the layout does not have is empty.
     pub fn from_parts(
         layout: Layout,
         count: usize,
         nulls: usize,
         validity: Vec<u8>,
-        second: Vec<u8>,
-        third: Vec<u8>,
+        offsets: Vec<u8>,
+        values: Vec<u8>,
         inside: Vec<Column>,
     ) -> Column
         requires { (cells : List Cell) × (length cells ≡ count)
-            × IsKept (layout_named layout) cells nulls validity.items second.items third.items inside.items }
+            × IsKept (layout_named layout) cells nulls validity.items offsets.items values.items inside.items }
         ensures shape { result.shape ≡ shape (layout_named layout) (shapes_held inside.items) }
         ensures cells { (cells : List Cell) → length cells ≡ count
-            → IsKept (layout_named layout) cells nulls validity.items second.items third.items inside.items
+            → IsKept (layout_named layout) cells nulls validity.items offsets.items values.items inside.items
             → result.cells ≡ cells }
     {
         written_values_are_the_cells();
@@ -82,8 +82,8 @@ impl Column {
             length: count,
             nulls,
             validity,
-            second,
-            third,
+            offsets,
+            values,
             inside,
         }
     }
@@ -125,22 +125,37 @@ impl Column {
         self.validity.as_slice()
     }
 
-    /// The second buffer as it is written: the values of fixed size, their bits in the layout `Bits`, or the offsets of
-    /// those of variable size, each a signed number of four bytes, the lowest first; no bytes in a layout without one.
-    /// Each cell is one of the layout, and offsets have room for what they count.
-    pub fn second(&self) -> &[u8]
-        ensures buffer { result.now ≡ get_or (own_buffers (layout_in self.now) self.now.cells) 1 [] }
+    /// The offsets of values of variable size as they are written: where each begins, and where the last one ends, each
+    /// a signed number of four bytes, the lowest first; no bytes in a layout without offsets. Each cell is one of the
+    /// layout, and offsets have room for what they count.
+    pub fn offsets(&self) -> &[u8]
+        ensures buffer { result.now ≡ offsets_among (layout_in self.now) (own_buffers (layout_in self.now) self.now.cells) }
         ensures fit { AllByRecursion (IsCellOf self.now.shape) self.now.cells }
         ensures room { HasRoom (layout_in self.now) self.now.cells }
     {
-        self.second.as_slice()
+        self.offsets.as_slice()
     }
 
-    /// The third buffer as it is written: the bytes that offsets lead into; no bytes in a layout without one.
-    pub fn third(&self) -> &[u8]
-        ensures { result.now ≡ get_or (own_buffers (layout_in self.now) self.now.cells) 2 [] }
+    /// The values as they are written: those of fixed size, their bits in the layout `Bits`, or the bytes that offsets lead
+    /// into; no bytes in a layout without such a buffer. Each cell is one of the layout.
+    pub fn values(&self) -> &[u8]
+        ensures buffer { result.now ≡ values_among (layout_in self.now) (own_buffers (layout_in self.now) self.now.cells) }
+        ensures fit { AllByRecursion (IsCellOf self.now.shape) self.now.cells }
     {
-        self.third.as_slice()
+        self.values.as_slice()
+    }
+
+    /// Buffer `number` of its layout, from 0 on, as it is written ("Buffer Listing for Each Layout"): the validity, then
+    /// the offsets, if there are some, then the values; empty where the layout has none of that number.
+    pub fn buffer(&self, number: usize) -> &[u8]
+        ensures { result.now ≡ get_or (own_buffers (layout_in self.now) self.now.cells) number [] }
+    {
+        match (number, self.layout.has_offsets()) {
+            (0, _) => self.validity(),
+            (1, true) => self.offsets(),
+            (1, false) | (2, true) => self.values(),
+            _ => &[],
+        }
     }
 
     /// The columns inside it: one of the elements of a list, one of each field of a struct, none in the other layouts.

@@ -23,8 +23,8 @@ pub fn with_inside(
         column.len(),
         column.null_count(),
         Vec::from_clones(alloc, column.validity())?,
-        Vec::from_clones(alloc, column.second())?,
-        Vec::from_clones(alloc, column.third())?,
+        Vec::from_clones(alloc, column.offsets())?,
+        Vec::from_clones(alloc, column.values())?,
         inside,
     ))
 }

@@ -1,10 +1,11 @@
 //! A column as a header and a body have it.
 
-ghost use Rattle.std.specs.Prelude.{◌≡◌, ◌↔◌, ◌+◌, ◌<◌, ◌≤◌, ◌≤ℤ◌, pos, length, take, drop, get_or, IfSome, IfNone, IsSome};
+ghost use Rattle.std.specs.Prelude.{◌≡◌, ◌↔◌, ◌+◌, ◌<◌, ◌≤◌, ◌≤ℤ◌, pos, if◌then◌else◌, [], length, take, drop, get_or, IfSome, IfNone, IsSome};
 ghost use Rattle.header_types.specs.FieldView.{field_head_of};
 ghost use Rattle.batch_types.specs.Layouts.{layout_of as layout_of_type, buffers_in_layout};
 ghost use Rattle.batch_types.specs.Placed.{bytes_at, buffer_at};
 ghost use Rattle.batch_types.specs.Rules.{IsInside};
+ghost use Rattle.batch_columns.specs.Buffers.{has_offsets};
 ghost use Rattle.batch_columns.specs.Held.{layout_named};
 ghost use Rattle.batch_columns.specs.Read.{column_at, IsSourceOf, LiesInside};
 
@@ -22,12 +23,12 @@ pub struct EncodedColumn<'a> {
     pub length: usize,
     /// How many of them are null, as the header says.
     pub nulls: i64,
-    /// Its first buffer, which says which values are valid.
+    /// Which of its values are valid.
     pub validity: &'a [u8],
-    /// Its second buffer: values, or where they begin.
-    pub second: &'a [u8],
-    /// Its third buffer: the bytes of values of any size.
-    pub third: &'a [u8],
+    /// Where each of its values begins, and where the last one ends, in the layouts of variable size.
+    pub offsets: &'a [u8],
+    /// Its values, or the bytes that offsets lead into.
+    pub values: &'a [u8],
 }
 
 /// The bytes of a range of a body, where it lies inside the body.
@@ -69,6 +70,18 @@ fn buffer_in<'a>(
     }
 }
 
+/// The offsets and the values of a column of this layout, by its buffers 1 and 2.
+fn offsets_and_values<'a>(layout: Layout, second: &'a [u8], third: &'a [u8]) -> (&'a [u8], &'a [u8])
+    ensures offsets { result.0.now ≡ (if has_offsets (layout_named layout) then second.now else []) }
+    ensures values { result.1.now ≡ (if has_offsets (layout_named layout) then third.now else second.now) }
+{
+    if layout.has_offsets() {
+        (second, third)
+    } else {
+        (&[], second)
+    }
+}
+
 /// How many values a node says that its column has, which is not less than none, and how many of them are null.
 fn node_at(nodes: &[(i64, i64)], n: usize) -> (usize, i64)
     requires there { n < length nodes.now }
@@ -100,12 +113,13 @@ pub fn encoded_column_at<'a>(
     let validity = buffer_in(buffers, first, count, 0, body)?;
     let second = buffer_in(buffers, first, count, 1, body)?;
     let third = buffer_in(buffers, first, count, 2, body)?;
+    let (offsets, values) = offsets_and_values(layout, second, third);
     Some(EncodedColumn {
         layout,
         length,
         nulls,
         validity,
-        second,
-        third,
+        offsets,
+        values,
     })
 }

@@ -16,8 +16,8 @@ fn are_alike(left: &Column, right: &Column) -> bool
     left.layout() == right.layout()
         && left.len() == right.len()
         && left.validity() == right.validity()
-        && left.second() == right.second()
-        && left.third() == right.third()
+        && left.offsets() == right.offsets()
+        && left.values() == right.values()
 }
 
 /// Columns that are alike are equal where those inside them are. It does nothing: it is called for what it says.

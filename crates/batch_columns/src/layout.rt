@@ -26,3 +26,40 @@ pub enum Layout {
     /// One value of each field ("Struct layout").
     Struct,
 }
+
+impl Layout {
+    ghost use Rattle.std.specs.Prelude.{◌≡◌};
+    ghost use Rattle.batch_columns.specs.Buffers.{has_offsets as has_offsets_named};
+    ghost use Rattle.batch_columns.specs.Held.{layout_named};
+    ghost use Rattle.batch_columns.specs.Looks.{has_values as has_values_named};
+
+    /// Whether offsets say where its values begin ("Variable-size binary layout", "Variable-size list layout").
+    pub fn has_offsets(self) -> bool
+        ensures { result ≡ has_offsets_named (layout_named self) }
+    {
+        match self {
+            Layout::Binary | Layout::Utf8 | Layout::List => true,
+            Layout::Null
+            | Layout::Bits
+            | Layout::Bytes { .. }
+            | Layout::FixedSizeList { .. }
+            | Layout::Struct => false,
+        }
+    }
+
+    /// Whether a column of this layout may have values that are not null ("Null layout").
+    pub fn has_values(self) -> bool
+        ensures { result ≡ has_values_named (layout_named self) }
+    {
+        match self {
+            Layout::Null => false,
+            Layout::Bits
+            | Layout::Bytes { .. }
+            | Layout::Binary
+            | Layout::Utf8
+            | Layout::List
+            | Layout::FixedSizeList { .. }
+            | Layout::Struct => true,
+        }
+    }
+}

@@ -5,7 +5,8 @@
 //! `specs/` has the columns that a header lists for some fields, depth first, as a function of its whole lists ("RecordBatch
 //! message"), and `Read` what is read of one of them. A [`Place`] says how many nodes and buffers stand before a column,
 //! [`place_behind`] how many stand before what follows the columns of some fields, and [`encoded_column_at`] reads the column
-//! of a field there, without memory. Whether a buffer is long enough, and what it holds, is not looked at here.
+//! of a field there, without memory. Whether a buffer is long enough, and what it holds, is not looked at here. Offsets of all
+//! crates are read by [`offset_at`] and [`start_at`], and written by [`put_offset`].
 //!
 //! The function of `laws` does nothing: its contract is a law of the definitions.
 #![tactic(auto)]
@@ -22,6 +23,7 @@ mod fault;
 mod fitting;
 pub mod laws;
 mod layout;
+mod offsets;
 mod place;
 
 pub use batch::Batch;
@@ -31,4 +33,5 @@ pub use encoded_column::{EncodedColumn, encoded_column_at};
 pub use fault::ColumnFault;
 pub use fitting::{are_of, layout_of};
 pub use layout::Layout;
+pub use offsets::{offset_at, put_offset, start_at};
 pub use place::{Place, buffers_in, place_behind};

@@ -13,7 +13,7 @@ use Rattle.batch_types.specs.Layouts.{Layout, layout_of, buffers_in_layout}
 use Rattle.batch_types.specs.Laid.{Range, node_count}
 use Rattle.batch_types.specs.Placed.{buffer_at}
 use Rattle.batch_columns.specs.Held.{layout_named}
-use Rattle.batch_columns.specs.Read.{column_at, IsSource}
+use Rattle.batch_columns.specs.Read.{column_at, offsets_at, IsSource}
 use Rattle.batch_columns.specs.declared.place.Place.{Place}
 use Rattle.batch_columns.specs.declared.encoded_column.EncodedColumn.{EncodedColumn}
 use Rattle.batch_columns.specs.Sources.{nodes_of_tree, buffers_of_tree, columns_from}
@@ -88,10 +88,10 @@ marked_alike marks number n mark all =
     (λ k from below. ap (λ m. (marks.start + k, m)) (subst (λ j. mark_of marks j ≡ mark) (omega (arith, from)) (all (k - number) (omega (arith, from, below)))))
     ∙ moved_from (λ place. (place, mark)) marks.start number (marks.start + number) n (omega arith)
 
-pub unmarked_inside : (layout : Layout) (second : List ℕ) (marks : ValidityMask) (number n : ℕ) → ((k : ℕ) → k < n → mark_of marks (number + k) ≡ false)
-    → AreBlank (spots_inside layout second (marked_from marks number n))
-unmarked_inside layout second marks number n none =
-    inside_blank layout second (marked_from marks number n)
+pub unmarked_inside : (layout : Layout) (offsets : List ℕ) (marks : ValidityMask) (number n : ℕ) → ((k : ℕ) → k < n → mark_of marks (number + k) ≡ false)
+    → AreBlank (spots_inside layout offsets (marked_from marks number n))
+unmarked_inside layout offsets marks number n none =
+    inside_blank layout offsets (marked_from marks number n)
     (subst AreBlank (sym (marked_alike marks number n false none)) (listed_blank false (range_with_len (marks.start + number) n) refl))
 
 shown_each : (validity : List ℕ) (start n : ℕ) → ((k : ℕ) → k < n → valid_in validity (start + k) ≡ true) → zeros (map (is_shown validity) (run_spots start n)) ≡ 0
@@ -111,17 +111,17 @@ none_null_taken validity marks number n taken there all =
 
 pub taken_inside : (s : EncodedColumn) (marks : ValidityMask) (number n : ℕ) → has_null s.validity.now (run_spots (marks.start + number) n) ≡ false
     → ((k : ℕ) → k < n → mark_of marks (number + k) ≡ true)
-    → source_spots s (run_spots (marks.start + number) n) ≡ spots_inside (layout_named s.layout) s.second.now (marked_from marks number n)
+    → source_spots s (run_spots (marks.start + number) n) ≡ spots_inside (layout_named s.layout) s.offsets.now (marked_from marks number n)
 taken_inside s marks number n whole all =
-    ap (spots_inside (layout_named s.layout) s.second.now)
+    ap (spots_inside (layout_named s.layout) s.offsets.now)
     (all_seen s.validity.now (marks.start + number) n whole ∙ sym (marked_alike marks number n true all))
 
-pub inside_more : (layout : Layout) (second : List ℕ) (marks : ValidityMask) (m n : ℕ)
-    → spots_inside layout second (marked_from marks 0 (m + n)) ≡ spots_inside layout second (marked_from marks 0 m) ++ spots_inside layout second (marked_from marks m n)
-inside_more layout second marks m n =
+pub inside_more : (layout : Layout) (offsets : List ℕ) (marks : ValidityMask) (m n : ℕ)
+    → spots_inside layout offsets (marked_from marks 0 (m + n)) ≡ spots_inside layout offsets (marked_from marks 0 m) ++ spots_inside layout offsets (marked_from marks m n)
+inside_more layout offsets marks m n =
     let at : 0 + m ≡ m = omega arith in
-    ap (spots_inside layout second) (marked_both marks 0 m n ∙ ap (λ k. marked_from marks 0 m ++ marked_from marks k n) at)
-    ∙ inside_both layout second (marked_from marks 0 m) (marked_from marks m n)
+    ap (spots_inside layout offsets) (marked_both marks 0 m n ∙ ap (λ k. marked_from marks 0 m ++ marked_from marks k n) at)
+    ∙ inside_both layout offsets (marked_from marks 0 m) (marked_from marks m n)
 
 -- ---- one run more
 
@@ -177,17 +177,17 @@ module _ (x : Field) (head : BatchHead) (place : Place) (body : List ℕ) (end :
   abbrev ranges_here : List Range
   ranges_here = take (buffers_in_layout (layout_of (field_head_of x).data_type)) (drop place.buffer head.buffers.items)
 
-  counted_is : counted ≡ counted_of (layout_of (field_head_of x).data_type) (buffer_at body ranges_here 0) (buffer_at body ranges_here 1) spots
+  counted_is : counted ≡ counted_of (layout_of (field_head_of x).data_type) (buffer_at body ranges_here 0) (offsets_at body (layout_of (field_head_of x).data_type) ranges_here) spots
   counted_is =
-      counted_same counted (counted_of (layout_of (field_head_of x).data_type) (buffer_at body ranges_here 0) (buffer_at body ranges_here 1) spots)
+      counted_same counted (counted_of (layout_of (field_head_of x).data_type) (buffer_at body ranges_here 0) (offsets_at body (layout_of (field_head_of x).data_type) ranges_here) spots)
       (has.nulls ∙ ap (λ v. has_null v spots) of.validity_is)
-      (has.lengths ∙ ap (λ l. span_total l s.second.now (map (seen s.validity.now) spots)) of.layout_is
-      ∙ ap₂ (λ b v. span_total (layout_of (field_head_of x).data_type) b (map (seen v) spots)) of.second_is of.validity_is)
+      (has.lengths ∙ ap (λ l. span_total l s.offsets.now (map (seen s.validity.now) spots)) of.layout_is
+      ∙ ap₂ (λ b v. span_total (layout_of (field_head_of x).data_type) b (map (seen v) spots)) of.offsets_is of.validity_is)
 
-  spots_are : source_spots s spots ≡ spots_inside (layout_of (field_head_of x).data_type) (buffer_at body ranges_here 1) (map (seen (buffer_at body ranges_here 0)) spots)
+  spots_are : source_spots s spots ≡ spots_inside (layout_of (field_head_of x).data_type) (offsets_at body (layout_of (field_head_of x).data_type) ranges_here) (map (seen (buffer_at body ranges_here 0)) spots)
   spots_are =
-      ap (λ l. spots_inside l s.second.now (map (seen s.validity.now) spots)) of.layout_is
-      ∙ ap₂ (λ b v. spots_inside (layout_of (field_head_of x).data_type) b (map (seen v) spots)) of.second_is of.validity_is
+      ap (λ l. spots_inside l s.offsets.now (map (seen s.validity.now) spots)) of.layout_is
+      ∙ ap₂ (λ b v. spots_inside (layout_of (field_head_of x).data_type) b (map (seen v) spots)) of.offsets_is of.validity_is
 
   pub column_made : (first : Place) → first.node ≡ place.node + 1 → first.buffer ≡ place.buffer + buffers_in_layout (layout_named s.layout) → (made : List Counted)
       → made ≡ added_from first.node (set table place.node entry) (tally body (columns_there (fields_in x) head first) (source_spots s spots))
@@ -200,12 +200,12 @@ module _ (x : Field) (head : BatchHead) (place : Place) (body : List ℕ) (end :
       (sym (columns_same (field_head_of x) (entries_in x) (fields_in x) no_more head place body end m s.layout of.layout_is first at_node at_buffer)) spots_are
       ∙ ap (λ e. added_from (suc place.node) (set table place.node e) (tally body (columns_from (fields_in x) (drop 1 (drop place.node head.nodes.items))
       (drop (buffers_in_layout (layout_of (field_head_of x).data_type)) (drop place.buffer head.buffers.items)))
-      (spots_inside (layout_of (field_head_of x).data_type) (buffer_at body ranges_here 1) (map (seen (buffer_at body ranges_here 0)) spots))))
+      (spots_inside (layout_of (field_head_of x).data_type) (offsets_at body (layout_of (field_head_of x).data_type) ranges_here) (map (seen (buffer_at body ranges_here 0)) spots))))
       (entry_is ∙ ap (plus (get_or table place.node old)) counted_is)
-      ∙ sym (from_first place.node table old (counted_of (layout_of (field_head_of x).data_type) (buffer_at body ranges_here 0) (buffer_at body ranges_here 1) spots)
+      ∙ sym (from_first place.node table old (counted_of (layout_of (field_head_of x).data_type) (buffer_at body ranges_here 0) (offsets_at body (layout_of (field_head_of x).data_type) ranges_here) spots)
       (tally body (columns_from (fields_in x) (drop 1 (drop place.node head.nodes.items))
       (drop (buffers_in_layout (layout_of (field_head_of x).data_type)) (drop place.buffer head.buffers.items)))
-      (spots_inside (layout_of (field_head_of x).data_type) (buffer_at body ranges_here 1) (map (seen (buffer_at body ranges_here 0)) spots))) room)
+      (spots_inside (layout_of (field_head_of x).data_type) (offsets_at body (layout_of (field_head_of x).data_type) ranges_here) (map (seen (buffer_at body ranges_here 0)) spots))) room)
 
   -- where no column stands inside it
   pub bare_made : fields_in x ≡ no_more → (first : Place) → first.node ≡ place.node + 1 → first.buffer ≡ place.buffer + buffers_in_layout (layout_named s.layout)

@@ -80,22 +80,22 @@ module _ (offsets : List ℕ) (end : ℕ) (has : DoReach offsets end) where
       span_one spot.0 spot.1 (omega (arith, below)) in
       omega (arith, low, one, spans_between (spot.0 + 1) rest is.1, sum_by-cons (span_length (list_layout 4) offsets) spot rest)
 
-sized_between : (size from end : ℕ) (second : List ℕ) (spots : List Spot) → Between from end spots
-    → Between (size * from) (size * end) (spots_inside (fixed_size_list_layout size) second spots)
-sized_between size from end second [] is = mul-le-mul_left size is
-sized_between size from end second (spot ∷ rest) is =
+sized_between : (size from end : ℕ) (offsets : List ℕ) (spots : List Spot) → Between from end spots
+    → Between (size * from) (size * end) (spots_inside (fixed_size_list_layout size) offsets spots)
+sized_between size from end offsets [] is = mul-le-mul_left size is
+sized_between size from end offsets (spot ∷ rest) is =
     let low : size * from ≤ size * spot.0 = mul-le-mul_left size is.0 in
     let next : size * (spot.0 + 1) ≡ size * spot.0 + size = omega arith in
-    between_both (size * from) (size * (spot.0 + 1)) (size * end) (spots_under (fixed_size_list_layout size) second spot)
-    (spots_inside (fixed_size_list_layout size) second rest)
+    between_both (size * from) (size * (spot.0 + 1)) (size * end) (spots_under (fixed_size_list_layout size) offsets spot)
+    (spots_inside (fixed_size_list_layout size) offsets rest)
     (between_wider (size * from) (size * spot.0) (size * (spot.0 + 1)) (size * (spot.0 + 1)) low (omega arith)
-    (spots_under (fixed_size_list_layout size) second spot)
+    (spots_under (fixed_size_list_layout size) offsets spot)
     (marked_run spot.1 (size * spot.0) size (size * (spot.0 + 1)) (omega (arith, next))))
-    (sized_between size (spot.0 + 1) end second rest is.1)
+    (sized_between size (spot.0 + 1) end offsets rest is.1)
 
-struct_between : (from end : ℕ) (second : List ℕ) (spots : List Spot) → Between from end spots → Between from end (spots_inside struct_layout second spots)
-struct_between from end second [] is = is
-struct_between from end second (spot ∷ rest) is = (is.0, struct_between (spot.0 + 1) end second rest is.1)
+struct_between : (from end : ℕ) (offsets : List ℕ) (spots : List Spot) → Between from end spots → Between from end (spots_inside struct_layout offsets spots)
+struct_between from end offsets [] is = is
+struct_between from end offsets (spot ∷ rest) is = (is.0, struct_between (spot.0 + 1) end offsets rest is.1)
 
 nothing_between : (f : Spot → List Spot) → ((spot : Spot) → f spot ≡ []) → (spots : List Spot) → Between 0 0 (flat_map f spots)
 nothing_between f none spots = subst (Between 0 0) (sym (nothing spots)) (omega arith)
@@ -104,44 +104,44 @@ nothing_between f none spots = subst (Between 0 0) (sym (nothing spots)) (omega 
     nothing [] = refl
     nothing (x ∷ xs) = ap₂ (λ ys zs. ys ++ zs) (none x) (nothing xs)
 
-pub inside_between : (layout : Layout) (second : List ℕ) (from end : ℕ) (spots : List Spot) → Reaches layout second end → Between from end spots
-    → Between (end_inside layout second from) (end_inside layout second end) (spots_inside layout second spots)
-inside_between null_layout second from end spots reach is = nothing_between (spots_under null_layout second) (λ spot. refl) spots
-inside_between bits_layout second from end spots reach is = nothing_between (spots_under bits_layout second) (λ spot. refl) spots
-inside_between (bytes_layout size) second from end spots reach is = nothing_between (spots_under (bytes_layout size) second) (λ spot. refl) spots
-inside_between (binary_layout offset) second from end spots reach is = nothing_between (spots_under (binary_layout offset) second) (λ spot. refl) spots
-inside_between (utf8_layout offset) second from end spots reach is = nothing_between (spots_under (utf8_layout offset) second) (λ spot. refl) spots
-inside_between (list_layout offset) second from end spots reach is = lists_between second end reach from spots is
-inside_between (fixed_size_list_layout size) second from end spots reach is = sized_between size from end second spots is
-inside_between struct_layout second from end spots reach is = struct_between from end second spots is
+pub inside_between : (layout : Layout) (offsets : List ℕ) (from end : ℕ) (spots : List Spot) → Reaches layout offsets end → Between from end spots
+    → Between (end_inside layout offsets from) (end_inside layout offsets end) (spots_inside layout offsets spots)
+inside_between null_layout offsets from end spots reach is = nothing_between (spots_under null_layout offsets) (λ spot. refl) spots
+inside_between bits_layout offsets from end spots reach is = nothing_between (spots_under bits_layout offsets) (λ spot. refl) spots
+inside_between (bytes_layout size) offsets from end spots reach is = nothing_between (spots_under (bytes_layout size) offsets) (λ spot. refl) spots
+inside_between (binary_layout offset) offsets from end spots reach is = nothing_between (spots_under (binary_layout offset) offsets) (λ spot. refl) spots
+inside_between (utf8_layout offset) offsets from end spots reach is = nothing_between (spots_under (utf8_layout offset) offsets) (λ spot. refl) spots
+inside_between (list_layout offset) offsets from end spots reach is = lists_between offsets end reach from spots is
+inside_between (fixed_size_list_layout size) offsets from end spots reach is = sized_between size from end offsets spots is
+inside_between struct_layout offsets from end spots reach is = struct_between from end offsets spots is
 
 -- ---- what is read of fewer values
 
-layout_less : (layout : Layout) (second : List ℕ) (less end : ℕ) → less ≤ end → Reaches layout second end → Reaches layout second less
-layout_less null_layout second less end few reach = tt
-layout_less bits_layout second less end few reach = tt
-layout_less (bytes_layout size) second less end few reach = tt
-layout_less (binary_layout offset) second less end few reach = reach_less second end reach less few
-layout_less (utf8_layout offset) second less end few reach = reach_less second end reach less few
-layout_less (list_layout offset) second less end few reach = reach_less second end reach less few
-layout_less (fixed_size_list_layout size) second less end few reach =
+layout_less : (layout : Layout) (offsets : List ℕ) (less end : ℕ) → less ≤ end → Reaches layout offsets end → Reaches layout offsets less
+layout_less null_layout offsets less end few reach = tt
+layout_less bits_layout offsets less end few reach = tt
+layout_less (bytes_layout size) offsets less end few reach = tt
+layout_less (binary_layout offset) offsets less end few reach = reach_less offsets end reach less few
+layout_less (utf8_layout offset) offsets less end few reach = reach_less offsets end reach less few
+layout_less (list_layout offset) offsets less end few reach = reach_less offsets end reach less few
+layout_less (fixed_size_list_layout size) offsets less end few reach =
     let up : size * less ≤ size * end = mul-le-mul_left size few in omega (arith, up, reach)
-layout_less struct_layout second less end few reach = tt
+layout_less struct_layout offsets less end few reach = tt
 
-pub end_less : (layout : Layout) (second : List ℕ) (less end : ℕ) → less ≤ end → Reaches layout second end → end_inside layout second less ≤ end_inside layout second end
-end_less null_layout second less end few reach = omega arith
-end_less bits_layout second less end few reach = omega arith
-end_less (bytes_layout size) second less end few reach = omega arith
-end_less (binary_layout offset) second less end few reach = omega arith
-end_less (utf8_layout offset) second less end few reach = omega arith
-end_less (list_layout offset) second less end few reach = starts_to second end reach less end few (omega arith)
-end_less (fixed_size_list_layout size) second less end few reach = mul-le-mul_left size few
-end_less struct_layout second less end few reach = few
+pub end_less : (layout : Layout) (offsets : List ℕ) (less end : ℕ) → less ≤ end → Reaches layout offsets end → end_inside layout offsets less ≤ end_inside layout offsets end
+end_less null_layout offsets less end few reach = omega arith
+end_less bits_layout offsets less end few reach = omega arith
+end_less (bytes_layout size) offsets less end few reach = omega arith
+end_less (binary_layout offset) offsets less end few reach = omega arith
+end_less (utf8_layout offset) offsets less end few reach = omega arith
+end_less (list_layout offset) offsets less end few reach = starts_to offsets end reach less end few (omega arith)
+end_less (fixed_size_list_layout size) offsets less end few reach = mul-le-mul_left size few
+end_less struct_layout offsets less end few reach = few
 
 pub reads_less : (s : EncodedColumn) (less end : ℕ) → less ≤ end → ReadsTo s end → ReadsTo s less
 reads_less s less end few reads = record {
   few = omega (arith, reads.few, few);
-  reaches = layout_less (layout_named s.layout) s.second.now less end few reads.reaches;
+  reaches = layout_less (layout_named s.layout) s.offsets.now less end few reads.reaches;
 }
 
 -- ---- what is counted of it fits
@@ -150,19 +150,19 @@ flat_fits : (f : Spot → ℕ) → ((spot : Spot) → f spot ≡ 0) → (xs : Li
 flat_fits f none [] = refl
 flat_fits f none (x ∷ xs) = sum_by-cons f x xs ∙ ap₂ (λ m n. m + n) (none x) (flat_fits f none xs)
 
-pub spans_fit : (layout : Layout) (second : List ℕ) (from end : ℕ) (taken : List Spot) → Reaches layout second end → Between from end taken → span_total layout second taken < 2 ^ 64
-spans_fit null_layout second from end taken reach is = omega (arith, flat_fits (span_length null_layout second) (λ spot. refl) taken)
-spans_fit bits_layout second from end taken reach is = omega (arith, flat_fits (span_length bits_layout second) (λ spot. refl) taken)
-spans_fit (bytes_layout size) second from end taken reach is = omega (arith, flat_fits (span_length (bytes_layout size) second) (λ spot. refl) taken)
-spans_fit (binary_layout offset) second from end taken reach is = omega (arith, spans_between second end reach from taken is, reach.ends)
-spans_fit (utf8_layout offset) second from end taken reach is = omega (arith, spans_between second end reach from taken is, reach.ends)
-spans_fit (list_layout offset) second from end taken reach is = omega (arith, spans_between second end reach from taken is, reach.ends)
-spans_fit (fixed_size_list_layout size) second from end taken reach is =
-    omega (arith, flat_fits (span_length (fixed_size_list_layout size) second) (λ spot. refl) taken)
-spans_fit struct_layout second from end taken reach is = omega (arith, flat_fits (span_length struct_layout second) (λ spot. refl) taken)
+pub spans_fit : (layout : Layout) (offsets : List ℕ) (from end : ℕ) (taken : List Spot) → Reaches layout offsets end → Between from end taken → span_total layout offsets taken < 2 ^ 64
+spans_fit null_layout offsets from end taken reach is = omega (arith, flat_fits (span_length null_layout offsets) (λ spot. refl) taken)
+spans_fit bits_layout offsets from end taken reach is = omega (arith, flat_fits (span_length bits_layout offsets) (λ spot. refl) taken)
+spans_fit (bytes_layout size) offsets from end taken reach is = omega (arith, flat_fits (span_length (bytes_layout size) offsets) (λ spot. refl) taken)
+spans_fit (binary_layout offset) offsets from end taken reach is = omega (arith, spans_between offsets end reach from taken is, reach.ends)
+spans_fit (utf8_layout offset) offsets from end taken reach is = omega (arith, spans_between offsets end reach from taken is, reach.ends)
+spans_fit (list_layout offset) offsets from end taken reach is = omega (arith, spans_between offsets end reach from taken is, reach.ends)
+spans_fit (fixed_size_list_layout size) offsets from end taken reach is =
+    omega (arith, flat_fits (span_length (fixed_size_list_layout size) offsets) (λ spot. refl) taken)
+spans_fit struct_layout offsets from end taken reach is = omega (arith, flat_fits (span_length struct_layout offsets) (λ spot. refl) taken)
 
 pub counted_fits : (s : EncodedColumn) (from end : ℕ) (spots : List Spot) (counted : Counted) → ReadsTo s end → Between from end spots → IsCounted s spots counted
     → counted.total < 2 ^ 64
 counted_fits s from end spots counted reads is of =
     subst (λ n. n < 2 ^ 64) (sym of.lengths)
-    (spans_fit (layout_named s.layout) s.second.now from end (map (seen s.validity.now) spots) reads.reaches (between_seen s.validity.now from end spots is))
+    (spans_fit (layout_named s.layout) s.offsets.now from end (map (seen s.validity.now) spots) reads.reaches (between_seen s.validity.now from end spots is))

@@ -24,22 +24,22 @@ pub listed_blank : (mark : Bool) (places : List ℕ) → mark ≡ false → AreB
 listed_blank mark [] is = tt
 listed_blank mark (p ∷ ps) is = (is, listed_blank mark ps is)
 
-pub under_blank : (layout : Layout) (second : List ℕ) (place : ℕ) (mark : Bool) → mark ≡ false → AreBlank (spots_under layout second (place, mark))
-under_blank null_layout second place mark is = tt
-under_blank bits_layout second place mark is = tt
-under_blank (bytes_layout size) second place mark is = tt
-under_blank (binary_layout offset) second place mark is = tt
-under_blank (utf8_layout offset) second place mark is = tt
-under_blank (list_layout offset) second place true is = absurd (true≢false is)
-under_blank (list_layout offset) second place false is = tt
-under_blank (fixed_size_list_layout size) second place mark is = listed_blank mark (range_with_len (size * place) size) is
-under_blank struct_layout second place mark is = (is, tt)
+pub under_blank : (layout : Layout) (offsets : List ℕ) (place : ℕ) (mark : Bool) → mark ≡ false → AreBlank (spots_under layout offsets (place, mark))
+under_blank null_layout offsets place mark is = tt
+under_blank bits_layout offsets place mark is = tt
+under_blank (bytes_layout size) offsets place mark is = tt
+under_blank (binary_layout offset) offsets place mark is = tt
+under_blank (utf8_layout offset) offsets place mark is = tt
+under_blank (list_layout offset) offsets place true is = absurd (true≢false is)
+under_blank (list_layout offset) offsets place false is = tt
+under_blank (fixed_size_list_layout size) offsets place mark is = listed_blank mark (range_with_len (size * place) size) is
+under_blank struct_layout offsets place mark is = (is, tt)
 
-pub inside_blank : (layout : Layout) (second : List ℕ) (spots : List Spot) → AreBlank spots → AreBlank (spots_inside layout second spots)
-inside_blank layout second [] all = tt
-inside_blank layout second (spot ∷ spots) all =
-    both_blank (spots_under layout second spot) (spots_inside layout second spots) (under_blank layout second spot.0 spot.1 all.0)
-    (inside_blank layout second spots all.1)
+pub inside_blank : (layout : Layout) (offsets : List ℕ) (spots : List Spot) → AreBlank spots → AreBlank (spots_inside layout offsets spots)
+inside_blank layout offsets [] all = tt
+inside_blank layout offsets (spot ∷ spots) all =
+    both_blank (spots_under layout offsets spot) (spots_inside layout offsets spots) (under_blank layout offsets spot.0 spot.1 all.0)
+    (inside_blank layout offsets spots all.1)
 
 pub seen_blank : (validity : List ℕ) (spots : List Spot) → AreBlank spots → AreBlank (map (seen validity) spots)
 seen_blank validity [] all = tt
@@ -51,27 +51,27 @@ no_nulls validity (spot ∷ spots) all =
     sum_by-cons (λ bit. if not bit then 1 else 0) (is_shown validity spot) (map (is_shown validity) spots)
     ∙ ap₂ (λ mark n. (if not (not mark || valid_in validity spot.0) then 1 else 0) + n) all.0 (no_nulls validity spots all.1)
 
-no_span : (layout : Layout) (second : List ℕ) (place : ℕ) (mark : Bool) → mark ≡ false → span_length layout second (place, mark) ≡ 0
-no_span null_layout second place mark is = refl
-no_span bits_layout second place mark is = refl
-no_span (bytes_layout size) second place mark is = refl
-no_span (binary_layout offset) second place true is = absurd (true≢false is)
-no_span (binary_layout offset) second place false is = refl
-no_span (utf8_layout offset) second place true is = absurd (true≢false is)
-no_span (utf8_layout offset) second place false is = refl
-no_span (list_layout offset) second place true is = absurd (true≢false is)
-no_span (list_layout offset) second place false is = refl
-no_span (fixed_size_list_layout size) second place mark is = refl
-no_span struct_layout second place mark is = refl
+no_span : (layout : Layout) (offsets : List ℕ) (place : ℕ) (mark : Bool) → mark ≡ false → span_length layout offsets (place, mark) ≡ 0
+no_span null_layout offsets place mark is = refl
+no_span bits_layout offsets place mark is = refl
+no_span (bytes_layout size) offsets place mark is = refl
+no_span (binary_layout offset) offsets place true is = absurd (true≢false is)
+no_span (binary_layout offset) offsets place false is = refl
+no_span (utf8_layout offset) offsets place true is = absurd (true≢false is)
+no_span (utf8_layout offset) offsets place false is = refl
+no_span (list_layout offset) offsets place true is = absurd (true≢false is)
+no_span (list_layout offset) offsets place false is = refl
+no_span (fixed_size_list_layout size) offsets place mark is = refl
+no_span struct_layout offsets place mark is = refl
 
-pub no_spans_blank : (layout : Layout) (second : List ℕ) (spots : List Spot) → AreBlank spots → span_total layout second spots ≡ 0
-no_spans_blank layout second [] all = refl
-no_spans_blank layout second (spot ∷ spots) all =
-    sum_by-cons (span_length layout second) spot spots
-    ∙ ap₂ (λ m n. m + n) (no_span layout second spot.0 spot.1 all.0) (no_spans_blank layout second spots all.1)
+pub no_spans_blank : (layout : Layout) (offsets : List ℕ) (spots : List Spot) → AreBlank spots → span_total layout offsets spots ≡ 0
+no_spans_blank layout offsets [] all = refl
+no_spans_blank layout offsets (spot ∷ spots) all =
+    sum_by-cons (span_length layout offsets) spot spots
+    ∙ ap₂ (λ m n. m + n) (no_span layout offsets spot.0 spot.1 all.0) (no_spans_blank layout offsets spots all.1)
 
 pub blank_counted : (s : EncodedColumn) (spots : List Spot) → AreBlank spots → IsCounted s spots (record { has_null = false; total = 0 })
 blank_counted s spots all = record {
   nulls = ap (λ n. not (n == 0)) (sym (no_nulls s.validity.now spots all));
-  lengths = sym (no_spans_blank (layout_named s.layout) s.second.now (map (seen s.validity.now) spots) (seen_blank s.validity.now spots all));
+  lengths = sym (no_spans_blank (layout_named s.layout) s.offsets.now (map (seen s.validity.now) spots) (seen_blank s.validity.now spots all));
 }

@@ -20,6 +20,7 @@ use Rattle.batch_types.specs.Canonical.{is_null, padded, body_with, own_buffers,
 use Rattle.batch_types.specs.Canonical.{first_blank, blanks_of}
 use Rattle.batch_columns.specs.Held.{layout_named}
 use Rattle.batch_columns.specs.Made.{validity_bytes}
+use Rattle.batch_columns.specs.Read.{offsets_at, values_at}
 use Rattle.batch_columns.specs.declared.layout.Layout.{Layout as Declared}
 use Rattle.batch_columns.specs.declared.layout.Layout.TheVariants.{Null, Bits, Bytes, Binary, Utf8, List as Lists, FixedSizeList, Struct}
 use Rattle.batch_reading.specs.Spots.{Spot}
@@ -78,52 +79,52 @@ AreBelow limit spots = AllByRecursion (λ spot. spot.0 < limit) spots
 
 -- what is read of values below this place is there
 abbrev pub AreThere : Layout → ℕ → List ℕ → List ℕ → Type 0
-AreThere null_layout limit second third = Unit {0}
-AreThere bits_layout limit second third = Unit {0}
-AreThere (bytes_layout size) limit second third = size * limit ≤ length second
-AreThere (binary_layout offset) limit second third = DoReach second limit × (start_of 4 second limit ≤ length third)
-AreThere (utf8_layout offset) limit second third = DoReach second limit × (start_of 4 second limit ≤ length third)
-AreThere (list_layout offset) limit second third = Unit {0}
-AreThere (fixed_size_list_layout size) limit second third = Unit {0}
-AreThere struct_layout limit second third = Unit {0}
+AreThere null_layout limit offsets values = Unit {0}
+AreThere bits_layout limit offsets values = Unit {0}
+AreThere (bytes_layout size) limit offsets values = size * limit ≤ length values
+AreThere (binary_layout offset) limit offsets values = DoReach offsets limit × (start_of 4 offsets limit ≤ length values)
+AreThere (utf8_layout offset) limit offsets values = DoReach offsets limit × (start_of 4 offsets limit ≤ length values)
+AreThere (list_layout offset) limit offsets values = Unit {0}
+AreThere (fixed_size_list_layout size) limit offsets values = Unit {0}
+AreThere struct_layout limit offsets values = Unit {0}
 
-block_long : (size limit : ℕ) (second : List ℕ) → size * limit ≤ length second → (place : ℕ) (mark : Bool) → place < limit
-    → length (block_taken size second (place, mark)) ≡ size
-block_long size limit second fits place true below =
+block_long : (size limit : ℕ) (values : List ℕ) → size * limit ≤ length values → (place : ℕ) (mark : Bool) → place < limit
+    → length (block_taken size values (place, mark)) ≡ size
+block_long size limit values fits place true below =
     let up : size * suc place ≤ size * limit = mul-le-mul_left size (omega (arith, below)) in
-    omega (arith, fits, up, mul-suc size place, length-take size (drop (size * place) second), length-drop (size * place) second)
-block_long size limit second fits place false below = length-replicate size 0
+    omega (arith, fits, up, mul-suc size place, length-take size (drop (size * place) values), length-drop (size * place) values)
+block_long size limit values fits place false below = length-replicate size 0
 
-blocks_long : (size limit : ℕ) (validity second : List ℕ) → size * limit ≤ length second → (spots : List Spot) → AreBelow limit spots
-    → length (flat_map (block_taken size second) (map (seen validity) spots)) ≡ size * length spots
-blocks_long size limit validity second fits [] all = omega arith
-blocks_long size limit validity second fits (spot ∷ spots) all =
+blocks_long : (size limit : ℕ) (validity values : List ℕ) → size * limit ≤ length values → (spots : List Spot) → AreBelow limit spots
+    → length (flat_map (block_taken size values) (map (seen validity) spots)) ≡ size * length spots
+blocks_long size limit validity values fits [] all = omega arith
+blocks_long size limit validity values fits (spot ∷ spots) all =
     omega (
       arith,
-      length-append (block_taken size second (seen validity spot)) (flat_map (block_taken size second) (map (seen validity) spots)),
-      block_long size limit second fits spot.0 (seen validity spot).1 all.0,
-      blocks_long size limit validity second fits spots all.1,
+      length-append (block_taken size values (seen validity spot)) (flat_map (block_taken size values) (map (seen validity) spots)),
+      block_long size limit values fits spot.0 (seen validity spot).1 all.0,
+      blocks_long size limit validity values fits spots all.1,
       mul-suc size (length spots),
     )
 
-span_long : (limit : ℕ) (second third : List ℕ) → DoReach second limit → start_of 4 second limit ≤ length third → (place : ℕ) (mark : Bool) → place < limit
-    → length (span_taken second third (place, mark)) ≡ span_length (list_layout 4) second (place, mark)
-span_long limit second third reach ends place true below =
-    let next : start_of 4 second place ≤ start_of 4 second (place + 1) = reach.rises place below in
-    let last : start_of 4 second (place + 1) ≤ start_of 4 second limit = starts_to second limit reach (place + 1) limit (omega (arith, below)) (omega arith) in
-    omega (arith, next, last, ends, length-take (length_of 4 second place) (drop (start_of 4 second place) third), length-drop (start_of 4 second place) third)
-span_long limit second third reach ends place false below = refl
+span_long : (limit : ℕ) (offsets values : List ℕ) → DoReach offsets limit → start_of 4 offsets limit ≤ length values → (place : ℕ) (mark : Bool) → place < limit
+    → length (span_taken offsets values (place, mark)) ≡ span_length (list_layout 4) offsets (place, mark)
+span_long limit offsets values reach ends place true below =
+    let next : start_of 4 offsets place ≤ start_of 4 offsets (place + 1) = reach.rises place below in
+    let last : start_of 4 offsets (place + 1) ≤ start_of 4 offsets limit = starts_to offsets limit reach (place + 1) limit (omega (arith, below)) (omega arith) in
+    omega (arith, next, last, ends, length-take (length_of 4 offsets place) (drop (start_of 4 offsets place) values), length-drop (start_of 4 offsets place) values)
+span_long limit offsets values reach ends place false below = refl
 
-spans_long : (limit : ℕ) (validity second third : List ℕ) → DoReach second limit → start_of 4 second limit ≤ length third → (spots : List Spot) → AreBelow limit spots
-    → length (flat_map (span_taken second third) (map (seen validity) spots)) ≡ span_total (list_layout 4) second (map (seen validity) spots)
-spans_long limit validity second third reach ends [] all = refl
-spans_long limit validity second third reach ends (spot ∷ spots) all =
+spans_long : (limit : ℕ) (validity offsets values : List ℕ) → DoReach offsets limit → start_of 4 offsets limit ≤ length values → (spots : List Spot) → AreBelow limit spots
+    → length (flat_map (span_taken offsets values) (map (seen validity) spots)) ≡ span_total (list_layout 4) offsets (map (seen validity) spots)
+spans_long limit validity offsets values reach ends [] all = refl
+spans_long limit validity offsets values reach ends (spot ∷ spots) all =
     omega (
       arith,
-      length-append (span_taken second third (seen validity spot)) (flat_map (span_taken second third) (map (seen validity) spots)),
-      span_long limit second third reach ends spot.0 (seen validity spot).1 all.0,
-      spans_long limit validity second third reach ends spots all.1,
-      sum_by-cons (span_length (list_layout 4) second) (seen validity spot) (map (seen validity) spots),
+      length-append (span_taken offsets values (seen validity spot)) (flat_map (span_taken offsets values) (map (seen validity) spots)),
+      span_long limit offsets values reach ends spot.0 (seen validity spot).1 all.0,
+      spans_long limit validity offsets values reach ends spots all.1,
+      sum_by-cons (span_length (list_layout 4) offsets) (seen validity spot) (map (seen validity) spots),
     )
 
 -- ---- one column
@@ -189,58 +190,59 @@ module _ (body : List ℕ) (node : Node) (ranges : List Range) (inner : LaidColu
   abbrev validity : List ℕ
   validity = buffer_at body ranges 0
 
-  abbrev second : List ℕ
-  second = buffer_at body ranges 1
+  -- the offsets and the values of a column of this layout
+  abbrev offsets : Layout → List ℕ
+  offsets layout = offsets_at body layout ranges
 
-  abbrev third : List ℕ
-  third = buffer_at body ranges 2
+  abbrev values : Layout → List ℕ
+  values layout = values_at body layout ranges
 
   abbrev pub OwnIsSized : Layout → Type 0
   OwnIsSized layout =
       length (body_with (own_buffers layout (cells_wanted body (laid layout node ranges inner) (shape layout shapes) spots)))
-      ≡ own_size layout (length spots) (has_null validity spots) (span_total layout second (map (seen validity) spots))
+      ≡ own_size layout (length spots) (has_null validity spots) (span_total layout (offsets layout) (map (seen validity) spots))
 
   abbrev pub IsThere : Layout → Type 0
-  IsThere layout = AreThere layout limit second third
+  IsThere layout = AreThere layout limit (offsets layout) (values layout)
 
   abbrev text_value : ℕ → Cell
-  text_value j = bytes_cell (value_bytes 4 second third j)
+  text_value j = bytes_cell (value_bytes 4 (offsets (binary_layout 4)) (values (binary_layout 4)) j)
 
-  texts_bytes : DoReach second limit → start_of 4 second limit ≤ length third
-      → length (flat_map (bytes_or []) (cells validity text_value (bytes_cell []) (λ j. refl) refl spots)) ≡ span_total (list_layout 4) second (map (seen validity) spots)
+  texts_bytes : DoReach (offsets (binary_layout 4)) limit → start_of 4 (offsets (binary_layout 4)) limit ≤ length (values (binary_layout 4))
+      → length (flat_map (bytes_or []) (cells validity text_value (bytes_cell []) (λ j. refl) refl spots)) ≡ span_total (list_layout 4) (offsets (binary_layout 4)) (map (seen validity) spots)
   texts_bytes reach ends =
-      ap length (gathered_by (span_taken second third) (bytes_or []) (cells validity text_value (bytes_cell []) (λ j. refl) refl spots) (map (seen validity) spots)
+      ap length (gathered_by (span_taken (offsets (binary_layout 4)) (values (binary_layout 4))) (bytes_or []) (cells validity text_value (bytes_cell []) (λ j. refl) refl spots) (map (seen validity) spots)
       (mapped_taken validity text_value (bytes_cell []) (λ j. refl) refl (bytes_or []) [] refl refl spots))
-      ∙ spans_long limit validity second third reach ends spots below
+      ∙ spans_long limit validity (offsets (binary_layout 4)) (values (binary_layout 4)) reach ends spots below
 
   abbrev block_value : ℕ → ℕ → Cell
-  block_value size j = bytes_cell (bytes_from second (size * j) size)
+  block_value size j = bytes_cell (bytes_from (values (bytes_layout size)) (size * j) size)
 
-  blocks_bytes : (size : ℕ) → size * limit ≤ length second
+  blocks_bytes : (size : ℕ) → size * limit ≤ length (values (bytes_layout size))
       → length (flat_map (bytes_or (replicate size 0)) (cells validity (block_value size) (bytes_cell (replicate size 0)) (λ j. refl) refl spots)) ≡ size * length spots
   blocks_bytes size fits =
-      ap length (gathered_by (block_taken size second) (bytes_or (replicate size 0)) (cells validity (block_value size) (bytes_cell (replicate size 0)) (λ j. refl) refl spots)
+      ap length (gathered_by (block_taken size (values (bytes_layout size))) (bytes_or (replicate size 0)) (cells validity (block_value size) (bytes_cell (replicate size 0)) (λ j. refl) refl spots)
       (map (seen validity) spots)
       (mapped_taken validity (block_value size) (bytes_cell (replicate size 0)) (λ j. refl) refl (bytes_or (replicate size 0)) (replicate size 0) refl refl spots))
-      ∙ blocks_long size limit validity second fits spots below
+      ∙ blocks_long size limit validity (values (bytes_layout size)) fits spots below
 
   pub own_sized : (layout : Declared) → IsThere (layout_named layout) → OwnIsSized (layout_named layout)
   own_sized Null there = refl
-  own_sized Bits there = bits_sized validity (λ j. bit_cell (bit_of second j)) (bit_cell false) (λ j. refl) refl spots
+  own_sized Bits there = bits_sized validity (λ j. bit_cell (bit_of (values bits_layout) j)) (bit_cell false) (λ j. refl) refl spots
   own_sized (Bytes size) there =
       bytes_sized validity (block_value size) (bytes_cell (replicate size 0)) (λ j. refl) refl spots
       (flat_map (bytes_or (replicate size 0)) (cells validity (block_value size) (bytes_cell (replicate size 0)) (λ j. refl) refl spots)) (size * length spots)
       (blocks_bytes size there)
   own_sized Binary there =
       texts_sized validity text_value (bytes_cell []) (λ j. refl) refl spots 4
-      (flat_map (bytes_or []) (cells validity text_value (bytes_cell []) (λ j. refl) refl spots)) (span_total (list_layout 4) second (map (seen validity) spots))
+      (flat_map (bytes_or []) (cells validity text_value (bytes_cell []) (λ j. refl) refl spots)) (span_total (list_layout 4) (offsets (binary_layout 4)) (map (seen validity) spots))
       (texts_bytes there.0 there.1)
   own_sized Utf8 there =
       texts_sized validity text_value (bytes_cell []) (λ j. refl) refl spots 4
-      (flat_map (bytes_or []) (cells validity text_value (bytes_cell []) (λ j. refl) refl spots)) (span_total (list_layout 4) second (map (seen validity) spots))
+      (flat_map (bytes_or []) (cells validity text_value (bytes_cell []) (λ j. refl) refl spots)) (span_total (list_layout 4) (offsets (binary_layout 4)) (map (seen validity) spots))
       (texts_bytes there.0 there.1)
   own_sized Lists there =
-      lists_sized validity (λ j. list_cell (cells_inside body inner (range_with_len (start_of 4 second j) (length_of 4 second j)))) (list_cell no_cell)
+      lists_sized validity (λ j. list_cell (cells_inside body inner (range_with_len (start_of 4 (offsets (list_layout 4)) j) (length_of 4 (offsets (list_layout 4)) j)))) (list_cell no_cell)
       (λ j. refl) refl spots 4
   own_sized (FixedSizeList size) there =
       alone_sized validity (λ j. list_cell (cells_inside body inner (range_with_len (size * j) size)))

@@ -9,13 +9,14 @@ use native.Mathlib.Nat.{mul-suc}
 use Rattle.header_types.specs.Fields.{Forest, no_more, more, width}
 use Rattle.batch_types.specs.Cells.{Cell}
 use Rattle.batch_types.specs.Layouts.{Layout, null_layout, bits_layout, bytes_layout, binary_layout, utf8_layout}
-use Rattle.batch_types.specs.Layouts.{list_layout, fixed_size_list_layout}
+use Rattle.batch_types.specs.Layouts.{list_layout, fixed_size_list_layout, struct_layout}
 use Rattle.batch_types.specs.Laid.{Node, Range, laid, LaidColumns}
 use Rattle.batch_types.specs.Placed.{start_of, length_of, cell_at, fields_at, buffer_at}
 use Rattle.batch_types.specs.Shapes.{shape, Shapes, shape_of, shapes_of}
 use Rattle.batch_types.specs.Canonical.{Parts, no_parts, both_parts, own_parts, parts_inside, parts_of, elements_parts, fields_parts, columns_parts}
 use Rattle.batch_types.specs.Canonical.{padded, body_with, own_buffers, blank_of, blanks_of}
 use Rattle.batch_columns.specs.Held.{layout_named}
+use Rattle.batch_columns.specs.Read.{offsets_at}
 use Rattle.batch_columns.specs.Sources.{nodes_of_tree, buffers_of_tree, column_from, columns_from}
 use Rattle.batch_columns.specs.declared.layout.Layout.{Layout as Declared}
 use Rattle.batch_columns.specs.declared.layout.Layout.TheVariants.{Null, Bits, Bytes, Binary, Utf8, List as Lists, FixedSizeList, Struct}
@@ -58,15 +59,16 @@ module _ (body : List ℕ) (node : Node) (ranges : List Range) (nodes : List Nod
   abbrev validity : List ℕ
   validity = buffer_at body ranges 0
 
-  abbrev second : List ℕ
-  second = buffer_at body ranges 1
+  -- the offsets of a column of this layout
+  abbrev offsets : Layout → List ℕ
+  offsets layout = offsets_at body layout ranges
 
   abbrev cells_there : Layout → Forest → List Cell
   cells_there layout inside = cells_wanted body (laid layout node ranges (columns_from inside nodes others)) (shape layout (shapes_of inside)) spots
 
   abbrev parts_there : Layout → Forest → Parts
   parts_there layout inside =
-      columns_parts (shapes_of inside) (columns_wanted body (columns_from inside nodes others) (shapes_of inside) (spots_inside layout second (map (seen validity) spots)))
+      columns_parts (shapes_of inside) (columns_wanted body (columns_from inside nodes others) (shapes_of inside) (spots_inside layout (offsets layout) (map (seen validity) spots)))
 
   abbrev IsInside : Layout → Forest → Type 0
   IsInside layout inside =
@@ -85,23 +87,23 @@ module _ (body : List ℕ) (node : Node) (ranges : List Range) (nodes : List Nod
   inside_is Utf8 inside may = none_there (utf8_layout 4) inside may
   inside_is Lists no_more may = absurd (omega (arith, may))
   inside_is Lists (more t no_more) may =
-      ap (parts_of (shape_of t)) (sym (list_elements validity second (cell_at body (column_from t nodes others)) (blank_of (shape_of t)) spots))
-      ∙ sym (both_none (parts_of (shape_of t) (cells_wanted body (column_from t nodes others) (shape_of t) (spots_inside (list_layout 4) second (map (seen validity) spots)))))
+      ap (parts_of (shape_of t)) (sym (list_elements validity (offsets (list_layout 4)) (cell_at body (column_from t nodes others)) (blank_of (shape_of t)) spots))
+      ∙ sym (both_none (parts_of (shape_of t) (cells_wanted body (column_from t nodes others) (shape_of t) (spots_inside (list_layout 4) (offsets (list_layout 4)) (map (seen validity) spots)))))
   inside_is Lists (more t (more u rest)) may = absurd (omega (arith, may))
   inside_is (FixedSizeList size) no_more may = absurd (omega (arith, may))
   inside_is (FixedSizeList size) (more t no_more) may =
-      ap (parts_of (shape_of t)) (sym (sized_elements size validity second (cell_at body (column_from t nodes others)) (blank_of (shape_of t)) spots))
-      ∙ sym (both_none (parts_of (shape_of t) (cells_wanted body (column_from t nodes others) (shape_of t) (spots_inside (fixed_size_list_layout size) second (map (seen validity) spots)))))
+      ap (parts_of (shape_of t)) (sym (sized_elements size validity (offsets (fixed_size_list_layout size)) (cell_at body (column_from t nodes others)) (blank_of (shape_of t)) spots))
+      ∙ sym (both_none (parts_of (shape_of t) (cells_wanted body (column_from t nodes others) (shape_of t) (spots_inside (fixed_size_list_layout size) (offsets (fixed_size_list_layout size)) (map (seen validity) spots)))))
   inside_is (FixedSizeList size) (more t (more u rest)) may = absurd (omega (arith, may))
   inside_is Struct inside may =
       fields_are body validity (columns_from inside nodes others) (shapes_of inside) spots inside nodes others 0 (λ j. refl) refl
-      ∙ ap (λ l. columns_parts (shapes_of inside) (columns_wanted body (columns_from inside nodes others) (shapes_of inside) l)) (sym (same_in_struct second (map (seen validity) spots)))
+      ∙ ap (λ l. columns_parts (shapes_of inside) (columns_wanted body (columns_from inside nodes others) (shapes_of inside) l)) (sym (same_in_struct (offsets struct_layout) (map (seen validity) spots)))
 
   -- a column is its own buffers and those of the columns inside it
   pub column_long : (layout : Declared) (inside : Forest) → MayHave (layout_named layout) (width inside)
       → length (body_with (parts_of (shape (layout_named layout) (shapes_of inside)) (cells_there (layout_named layout) inside)).buffers)
       ≡ length (body_with (own_buffers (layout_named layout) (cells_there (layout_named layout) inside)))
-      + columns_size (shapes_of inside) (columns_wanted body (columns_from inside nodes others) (shapes_of inside) (spots_inside (layout_named layout) second (map (seen validity) spots)))
+      + columns_size (shapes_of inside) (columns_wanted body (columns_from inside nodes others) (shapes_of inside) (spots_inside (layout_named layout) (offsets (layout_named layout)) (map (seen validity) spots)))
   column_long layout inside may =
       both_long (own_parts (layout_named layout) (cells_there (layout_named layout) inside))
       (parts_inside (layout_named layout) (elements_parts (shapes_of inside) (cells_there (layout_named layout) inside)) (fields_parts (shapes_of inside) 0 (cells_there (layout_named layout) inside)))
@@ -126,15 +128,15 @@ lists_long offsets (spot ∷ taken) =
       sum_by-cons (span_length (list_layout 4) offsets) spot taken,
     )
 
-sized_long : (size : ℕ) (second : List ℕ) (taken : List Spot) → length (spots_inside (fixed_size_list_layout size) second taken) ≡ size * length taken
-sized_long size second [] = omega arith
-sized_long size second (spot ∷ taken) =
+sized_long : (size : ℕ) (offsets : List ℕ) (taken : List Spot) → length (spots_inside (fixed_size_list_layout size) offsets taken) ≡ size * length taken
+sized_long size offsets [] = omega arith
+sized_long size offsets (spot ∷ taken) =
     omega (
       arith,
-      length-append (spots_under (fixed_size_list_layout size) second spot) (spots_inside (fixed_size_list_layout size) second taken),
+      length-append (spots_under (fixed_size_list_layout size) offsets spot) (spots_inside (fixed_size_list_layout size) offsets taken),
       length-map {B = Spot} (range_with_len (size * spot.0) size) (λ p. (p, spot.1)),
       length-range_with_len (size * spot.0) size,
-      sized_long size second taken,
+      sized_long size offsets taken,
       mul-suc size (length taken),
     )
 
@@ -142,15 +144,15 @@ none_long : (f : Spot → List Spot) → ((spot : Spot) → f spot ≡ []) → (
 none_long f none [] = refl
 none_long f none (spot ∷ taken) = ap (λ l. length (l ++ flat_map f taken)) (none spot) ∙ none_long f none taken
 
-pub inside_long : (layout : Declared) (second validity : List ℕ) (spots : List Spot)
-    → length (spots_inside (layout_named layout) second (map (seen validity) spots))
-    ≡ count_inside (layout_named layout) (length spots) (span_total (layout_named layout) second (map (seen validity) spots))
-inside_long Null second validity spots = none_long (spots_under null_layout second) (λ spot. refl) (map (seen validity) spots)
-inside_long Bits second validity spots = none_long (spots_under bits_layout second) (λ spot. refl) (map (seen validity) spots)
-inside_long (Bytes size) second validity spots = none_long (spots_under (bytes_layout size) second) (λ spot. refl) (map (seen validity) spots)
-inside_long Binary second validity spots = none_long (spots_under (binary_layout 4) second) (λ spot. refl) (map (seen validity) spots)
-inside_long Utf8 second validity spots = none_long (spots_under (utf8_layout 4) second) (λ spot. refl) (map (seen validity) spots)
-inside_long Lists second validity spots = lists_long second (map (seen validity) spots)
-inside_long (FixedSizeList size) second validity spots =
-    sized_long size second (map (seen validity) spots) ∙ ap (λ n. size * n) (length-map spots (seen validity))
-inside_long Struct second validity spots = ap length (same_in_struct second (map (seen validity) spots)) ∙ length-map spots (seen validity)
+pub inside_long : (layout : Declared) (offsets validity : List ℕ) (spots : List Spot)
+    → length (spots_inside (layout_named layout) offsets (map (seen validity) spots))
+    ≡ count_inside (layout_named layout) (length spots) (span_total (layout_named layout) offsets (map (seen validity) spots))
+inside_long Null offsets validity spots = none_long (spots_under null_layout offsets) (λ spot. refl) (map (seen validity) spots)
+inside_long Bits offsets validity spots = none_long (spots_under bits_layout offsets) (λ spot. refl) (map (seen validity) spots)
+inside_long (Bytes size) offsets validity spots = none_long (spots_under (bytes_layout size) offsets) (λ spot. refl) (map (seen validity) spots)
+inside_long Binary offsets validity spots = none_long (spots_under (binary_layout 4) offsets) (λ spot. refl) (map (seen validity) spots)
+inside_long Utf8 offsets validity spots = none_long (spots_under (utf8_layout 4) offsets) (λ spot. refl) (map (seen validity) spots)
+inside_long Lists offsets validity spots = lists_long offsets (map (seen validity) spots)
+inside_long (FixedSizeList size) offsets validity spots =
+    sized_long size offsets (map (seen validity) spots) ∙ ap (λ n. size * n) (length-map spots (seen validity))
+inside_long Struct offsets validity spots = ap length (same_in_struct offsets (map (seen validity) spots)) ∙ length-map spots (seen validity)

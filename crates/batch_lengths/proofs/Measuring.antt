@@ -6,13 +6,14 @@ use Rattle.header_types.specs.declared.header.BatchHead.{BatchHead}
 use Rattle.header_types.specs.Fields.{FieldHead, Entry, tree, Forest, more}
 use Rattle.header_types.specs.FieldView.{field_head_of, entries_in, fields_in}
 use Rattle.header_types.proofs.FieldTrees.{forest_next}
-use Rattle.batch_types.specs.Layouts.{layout_of, buffers_in_layout}
+use Rattle.batch_types.specs.Layouts.{Layout, layout_of, buffers_in_layout}
 use Rattle.batch_types.specs.Laid.{Node, Range, laid}
 use Rattle.batch_types.specs.LaysOut.{values_limit}
 use Rattle.batch_types.specs.Placed.{buffer_at}
 use Rattle.batch_types.specs.Shapes.{shape, shape_of, shapes_of}
 use Rattle.batch_types.specs.Canonical.{body_with, parts_of, columns_parts}
 use Rattle.batch_columns.specs.Held.{layout_named}
+use Rattle.batch_columns.specs.Read.{offsets_at}
 use Rattle.batch_columns.specs.declared.layout.Layout.{Layout as Declared}
 use Rattle.batch_columns.specs.declared.place.Place.{Place}
 use Rattle.batch_columns.specs.Sources.{nodes_of_tree, buffers_of_tree, column_from, columns_from}
@@ -56,8 +57,9 @@ module _ (fh : FieldHead) (entries : List Entry) (inside rest : Forest) (head : 
   abbrev validity : List ℕ
   validity = buffer_at body ranges 0
 
-  abbrev second : List ℕ
-  second = buffer_at body ranges 1
+  -- the offsets of a column of this layout
+  abbrev offsets : Layout → List ℕ
+  offsets l = offsets_at body l ranges
 
   abbrev column_tally : List Counted
   column_tally = tally_of body (column_from (tree fh entries inside) nodes others) spots
@@ -72,8 +74,8 @@ module _ (fh : FieldHead) (entries : List Entry) (inside rest : Forest) (head : 
   few_cells = omega (arith, m.wanted, between_long 0 m.limit spots m.between, m.walk.few_values)
 
   pub entry_there : place.node < length table
-  entry_there = (begins_entry table place.node (record { has_null = false; total = 0 }) (counted_of (layout_of fh.data_type) validity second spots)
-      (tally body (columns_from inside inner_nodes inner_others) (spots_inside (layout_of fh.data_type) second (map (seen validity) spots))) parts.0).0
+  entry_there = (begins_entry table place.node (record { has_null = false; total = 0 }) (counted_of (layout_of fh.data_type) validity (offsets (layout_of fh.data_type)) spots)
+      (tally body (columns_from inside inner_nodes inner_others) (spots_inside (layout_of fh.data_type) (offsets (layout_of fh.data_type)) (map (seen validity) spots))) parts.0).0
 
   module _ (layout : Declared) (named : layout_named layout ≡ layout_of fh.data_type) (d : Counted) where
     abbrev entry : Counted
@@ -83,18 +85,18 @@ module _ (fh : FieldHead) (entries : List Entry) (inside rest : Forest) (head : 
     here = facts fh entries inside rest head place body m.limit m.walk layout named
 
     entry_parts : (place.node < length table) × (entry.has_null ≡ has_null validity spots)
-        × (entry.total ≡ min (span_total (layout_of fh.data_type) second (map (seen validity) spots)) (2 ^ 64 - 1))
-        × BeginsWith (drop (place.node + 1) table) (tally body (columns_from inside inner_nodes inner_others) (spots_inside (layout_of fh.data_type) second (map (seen validity) spots)))
+        × (entry.total ≡ min (span_total (layout_of fh.data_type) (offsets (layout_of fh.data_type)) (map (seen validity) spots)) (2 ^ 64 - 1))
+        × BeginsWith (drop (place.node + 1) table) (tally body (columns_from inside inner_nodes inner_others) (spots_inside (layout_of fh.data_type) (offsets (layout_of fh.data_type)) (map (seen validity) spots)))
     entry_parts =
-        begins_entry table place.node d (counted_of (layout_of fh.data_type) validity second spots)
-        (tally body (columns_from inside inner_nodes inner_others) (spots_inside (layout_of fh.data_type) second (map (seen validity) spots))) parts.0
+        begins_entry table place.node d (counted_of (layout_of fh.data_type) validity (offsets (layout_of fh.data_type)) spots)
+        (tally body (columns_from inside inner_nodes inner_others) (spots_inside (layout_of fh.data_type) (offsets (layout_of fh.data_type)) (map (seen validity) spots))) parts.0
 
-    total_is : entry.total ≡ span_total (layout_named layout) second (map (seen validity) spots)
+    total_is : entry.total ≡ span_total (layout_named layout) (offsets (layout_named layout)) (map (seen validity) spots)
     total_is =
-        let fits : span_total (layout_named layout) second (map (seen validity) spots) < 2 ^ 64 =
-        spans_fit (layout_named layout) second 0 m.limit (map (seen validity) spots)
+        let fits : span_total (layout_named layout) (offsets (layout_named layout)) (map (seen validity) spots) < 2 ^ 64 =
+        spans_fit (layout_named layout) (offsets (layout_named layout)) 0 m.limit (map (seen validity) spots)
         (reaches body node ranges inside inner_nodes inner_others m.limit m.walk.places layout here) (between_seen validity 0 m.limit spots m.between) in
-        entry_parts.2 ∙ ap (λ l. min (span_total l second (map (seen validity) spots)) (2 ^ 64 - 1)) (sym named) ∙ least (span_total (layout_named layout) second (map (seen validity) spots)) fits
+        entry_parts.2 ∙ ap (λ l. min (span_total l (offsets l) (map (seen validity) spots)) (2 ^ 64 - 1)) (sym named) ∙ least (span_total (layout_named layout) (offsets (layout_named layout)) (map (seen validity) spots)) fits
       where
         least : (n : ℕ) → n < 2 ^ 64 → min n (2 ^ 64 - 1) ≡ n
         least n fits = omega (arith, fits)
@@ -104,17 +106,17 @@ module _ (fh : FieldHead) (entries : List Entry) (inside rest : Forest) (head : 
         (cells_wanted body (column_from (tree fh entries inside) nodes others) (shape_of (tree fh entries inside)) spots)).buffers)
         ≡ own_size (layout_named layout) count entry.has_null entry.total
         + columns_size (shapes_of inside) (columns_wanted body (columns_from inside inner_nodes inner_others) (shapes_of inside)
-        (spots_inside (layout_named layout) second (map (seen validity) spots)))
+        (spots_inside (layout_named layout) (offsets (layout_named layout)) (map (seen validity) spots)))
     column_own =
         ap (λ l. length (body_with (parts_of (shape l (shapes_of inside))
         (cells_wanted body (laid l node ranges (columns_from inside inner_nodes inner_others)) (shape l (shapes_of inside)) spots)).buffers)) (sym named)
         ∙ column_long body node ranges inner_nodes inner_others spots layout inside here.may
         ∙ ap (λ x. x + columns_size (shapes_of inside) (columns_wanted body (columns_from inside inner_nodes inner_others) (shapes_of inside)
-        (spots_inside (layout_named layout) second (map (seen validity) spots))))
+        (spots_inside (layout_named layout) (offsets (layout_named layout)) (map (seen validity) spots))))
         (own_sized body node ranges (columns_from inside inner_nodes inner_others) (shapes_of inside) spots m.limit
         (between_below 0 m.limit spots m.between) layout
         (are_there body node ranges inside inner_nodes inner_others m.limit m.walk.places layout here)
-        ∙ ap (λ n. own_size (layout_named layout) n (has_null validity spots) (span_total (layout_named layout) second (map (seen validity) spots))) (sym m.wanted)
+        ∙ ap (λ n. own_size (layout_named layout) n (has_null validity spots) (span_total (layout_named layout) (offsets (layout_named layout)) (map (seen validity) spots))) (sym m.wanted)
         ∙ ap₂ (own_size (layout_named layout) count) (sym entry_parts.1) (sym total_is))
 
     pub own_within : own_size (layout_named layout) count entry.has_null entry.total ≤ size_there body (more (tree fh entries inside) rest) head place spots
@@ -131,24 +133,24 @@ module _ (fh : FieldHead) (entries : List Entry) (inside rest : Forest) (head : 
     module _ (cells : ℕ) (cells_are : cells ≡ count_inside (layout_named layout) count entry.total) (within : Place)
         (at_node : within.node ≡ place.node + 1) (at_buffer : within.buffer ≡ place.buffer + buffers_in_layout (layout_named layout)) where
       abbrev spots_within : List Spot
-      spots_within = spots_inside (layout_named layout) second (map (seen validity) spots)
+      spots_within = spots_inside (layout_named layout) (offsets (layout_named layout)) (map (seen validity) spots)
 
       pub inside_may : MayMeasure inside head within body cells table spots_within
       inside_may = record {
-        limit = end_inside (layout_named layout) second m.limit;
+        limit = end_inside (layout_named layout) (offsets (layout_named layout)) m.limit;
         walk = inside_walk fh entries inside rest head place body m.limit m.walk layout named within at_node at_buffer;
         between =
-            between_wider 0 (end_inside (layout_named layout) second 0) (end_inside (layout_named layout) second m.limit) (end_inside (layout_named layout) second m.limit)
+            between_wider 0 (end_inside (layout_named layout) (offsets (layout_named layout)) 0) (end_inside (layout_named layout) (offsets (layout_named layout)) m.limit) (end_inside (layout_named layout) (offsets (layout_named layout)) m.limit)
             (omega arith) (omega arith) spots_within
-            (inside_between (layout_named layout) second 0 m.limit (map (seen validity) spots)
+            (inside_between (layout_named layout) (offsets (layout_named layout)) 0 m.limit (map (seen validity) spots)
             (reaches body node ranges inside inner_nodes inner_others m.limit m.walk.places layout here) (between_seen validity 0 m.limit spots m.between));
         wanted =
-            cells_are ∙ ap₂ (count_inside (layout_named layout)) m.wanted total_is ∙ sym (inside_long layout second validity spots);
+            cells_are ∙ ap₂ (count_inside (layout_named layout)) m.wanted total_is ∙ sym (inside_long layout (offsets (layout_named layout)) validity spots);
         tallied =
             subst (λ n. BeginsWith (drop n table) (tally body (columns_there inside head within) spots_within)) (sym at_node)
             (subst (λ cs. BeginsWith (drop (place.node + 1) table) (tally body cs spots_within))
             (columns_same fh entries inside rest head place body m.limit m.walk layout named within at_node at_buffer)
-            (subst (λ l. BeginsWith (drop (place.node + 1) table) (tally body (columns_from inside inner_nodes inner_others) (spots_inside l second (map (seen validity) spots)))) (sym named)
+            (subst (λ l. BeginsWith (drop (place.node + 1) table) (tally body (columns_from inside inner_nodes inner_others) (spots_inside l (offsets l) (map (seen validity) spots)))) (sym named)
             entry_parts.3));
       }
 
@@ -226,7 +228,7 @@ module _ (fields : List Field) (i : ℕ) (x : Field) (there : i < length fields)
         (at_node : within.node ≡ next.node + 1) (at_buffer : within.buffer ≡ next.buffer + buffers_in_layout (layout_named layout)) where
       abbrev pub spots_here : List Spot
       spots_here =
-          spots_inside (layout_named layout) (buffer_at body (take (buffers_in_layout (layout_of (field_head_of x).data_type)) (drop next.buffer head.buffers.items)) 1)
+          spots_inside (layout_named layout) (offsets_at body (layout_named layout) (take (buffers_in_layout (layout_of (field_head_of x).data_type)) (drop next.buffer head.buffers.items)))
           (map (seen (buffer_at body (take (buffers_in_layout (layout_of (field_head_of x).data_type)) (drop next.buffer head.buffers.items)) 0)) spots)
 
       pub field_inside : MayMeasure (fields_in x) head within body cells table spots_here

@@ -36,14 +36,14 @@ run_both start m n =
 
 -- ---- what is wanted inside
 
-pub inside_both : (layout : Layout) (second : List ℕ) (xs ys : List Spot)
-    → spots_inside layout second (xs ++ ys) ≡ spots_inside layout second xs ++ spots_inside layout second ys
-inside_both layout second xs ys = flat_map-append (spots_under layout second) xs ys
+pub inside_both : (layout : Layout) (offsets : List ℕ) (xs ys : List Spot)
+    → spots_inside layout offsets (xs ++ ys) ≡ spots_inside layout offsets xs ++ spots_inside layout offsets ys
+inside_both layout offsets xs ys = flat_map-append (spots_under layout offsets) xs ys
 
 pub source_both : (s : EncodedColumn) (xs ys : List Spot) → source_spots s (xs ++ ys) ≡ source_spots s xs ++ source_spots s ys
 source_both s xs ys =
-    ap (spots_inside (layout_named s.layout) s.second.now) (map-append (seen s.validity.now) xs ys)
-    ∙ inside_both (layout_named s.layout) s.second.now (map (seen s.validity.now) xs) (map (seen s.validity.now) ys)
+    ap (spots_inside (layout_named s.layout) s.offsets.now) (map-append (seen s.validity.now) xs ys)
+    ∙ inside_both (layout_named s.layout) s.offsets.now (map (seen s.validity.now) xs) (map (seen s.validity.now) ys)
 
 -- ---- what is counted
 
@@ -60,12 +60,12 @@ nulls_both validity xs ys =
     ∙ ap (λ n. not (n == 0)) (sum_by-append (λ bit. if not bit then 1 else 0) (map (is_shown validity) xs) (map (is_shown validity) ys))
     ∙ some_of_two (zeros (map (is_shown validity) xs)) (zeros (map (is_shown validity) ys))
 
-pub spans_both : (layout : Layout) (second validity : List ℕ) (xs ys : List Spot)
-    → span_total layout second (map (seen validity) (xs ++ ys))
-    ≡ span_total layout second (map (seen validity) xs) + span_total layout second (map (seen validity) ys)
-spans_both layout second validity xs ys =
-    ap (span_total layout second) (map-append (seen validity) xs ys)
-    ∙ sum_by-append (span_length layout second) (map (seen validity) xs) (map (seen validity) ys)
+pub spans_both : (layout : Layout) (offsets validity : List ℕ) (xs ys : List Spot)
+    → span_total layout offsets (map (seen validity) (xs ++ ys))
+    ≡ span_total layout offsets (map (seen validity) xs) + span_total layout offsets (map (seen validity) ys)
+spans_both layout offsets validity xs ys =
+    ap (span_total layout offsets) (map-append (seen validity) xs ys)
+    ∙ sum_by-append (span_length layout offsets) (map (seen validity) xs) (map (seen validity) ys)
 
 pub counted_both : (s : EncodedColumn) (xs ys : List Spot) (a b c : Counted) → IsCounted s xs a → IsCounted s ys b
     → c.has_null ≡ (a.has_null || b.has_null) → c.total ≡ a.total + b.total → IsCounted s (xs ++ ys) c
@@ -73,5 +73,5 @@ counted_both s xs ys a b c first next nulls lengths = record {
   nulls = nulls ∙ ap₂ (λ p q. p || q) first.nulls next.nulls ∙ sym (nulls_both s.validity.now xs ys);
   lengths =
       lengths ∙ ap₂ (λ m n. m + n) first.lengths next.lengths
-      ∙ sym (spans_both (layout_named s.layout) s.second.now s.validity.now xs ys);
+      ∙ sym (spans_both (layout_named s.layout) s.offsets.now s.validity.now xs ys);
 }

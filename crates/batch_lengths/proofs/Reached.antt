@@ -9,6 +9,7 @@ use Rattle.batch_types.specs.Order.{AreKept, column_order}
 use Rattle.batch_types.specs.Placed.{buffer_at, offset_at, start_of}
 use Rattle.batch_types.specs.Rules.{AreOffsetsLong, DoRise, OffsetsRise, asked_inside, places_inside, first_length}
 use Rattle.batch_columns.specs.Held.{layout_named}
+use Rattle.batch_columns.specs.Read.{offsets_at, values_at}
 use Rattle.batch_columns.specs.Sources.{columns_from}
 use Rattle.batch_columns.specs.declared.layout.Layout.{Layout as Declared}
 use Rattle.batch_columns.specs.declared.layout.Layout.TheVariants.{Null, Bits, Bytes, Binary, Utf8, List as Lists, FixedSizeList, Struct}
@@ -126,20 +127,22 @@ module _ (body : List ℕ) (node : Node) (ranges : List Range) (inside : Forest)
     pub first_few : first_length inner ≤ values_limit
     pub short : length body < 2 ^ 64
 
-  abbrev second : List ℕ
-  second = buffer_at body ranges 1
+  -- the offsets and the values of a column of this layout
+  abbrev offsets : Declared → List ℕ
+  offsets layout = offsets_at body (layout_named layout) ranges
 
-  abbrev third : List ℕ
-  third = buffer_at body ranges 2
+  abbrev values : Declared → List ℕ
+  values layout = values_at body (layout_named layout) ranges
 
-  texts_reach : (layout : Declared) → Facts layout → OffsetsRise 4 second (nat_abs node.0) (length third) → AreOffsetsLong 4 (nat_abs node.0) (length second)
-      → limit ≤ nat_abs node.0 → DoReach second limit × (start_of 4 second limit ≤ length third)
+  texts_reach : (layout : Declared) → Facts layout → OffsetsRise 4 (offsets Binary) (nat_abs node.0) (length (values Binary))
+      → AreOffsetsLong 4 (nat_abs node.0) (length (offsets Binary)) → limit ≤ nat_abs node.0
+      → DoReach (offsets Binary) limit × (start_of 4 (offsets Binary) limit ≤ length (values Binary))
   texts_reach layout f rises long asked =
-      reach_of_rules second limit (nat_abs node.0) (length third) asked (omega (arith, buffer_short body ranges 2, f.short)) rises long
+      reach_of_rules (offsets Binary) limit (nat_abs node.0) (length (values Binary)) asked (omega (arith, buffer_short body ranges 2, f.short)) rises long
 
-  lists_reach : Facts Lists → DoReach second limit × (start_of 4 second limit ≤ first_length inner)
+  lists_reach : Facts Lists → DoReach (offsets Lists) limit × (start_of 4 (offsets Lists) limit ≤ first_length inner)
   lists_reach f =
-      reach_of_rules second limit (nat_abs node.0) (first_length inner) f.kept.1.1.1.0 (omega (arith, f.first_few)) f.kept.1.1.0 f.kept.0.long_enough.1
+      reach_of_rules (offsets Lists) limit (nat_abs node.0) (first_length inner) f.kept.1.1.1.0 (omega (arith, f.first_few)) f.kept.1.1.0 f.kept.0.long_enough.1
 
   sized_few : (size : ℕ) → Facts (FixedSizeList size) → size * limit ≤ values_limit
   sized_few size f =
@@ -151,7 +154,7 @@ module _ (body : List ℕ) (node : Node) (ranges : List Range) (inside : Forest)
         first_asked body inside nodes others (size * nat_abs node.0) (places_inside body (fixed_size_list_layout size) ranges places) f.may f.sound,
       )
 
-  pub reaches : (layout : Declared) → Facts layout → Reaches (layout_named layout) second limit
+  pub reaches : (layout : Declared) → Facts layout → Reaches (layout_named layout) (offsets layout) limit
   reaches Null f = tt
   reaches Bits f = tt
   reaches (Bytes size) f = tt
@@ -161,7 +164,7 @@ module _ (body : List ℕ) (node : Node) (ranges : List Range) (inside : Forest)
   reaches (FixedSizeList size) f = omega (arith, sized_few size f)
   reaches Struct f = tt
 
-  pub are_there : (layout : Declared) → Facts layout → AreThere (layout_named layout) limit second third
+  pub are_there : (layout : Declared) → Facts layout → AreThere (layout_named layout) limit (offsets layout) (values layout)
   are_there Null f = tt
   are_there Bits f = tt
   are_there (Bytes size) f =
@@ -173,7 +176,7 @@ module _ (body : List ℕ) (node : Node) (ranges : List Range) (inside : Forest)
   are_there Struct f = tt
 
   -- the columns inside can be read as far as they are wanted
-  pub end_few : (layout : Declared) → Facts layout → end_inside (layout_named layout) second limit ≤ values_limit
+  pub end_few : (layout : Declared) → Facts layout → end_inside (layout_named layout) (offsets layout) limit ≤ values_limit
   end_few Null f = omega arith
   end_few Bits f = omega arith
   end_few (Bytes size) f = omega arith
@@ -184,14 +187,14 @@ module _ (body : List ℕ) (node : Node) (ranges : List Range) (inside : Forest)
   end_few Struct f = f.few
 
   pub inside_sound : (layout : Declared) → Facts layout
-      → AreSound body inner (end_inside (layout_named layout) second limit) (places_inside body (layout_named layout) ranges places)
+      → AreSound body inner (end_inside (layout_named layout) (offsets layout) limit) (places_inside body (layout_named layout) ranges places)
   inside_sound Null f = f.sound
   inside_sound Bits f = f.sound
   inside_sound (Bytes size) f = f.sound
   inside_sound Binary f = f.sound
   inside_sound Utf8 f = f.sound
   inside_sound Lists f =
-      sound_less body inner (first_length inner) (start_of 4 second limit) (places_inside body (list_layout 4) ranges places) (lists_reach f).1
+      sound_less body inner (first_length inner) (start_of 4 (offsets Lists) limit) (places_inside body (list_layout 4) ranges places) (lists_reach f).1
       (as_many body inside nodes others 0 (places_inside body (list_layout 4) ranges places) f.may f.sound)
   inside_sound (FixedSizeList size) f =
       sound_less body inner (size * nat_abs node.0) (size * limit) (places_inside body (fixed_size_list_layout size) ranges places)

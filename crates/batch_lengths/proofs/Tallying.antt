@@ -5,6 +5,7 @@ use Rattle.batch_types.specs.Laid.{Node, Range, LaidColumn, laid, LaidColumns, n
 use Rattle.batch_types.specs.Layouts.{layout_of, buffers_in_layout}
 use Rattle.batch_types.specs.Placed.{buffer_at}
 use Rattle.header_types.specs.Fields.{Tree, tree, Forest, no_more, more}
+use Rattle.batch_columns.specs.Read.{offsets_at}
 use Rattle.batch_columns.specs.Sources.{nodes_of_tree, buffers_of_tree, column_from, columns_from}
 use Rattle.batch_reading.specs.Spots.{Spot}
 use Rattle.batch_reading.specs.Taken.{seen}
@@ -120,13 +121,13 @@ mutual
   column_sums : (body : List ℕ) (column : LaidColumn) (xs ys : List Spot) → AreSums (tally_of body column xs) (tally_of body column ys) (tally_of body column (xs ++ ys))
   column_sums body (laid layout node ranges inner) xs ys = (
     nulls_both (buffer_at body ranges 0) xs ys,
-    spans_both layout (buffer_at body ranges 1) (buffer_at body ranges 0) xs ys,
-    subst (AreSums (tally body inner (spots_inside layout (buffer_at body ranges 1) (map (seen (buffer_at body ranges 0)) xs)))
-        (tally body inner (spots_inside layout (buffer_at body ranges 1) (map (seen (buffer_at body ranges 0)) ys))))
-        (ap (tally body inner) (sym (ap (spots_inside layout (buffer_at body ranges 1)) (map-append (seen (buffer_at body ranges 0)) xs ys)
-        ∙ inside_both layout (buffer_at body ranges 1) (map (seen (buffer_at body ranges 0)) xs) (map (seen (buffer_at body ranges 0)) ys))))
-        (columns_sums body inner (spots_inside layout (buffer_at body ranges 1) (map (seen (buffer_at body ranges 0)) xs))
-        (spots_inside layout (buffer_at body ranges 1) (map (seen (buffer_at body ranges 0)) ys))),
+    spans_both layout (offsets_at body layout ranges) (buffer_at body ranges 0) xs ys,
+    subst (AreSums (tally body inner (spots_inside layout (offsets_at body layout ranges) (map (seen (buffer_at body ranges 0)) xs)))
+        (tally body inner (spots_inside layout (offsets_at body layout ranges) (map (seen (buffer_at body ranges 0)) ys))))
+        (ap (tally body inner) (sym (ap (spots_inside layout (offsets_at body layout ranges)) (map-append (seen (buffer_at body ranges 0)) xs ys)
+        ∙ inside_both layout (offsets_at body layout ranges) (map (seen (buffer_at body ranges 0)) xs) (map (seen (buffer_at body ranges 0)) ys))))
+        (columns_sums body inner (spots_inside layout (offsets_at body layout ranges) (map (seen (buffer_at body ranges 0)) xs))
+        (spots_inside layout (offsets_at body layout ranges) (map (seen (buffer_at body ranges 0)) ys))),
   )
 
   columns_sums : (body : List ℕ) (columns : LaidColumns) (xs ys : List Spot) → AreSums (tally body columns xs) (tally body columns ys) (tally body columns (xs ++ ys))
@@ -164,9 +165,9 @@ mutual
   column_nothing : (body : List ℕ) (column : LaidColumn) (spots : List Spot) → AreBlank spots → AreNothing (tally_of body column spots)
   column_nothing body (laid layout node ranges inner) spots blank = (
     ap (λ n. not (n == 0)) (no_nulls (buffer_at body ranges 0) spots blank),
-    no_spans_blank layout (buffer_at body ranges 1) (map (seen (buffer_at body ranges 0)) spots) (seen_blank (buffer_at body ranges 0) spots blank),
-    columns_nothing body inner (spots_inside layout (buffer_at body ranges 1) (map (seen (buffer_at body ranges 0)) spots))
-        (inside_blank layout (buffer_at body ranges 1) (map (seen (buffer_at body ranges 0)) spots) (seen_blank (buffer_at body ranges 0) spots blank)),
+    no_spans_blank layout (offsets_at body layout ranges) (map (seen (buffer_at body ranges 0)) spots) (seen_blank (buffer_at body ranges 0) spots blank),
+    columns_nothing body inner (spots_inside layout (offsets_at body layout ranges) (map (seen (buffer_at body ranges 0)) spots))
+        (inside_blank layout (offsets_at body layout ranges) (map (seen (buffer_at body ranges 0)) spots) (seen_blank (buffer_at body ranges 0) spots blank)),
   )
 
   columns_nothing : (body : List ℕ) (columns : LaidColumns) (spots : List Spot) → AreBlank spots → AreNothing (tally body columns spots)
@@ -187,7 +188,7 @@ mutual
       omega (
         arith,
         tally_long body inside (drop 1 nodes) (drop (buffers_in_layout (layout_of field.data_type)) ranges)
-            (spots_inside (layout_of field.data_type) (buffer_at body (take (buffers_in_layout (layout_of field.data_type)) ranges) 1)
+            (spots_inside (layout_of field.data_type) (offsets_at body (layout_of field.data_type) (take (buffers_in_layout (layout_of field.data_type)) ranges))
             (map (seen (buffer_at body (take (buffers_in_layout (layout_of field.data_type)) ranges) 0)) spots)),
       )
 

@@ -12,10 +12,9 @@ use Rattle.batch_types.specs.Layouts.{list_layout, fixed_size_list_layout, struc
 use Rattle.batch_types.specs.Laid.{Node, Range, node_count}
 use Rattle.batch_types.specs.LaysOut.{KeepsRule, AreSound, values_limit}
 use Rattle.batch_types.specs.Order.{AreKept, column_order}
-use Rattle.batch_types.specs.Placed.{buffer_at}
 use Rattle.batch_types.specs.Rules.{asked_inside, places_inside, first_length}
 use Rattle.batch_columns.specs.Held.{layout_named}
-use Rattle.batch_columns.specs.Read.{IsSource}
+use Rattle.batch_columns.specs.Read.{offsets_at, IsSource}
 use Rattle.batch_columns.specs.declared.layout.Layout.{Layout as Declared}
 use Rattle.batch_columns.specs.declared.place.Place.{Place}
 use Rattle.batch_columns.specs.declared.encoded_column.EncodedColumn.{EncodedColumn}
@@ -160,13 +159,13 @@ module _ (fh : FieldHead) (entries : List Entry) (inside rest : Forest) (head : 
         (drop-drop (buffers_in_layout (layout_of fh.data_type)) place.buffer head.buffers.items
         ∙ ap (λ n. drop n head.buffers.items) (sym (at_buffer ∙ ap (λ l. place.buffer + buffers_in_layout l) named)))
 
-    pub inside_walk : MayWalk inside head within body (end_inside (layout_named layout) (buffer_at body ranges 1) end)
+    pub inside_walk : MayWalk inside head within body (end_inside (layout_named layout) (offsets_at body (layout_named layout) ranges) end)
     inside_walk = record {
       places = places_inside body (layout_named layout) ranges m.places;
       few_values = end_few body node ranges inside inner_nodes inner_others end m.places layout (facts layout named);
       short = m.short;
       sound =
-          subst (λ cs. AreSound body cs (end_inside (layout_named layout) (buffer_at body ranges 1) end) (places_inside body (layout_named layout) ranges m.places)) columns_same
+          subst (λ cs. AreSound body cs (end_inside (layout_named layout) (offsets_at body (layout_named layout) ranges) end) (places_inside body (layout_named layout) ranges m.places)) columns_same
           (inside_sound body node ranges inside inner_nodes inner_others end m.places layout (facts layout named));
       formed = m.formed.0.2;
       nodes_there = omega (arith, at_node, m.nodes_there);
@@ -179,16 +178,19 @@ module _ (fh : FieldHead) (entries : List Entry) (inside rest : Forest) (head : 
 
   -- what is read of its column
   module _ (s : EncodedColumn) (of : IsSource body (layout_of fh.data_type) node ranges s) where
+    offsets_are : offsets_at body (layout_named s.layout) ranges ≡ s.offsets.now
+    offsets_are = ap (λ l. offsets_at body l ranges) of.layout_is ∙ sym of.offsets_is
+
     pub field_reads : ReadsTo s end
     field_reads = record {
       few = m.few_values;
       reaches =
-          subst (λ b. Reaches (layout_named s.layout) b end) (sym of.second_is)
+          subst (λ b. Reaches (layout_named s.layout) b end) offsets_are
           (reaches body node ranges inside inner_nodes inner_others end m.places s.layout (facts s.layout of.layout_is));
     }
 
     pub source_walk : (within : Place) → within.node ≡ place.node + 1 → within.buffer ≡ place.buffer + buffers_in_layout (layout_named s.layout)
-        → MayWalk inside head within body (end_inside (layout_named s.layout) s.second.now end)
+        → MayWalk inside head within body (end_inside (layout_named s.layout) s.offsets.now end)
     source_walk within at_node at_buffer =
-        subst (λ b. MayWalk inside head within body (end_inside (layout_named s.layout) b end)) (sym of.second_is)
+        subst (λ b. MayWalk inside head within body (end_inside (layout_named s.layout) b end)) offsets_are
         (inside_walk s.layout of.layout_is within at_node at_buffer)

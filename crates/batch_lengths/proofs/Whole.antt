@@ -8,6 +8,7 @@ use Rattle.bitmaps.specs.Bits.{bit_of, bits_of, zeros}
 use Rattle.batch_types.specs.Layouts.{Layout, null_layout, bits_layout, bytes_layout, binary_layout, utf8_layout}
 use Rattle.batch_types.specs.Layouts.{list_layout, fixed_size_list_layout, struct_layout}
 use Rattle.batch_types.specs.Placed.{start_of, length_of}
+use Rattle.batch_columns.specs.Buffers.{has_offsets}
 use Rattle.batch_columns.specs.Held.{layout_named}
 use Rattle.batch_columns.specs.declared.layout.Layout.{Layout as Declared}
 use Rattle.batch_columns.specs.declared.layout.Layout.TheVariants.{Null, Bits, Bytes, Binary, Utf8, List as Lists, FixedSizeList, Struct}
@@ -17,7 +18,7 @@ use Rattle.batch_reading.specs.Taken.{valid_in, is_shown, seen}
 use Rattle.batch_reading.specs.Planned.{spots_under, spots_inside}
 use Rattle.batch_reading.proofs.Planning.{same_in_struct}
 use Rattle.batch_lengths.specs.Along.{run_spots, source_spots}
-use Rattle.batch_lengths.specs.Counted.{has_null, has_spans, span_length, span_total, IsCounted}
+use Rattle.batch_lengths.specs.Counted.{has_null, span_length, span_total, IsCounted}
 use Rattle.batch_lengths.specs.Reach.{DoReach, Reaches, ReadsTo, end_inside}
 use Rattle.batch_lengths.proofs.Parts.{run_both}
 
@@ -148,13 +149,13 @@ module _ (offsets : List ℕ) (end : ℕ) (has : DoReach offsets end) where
 
 -- ---- lists of one size
 
-pub sized_run : (size : ℕ) (second : List ℕ) (start count : ℕ)
-    → spots_inside (fixed_size_list_layout size) second (run_spots start count) ≡ run_spots (size * start) (size * count)
-sized_run size second start zero = let none : 0 ≡ size * 0 = omega arith in ap (run_spots (size * start)) none
-sized_run size second start (suc count) =
+pub sized_run : (size : ℕ) (offsets : List ℕ) (start count : ℕ)
+    → spots_inside (fixed_size_list_layout size) offsets (run_spots start count) ≡ run_spots (size * start) (size * count)
+sized_run size offsets start zero = let none : 0 ≡ size * 0 = omega arith in ap (run_spots (size * start)) none
+sized_run size offsets start (suc count) =
     let at : size * (start + 1) ≡ size * start + size = omega arith in
     let whole : size + size * count ≡ size * suc count = omega (arith, mul-suc size count) in
-    ap (λ l. run_spots (size * start) size ++ l) (sized_run size second (start + 1) count ∙ ap (λ s. run_spots s (size * count)) at)
+    ap (λ l. run_spots (size * start) size ++ l) (sized_run size offsets (start + 1) count ∙ ap (λ s. run_spots s (size * count)) at)
     ∙ sym (run_both (size * start) size (size * count))
     ∙ ap (run_spots (size * start)) whole
 
@@ -162,43 +163,43 @@ nothing_of : {X Y : Type 0} (xs : List X) → ◌≡◌ {A = List Y} (flat_map (
 nothing_of [] = refl
 nothing_of (x ∷ xs) = nothing_of xs
 
-flat_total : (layout : Layout) (second : List ℕ) → ((spot : Spot) → span_length layout second spot ≡ 0) → (xs : List Spot) → span_total layout second xs ≡ 0
-flat_total layout second none [] = refl
-flat_total layout second none (x ∷ xs) =
-    sum_by-cons (span_length layout second) x xs ∙ ap₂ (λ m n. m + n) (none x) (flat_total layout second none xs)
+flat_total : (layout : Layout) (offsets : List ℕ) → ((spot : Spot) → span_length layout offsets spot ≡ 0) → (xs : List Spot) → span_total layout offsets xs ≡ 0
+flat_total layout offsets none [] = refl
+flat_total layout offsets none (x ∷ xs) =
+    sum_by-cons (span_length layout offsets) x xs ∙ ap₂ (λ m n. m + n) (none x) (flat_total layout offsets none xs)
 
 -- ---- values of any number of bytes or elements, and of one number
 
-pub no_spans : (layout : Layout) (second : List ℕ) (xs : List Spot) → has_spans layout ≡ false → span_total layout second xs ≡ 0
-no_spans null_layout second xs none = flat_total null_layout second (λ spot. refl) xs
-no_spans bits_layout second xs none = flat_total bits_layout second (λ spot. refl) xs
-no_spans (bytes_layout size) second xs none = flat_total (bytes_layout size) second (λ spot. refl) xs
-no_spans (binary_layout offset) second xs none = absurd (true≢false none)
-no_spans (utf8_layout offset) second xs none = absurd (true≢false none)
-no_spans (list_layout offset) second xs none = absurd (true≢false none)
-no_spans (fixed_size_list_layout size) second xs none = flat_total (fixed_size_list_layout size) second (λ spot. refl) xs
-no_spans struct_layout second xs none = flat_total struct_layout second (λ spot. refl) xs
+pub no_spans : (layout : Layout) (offsets : List ℕ) (xs : List Spot) → has_offsets layout ≡ false → span_total layout offsets xs ≡ 0
+no_spans null_layout offsets xs none = flat_total null_layout offsets (λ spot. refl) xs
+no_spans bits_layout offsets xs none = flat_total bits_layout offsets (λ spot. refl) xs
+no_spans (bytes_layout size) offsets xs none = flat_total (bytes_layout size) offsets (λ spot. refl) xs
+no_spans (binary_layout offset) offsets xs none = absurd (true≢false none)
+no_spans (utf8_layout offset) offsets xs none = absurd (true≢false none)
+no_spans (list_layout offset) offsets xs none = absurd (true≢false none)
+no_spans (fixed_size_list_layout size) offsets xs none = flat_total (fixed_size_list_layout size) offsets (λ spot. refl) xs
+no_spans struct_layout offsets xs none = flat_total struct_layout offsets (λ spot. refl) xs
 
-pub spans_reach : (layout : Layout) (second : List ℕ) (end : ℕ) → has_spans layout ≡ true → Reaches layout second end → DoReach second end
-spans_reach null_layout second end has reach = absurd (true≢false (sym has))
-spans_reach bits_layout second end has reach = absurd (true≢false (sym has))
-spans_reach (bytes_layout size) second end has reach = absurd (true≢false (sym has))
-spans_reach (binary_layout offset) second end has reach = reach
-spans_reach (utf8_layout offset) second end has reach = reach
-spans_reach (list_layout offset) second end has reach = reach
-spans_reach (fixed_size_list_layout size) second end has reach = absurd (true≢false (sym has))
-spans_reach struct_layout second end has reach = absurd (true≢false (sym has))
+pub spans_reach : (layout : Layout) (offsets : List ℕ) (end : ℕ) → has_offsets layout ≡ true → Reaches layout offsets end → DoReach offsets end
+spans_reach null_layout offsets end has reach = absurd (true≢false (sym has))
+spans_reach bits_layout offsets end has reach = absurd (true≢false (sym has))
+spans_reach (bytes_layout size) offsets end has reach = absurd (true≢false (sym has))
+spans_reach (binary_layout offset) offsets end has reach = reach
+spans_reach (utf8_layout offset) offsets end has reach = reach
+spans_reach (list_layout offset) offsets end has reach = reach
+spans_reach (fixed_size_list_layout size) offsets end has reach = absurd (true≢false (sym has))
+spans_reach struct_layout offsets end has reach = absurd (true≢false (sym has))
 
-pub spans_total : (layout : Layout) (second : List ℕ) (start count n : ℕ) → has_spans layout ≡ true → Reaches layout second (start + count)
-    → n + start_of 4 second start ≡ start_of 4 second (start + count) → n ≡ span_total layout second (run_spots start count)
-spans_total null_layout second start count n has reach is = absurd (true≢false (sym has))
-spans_total bits_layout second start count n has reach is = absurd (true≢false (sym has))
-spans_total (bytes_layout size) second start count n has reach is = absurd (true≢false (sym has))
-spans_total (binary_layout offset) second start count n has reach is = list_total second (start + count) reach start count (omega arith) n is
-spans_total (utf8_layout offset) second start count n has reach is = list_total second (start + count) reach start count (omega arith) n is
-spans_total (list_layout offset) second start count n has reach is = list_total second (start + count) reach start count (omega arith) n is
-spans_total (fixed_size_list_layout size) second start count n has reach is = absurd (true≢false (sym has))
-spans_total struct_layout second start count n has reach is = absurd (true≢false (sym has))
+pub spans_total : (layout : Layout) (offsets : List ℕ) (start count n : ℕ) → has_offsets layout ≡ true → Reaches layout offsets (start + count)
+    → n + start_of 4 offsets start ≡ start_of 4 offsets (start + count) → n ≡ span_total layout offsets (run_spots start count)
+spans_total null_layout offsets start count n has reach is = absurd (true≢false (sym has))
+spans_total bits_layout offsets start count n has reach is = absurd (true≢false (sym has))
+spans_total (bytes_layout size) offsets start count n has reach is = absurd (true≢false (sym has))
+spans_total (binary_layout offset) offsets start count n has reach is = list_total offsets (start + count) reach start count (omega arith) n is
+spans_total (utf8_layout offset) offsets start count n has reach is = list_total offsets (start + count) reach start count (omega arith) n is
+spans_total (list_layout offset) offsets start count n has reach is = list_total offsets (start + count) reach start count (omega arith) n is
+spans_total (fixed_size_list_layout size) offsets start count n has reach is = absurd (true≢false (sym has))
+spans_total struct_layout offsets start count n has reach is = absurd (true≢false (sym has))
 
 -- ---- by layout
 
@@ -218,38 +219,38 @@ le_same n = omega arith
 
 module _ (s : EncodedColumn) (start count : ℕ) (reads : ReadsTo s (start + count)) where
   abbrev IsSpan : ℕ → Type 0
-  IsSpan n = n + start_of 4 s.second.now start ≡ start_of 4 s.second.now (start + count)
+  IsSpan n = n + start_of 4 s.offsets.now start ≡ start_of 4 s.offsets.now (start + count)
 
   abbrev pub AreInside : Declared → ℕ → ℕ → Type 0
   AreInside l first n =
-      (spots_inside (layout_named l) s.second.now (run_spots start count) ≡ run_spots first n)
-      × (first + n ≡ end_inside (layout_named l) s.second.now (start + count))
+      (spots_inside (layout_named l) s.offsets.now (run_spots start count) ≡ run_spots first n)
+      × (first + n ≡ end_inside (layout_named l) s.offsets.now (start + count))
 
-  abbrev reach_at : (l : Declared) → s.layout ≡ l → Reaches (layout_named l) s.second.now (start + count)
-  reach_at l is = subst (λ m. Reaches (layout_named m) s.second.now (start + count)) is reads.reaches
+  abbrev reach_at : (l : Declared) → s.layout ≡ l → Reaches (layout_named l) s.offsets.now (start + count)
+  reach_at l is = subst (λ m. Reaches (layout_named m) s.offsets.now (start + count)) is reads.reaches
 
-  pub lists_inside : s.layout ≡ Lists → (first n : ℕ) → first ≡ start_of 4 s.second.now start → IsSpan n → AreInside s.layout first n
+  pub lists_inside : s.layout ≡ Lists → (first n : ℕ) → first ≡ start_of 4 s.offsets.now start → IsSpan n → AreInside s.layout first n
   lists_inside is first n at span =
-      let same : n + first ≡ start_of 4 s.second.now (start + count) = omega (arith, at, span) in
+      let same : n + first ≡ start_of 4 s.offsets.now (start + count) = omega (arith, at, span) in
       subst (λ l. AreInside l first n) (sym is) (
-        list_run s.second.now (start + count) (reach_at Lists is) start count (le_same (start + count)) n span ∙ ap (λ f. run_spots f n) (sym at),
+        list_run s.offsets.now (start + count) (reach_at Lists is) start count (le_same (start + count)) n span ∙ ap (λ f. run_spots f n) (sym at),
         omega (arith, same),
       )
 
   pub sized_inside : (size : ℕ) → s.layout ≡ FixedSizeList size → AreInside s.layout (size * start) (size * count)
   sized_inside size is =
       let whole : size * start + size * count ≡ size * (start + count) = omega arith in
-      subst (λ l. AreInside l (size * start) (size * count)) (sym is) (sized_run size s.second.now start count, whole)
+      subst (λ l. AreInside l (size * start) (size * count)) (sym is) (sized_run size s.offsets.now start count, whole)
 
   pub struct_inside : s.layout ≡ Struct → AreInside s.layout start count
-  struct_inside is = subst (λ l. AreInside l start count) (sym is) (same_in_struct s.second.now (run_spots start count), refl)
+  struct_inside is = subst (λ l. AreInside l start count) (sym is) (same_in_struct s.offsets.now (run_spots start count), refl)
 
-  none_inside : (l : Declared) → s.layout ≡ l → ((spot : Spot) → spots_under (layout_named l) s.second.now spot ≡ [])
-      → 0 ≡ end_inside (layout_named l) s.second.now (start + count) → AreInside s.layout 0 0
+  none_inside : (l : Declared) → s.layout ≡ l → ((spot : Spot) → spots_under (layout_named l) s.offsets.now spot ≡ [])
+      → 0 ≡ end_inside (layout_named l) s.offsets.now (start + count) → AreInside s.layout 0 0
   none_inside l is none end =
       subst (λ m. AreInside m 0 0) (sym is) (nothing_under (run_spots start count), end)
     where
-      nothing_under : (xs : List Spot) → spots_inside (layout_named l) s.second.now xs ≡ []
+      nothing_under : (xs : List Spot) → spots_inside (layout_named l) s.offsets.now xs ≡ []
       nothing_under [] = refl
       nothing_under (x ∷ xs) = ap₂ (λ ys zs. ys ++ zs) (none x) (nothing_under xs)
 
@@ -265,34 +266,34 @@ module _ (s : EncodedColumn) (start count : ℕ) (reads : ReadsTo s (start + cou
 
 -- what is wanted inside a run of valid values
 pub whole_inside : (s : EncodedColumn) (start count first n : ℕ) → has_null s.validity.now (run_spots start count) ≡ false
-    → spots_inside (layout_named s.layout) s.second.now (run_spots start count) ≡ run_spots first n
+    → spots_inside (layout_named s.layout) s.offsets.now (run_spots start count) ≡ run_spots first n
     → source_spots s (run_spots start count) ≡ run_spots first n
 whole_inside s start count first n whole are =
-    ap (spots_inside (layout_named s.layout) s.second.now) (all_seen s.validity.now start count whole) ∙ are
+    ap (spots_inside (layout_named s.layout) s.offsets.now) (all_seen s.validity.now start count whole) ∙ are
 
 -- what is counted of one
 pub whole_counted : (s : EncodedColumn) (start count n : ℕ) → has_null s.validity.now (run_spots start count) ≡ false
-    → n ≡ span_total (layout_named s.layout) s.second.now (run_spots start count)
+    → n ≡ span_total (layout_named s.layout) s.offsets.now (run_spots start count)
     → IsCounted s (run_spots start count) (record { has_null = false; total = n })
 whole_counted s start count n whole total = record {
   nulls = sym whole;
-  lengths = total ∙ ap (span_total (layout_named s.layout) s.second.now) (sym (all_seen s.validity.now start count whole));
+  lengths = total ∙ ap (span_total (layout_named s.layout) s.offsets.now) (sym (all_seen s.validity.now start count whole));
 }
 
 -- and of one in which a value is null, where all have as many bytes
-pub null_counted_run : (s : EncodedColumn) (start count : ℕ) → has_null s.validity.now (run_spots start count) ≡ true → has_spans (layout_named s.layout) ≡ false
+pub null_counted_run : (s : EncodedColumn) (start count : ℕ) → has_null s.validity.now (run_spots start count) ≡ true → has_offsets (layout_named s.layout) ≡ false
     → IsCounted s (run_spots start count) (record { has_null = true; total = 0 })
 null_counted_run s start count null none = record {
   nulls = sym null;
-  lengths = sym (no_spans (layout_named s.layout) s.second.now (map (seen s.validity.now) (run_spots start count)) none);
+  lengths = sym (no_spans (layout_named s.layout) s.offsets.now (map (seen s.validity.now) (run_spots start count)) none);
 }
 
 -- nothing is counted where none can be null and all have as many bytes
-pub plain_counted : (s : EncodedColumn) (spots : List Spot) → (length s.validity.now == 0) ≡ true → has_spans (layout_named s.layout) ≡ false
+pub plain_counted : (s : EncodedColumn) (spots : List Spot) → (length s.validity.now == 0) ≡ true → has_offsets (layout_named s.layout) ≡ false
     → IsCounted s spots (record { has_null = false; total = 0 })
 plain_counted s spots none flat = record {
   nulls = sym (null_by_none s.validity.now spots none);
-  lengths = sym (no_spans (layout_named s.layout) s.second.now (map (seen s.validity.now) spots) flat);
+  lengths = sym (no_spans (layout_named s.layout) s.offsets.now (map (seen s.validity.now) spots) flat);
 }
 
 -- the first value of a run alone is null where it is not valid

@@ -21,7 +21,7 @@ blank_spots start count = map (λ place. (place, false)) (range_with_len start c
 -- what is wanted inside a column of which this is
 abbrev pub source_spots : EncodedColumn → List Spot → List Spot
 source_spots source spots =
-    spots_inside (layout_named source.layout) source.second.now (map (seen source.validity.now) spots)
+    spots_inside (layout_named source.layout) source.offsets.now (map (seen source.validity.now) spots)
 
 -- ---- marks
 

@@ -1,6 +1,6 @@
 -- What is counted of the cells of a column: Apache Arrow, "Arrow Columnar Format", "Validity bitmaps", "Variable-size
 -- binary layout" and "Variable-size list layout".
-use Rattle.std.specs.Prelude.{◌≡◌, ℕ, ◌==◌, Bool, true, false, not, if◌then◌else◌, List, map}
+use Rattle.std.specs.Prelude.{◌≡◌, ℕ, ◌==◌, Bool, not, if◌then◌else◌, List, map}
 use Rattle.std.specs.List.{sum_by}
 use Rattle.bitmaps.specs.Bits.{zeros}
 use Rattle.batch_types.specs.Layouts.{Layout, null_layout, bits_layout, bytes_layout, binary_layout, utf8_layout}
@@ -16,34 +16,23 @@ use Rattle.batch_lengths.specs.declared.counted.Counted.{Counted}
 abbrev pub has_null : List ℕ → List Spot → Bool
 has_null validity spots = not (zeros (map (is_shown validity) spots) == 0)
 
--- whether the values of a layout may have any number of bytes or elements
-abbrev pub has_spans : Layout → Bool
-has_spans null_layout = false
-has_spans bits_layout = false
-has_spans (bytes_layout size) = false
-has_spans (binary_layout offset) = true
-has_spans (utf8_layout offset) = true
-has_spans (list_layout offset) = true
-has_spans (fixed_size_list_layout size) = false
-has_spans struct_layout = false
-
 -- how many bytes or elements the value at a spot has, where it is taken; none in layouts where all have as many
 abbrev pub span_length : Layout → List ℕ → Spot → ℕ
-span_length null_layout second spot = 0
-span_length bits_layout second spot = 0
-span_length (bytes_layout size) second spot = 0
-span_length (binary_layout offset) second spot = if spot.1 then length_of 4 second spot.0 else 0
-span_length (utf8_layout offset) second spot = if spot.1 then length_of 4 second spot.0 else 0
-span_length (list_layout offset) second spot = if spot.1 then length_of 4 second spot.0 else 0
-span_length (fixed_size_list_layout size) second spot = 0
-span_length struct_layout second spot = 0
+span_length null_layout offsets spot = 0
+span_length bits_layout offsets spot = 0
+span_length (bytes_layout size) offsets spot = 0
+span_length (binary_layout offset) offsets spot = if spot.1 then length_of 4 offsets spot.0 else 0
+span_length (utf8_layout offset) offsets spot = if spot.1 then length_of 4 offsets spot.0 else 0
+span_length (list_layout offset) offsets spot = if spot.1 then length_of 4 offsets spot.0 else 0
+span_length (fixed_size_list_layout size) offsets spot = 0
+span_length struct_layout offsets spot = 0
 
 -- in all
 abbrev pub span_total : Layout → List ℕ → List Spot → ℕ
-span_total layout second taken = sum_by (span_length layout second) taken
+span_total layout offsets taken = sum_by (span_length layout offsets) taken
 
 -- this was counted of the cells of a column at these spots
 pub record IsCounted (source : EncodedColumn) (spots : List Spot) (counted : Counted) : Type 0 where
   pub nulls : counted.has_null ≡ has_null source.validity.now spots
   pub lengths : counted.total
-      ≡ span_total (layout_named source.layout) source.second.now (map (seen source.validity.now) spots)
+      ≡ span_total (layout_named source.layout) source.offsets.now (map (seen source.validity.now) spots)

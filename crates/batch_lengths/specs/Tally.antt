@@ -6,6 +6,7 @@ use Rattle.header_types.specs.Fields.{Forest}
 use Rattle.batch_types.specs.Laid.{LaidColumn, laid, LaidColumns, no_column, column_then}
 use Rattle.batch_types.specs.Layouts.{Layout}
 use Rattle.batch_types.specs.Placed.{buffer_at}
+use Rattle.batch_columns.specs.Read.{offsets_at}
 use Rattle.batch_columns.specs.declared.place.Place.{Place}
 use Rattle.batch_reading.specs.Readable.{columns_there}
 use Rattle.batch_reading.specs.Spots.{Spot}
@@ -17,17 +18,18 @@ use Rattle.batch_lengths.specs.Counted.{has_null, span_total}
 -- ---- of each column
 
 abbrev pub counted_of : Layout → List ℕ → List ℕ → List Spot → Counted
-counted_of layout validity second spots = record {
+counted_of layout validity offsets spots = record {
   has_null = has_null validity spots;
-  total = span_total layout second (map (seen validity) spots);
+  total = span_total layout offsets (map (seen validity) spots);
 }
 
 abbrev mutual
   -- of a column and of those inside it, depth first, where these are wanted
   pub tally_of : List ℕ → LaidColumn → List Spot → List Counted
   tally_of body (laid layout node ranges inner) spots =
-      counted_of layout (buffer_at body ranges 0) (buffer_at body ranges 1) spots
-      ∷ tally body inner (spots_inside layout (buffer_at body ranges 1) (map (seen (buffer_at body ranges 0)) spots))
+      counted_of layout (buffer_at body ranges 0) (offsets_at body layout ranges) spots
+      ∷ tally body inner
+      (spots_inside layout (offsets_at body layout ranges) (map (seen (buffer_at body ranges 0)) spots))
 
   pub tally : List ℕ → LaidColumns → List Spot → List Counted
   tally body no_column spots = []

@@ -1,13 +1,14 @@
 //! What is counted of the cells that are wanted.
 
 ghost use Rattle.std.specs.Prelude.{◌≡◌, ◌<◌, ◌≤◌, ◌+◌, ◌^◌, ◌∷◌, [], false};
+ghost use Rattle.batch_columns.specs.Buffers.{has_offsets};
 ghost use Rattle.batch_columns.specs.Held.{layout_named};
 ghost use Rattle.batch_lengths.specs.Along.{mark_of, spots_marked, IsMarked};
-ghost use Rattle.batch_lengths.specs.Counted.{has_null, has_spans as has_spans_of, IsCounted};
+ghost use Rattle.batch_lengths.specs.Counted.{has_null, IsCounted};
 ghost use Rattle.batch_lengths.specs.Reach.{ReadsTo};
 
 use crate::counted::Counted;
-use crate::run::{count_one, count_run, has_spans};
+use crate::run::{count_one, count_run};
 use crate::validity_mask::ValidityMask;
 use batch_columns::EncodedColumn;
 use bitmaps::count_zeros;
@@ -50,7 +51,7 @@ fn is_null_marked(validity: &[u8], marks: &ValidityMask) -> bool
 
 /// What is counted of the values that are wanted, where all have as many bytes or elements.
 fn count_nulls(source: &EncodedColumn, marks: &ValidityMask) -> Counted
-    requires even { has_spans_of (layout_named source.now.layout) ≡ false }
+    requires even { has_offsets (layout_named source.now.layout) ≡ false }
     requires all { marks.now.all ≡ false }
     requires few { marks.now.count ≤ 1024 }
     requires within { marks.now.start + marks.now.count + 8 < 2 ^ 64 }
@@ -75,7 +76,7 @@ pub(crate) fn count_marks(source: &EncodedColumn, marks: &ValidityMask) -> Count
     if marks.all {
         return count_run(source, marks.start, marks.count);
     }
-    if has_spans(source.layout) {
+    if source.layout.has_offsets() {
         return count_each_marked(source, marks);
     }
     count_nulls(source, marks)

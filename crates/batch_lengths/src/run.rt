@@ -6,23 +6,12 @@ ghost use Rattle.batch_types.specs.LaysOut.{values_limit};
 ghost use Rattle.batch_columns.specs.Held.{layout_named};
 ghost use Rattle.batch_reading.specs.Taken.{valid_in};
 ghost use Rattle.batch_lengths.specs.Along.{run_spots, source_spots};
-ghost use Rattle.batch_lengths.specs.Counted.{has_null, has_spans as has_spans_of, span_total, IsCounted};
+ghost use Rattle.batch_lengths.specs.Counted.{has_null, span_total, IsCounted};
 ghost use Rattle.batch_lengths.specs.Reach.{DoReach, ReadsTo, end_inside};
 
 use crate::counted::Counted;
-use batch_columns::{EncodedColumn, Layout};
+use batch_columns::{EncodedColumn, Layout, start_at};
 use bitmaps::{bit, count_zeros};
-use byteorder::{ByteOrder, LittleEndian};
-
-/// Where value `place` begins, by its offset without its sign (Apache Arrow, "Arrow Columnar Format", "Variable-size
-/// Binary Layout").
-fn start_at(offsets: &[u8], place: usize) -> usize
-    requires { 4 * place + 4 ≤ length offsets.now }
-    ensures { result ≡ start_of 4 offsets.now place }
-{
-    let start = 4 * place;
-    LittleEndian::read_int(&offsets[start..start + 4], 4).unsigned_abs() as usize
-}
 
 /// Whether the value at a place is valid by a bitmap ("Validity bitmaps").
 pub(crate) fn is_valid(validity: &[u8], place: usize) -> bool
@@ -48,28 +37,14 @@ fn span_of(offsets: &[u8], start: usize, count: usize) -> usize
     start_at(offsets, start + count) - start_at(offsets, start)
 }
 
-/// Whether the values of a layout may have any number of bytes or elements.
-pub(crate) fn has_spans(layout: Layout) -> bool
-    ensures { result ≡ has_spans_of (layout_named layout) }
-{
-    match layout {
-        Layout::Binary | Layout::Utf8 | Layout::List => true,
-        Layout::Null
-        | Layout::Bits
-        | Layout::Bytes { .. }
-        | Layout::FixedSizeList { .. }
-        | Layout::Struct => false,
-    }
-}
-
 /// How many bytes or elements the values of a run have in all; none in layouts where all have as many.
 fn length_of(source: &EncodedColumn, start: usize, count: usize) -> usize
     requires some { 0 < count }
     requires reads { ReadsTo source.now (start + count) }
-    ensures { result ≡ span_total (layout_named source.now.layout) source.now.second.now (run_spots start count) }
+    ensures { result ≡ span_total (layout_named source.now.layout) source.now.offsets.now (run_spots start count) }
 {
-    if has_spans(source.layout) {
-        span_of(source.second, start, count)
+    if source.layout.has_offsets() {
+        span_of(source.offsets, start, count)
     } else {
         0
     }
@@ -125,7 +100,7 @@ pub(crate) fn count_run(source: &EncodedColumn, start: usize, count: usize) -> C
     if is_whole(source.validity, start, count) {
         return count_whole(source, start, count);
     }
-    if has_spans(source.layout) {
+    if source.layout.has_offsets() {
         return count_each(source, start, count);
     }
     Counted {
@@ -140,14 +115,14 @@ pub(crate) fn run_inside(source: &EncodedColumn, start: usize, count: usize) -> 
     requires reads { ReadsTo source.now (start + count) }
     requires whole { has_null source.now.validity.now (run_spots start count) ≡ false }
     ensures spots { source_spots source.now (run_spots start count) ≡ run_spots result.0 result.1 }
-    ensures begin { result.0 ≡ end_inside (layout_named source.now.layout) source.now.second.now start }
+    ensures begin { result.0 ≡ end_inside (layout_named source.now.layout) source.now.offsets.now start }
     ensures end { result.0 + result.1
-        ≡ end_inside (layout_named source.now.layout) source.now.second.now (start + count) }
+        ≡ end_inside (layout_named source.now.layout) source.now.offsets.now (start + count) }
 {
     match source.layout {
         Layout::List => (
-            start_at(source.second, start),
-            span_of(source.second, start, count),
+            start_at(source.offsets, start),
+            span_of(source.offsets, start, count),
         ),
         Layout::FixedSizeList { size } => (size as usize * start, size as usize * count),
         Layout::Struct => (start, count),

@@ -53,9 +53,9 @@ pub(crate) fn place_after(field: &Field, place: Place) -> Place
 
 /// Whether the places inside a column are those of its values themselves.
 fn has_same_places(layout: Layout) -> bool
-    ensures spots { IsTrue result → (second : List ℕ) (spots : List Spot)
-        → spots_inside (layout_named layout) second spots ≡ spots }
-    ensures ends { IsTrue result → (second : List ℕ) (end : ℕ) → end_inside (layout_named layout) second end ≡ end }
+    ensures spots { IsTrue result → (offsets : List ℕ) (spots : List Spot)
+        → spots_inside (layout_named layout) offsets spots ≡ spots }
+    ensures ends { IsTrue result → (offsets : List ℕ) (end : ℕ) → end_inside (layout_named layout) offsets end ≡ end }
 {
     match layout {
         Layout::Struct => true,
@@ -141,19 +141,19 @@ fn gather_alike(
     requires taken { AreTaken source.now.validity.now marks.now }
     requires reads { ReadsTo source.now (marks.now.start + marks.now.count) }
     requires may { MayWalk (fields_in field.now) head.now first body.now
-        (end_inside (layout_named source.now.layout) source.now.second.now (marks.now.start + marks.now.count)) }
+        (end_inside (layout_named source.now.layout) source.now.offsets.now (marks.now.start + marks.now.count)) }
     requires room { first.node + node_count (fields_in field.now) ≤ length table.old }
     requires gathered { IsGathered gathered.old }
     requires behind { gathered.old.start + gathered.old.count
-        ≤ end_inside (layout_named source.now.layout) source.now.second.now (marks.now.start + number) }
+        ≤ end_inside (layout_named source.now.layout) source.now.offsets.now (marks.now.start + number) }
     ensures gathered { IsGathered gathered.new }
     ensures end { gathered.new.start + gathered.new.count
-        ≤ end_inside (layout_named source.now.layout) source.now.second.now (marks.now.start + number + alike) }
+        ≤ end_inside (layout_named source.now.layout) source.now.offsets.now (marks.now.start + number + alike) }
     ensures long { length table.new ≡ length table.old }
     ensures adds { counted_with (fields_in field.now) head.now first body.now table.new (spots_marked gathered.new)
         ≡ counted_with (fields_in field.now) head.now first body.now
         (counted_with (fields_in field.now) head.now first body.now table.old (spots_marked gathered.old))
-        (spots_inside (layout_named source.now.layout) source.now.second.now (marked_from marks.now number alike)) }
+        (spots_inside (layout_named source.now.layout) source.now.offsets.now (marked_from marks.now number alike)) }
 {
     if marks.is_marked(number) {
         let (start, count) = run_inside(source, marks.start + number, alike);
@@ -178,10 +178,10 @@ fn walk_places(
     requires taken { AreTaken source.now.validity.now marks.now }
     requires reads { ReadsTo source.now (marks.now.start + marks.now.count) }
     requires may { MayWalk (fields_in field.now) head.now first body.now
-        (end_inside (layout_named source.now.layout) source.now.second.now (marks.now.start + marks.now.count)) }
+        (end_inside (layout_named source.now.layout) source.now.offsets.now (marks.now.start + marks.now.count)) }
     requires room { first.node + node_count (fields_in field.now) ≤ length table.old }
     ensures { table.new ≡ counted_with (fields_in field.now) head.now first body.now table.old
-        (spots_inside (layout_named source.now.layout) source.now.second.now (spots_marked marks.now)) }
+        (spots_inside (layout_named source.now.layout) source.now.offsets.now (spots_marked marks.now)) }
 {
     let mut gathered = ValidityMask::run(0, 0);
     let mut done = 0;
@@ -220,10 +220,10 @@ fn walk_taken(
     requires taken { AreTaken source.now.validity.now marks.now }
     requires reads { ReadsTo source.now (marks.now.start + marks.now.count) }
     requires may { MayWalk (fields_in field.now) head.now first body.now
-        (end_inside (layout_named source.now.layout) source.now.second.now (marks.now.start + marks.now.count)) }
+        (end_inside (layout_named source.now.layout) source.now.offsets.now (marks.now.start + marks.now.count)) }
     requires room { first.node + node_count (fields_in field.now) ≤ length table.old }
     ensures { table.new ≡ counted_with (fields_in field.now) head.now first body.now table.old
-        (spots_inside (layout_named source.now.layout) source.now.second.now (spots_marked marks.now)) }
+        (spots_inside (layout_named source.now.layout) source.now.offsets.now (spots_marked marks.now)) }
 {
     if has_same_places(source.layout) {
         walk(&field.children, head, first, body, marks, table);
@@ -247,7 +247,7 @@ fn walk_block(
     requires some { (0 < count) × (count ≤ 1024) }
     requires reads { ReadsTo source.now (start + count) }
     requires may { MayWalk (fields_in field.now) head.now first body.now
-        (end_inside (layout_named source.now.layout) source.now.second.now (start + count)) }
+        (end_inside (layout_named source.now.layout) source.now.offsets.now (start + count)) }
     requires room { first.node + node_count (fields_in field.now) ≤ length table.old }
     ensures { table.new ≡ counted_with (fields_in field.now) head.now first body.now table.old
         (source_spots source.now (run_spots start count)) }
@@ -270,7 +270,7 @@ fn walk_blocks(
 )
     requires reads { ReadsTo source.now (start + count) }
     requires may { MayWalk (fields_in field.now) head.now first body.now
-        (end_inside (layout_named source.now.layout) source.now.second.now (start + count)) }
+        (end_inside (layout_named source.now.layout) source.now.offsets.now (start + count)) }
     requires room { first.node + node_count (fields_in field.now) ≤ length table.old }
     ensures { table.new ≡ counted_with (fields_in field.now) head.now first body.now table.old
         (source_spots source.now (run_spots start count)) }
@@ -297,7 +297,7 @@ fn walk_inside(
     requires marked { IsMarked marks.now }
     requires reads { ReadsTo source.now (marks.now.start + marks.now.count) }
     requires may { MayWalk (fields_in field.now) head.now first body.now
-        (end_inside (layout_named source.now.layout) source.now.second.now (marks.now.start + marks.now.count)) }
+        (end_inside (layout_named source.now.layout) source.now.offsets.now (marks.now.start + marks.now.count)) }
     requires room { first.node + node_count (fields_in field.now) ≤ length table.old }
     ensures { table.new ≡ counted_with (fields_in field.now) head.now first body.now table.old
         (source_spots source.now (spots_marked marks.now)) }

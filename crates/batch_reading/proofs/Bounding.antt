@@ -90,11 +90,11 @@ marked_below limit mark [] all = tt
 marked_below limit mark (p ∷ ps) all = (all.0, marked_below limit mark ps all.1)
 
 -- inside lists of one size
-pub sized_below : (size limit : ℕ) (second : List ℕ) (spots : List Spot) → AreBelow limit spots
-    → AreBelow (size * limit) (spots_inside (fixed_size_list_layout size) second spots)
-sized_below size limit second spots all = flat_below (spots_under (fixed_size_list_layout size) second) limit (size * limit) each spots all
+pub sized_below : (size limit : ℕ) (offsets : List ℕ) (spots : List Spot) → AreBelow limit spots
+    → AreBelow (size * limit) (spots_inside (fixed_size_list_layout size) offsets spots)
+sized_below size limit offsets spots all = flat_below (spots_under (fixed_size_list_layout size) offsets) limit (size * limit) each spots all
   where
-    each : (spot : Spot) → spot.0 < limit → AreBelow (size * limit) (spots_under (fixed_size_list_layout size) second spot)
+    each : (spot : Spot) → spot.0 < limit → AreBelow (size * limit) (spots_under (fixed_size_list_layout size) offsets spot)
     each spot below =
         let up : size * suc spot.0 ≤ size * limit = mul-le-mul_left size (omega (arith, below)) in
         marked_below (size * limit) spot.1 (range_with_len (size * spot.0) size)

@@ -12,6 +12,7 @@ use Rattle.batch_types.specs.Typed.{IsCellOf}
 use Rattle.batch_columns.specs.Contents.{Contents}
 use Rattle.batch_columns.specs.Held.{shapes_held, layout_named}
 use Rattle.batch_columns.specs.Kept.{IsKept}
+use Rattle.batch_columns.specs.Read.{offsets_at, values_at}
 use Rattle.batch_columns.specs.Few.{columns_cells}
 use Rattle.batch_columns.specs.declared.layout.Layout.{Layout as Declared}
 use Rattle.batch_columns.specs.declared.layout.Layout.TheVariants.{Null, Bits, Bytes, Binary, Utf8, List as Lists, FixedSizeList, Struct}
@@ -45,14 +46,14 @@ MayHold Struct inside = Unit {0}
 
 -- offsets have room for what is taken
 abbrev pub HasRoomTaken : Declared → List ℕ → List ℕ → List Spot → Type 0
-HasRoomTaken Null second third taken = Unit {0}
-HasRoomTaken Bits second third taken = Unit {0}
-HasRoomTaken (Bytes size) second third taken = Unit {0}
-HasRoomTaken Binary second third taken = sum_by (λ n. n) (map (λ spot. length (span_taken second third spot)) taken) < 2 ^ 31
-HasRoomTaken Utf8 second third taken = sum_by (λ n. n) (map (λ spot. length (span_taken second third spot)) taken) < 2 ^ 31
-HasRoomTaken Lists second third taken = sum_by (λ n. n) (map (λ spot. length (elements_taken second spot)) taken) < 2 ^ 31
-HasRoomTaken (FixedSizeList size) second third taken = Unit {0}
-HasRoomTaken Struct second third taken = Unit {0}
+HasRoomTaken Null offsets values taken = Unit {0}
+HasRoomTaken Bits offsets values taken = Unit {0}
+HasRoomTaken (Bytes size) offsets values taken = Unit {0}
+HasRoomTaken Binary offsets values taken = sum_by (λ n. n) (map (λ spot. length (span_taken offsets values spot)) taken) < 2 ^ 31
+HasRoomTaken Utf8 offsets values taken = sum_by (λ n. n) (map (λ spot. length (span_taken offsets values spot)) taken) < 2 ^ 31
+HasRoomTaken Lists offsets values taken = sum_by (λ n. n) (map (λ spot. length (elements_taken offsets spot)) taken) < 2 ^ 31
+HasRoomTaken (FixedSizeList size) offsets values taken = Unit {0}
+HasRoomTaken Struct offsets values taken = Unit {0}
 
 none_some : {X : Type 0} (x : X) (xs : List X) → x ∷ xs ≡ [] → ⊥
 none_some x xs same = cc
@@ -72,17 +73,17 @@ module _ (body : List ℕ) (node : Node) (ranges : List Range) (spots : List Spo
 
   abbrev pub Premises : Declared → LaidColumns → List Contents → Type 0
   Premises layout inner inside =
-      IsPlanned (layout_named layout) (buffer_at body ranges 0) (buffer_at body ranges 1) (buffer_at body ranges 2) spots plan
+      IsPlanned (layout_named layout) (buffer_at body ranges 0) (offsets_at body (layout_named layout) ranges) (values_at body (layout_named layout) ranges) spots plan
       × AllByRecursion (IsCellOf (shape (layout_named layout) (shapes_held inside)))
       (cells_wanted body (laid (layout_named layout) node ranges inner) (shape (layout_named layout) (shapes_held inside)) spots)
       × MayHold layout inside
-      × (columns_cells inside ≡ columns_wanted body inner (shapes_held inside) (spots_inside (layout_named layout) (buffer_at body ranges 1) taken))
-      × HasRoomTaken layout (buffer_at body ranges 1) (buffer_at body ranges 2) taken
+      × (columns_cells inside ≡ columns_wanted body inner (shapes_held inside) (spots_inside (layout_named layout) (offsets_at body (layout_named layout) ranges) taken))
+      × HasRoomTaken layout (offsets_at body (layout_named layout) ranges) (values_at body (layout_named layout) ranges) taken
 
   abbrev pub Kept : Declared → LaidColumns → List Contents → Type 0
   Kept layout inner inside =
       IsKept (layout_named layout) (cells_wanted body (laid (layout_named layout) node ranges inner) (shape (layout_named layout) (shapes_held inside)) spots)
-      plan.nulls plan.validity.items plan.second.items plan.third.items inside
+      plan.nulls plan.validity.items plan.offsets.items plan.values.items inside
 
   lists_kept : (inner : LaidColumns) (inside : List Contents) → Premises Lists inner inside → Kept Lists inner inside
   lists_kept inner [] p = absurd (shapes_none p.2.0 p.2.1)
@@ -90,16 +91,16 @@ module _ (body : List ℕ) (node : Node) (ranges : List Range) (spots : List Spo
   lists_kept no_column (child ∷ []) p = absurd (none_some child.cells [] p.3)
   lists_kept (column_then c cs) (child ∷ []) p =
       let validity : List ℕ = buffer_at body ranges 0 in
-      let second : List ℕ = buffer_at body ranges 1 in
-      let value : ℕ → Cell = λ j. list_cell (cells_of (map (cell_at body c) (range_with_len (start_of 4 second j) (length_of 4 second j)))) in
+      let offsets : List ℕ = buffer_at body ranges 1 in
+      let value : ℕ → Cell = λ j. list_cell (cells_of (map (cell_at body c) (range_with_len (start_of 4 offsets j) (length_of 4 offsets j)))) in
       record {
         nulls_counted = p.0.nulls_are ∙ sym (nulls_built validity value (list_cell no_cell) (λ j. refl) refl spots);
-        first_buffer = p.0.validity_is ∙ sym (validity_built validity value (list_cell no_cell) (λ j. refl) refl spots);
-        second_buffer = p.0.second_is ∙ ap (offsets_of 4) (sym (list_lengths validity second (cell_at body c) null_cell spots));
-        third_buffer = p.0.third_is;
+        validity_kept = p.0.validity_is ∙ sym (validity_built validity value (list_cell no_cell) (λ j. refl) refl spots);
+        offsets_kept = p.0.offsets_is ∙ ap (offsets_of 4) (sym (list_lengths validity offsets (cell_at body c) null_cell spots));
+        values_kept = p.0.values_is;
         fit = p.1;
-        held_inside = (head_same p.3 ∙ list_elements validity second (cell_at body c) (blank_of child.shape) spots, refl);
-        room = subst (λ l. sum_by (λ n. n) l < 2 ^ 31) (sym (list_lengths validity second (cell_at body c) null_cell spots)) p.4;
+        held_inside = (head_same p.3 ∙ list_elements validity offsets (cell_at body c) (blank_of child.shape) spots, refl);
+        room = subst (λ l. sum_by (λ n. n) l < 2 ^ 31) (sym (list_lengths validity offsets (cell_at body c) null_cell spots)) p.4;
       }
 
   sized_kept : (size : ℕ) (inner : LaidColumns) (inside : List Contents) → Premises (FixedSizeList size) inner inside → Kept (FixedSizeList size) inner inside
@@ -108,16 +109,15 @@ module _ (body : List ℕ) (node : Node) (ranges : List Range) (spots : List Spo
   sized_kept size no_column (child ∷ []) p = absurd (none_some child.cells [] p.3)
   sized_kept size (column_then c cs) (child ∷ []) p =
       let validity : List ℕ = buffer_at body ranges 0 in
-      let second : List ℕ = buffer_at body ranges 1 in
       let value : ℕ → Cell = λ j. list_cell (cells_of (map (cell_at body c) (range_with_len (size * j) size))) in
       let blank : Cell = list_cell (cells_of (replicate size (blank_of child.shape))) in
       record {
         nulls_counted = p.0.nulls_are ∙ sym (nulls_built validity value blank (λ j. refl) refl spots);
-        first_buffer = p.0.validity_is ∙ sym (validity_built validity value blank (λ j. refl) refl spots);
-        second_buffer = p.0.second_is;
-        third_buffer = p.0.third_is;
+        validity_kept = p.0.validity_is ∙ sym (validity_built validity value blank (λ j. refl) refl spots);
+        offsets_kept = p.0.offsets_is;
+        values_kept = p.0.values_is;
         fit = p.1;
-        held_inside = (head_same p.3 ∙ sized_elements size validity second (cell_at body c) (blank_of child.shape) spots, refl);
+        held_inside = (head_same p.3 ∙ sized_elements size validity [] (cell_at body c) (blank_of child.shape) spots, refl);
         room = tt;
       }
 
@@ -128,38 +128,38 @@ module _ (body : List ℕ) (node : Node) (ranges : List Range) (spots : List Spo
       let blank : Cell = tuple_cell (blanks_of (shapes_held inside)) in
       record {
         nulls_counted = p.0.nulls_are ∙ sym (nulls_built validity value blank (λ j. refl) refl spots);
-        first_buffer = p.0.validity_is ∙ sym (validity_built validity value blank (λ j. refl) refl spots);
-        second_buffer = p.0.second_is;
-        third_buffer = p.0.third_is;
+        validity_kept = p.0.validity_is ∙ sym (validity_built validity value blank (λ j. refl) refl spots);
+        offsets_kept = p.0.offsets_is;
+        values_kept = p.0.values_is;
         fit = p.1;
         held_inside =
             struct_fields body validity inner (shapes_held inside) spots 0 inner inside (λ j. refl) refl
-            (p.3 ∙ ap (columns_wanted body inner (shapes_held inside)) (same_in_struct (buffer_at body ranges 1) taken));
+            (p.3 ∙ ap (columns_wanted body inner (shapes_held inside)) (same_in_struct [] taken));
         room = tt;
       }
 
   pub planned_kept : (layout : Declared) (inner : LaidColumns) (inside : List Contents) → Premises layout inner inside → Kept layout inner inside
   planned_kept Null inner inside p = record {
     nulls_counted = p.0.nulls_are ∙ sym (null_count spots);
-    first_buffer = p.0.validity_is;
-    second_buffer = p.0.second_is;
-    third_buffer = p.0.third_is;
+    validity_kept = p.0.validity_is;
+    offsets_kept = p.0.offsets_is;
+    values_kept = p.0.values_is;
     fit = p.1;
     held_inside = p.2;
     room = tt;
   }
   planned_kept Bits inner inside p =
-      bits_kept (buffer_at body ranges 0) (buffer_at body ranges 1) spots taken plan.nulls plan.validity.items plan.second.items plan.third.items inside
-      p.1 refl p.0.nulls_are p.0.validity_is p.0.second_is p.0.third_is p.2
+      bits_kept (buffer_at body ranges 0) (buffer_at body ranges 1) spots taken plan.nulls plan.validity.items plan.offsets.items plan.values.items inside
+      p.1 refl p.0.nulls_are p.0.validity_is p.0.offsets_is p.0.values_is p.2
   planned_kept (Bytes size) inner inside p =
-      blocks_kept size (buffer_at body ranges 0) (buffer_at body ranges 1) spots taken plan.nulls plan.validity.items plan.second.items plan.third.items inside
-      p.1 refl p.0.nulls_are p.0.validity_is p.0.second_is p.0.third_is p.2
+      blocks_kept size (buffer_at body ranges 0) (buffer_at body ranges 1) spots taken plan.nulls plan.validity.items plan.offsets.items plan.values.items inside
+      p.1 refl p.0.nulls_are p.0.validity_is p.0.offsets_is p.0.values_is p.2
   planned_kept Binary inner inside p =
       spread_kept (binary_layout 4) (inl refl) (buffer_at body ranges 0) (buffer_at body ranges 1) (buffer_at body ranges 2) spots taken plan.nulls
-      plan.validity.items plan.second.items plan.third.items inside p.1 refl p.4 p.0.nulls_are p.0.validity_is p.0.second_is p.0.third_is p.2
+      plan.validity.items plan.offsets.items plan.values.items inside p.1 refl p.4 p.0.nulls_are p.0.validity_is p.0.offsets_is p.0.values_is p.2
   planned_kept Utf8 inner inside p =
       spread_kept (utf8_layout 4) (inr refl) (buffer_at body ranges 0) (buffer_at body ranges 1) (buffer_at body ranges 2) spots taken plan.nulls
-      plan.validity.items plan.second.items plan.third.items inside p.1 refl p.4 p.0.nulls_are p.0.validity_is p.0.second_is p.0.third_is p.2
+      plan.validity.items plan.offsets.items plan.values.items inside p.1 refl p.4 p.0.nulls_are p.0.validity_is p.0.offsets_is p.0.values_is p.2
   planned_kept Lists inner inside p = lists_kept inner inside p
   planned_kept (FixedSizeList size) inner inside p = sized_kept size inner inside p
   planned_kept Struct inner inside p = structs_kept inner inside p

@@ -134,12 +134,12 @@ module _ (body : List ℕ) (n : Node) (r : List Range) (t : Tree) (nodes : List 
       → AllByRecursion (IsCellOf (shape (fixed_size_list_layout size) (shapes_of (more t no_more))))
       (cells_wanted body (laid (fixed_size_list_layout size) n r inner) (shape (fixed_size_list_layout size) (shapes_of (more t no_more))) spots)
       → AllByRecursion (IsCellOf (shape_of t))
-      (cells_wanted body child (shape_of t) (spots_inside (fixed_size_list_layout size) (buffer_at body r 1) (map (seen (buffer_at body r 0)) spots)))
+      (cells_wanted body child (shape_of t) (spots_inside (fixed_size_list_layout size) [] (map (seen (buffer_at body r 0)) spots)))
   sized_fit size formed [] fit = tt
   sized_fit size formed (spot ∷ spots) fit =
       mapped_both (IsCellOf (shape_of t)) (cell_wanted (cell_at body child) (blank_of (shape_of t)))
-      (spots_under (fixed_size_list_layout size) (buffer_at body r 1) (seen (buffer_at body r 0) spot))
-      (spots_inside (fixed_size_list_layout size) (buffer_at body r 1) (map (seen (buffer_at body r 0)) spots))
+      (spots_under (fixed_size_list_layout size) [] (seen (buffer_at body r 0) spot))
+      (spots_inside (fixed_size_list_layout size) [] (map (seen (buffer_at body r 0)) spots))
       (one spot.0 spot.1 (valid_in (buffer_at body r 0) spot.0) fit.0) (sized_fit size formed spots fit.1)
     where
       one : (j : ℕ) (mark valid : Bool)
@@ -181,9 +181,9 @@ fields_fit body (more t rest) formed nodes ranges taken have = (first taken have
 
 pub structs_fit : (body : List ℕ) (n : Node) (r : List Range) (f : Forest) (nodes : List Node) (ranges : List Range) → IsWellFormedForest f → (spots : List Spot)
     → AllByRecursion (IsCellOf (shape struct_layout (shapes_of f))) (cells_wanted body (laid struct_layout n r (columns_from f nodes ranges)) (shape struct_layout (shapes_of f)) spots)
-    → AreFit body (columns_from f nodes ranges) (shapes_of f) (spots_inside struct_layout (buffer_at body r 1) (map (seen (buffer_at body r 0)) spots))
+    → AreFit body (columns_from f nodes ranges) (shapes_of f) (spots_inside struct_layout [] (map (seen (buffer_at body r 0)) spots))
 structs_fit body n r f nodes ranges formed spots fit =
-    subst (AreFit body (columns_from f nodes ranges) (shapes_of f)) (sym (same_in_struct (buffer_at body r 1) (map (seen (buffer_at body r 0)) spots)))
+    subst (AreFit body (columns_from f nodes ranges) (shapes_of f)) (sym (same_in_struct [] (map (seen (buffer_at body r 0)) spots)))
     (fields_fit body f formed nodes ranges (map (seen (buffer_at body r 0)) spots) (taken spots fit))
   where
     one : (j : ℕ) (mark valid : Bool)

@@ -39,39 +39,39 @@ same_flat f g same (x ∷ xs) = ap₂ (λ y ys. y ++ ys) (same x) (same_flat f g
 
 -- ---- lists
 
-module _ (validity second : List ℕ) (there : ℕ → Cell) (blank : Cell) (spots : List Spot) where
+module _ (validity offsets : List ℕ) (there : ℕ → Cell) (blank : Cell) (spots : List Spot) where
   abbrev list_value : ℕ → Cell
-  list_value j = list_cell (cells_of (map there (range_with_len (start_of 4 second j) (length_of 4 second j))))
+  list_value j = list_cell (cells_of (map there (range_with_len (start_of 4 offsets j) (length_of 4 offsets j))))
 
   abbrev pub list_cells : List Cell
   list_cells = map (cell_wanted (λ j. if valid_in validity j then list_value j else null_cell) (list_cell no_cell)) spots
 
-  one_list : (spot : Spot) → (if spot.1 then elements_or [] (list_value spot.0) else []) ≡ map there (elements_taken second spot)
+  one_list : (spot : Spot) → (if spot.1 then elements_or [] (list_value spot.0) else []) ≡ map there (elements_taken offsets spot)
   one_list spot = by_mark spot.0 spot.1
     where
-      by_mark : (j : ℕ) (mark : Bool) → (if mark then elements_or [] (list_value j) else []) ≡ map there (elements_taken second (j, mark))
-      by_mark j true = cells_back (map there (range_with_len (start_of 4 second j) (length_of 4 second j)))
+      by_mark : (j : ℕ) (mark : Bool) → (if mark then elements_or [] (list_value j) else []) ≡ map there (elements_taken offsets (j, mark))
+      by_mark j true = cells_back (map there (range_with_len (start_of 4 offsets j) (length_of 4 offsets j)))
       by_mark j false = refl
 
-  list_pieces : map (elements_or []) list_cells ≡ map (λ spot. map there (elements_taken second spot)) (map (seen validity) spots)
+  list_pieces : map (elements_or []) list_cells ≡ map (λ spot. map there (elements_taken offsets spot)) (map (seen validity) spots)
   list_pieces =
       mapped_taken validity list_value (list_cell no_cell) (λ j. refl) refl (elements_or []) [] refl refl spots
-      ∙ same_mapped (λ spot. if spot.1 then elements_or [] (list_value spot.0) else []) (λ spot. map there (elements_taken second spot)) one_list (map (seen validity) spots)
+      ∙ same_mapped (λ spot. if spot.1 then elements_or [] (list_value spot.0) else []) (λ spot. map there (elements_taken offsets spot)) one_list (map (seen validity) spots)
 
-  pub list_lengths : elements_lengths list_cells ≡ map (λ spot. length (elements_taken second spot)) (map (seen validity) spots)
+  pub list_lengths : elements_lengths list_cells ≡ map (λ spot. length (elements_taken offsets spot)) (map (seen validity) spots)
   list_lengths =
       sym (map-map (λ l. length l) (elements_or []) list_cells)
       ∙ ap (map (λ l. length l)) list_pieces
-      ∙ map-map (λ l. length l) (λ spot. map there (elements_taken second spot)) (map (seen validity) spots)
-      ∙ same_mapped (λ spot. length (map there (elements_taken second spot))) (λ spot. length (elements_taken second spot))
-      (λ spot. length-map (elements_taken second spot) there) (map (seen validity) spots)
+      ∙ map-map (λ l. length l) (λ spot. map there (elements_taken offsets spot)) (map (seen validity) spots)
+      ∙ same_mapped (λ spot. length (map there (elements_taken offsets spot))) (λ spot. length (elements_taken offsets spot))
+      (λ spot. length-map (elements_taken offsets spot) there) (map (seen validity) spots)
 
-  pub list_elements : map (cell_wanted there blank) (spots_inside (list_layout 4) second (map (seen validity) spots)) ≡ flat_map (elements_or []) list_cells
+  pub list_elements : map (cell_wanted there blank) (spots_inside (list_layout 4) offsets (map (seen validity) spots)) ≡ flat_map (elements_or []) list_cells
   list_elements =
-      mapped_flat (cell_wanted there blank) (spots_under (list_layout 4) second) (map (seen validity) spots)
-      ∙ same_flat (λ spot. map (cell_wanted there blank) (spots_under (list_layout 4) second spot)) (λ spot. map there (elements_taken second spot))
-      (λ spot. map-map (cell_wanted there blank) (λ place. (place, true)) (elements_taken second spot)) (map (seen validity) spots)
-      ∙ sym (gathered_by (λ spot. map there (elements_taken second spot)) (elements_or []) list_cells (map (seen validity) spots) list_pieces)
+      mapped_flat (cell_wanted there blank) (spots_under (list_layout 4) offsets) (map (seen validity) spots)
+      ∙ same_flat (λ spot. map (cell_wanted there blank) (spots_under (list_layout 4) offsets spot)) (λ spot. map there (elements_taken offsets spot))
+      (λ spot. map-map (cell_wanted there blank) (λ place. (place, true)) (elements_taken offsets spot)) (map (seen validity) spots)
+      ∙ sym (gathered_by (λ spot. map there (elements_taken offsets spot)) (elements_or []) list_cells (map (seen validity) spots) list_pieces)
 
 -- ---- lists of one size
 
@@ -79,7 +79,7 @@ all_blank : (blank : Cell) (start n : ℕ) → map (λ (p : ℕ). blank) (range_
 all_blank blank start zero = refl
 all_blank blank start (suc n) = ap (λ l. blank ∷ l) (all_blank blank (start + 1) n)
 
-module _ (size : ℕ) (validity second : List ℕ) (there : ℕ → Cell) (blank : Cell) (spots : List Spot) where
+module _ (size : ℕ) (validity offsets : List ℕ) (there : ℕ → Cell) (blank : Cell) (spots : List Spot) where
   abbrev sized_value : ℕ → Cell
   sized_value j = list_cell (cells_of (map there (range_with_len (size * j) size)))
 
@@ -88,11 +88,11 @@ module _ (size : ℕ) (validity second : List ℕ) (there : ℕ → Cell) (blank
       map (cell_wanted (λ j. if valid_in validity j then sized_value j else null_cell) (list_cell (cells_of (replicate size blank)))) spots
 
   one_sized : (spot : Spot) → (if spot.1 then elements_or (replicate size blank) (sized_value spot.0) else replicate size blank)
-      ≡ map (cell_wanted there blank) (spots_under (fixed_size_list_layout size) second spot)
+      ≡ map (cell_wanted there blank) (spots_under (fixed_size_list_layout size) offsets spot)
   one_sized spot = by_mark spot.0 spot.1
     where
       by_mark : (j : ℕ) (mark : Bool) → (if mark then elements_or (replicate size blank) (sized_value j) else replicate size blank)
-          ≡ map (cell_wanted there blank) (spots_under (fixed_size_list_layout size) second (j, mark))
+          ≡ map (cell_wanted there blank) (spots_under (fixed_size_list_layout size) offsets (j, mark))
       by_mark j true =
           cells_back (map there (range_with_len (size * j) size))
           ∙ sym (map-map (cell_wanted there blank) (λ place. (place, true)) (range_with_len (size * j) size))
@@ -100,16 +100,16 @@ module _ (size : ℕ) (validity second : List ℕ) (there : ℕ → Cell) (blank
           sym (all_blank blank (size * j) size)
           ∙ sym (map-map (cell_wanted there blank) (λ place. (place, false)) (range_with_len (size * j) size))
 
-  pub sized_elements : map (cell_wanted there blank) (spots_inside (fixed_size_list_layout size) second (map (seen validity) spots))
+  pub sized_elements : map (cell_wanted there blank) (spots_inside (fixed_size_list_layout size) offsets (map (seen validity) spots))
       ≡ flat_map (elements_or (replicate size blank)) sized_cells
   sized_elements =
-      mapped_flat (cell_wanted there blank) (spots_under (fixed_size_list_layout size) second) (map (seen validity) spots)
-      ∙ sym (gathered_by (λ spot. map (cell_wanted there blank) (spots_under (fixed_size_list_layout size) second spot))
+      mapped_flat (cell_wanted there blank) (spots_under (fixed_size_list_layout size) offsets) (map (seen validity) spots)
+      ∙ sym (gathered_by (λ spot. map (cell_wanted there blank) (spots_under (fixed_size_list_layout size) offsets spot))
       (elements_or (replicate size blank)) sized_cells (map (seen validity) spots)
       (mapped_taken validity sized_value (list_cell (cells_of (replicate size blank))) (λ j. refl) refl (elements_or (replicate size blank)) (replicate size blank)
       refl (cells_back (replicate size blank)) spots
       ∙ same_mapped (λ spot. if spot.1 then elements_or (replicate size blank) (sized_value spot.0) else replicate size blank)
-      (λ spot. map (cell_wanted there blank) (spots_under (fixed_size_list_layout size) second spot)) one_sized (map (seen validity) spots)))
+      (λ spot. map (cell_wanted there blank) (spots_under (fixed_size_list_layout size) offsets spot)) one_sized (map (seen validity) spots)))
 
 -- ---- structs
 

@@ -88,117 +88,117 @@ flat_inside inside none = ap shapes_held (sym none)
 
 -- ---- bits
 
-pub bits_kept : (validity second : List ℕ) (spots taken : List Spot) (nulls : ℕ) (made bits third : List ℕ) (inside : List Contents)
-    → AllByRecursion (IsCellOf (shape bits_layout no_shape)) (flat_cells bits_layout validity second [] spots)
+pub bits_kept : (validity values : List ℕ) (spots taken : List Spot) (nulls : ℕ) (made ends bits : List ℕ) (inside : List Contents)
+    → AllByRecursion (IsCellOf (shape bits_layout no_shape)) (flat_cells bits_layout validity [] values spots)
     → taken ≡ map (seen validity) spots
     → nulls ≡ zeros (map (is_shown validity) spots) → made ≡ validity_bytes (map (is_shown validity) spots)
-    → bits ≡ packed_bytes (map (bit_taken second false) taken) → third ≡ [] → inside ≡ []
-    → IsKept bits_layout (flat_cells bits_layout validity second [] spots) nulls made bits third inside
-bits_kept validity second spots taken nulls made bits third inside fit t n v s e i =
-    let value : ℕ → Cell = λ j. bit_cell (bit_of second j) in
+    → ends ≡ [] → bits ≡ packed_bytes (map (bit_taken values false) taken) → inside ≡ []
+    → IsKept bits_layout (flat_cells bits_layout validity [] values spots) nulls made ends bits inside
+bits_kept validity values spots taken nulls made ends bits inside fit t n v e s i =
+    let value : ℕ → Cell = λ j. bit_cell (bit_of values j) in
     record {
       nulls_counted = n ∙ sym (nulls_built validity value (bit_cell false) (λ j. refl) refl spots);
-      first_buffer = v ∙ sym (validity_built validity value (bit_cell false) (λ j. refl) refl spots);
-      second_buffer =
-          s ∙ ap (λ l. packed_bytes (map (bit_taken second false) l)) t
+      validity_kept = v ∙ sym (validity_built validity value (bit_cell false) (λ j. refl) refl spots);
+      offsets_kept = e;
+      values_kept =
+          s ∙ ap (λ l. packed_bytes (map (bit_taken values false) l)) t
           ∙ ap packed_bytes (sym (mapped_taken validity value (bit_cell false) (λ j. refl) refl bit_in false refl refl spots));
-      third_buffer = e;
-      fit = subst (λ x. AllByRecursion (IsCellOf (shape bits_layout x)) (flat_cells bits_layout validity second [] spots)) (flat_inside inside i) fit;
+      fit = subst (λ x. AllByRecursion (IsCellOf (shape bits_layout x)) (flat_cells bits_layout validity [] values spots)) (flat_inside inside i) fit;
       held_inside = i;
       room = tt;
     }
 
 -- ---- bytes of one size
 
-pub blocks_kept : (size : ℕ) (validity second : List ℕ) (spots taken : List Spot) (nulls : ℕ) (made blocks third : List ℕ) (inside : List Contents)
-    → AllByRecursion (IsCellOf (shape (bytes_layout size) no_shape)) (flat_cells (bytes_layout size) validity second [] spots)
+pub blocks_kept : (size : ℕ) (validity values : List ℕ) (spots taken : List Spot) (nulls : ℕ) (made ends blocks : List ℕ) (inside : List Contents)
+    → AllByRecursion (IsCellOf (shape (bytes_layout size) no_shape)) (flat_cells (bytes_layout size) validity [] values spots)
     → taken ≡ map (seen validity) spots
     → nulls ≡ zeros (map (is_shown validity) spots) → made ≡ validity_bytes (map (is_shown validity) spots)
-    → blocks ≡ flat_map (block_taken size second) taken → third ≡ [] → inside ≡ []
-    → IsKept (bytes_layout size) (flat_cells (bytes_layout size) validity second [] spots) nulls made blocks third inside
-blocks_kept size validity second spots taken nulls made blocks third inside fit t n v s e i =
-    let value : ℕ → Cell = λ j. bytes_cell (bytes_from second (size * j) size) in
+    → ends ≡ [] → blocks ≡ flat_map (block_taken size values) taken → inside ≡ []
+    → IsKept (bytes_layout size) (flat_cells (bytes_layout size) validity [] values spots) nulls made ends blocks inside
+blocks_kept size validity values spots taken nulls made ends blocks inside fit t n v e s i =
+    let value : ℕ → Cell = λ j. bytes_cell (bytes_from values (size * j) size) in
     let blank : Cell = bytes_cell (replicate size 0) in
     record {
       nulls_counted = n ∙ sym (nulls_built validity value blank (λ j. refl) refl spots);
-      first_buffer = v ∙ sym (validity_built validity value blank (λ j. refl) refl spots);
-      second_buffer =
-          s ∙ ap (flat_map (block_taken size second)) t
-          ∙ sym (gathered_by (block_taken size second) (bytes_or (replicate size 0)) (flat_cells (bytes_layout size) validity second [] spots) (map (seen validity) spots)
+      validity_kept = v ∙ sym (validity_built validity value blank (λ j. refl) refl spots);
+      offsets_kept = e;
+      values_kept =
+          s ∙ ap (flat_map (block_taken size values)) t
+          ∙ sym (gathered_by (block_taken size values) (bytes_or (replicate size 0)) (flat_cells (bytes_layout size) validity [] values spots) (map (seen validity) spots)
           (mapped_taken validity value blank (λ j. refl) refl (bytes_or (replicate size 0)) (replicate size 0) refl refl spots));
-      third_buffer = e;
-      fit = subst (λ x. AllByRecursion (IsCellOf (shape (bytes_layout size) x)) (flat_cells (bytes_layout size) validity second [] spots)) (flat_inside inside i) fit;
+      fit = subst (λ x. AllByRecursion (IsCellOf (shape (bytes_layout size) x)) (flat_cells (bytes_layout size) validity [] values spots)) (flat_inside inside i) fit;
       held_inside = i;
       room = tt;
     }
 
 -- ---- bytes of any number
 
-pub binary_kept : (validity second third : List ℕ) (spots taken : List Spot) (nulls : ℕ) (made offsets bytes : List ℕ) (inside : List Contents)
-    → AllByRecursion (IsCellOf (shape (binary_layout 4) no_shape)) (flat_cells (binary_layout 4) validity second third spots)
+pub binary_kept : (validity offsets values : List ℕ) (spots taken : List Spot) (nulls : ℕ) (made ends spans : List ℕ) (inside : List Contents)
+    → AllByRecursion (IsCellOf (shape (binary_layout 4) no_shape)) (flat_cells (binary_layout 4) validity offsets values spots)
     → taken ≡ map (seen validity) spots
-    → sum_by (λ n. n) (map (λ spot. length (span_taken second third spot)) taken) < 2 ^ 31
+    → sum_by (λ n. n) (map (λ spot. length (span_taken offsets values spot)) taken) < 2 ^ 31
     → nulls ≡ zeros (map (is_shown validity) spots) → made ≡ validity_bytes (map (is_shown validity) spots)
-    → offsets ≡ offsets_of 4 (map (λ spot. length (span_taken second third spot)) taken) → bytes ≡ flat_map (span_taken second third) taken
+    → ends ≡ offsets_of 4 (map (λ spot. length (span_taken offsets values spot)) taken) → spans ≡ flat_map (span_taken offsets values) taken
     → inside ≡ []
-    → IsKept (binary_layout 4) (flat_cells (binary_layout 4) validity second third spots) nulls made offsets bytes inside
-binary_kept validity second third spots taken nulls made offsets bytes inside fit t room n v s e i =
-    let value : ℕ → Cell = λ j. bytes_cell (value_bytes 4 second third j) in
-    let pieces : map (bytes_or []) (flat_cells (binary_layout 4) validity second third spots) ≡ map (span_taken second third) taken =
-    mapped_taken validity value (bytes_cell []) (λ j. refl) refl (bytes_or []) [] refl refl spots ∙ ap (map (span_taken second third)) (sym t) in
-    let lengths : bytes_lengths (flat_cells (binary_layout 4) validity second third spots) ≡ map (λ spot. length (span_taken second third spot)) taken =
-    sym (map-map (λ l. length l) (bytes_or []) (flat_cells (binary_layout 4) validity second third spots))
-    ∙ ap (map (λ l. length l)) pieces ∙ map-map (λ l. length l) (span_taken second third) taken in
+    → IsKept (binary_layout 4) (flat_cells (binary_layout 4) validity offsets values spots) nulls made ends spans inside
+binary_kept validity offsets values spots taken nulls made ends spans inside fit t room n v s e i =
+    let value : ℕ → Cell = λ j. bytes_cell (value_bytes 4 offsets values j) in
+    let pieces : map (bytes_or []) (flat_cells (binary_layout 4) validity offsets values spots) ≡ map (span_taken offsets values) taken =
+    mapped_taken validity value (bytes_cell []) (λ j. refl) refl (bytes_or []) [] refl refl spots ∙ ap (map (span_taken offsets values)) (sym t) in
+    let lengths : bytes_lengths (flat_cells (binary_layout 4) validity offsets values spots) ≡ map (λ spot. length (span_taken offsets values spot)) taken =
+    sym (map-map (λ l. length l) (bytes_or []) (flat_cells (binary_layout 4) validity offsets values spots))
+    ∙ ap (map (λ l. length l)) pieces ∙ map-map (λ l. length l) (span_taken offsets values) taken in
     record {
       nulls_counted = n ∙ sym (nulls_built validity value (bytes_cell []) (λ j. refl) refl spots);
-      first_buffer = v ∙ sym (validity_built validity value (bytes_cell []) (λ j. refl) refl spots);
-      second_buffer = s ∙ ap (offsets_of 4) (sym lengths);
-      third_buffer =
-          e ∙ sym (gathered_by (span_taken second third) (bytes_or []) (flat_cells (binary_layout 4) validity second third spots) taken pieces);
-      fit = subst (λ x. AllByRecursion (IsCellOf (shape (binary_layout 4) x)) (flat_cells (binary_layout 4) validity second third spots)) (flat_inside inside i) fit;
+      validity_kept = v ∙ sym (validity_built validity value (bytes_cell []) (λ j. refl) refl spots);
+      offsets_kept = s ∙ ap (offsets_of 4) (sym lengths);
+      values_kept =
+          e ∙ sym (gathered_by (span_taken offsets values) (bytes_or []) (flat_cells (binary_layout 4) validity offsets values spots) taken pieces);
+      fit = subst (λ x. AllByRecursion (IsCellOf (shape (binary_layout 4) x)) (flat_cells (binary_layout 4) validity offsets values spots)) (flat_inside inside i) fit;
       held_inside = i;
       room = subst (λ l. sum_by (λ n. n) l < 2 ^ 31) (sym lengths) room;
     }
 
 -- a text is bytes but for what it has to be
-pub spread_kept : (layout : Layout) → IsSpread layout → (validity second third : List ℕ) (spots taken : List Spot) (nulls : ℕ) (made offsets bytes : List ℕ)
+pub spread_kept : (layout : Layout) → IsSpread layout → (validity offsets values : List ℕ) (spots taken : List Spot) (nulls : ℕ) (made ends spans : List ℕ)
     (inside : List Contents)
-    → AllByRecursion (IsCellOf (shape layout no_shape)) (flat_cells layout validity second third spots)
+    → AllByRecursion (IsCellOf (shape layout no_shape)) (flat_cells layout validity offsets values spots)
     → taken ≡ map (seen validity) spots
-    → sum_by (λ n. n) (map (λ spot. length (span_taken second third spot)) taken) < 2 ^ 31
+    → sum_by (λ n. n) (map (λ spot. length (span_taken offsets values spot)) taken) < 2 ^ 31
     → nulls ≡ zeros (map (is_shown validity) spots) → made ≡ validity_bytes (map (is_shown validity) spots)
-    → offsets ≡ offsets_of 4 (map (λ spot. length (span_taken second third spot)) taken) → bytes ≡ flat_map (span_taken second third) taken
+    → ends ≡ offsets_of 4 (map (λ spot. length (span_taken offsets values spot)) taken) → spans ≡ flat_map (span_taken offsets values) taken
     → inside ≡ []
-    → IsKept layout (flat_cells layout validity second third spots) nulls made offsets bytes inside
-spread_kept layout (inl is) validity second third spots taken nulls made offsets bytes inside fit t room n v s e i =
-    subst (λ l. IsKept l (flat_cells l validity second third spots) nulls made offsets bytes inside) (sym is)
-    (binary_kept validity second third spots taken nulls made offsets bytes inside
-    (subst (λ l. AllByRecursion (IsCellOf (shape l no_shape)) (flat_cells l validity second third spots)) is fit) t room n v s e i)
-spread_kept layout (inr is) validity second third spots taken nulls made offsets bytes inside fit t room n v s e i =
-    subst (λ l. IsKept l (flat_cells l validity second third spots) nulls made offsets bytes inside) (sym is)
-    (utf8_kept (subst (λ l. AllByRecursion (IsCellOf (shape l no_shape)) (flat_cells l validity second third spots)) is fit))
+    → IsKept layout (flat_cells layout validity offsets values spots) nulls made ends spans inside
+spread_kept layout (inl is) validity offsets values spots taken nulls made ends spans inside fit t room n v s e i =
+    subst (λ l. IsKept l (flat_cells l validity offsets values spots) nulls made ends spans inside) (sym is)
+    (binary_kept validity offsets values spots taken nulls made ends spans inside
+    (subst (λ l. AllByRecursion (IsCellOf (shape l no_shape)) (flat_cells l validity offsets values spots)) is fit) t room n v s e i)
+spread_kept layout (inr is) validity offsets values spots taken nulls made ends spans inside fit t room n v s e i =
+    subst (λ l. IsKept l (flat_cells l validity offsets values spots) nulls made ends spans inside) (sym is)
+    (utf8_kept (subst (λ l. AllByRecursion (IsCellOf (shape l no_shape)) (flat_cells l validity offsets values spots)) is fit))
   where
-    utf8_kept : AllByRecursion (IsCellOf (shape (utf8_layout 4) no_shape)) (flat_cells (utf8_layout 4) validity second third spots)
-        → IsKept (utf8_layout 4) (flat_cells (utf8_layout 4) validity second third spots) nulls made offsets bytes inside
+    utf8_kept : AllByRecursion (IsCellOf (shape (utf8_layout 4) no_shape)) (flat_cells (utf8_layout 4) validity offsets values spots)
+        → IsKept (utf8_layout 4) (flat_cells (utf8_layout 4) validity offsets values spots) nulls made ends spans inside
     utf8_kept text =
-        let bare : IsKept (binary_layout 4) (flat_cells (binary_layout 4) validity second third spots) nulls made offsets bytes inside =
-        binary_kept validity second third spots taken nulls made offsets bytes inside (any_bytes spots) t room n v s e i in
+        let bare : IsKept (binary_layout 4) (flat_cells (binary_layout 4) validity offsets values spots) nulls made ends spans inside =
+        binary_kept validity offsets values spots taken nulls made ends spans inside (any_bytes spots) t room n v s e i in
         record {
           nulls_counted = bare.nulls_counted;
-          first_buffer = bare.first_buffer;
-          second_buffer = bare.second_buffer;
-          third_buffer = bare.third_buffer;
-          fit = subst (λ x. AllByRecursion (IsCellOf (shape (utf8_layout 4) x)) (flat_cells (utf8_layout 4) validity second third spots)) (flat_inside inside i) text;
+          validity_kept = bare.validity_kept;
+          offsets_kept = bare.offsets_kept;
+          values_kept = bare.values_kept;
+          fit = subst (λ x. AllByRecursion (IsCellOf (shape (utf8_layout 4) x)) (flat_cells (utf8_layout 4) validity offsets values spots)) (flat_inside inside i) text;
           held_inside = i;
           room = bare.room;
         }
       where
         one : (j : ℕ) (mark valid : Bool)
-            → IsCellOf (shape (binary_layout 4) no_shape) (if mark then (if valid then bytes_cell (value_bytes 4 second third j) else null_cell) else bytes_cell [])
+            → IsCellOf (shape (binary_layout 4) no_shape) (if mark then (if valid then bytes_cell (value_bytes 4 offsets values j) else null_cell) else bytes_cell [])
         one j true true = tt
         one j true false = tt
         one j false valid = tt
 
-        any_bytes : (spots : List Spot) → AllByRecursion (IsCellOf (shape (binary_layout 4) no_shape)) (flat_cells (binary_layout 4) validity second third spots)
+        any_bytes : (spots : List Spot) → AllByRecursion (IsCellOf (shape (binary_layout 4) no_shape)) (flat_cells (binary_layout 4) validity offsets values spots)
         any_bytes [] = tt
         any_bytes (spot ∷ spots) = (one spot.0 spot.1 (valid_in validity spot.0), any_bytes spots)

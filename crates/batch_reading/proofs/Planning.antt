@@ -25,50 +25,50 @@ as_spots spots other inside are same = record {
 }
 
 -- nothing is selected inside the layouts without columns inside
-pub none_in_nulls : (second : List ℕ) (taken : List Spot) (inside : ChildSelection) → AreInside [] inside → AreInside (spots_inside null_layout second taken) inside
-none_in_nulls second taken inside are = as_spots [] (spots_inside null_layout second taken) inside are (nothing_of taken)
+pub none_in_nulls : (offsets : List ℕ) (taken : List Spot) (inside : ChildSelection) → AreInside [] inside → AreInside (spots_inside null_layout offsets taken) inside
+none_in_nulls offsets taken inside are = as_spots [] (spots_inside null_layout offsets taken) inside are (nothing_of taken)
 
-pub none_in_bits : (second : List ℕ) (taken : List Spot) (inside : ChildSelection) → AreInside [] inside → AreInside (spots_inside bits_layout second taken) inside
-none_in_bits second taken inside are = as_spots [] (spots_inside bits_layout second taken) inside are (nothing_of taken)
+pub none_in_bits : (offsets : List ℕ) (taken : List Spot) (inside : ChildSelection) → AreInside [] inside → AreInside (spots_inside bits_layout offsets taken) inside
+none_in_bits offsets taken inside are = as_spots [] (spots_inside bits_layout offsets taken) inside are (nothing_of taken)
 
-pub none_in_bytes : (size : ℕ) (second : List ℕ) (taken : List Spot) (inside : ChildSelection) → AreInside [] inside
-    → AreInside (spots_inside (bytes_layout size) second taken) inside
-none_in_bytes size second taken inside are = as_spots [] (spots_inside (bytes_layout size) second taken) inside are (nothing_of taken)
+pub none_in_bytes : (size : ℕ) (offsets : List ℕ) (taken : List Spot) (inside : ChildSelection) → AreInside [] inside
+    → AreInside (spots_inside (bytes_layout size) offsets taken) inside
+none_in_bytes size offsets taken inside are = as_spots [] (spots_inside (bytes_layout size) offsets taken) inside are (nothing_of taken)
 
-pub none_in_binary : (second : List ℕ) (taken : List Spot) (inside : ChildSelection) → AreInside [] inside
-    → AreInside (spots_inside (binary_layout 4) second taken) inside
-none_in_binary second taken inside are = as_spots [] (spots_inside (binary_layout 4) second taken) inside are (nothing_of taken)
+pub none_in_binary : (offsets : List ℕ) (taken : List Spot) (inside : ChildSelection) → AreInside [] inside
+    → AreInside (spots_inside (binary_layout 4) offsets taken) inside
+none_in_binary offsets taken inside are = as_spots [] (spots_inside (binary_layout 4) offsets taken) inside are (nothing_of taken)
 
-pub none_in_utf8 : (second : List ℕ) (taken : List Spot) (inside : ChildSelection) → AreInside [] inside
-    → AreInside (spots_inside (utf8_layout 4) second taken) inside
-none_in_utf8 second taken inside are = as_spots [] (spots_inside (utf8_layout 4) second taken) inside are (nothing_of taken)
+pub none_in_utf8 : (offsets : List ℕ) (taken : List Spot) (inside : ChildSelection) → AreInside [] inside
+    → AreInside (spots_inside (utf8_layout 4) offsets taken) inside
+none_in_utf8 offsets taken inside are = as_spots [] (spots_inside (utf8_layout 4) offsets taken) inside are (nothing_of taken)
 
 -- the same spots are selected inside a struct
-pub same_in_struct : (second : List ℕ) (taken : List Spot) → spots_inside struct_layout second taken ≡ taken
-same_in_struct second [] = refl
-same_in_struct second (spot ∷ taken) = ap (λ rest. spot ∷ rest) (same_in_struct second taken)
+pub same_in_struct : (offsets : List ℕ) (taken : List Spot) → spots_inside struct_layout offsets taken ≡ taken
+same_in_struct offsets [] = refl
+same_in_struct offsets (spot ∷ taken) = ap (λ rest. spot ∷ rest) (same_in_struct offsets taken)
 
 -- bytes of any number
-pub spread_planned : (layout : Layout) → IsSpread layout → (validity second third : List ℕ) (spots : List Spot) (plan : Plan)
+pub spread_planned : (layout : Layout) → IsSpread layout → (validity offsets values : List ℕ) (spots : List Spot) (plan : Plan)
     → plan.nulls ≡ zeros (map (is_shown validity) spots) → plan.validity.items ≡ validity_bytes (map (is_shown validity) spots)
-    → plan.second.items ≡ offsets_of 4 (map (λ spot. length (span_taken second third spot)) (map (seen validity) spots))
-    → plan.third.items ≡ flat_map (span_taken second third) (map (seen validity) spots) → AreInside [] plan.inside
-    → IsPlanned layout validity second third spots plan
-spread_planned layout (inl is) validity second third spots plan n v s t i =
-    subst (λ l. IsPlanned l validity second third spots plan) (sym is) (record {
+    → plan.offsets.items ≡ offsets_of 4 (map (λ spot. length (span_taken offsets values spot)) (map (seen validity) spots))
+    → plan.values.items ≡ flat_map (span_taken offsets values) (map (seen validity) spots) → AreInside [] plan.inside
+    → IsPlanned layout validity offsets values spots plan
+spread_planned layout (inl is) validity offsets values spots plan n v s t i =
+    subst (λ l. IsPlanned l validity offsets values spots plan) (sym is) (record {
       nulls_are = n;
       validity_is = v;
-      second_is = s;
-      third_is = t;
-      inside_is = none_in_binary second (map (seen validity) spots) plan.inside i;
+      offsets_is = s;
+      values_is = t;
+      inside_is = none_in_binary offsets (map (seen validity) spots) plan.inside i;
     })
-spread_planned layout (inr is) validity second third spots plan n v s t i =
-    subst (λ l. IsPlanned l validity second third spots plan) (sym is) (record {
+spread_planned layout (inr is) validity offsets values spots plan n v s t i =
+    subst (λ l. IsPlanned l validity offsets values spots plan) (sym is) (record {
       nulls_are = n;
       validity_is = v;
-      second_is = s;
-      third_is = t;
-      inside_is = none_in_utf8 second (map (seen validity) spots) plan.inside i;
+      offsets_is = s;
+      values_is = t;
+      inside_is = none_in_utf8 offsets (map (seen validity) spots) plan.inside i;
     })
 
 -- nothing is selected inside lists of no element

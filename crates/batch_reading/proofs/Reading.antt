@@ -14,6 +14,7 @@ use Rattle.batch_types.specs.Shapes.{Shape, shape, Shapes, no_shape, shape_then,
 use Rattle.batch_types.specs.Typed.{IsCellOf}
 use Rattle.batch_columns.specs.Contents.{Contents}
 use Rattle.batch_columns.specs.Held.{shapes_held, layout_named}
+use Rattle.batch_columns.specs.Read.{offsets_at, values_at}
 use Rattle.batch_columns.specs.declared.layout.Layout.{Layout as Declared}
 use Rattle.batch_columns.specs.declared.layout.Layout.TheVariants.{Null, Bits, Bytes, Binary, Utf8, List as Lists, FixedSizeList, Struct}
 use Rattle.batch_columns.specs.Sources.{columns_from}
@@ -78,7 +79,7 @@ module _ (body : List ℕ) (node : Node) (ranges : List Range) (inside : Forest)
   Facts layout = FieldFacts layout body node ranges inside nodes others asked places selection
 
   abbrev Reads : Declared → Type 0
-  Reads layout = ReadsWithin (layout_named layout) asked (first_length inner) (buffer_at body ranges 1) (buffer_at body ranges 2)
+  Reads layout = ReadsWithin (layout_named layout) asked (first_length inner) (offsets_at body (layout_named layout) ranges) (values_at body (layout_named layout) ranges)
 
   pub reads : (layout : Declared) → Facts layout → Reads layout
   reads Null f = tt
@@ -107,7 +108,7 @@ module _ (body : List ℕ) (node : Node) (ranges : List Range) (inside : Forest)
   taken_below layout f = seen_below asked (buffer_at body ranges 0) (spots_of selection) (wanted_are_below asked selection f.wanted_is)
 
   pub inside_below : (layout : Declared) → Facts layout
-      → AreBelow (inside_limit layout (nat_abs node.0) (first_length inner)) (spots_inside (layout_named layout) (buffer_at body ranges 1) taken)
+      → AreBelow (inside_limit layout (nat_abs node.0) (first_length inner)) (spots_inside (layout_named layout) (offsets_at body (layout_named layout) ranges) taken)
   inside_below Null f = flat_below (λ spot. []) asked 0 (λ spot below. tt) taken (taken_below Null f)
   inside_below Bits f = flat_below (λ spot. []) asked 0 (λ spot below. tt) taken (taken_below Bits f)
   inside_below (Bytes size) f = flat_below (λ spot. []) asked 0 (λ spot below. tt) taken (taken_below (Bytes size) f)
@@ -115,13 +116,13 @@ module _ (body : List ℕ) (node : Node) (ranges : List Range) (inside : Forest)
   inside_below Utf8 f = flat_below (λ spot. []) asked 0 (λ spot below. tt) taken (taken_below Utf8 f)
   inside_below Lists f = lists_below asked (first_length inner) (buffer_at body ranges 1) taken (reads Lists f).0 (taken_below Lists f)
   inside_below (FixedSizeList size) f =
-      sized_below size (nat_abs node.0) (buffer_at body ranges 1) taken (further asked (nat_abs node.0) f.kept.1.1.1.0 taken (taken_below (FixedSizeList size) f))
+      sized_below size (nat_abs node.0) [] taken (further asked (nat_abs node.0) f.kept.1.1.1.0 taken (taken_below (FixedSizeList size) f))
     where
       further : (low high : ℕ) → low ≤ high → (spots : List Spot) → AreBelow low spots → AreBelow high spots
       further low high up [] all = tt
       further low high up (spot ∷ spots) all = (omega (arith, up, all.0), further low high up spots all.1)
   inside_below Struct f =
-      subst (AreBelow (nat_abs node.0)) (sym (same_in_struct (buffer_at body ranges 1) taken))
+      subst (AreBelow (nat_abs node.0)) (sym (same_in_struct [] taken))
       (further asked (nat_abs node.0) f.kept.1.1.1.0 taken (taken_below Struct f))
     where
       further : (low high : ℕ) → low ≤ high → (spots : List Spot) → AreBelow low spots → AreBelow high spots
@@ -170,19 +171,19 @@ module _ (body : List ℕ) (node : Node) (ranges : List Range) (nodes : List Nod
   sound_inside (FixedSizeList size) inside f = f.sound
   sound_inside Struct inside f = f.sound
 
-  none_fit : (layout : Layout) (inside : Forest) → width inside ≡ 0
-      → AreFit body (columns_from inside nodes others) (shapes_of inside) (spots_inside layout (buffer_at body ranges 1) (map (seen (buffer_at body ranges 0)) (spots_of selection)))
-  none_fit layout no_more none = tt
-  none_fit layout (more t rest) none = absurd (omega (arith, none))
+  none_fit : (layout : Layout) (offsets : List ℕ) (inside : Forest) → width inside ≡ 0
+      → AreFit body (columns_from inside nodes others) (shapes_of inside) (spots_inside layout offsets (map (seen (buffer_at body ranges 0)) (spots_of selection)))
+  none_fit layout offsets no_more none = tt
+  none_fit layout offsets (more t rest) none = absurd (omega (arith, none))
 
   pub fit_inside : (layout : Declared) (inside : Forest) → AllFacts layout inside
       → AreFit body (columns_from inside nodes others) (shapes_of inside)
-      (spots_inside (layout_named layout) (buffer_at body ranges 1) (map (seen (buffer_at body ranges 0)) (spots_of selection)))
-  fit_inside Null inside f = none_fit null_layout inside f.may
-  fit_inside Bits inside f = none_fit bits_layout inside f.may
-  fit_inside (Bytes size) inside f = none_fit (bytes_layout size) inside f.may
-  fit_inside Binary inside f = none_fit (binary_layout 4) inside f.may
-  fit_inside Utf8 inside f = none_fit (utf8_layout 4) inside f.may
+      (spots_inside (layout_named layout) (offsets_at body (layout_named layout) ranges) (map (seen (buffer_at body ranges 0)) (spots_of selection)))
+  fit_inside Null inside f = none_fit null_layout [] inside f.may
+  fit_inside Bits inside f = none_fit bits_layout [] inside f.may
+  fit_inside (Bytes size) inside f = none_fit (bytes_layout size) [] inside f.may
+  fit_inside Binary inside f = none_fit (binary_layout 4) (buffer_at body ranges 1) inside f.may
+  fit_inside Utf8 inside f = none_fit (utf8_layout 4) (buffer_at body ranges 1) inside f.may
   fit_inside Lists no_more f = absurd (omega (arith, f.may))
   fit_inside Lists (more t no_more) f = (lists_fit body node ranges t nodes others (spots_of selection) f.fit, tt)
   fit_inside Lists (more t (more u rest)) f = absurd (omega (arith, f.may))
@@ -236,7 +237,7 @@ module _ (body : List ℕ) (node : Node) (ranges : List Range) (nodes : List Nod
       (places_rise 0 asked selection.runs.now is.rising) has)
 
   pub room_taken : (layout : Declared) (inside : Forest) → AllFacts layout inside
-      → HasRoomTaken layout (buffer_at body ranges 1) (buffer_at body ranges 2) (map (seen (buffer_at body ranges 0)) (spots_of selection))
+      → HasRoomTaken layout (offsets_at body (layout_named layout) ranges) (values_at body (layout_named layout) ranges) (map (seen (buffer_at body ranges 0)) (spots_of selection))
   room_taken Null inside f = tt
   room_taken Bits inside f = tt
   room_taken (Bytes size) inside f = tt

@@ -20,6 +20,7 @@ use Rattle.batch_types.specs.Typed.{IsCellOf}
 use Rattle.batch_columns.specs.Contents.{Contents}
 use Rattle.batch_columns.specs.Held.{shapes_held, layout_named}
 use Rattle.batch_columns.specs.Kept.{IsKept}
+use Rattle.batch_columns.specs.Read.{offsets_at, values_at}
 use Rattle.batch_columns.specs.declared.layout.Layout.{Layout as Declared}
 use Rattle.batch_columns.specs.declared.place.Place.{Place}
 use Rattle.batch_columns.specs.Sources.{nodes_of_tree, buffers_of_tree, column_from, columns_from}
@@ -50,10 +51,15 @@ pub readable_next : (fields : List Field) (i : ℕ) (x : Field) (head : BatchHea
 readable_next fields i x head place body selection there is r =
     subst (λ f. AreReadable f head place body selection) (forest_next fields i x there is) r
 
-pub as_buffers : (layout : Layout) (v s t w u x : List ℕ) (spots : List Spot) (plan : Plan) → v ≡ w → s ≡ u → t ≡ x → IsPlanned layout v s t spots plan → IsPlanned layout w u x spots plan
-as_buffers layout v s t w u x spots plan a b c planned =
-    subst (λ y. IsPlanned layout y u x spots plan) a
-    (subst (λ y. IsPlanned layout v y x spots plan) b (subst (λ y. IsPlanned layout v s y spots plan) c planned))
+-- what is planned of the parts of a source, by the body; the source's layout is the one of the field
+pub as_buffers : (layout field_layout : Layout) → layout ≡ field_layout → (body : List ℕ) (ranges : List Range) (validity offsets values : List ℕ) (spots : List Spot) (plan : Plan)
+    → validity ≡ buffer_at body ranges 0 → offsets ≡ offsets_at body field_layout ranges → values ≡ values_at body field_layout ranges
+    → IsPlanned layout validity offsets values spots plan
+    → IsPlanned layout (buffer_at body ranges 0) (offsets_at body layout ranges) (values_at body layout ranges) spots plan
+as_buffers layout field_layout named body ranges validity offsets values spots plan v o w planned =
+    subst (λ y. IsPlanned layout y (offsets_at body layout ranges) (values_at body layout ranges) spots plan) v
+    (subst (λ y. IsPlanned layout validity y (values_at body layout ranges) spots plan) (o ∙ ap (λ l. offsets_at body l ranges) (sym named))
+    (subst (λ y. IsPlanned layout validity offsets y spots plan) (w ∙ ap (λ l. values_at body l ranges) (sym named)) planned))
 
 -- ---- nodes
 
@@ -118,23 +124,26 @@ module _ (fh : FieldHead) (entries : List Entry) (inside rest : Forest) (head : 
   }
 
   pub reads_field : (layout : Declared) → layout_named layout ≡ layout_of fh.data_type
-      → ReadsWithin (layout_named layout) r.asked (first_length (columns_from inside inner_nodes inner_others)) (buffer_at body ranges 1) (buffer_at body ranges 2)
+      → ReadsWithin (layout_named layout) r.asked (first_length (columns_from inside inner_nodes inner_others)) (offsets_at body (layout_named layout) ranges) (values_at body (layout_named layout) ranges)
   reads_field layout named = reads body node ranges inside inner_nodes inner_others r.asked r.places selection layout (facts layout named)
 
-  pub source_reads : (layout : Declared) → layout_named layout ≡ layout_of fh.data_type → (second third : List ℕ) → second ≡ buffer_at body ranges 1 → third ≡ buffer_at body ranges 2
-      → (limit : ℕ) × (total : ℕ) × IsSelection limit selection × ReadsWithin (layout_named layout) limit total second third
-  source_reads layout named second third s t = (
+  pub source_reads : (layout : Declared) → layout_named layout ≡ layout_of fh.data_type → (offsets values : List ℕ)
+      → offsets ≡ offsets_at body (layout_of fh.data_type) ranges → values ≡ values_at body (layout_of fh.data_type) ranges
+      → (limit : ℕ) × (total : ℕ) × IsSelection limit selection × ReadsWithin (layout_named layout) limit total offsets values
+  source_reads layout named offsets values o v = (
     r.asked,
     first_length (columns_from inside inner_nodes inner_others),
     r.wanted_is,
-    subst (λ b. ReadsWithin (layout_named layout) r.asked (first_length (columns_from inside inner_nodes inner_others)) b third) (sym s)
-        (subst (λ b. ReadsWithin (layout_named layout) r.asked (first_length (columns_from inside inner_nodes inner_others)) (buffer_at body ranges 1) b) (sym t)
+    subst (λ b. ReadsWithin (layout_named layout) r.asked (first_length (columns_from inside inner_nodes inner_others)) b values)
+        (sym (o ∙ ap (λ l. offsets_at body l ranges) (sym named)))
+        (subst (λ b. ReadsWithin (layout_named layout) r.asked (first_length (columns_from inside inner_nodes inner_others)) (offsets_at body (layout_named layout) ranges) b)
+        (sym (v ∙ ap (λ l. values_at body l ranges) (sym named)))
         (reads_field layout named)),
   )
 
   -- the columns inside
   module _ (layout : Declared) (named : layout_named layout ≡ layout_of fh.data_type) (planned : ChildSelection) (w : Selection) (within : Place)
-      (are : AreInside (spots_inside (layout_named layout) (buffer_at body ranges 1) (map (seen (buffer_at body ranges 0)) (spots_of selection))) planned)
+      (are : AreInside (spots_inside (layout_named layout) (offsets_at body (layout_named layout) ranges) (map (seen (buffer_at body ranges 0)) (spots_of selection))) planned)
       (runs : w.runs.now ≡ planned.runs.items) (count : w.count ≡ planned.count) (there : w.there.now ≡ planned.there)
       (at_node : within.node ≡ place.node + 1) (at_buffer : within.buffer ≡ place.buffer + buffers_in_layout (layout_named layout)) where
     columns_same : columns_from inside inner_nodes inner_others ≡ columns_there inside head within
@@ -151,7 +160,7 @@ module _ (fh : FieldHead) (entries : List Entry) (inside rest : Forest) (head : 
           places = places_inside body (layout_named layout) ranges r.places;
           wanted_is =
               inside_wanted (inside_limit layout (nat_abs node.0) (first_length (columns_from inside inner_nodes inner_others)))
-              (spots_inside (layout_named layout) (buffer_at body ranges 1) (map (seen (buffer_at body ranges 0)) (spots_of selection))) planned w are
+              (spots_inside (layout_named layout) (offsets_at body (layout_named layout) ranges) (map (seen (buffer_at body ranges 0)) (spots_of selection))) planned w are
               (inside_below body node ranges inside inner_nodes inner_others r.asked r.places selection layout f)
               (limit_few body node ranges inside inner_nodes inner_others r.asked r.places selection layout f) runs count there;
           sound =
@@ -174,9 +183,10 @@ module _ (fh : FieldHead) (entries : List Entry) (inside rest : Forest) (head : 
         cells_wanted body (laid (layout_named layout) node ranges (columns_from inside inner_nodes inner_others)) (shape (layout_named layout) (shapes_held columns)) (spots_of selection)
 
     pub field_kept : (plan : Plan) (columns : List Contents)
-        → IsPlanned (layout_named layout) (buffer_at body ranges 0) (buffer_at body ranges 1) (buffer_at body ranges 2) (spots_of selection) plan
+        → IsPlanned (layout_named layout) (buffer_at body ranges 0) (offsets_at body (layout_named layout) ranges) (values_at body (layout_named layout) ranges)
+        (spots_of selection) plan
         → AreBuilt inside head within body w columns
-        → IsKept (layout_named layout) (field_cells columns) plan.nulls plan.validity.items plan.second.items plan.third.items columns
+        → IsKept (layout_named layout) (field_cells columns) plan.nulls plan.validity.items plan.offsets.items plan.values.items columns
     field_kept plan columns is built =
         let f : FieldFacts layout body node ranges inside inner_nodes inner_others r.asked r.places selection = facts layout named in
         planned_kept body node ranges (spots_of selection) plan layout (columns_from inside inner_nodes inner_others) columns (

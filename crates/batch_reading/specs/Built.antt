@@ -5,9 +5,10 @@ use Rattle.batch_types.specs.Cells.{Cell, null_cell, no_cell}
 use Rattle.batch_types.specs.Layouts.{Layout}
 use Rattle.batch_types.specs.Shapes.{Shape, Shapes, no_shape, shape_then}
 use Rattle.batch_types.specs.Laid.{LaidColumn, LaidColumns, no_column, column_then}
-use Rattle.batch_types.specs.Placed.{is_valid, value_at, cell_at}
+use Rattle.batch_types.specs.Placed.{is_valid, cell_at}
 use Rattle.batch_types.specs.Canonical.{blank_cell, blank_of}
 use Rattle.batch_types.specs.Typed.{IsCellOf}
+use Rattle.batch_columns.specs.Buffers.{value_by}
 use Rattle.batch_reading.specs.Spots.{Spot}
 
 -- the cell at a spot, or the blank one where it is not selected
@@ -36,11 +37,13 @@ AreFit body (column_then column rest) (shape_then s shapes) spots =
 
 -- ---- layouts without columns inside
 
--- the cell at place j by the bytes of the three buffers
+-- the cell at place j, by the validity, the offsets and the values
 abbrev pub flat_cell : Layout → List ℕ → List ℕ → List ℕ → ℕ → Cell
-flat_cell layout validity second third j =
-    if is_valid layout validity j then value_at layout second third (λ places. no_cell) (λ i. no_cell) j else null_cell
+flat_cell layout validity offsets values j =
+    if is_valid layout validity j
+    then value_by layout offsets values (λ places. no_cell) (λ i. no_cell) j
+    else null_cell
 
 abbrev pub flat_cells : Layout → List ℕ → List ℕ → List ℕ → List Spot → List Cell
-flat_cells layout validity second third spots =
-    map (cell_wanted (flat_cell layout validity second third) (blank_cell layout null_cell no_cell)) spots
+flat_cells layout validity offsets values spots =
+    map (cell_wanted (flat_cell layout validity offsets values) (blank_cell layout null_cell no_cell)) spots

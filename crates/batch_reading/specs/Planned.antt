@@ -43,46 +43,46 @@ abbrev pub elements_taken : List ℕ → Spot → List ℕ
 elements_taken offsets spot =
     if spot.1 then range_with_len (start_of 4 offsets spot.0) (length_of 4 offsets spot.0) else []
 
-abbrev pub second_planned : Layout → List ℕ → List ℕ → List Spot → List ℕ
-second_planned null_layout second third taken = []
-second_planned bits_layout second third taken = packed_bytes (map (bit_taken second false) taken)
-second_planned (bytes_layout size) second third taken = flat_map (block_taken size second) taken
-second_planned (binary_layout offset) second third taken =
-    offsets_of 4 (map (λ spot. length (span_taken second third spot)) taken)
-second_planned (utf8_layout offset) second third taken =
-    offsets_of 4 (map (λ spot. length (span_taken second third spot)) taken)
-second_planned (list_layout offset) second third taken =
-    offsets_of 4 (map (λ spot. length (elements_taken second spot)) taken)
-second_planned (fixed_size_list_layout size) second third taken = []
-second_planned struct_layout second third taken = []
+abbrev pub offsets_planned : Layout → List ℕ → List ℕ → List Spot → List ℕ
+offsets_planned null_layout offsets values taken = []
+offsets_planned bits_layout offsets values taken = []
+offsets_planned (bytes_layout size) offsets values taken = []
+offsets_planned (binary_layout offset) offsets values taken =
+    offsets_of 4 (map (λ spot. length (span_taken offsets values spot)) taken)
+offsets_planned (utf8_layout offset) offsets values taken =
+    offsets_of 4 (map (λ spot. length (span_taken offsets values spot)) taken)
+offsets_planned (list_layout offset) offsets values taken =
+    offsets_of 4 (map (λ spot. length (elements_taken offsets spot)) taken)
+offsets_planned (fixed_size_list_layout size) offsets values taken = []
+offsets_planned struct_layout offsets values taken = []
 
-abbrev pub third_planned : Layout → List ℕ → List ℕ → List Spot → List ℕ
-third_planned null_layout second third taken = []
-third_planned bits_layout second third taken = []
-third_planned (bytes_layout size) second third taken = []
-third_planned (binary_layout offset) second third taken = flat_map (span_taken second third) taken
-third_planned (utf8_layout offset) second third taken = flat_map (span_taken second third) taken
-third_planned (list_layout offset) second third taken = []
-third_planned (fixed_size_list_layout size) second third taken = []
-third_planned struct_layout second third taken = []
+abbrev pub values_planned : Layout → List ℕ → List ℕ → List Spot → List ℕ
+values_planned null_layout offsets values taken = []
+values_planned bits_layout offsets values taken = packed_bytes (map (bit_taken values false) taken)
+values_planned (bytes_layout size) offsets values taken = flat_map (block_taken size values) taken
+values_planned (binary_layout offset) offsets values taken = flat_map (span_taken offsets values) taken
+values_planned (utf8_layout offset) offsets values taken = flat_map (span_taken offsets values) taken
+values_planned (list_layout offset) offsets values taken = []
+values_planned (fixed_size_list_layout size) offsets values taken = []
+values_planned struct_layout offsets values taken = []
 
 -- ---- what is selected inside
 
 -- Inside a list the elements of those that are taken, inside a list of one size and inside a struct blank cells for the
 -- others.
 abbrev pub spots_under : Layout → List ℕ → Spot → List Spot
-spots_under null_layout second spot = []
-spots_under bits_layout second spot = []
-spots_under (bytes_layout size) second spot = []
-spots_under (binary_layout offset) second spot = []
-spots_under (utf8_layout offset) second spot = []
-spots_under (list_layout offset) second spot = map (λ place. (place, true)) (elements_taken second spot)
-spots_under (fixed_size_list_layout size) second spot =
+spots_under null_layout offsets spot = []
+spots_under bits_layout offsets spot = []
+spots_under (bytes_layout size) offsets spot = []
+spots_under (binary_layout offset) offsets spot = []
+spots_under (utf8_layout offset) offsets spot = []
+spots_under (list_layout offset) offsets spot = map (λ place. (place, true)) (elements_taken offsets spot)
+spots_under (fixed_size_list_layout size) offsets spot =
     map (λ place. (place, spot.1)) (range_with_len (size * spot.0) size)
-spots_under struct_layout second spot = spot ∷ []
+spots_under struct_layout offsets spot = spot ∷ []
 
 abbrev pub spots_inside : Layout → List ℕ → List Spot → List Spot
-spots_inside layout second taken = flat_map (spots_under layout second) taken
+spots_inside layout offsets taken = flat_map (spots_under layout offsets) taken
 
 -- these spots are selected inside, in order
 pub record AreInside (spots : List Spot) (inside : ChildSelection) : Type 0 where
@@ -93,10 +93,11 @@ pub record AreInside (spots : List Spot) (inside : ChildSelection) : Type 0 wher
 
 -- ---- all of it
 
--- by the bytes of the three buffers, for these spots
-pub record IsPlanned (layout : Layout) (validity second third : List ℕ) (spots : List Spot) (plan : Plan) : Type 0 where
+-- by the validity, the offsets and the values, for these spots
+pub record IsPlanned (layout : Layout) (validity offsets values : List ℕ) (spots : List Spot) (plan : Plan)
+    : Type 0 where
   pub nulls_are : plan.nulls ≡ nulls_planned layout validity spots
   pub validity_is : plan.validity.items ≡ validity_planned layout validity spots
-  pub second_is : plan.second.items ≡ second_planned layout second third (map (seen validity) spots)
-  pub third_is : plan.third.items ≡ third_planned layout second third (map (seen validity) spots)
-  pub inside_is : AreInside (spots_inside layout second (map (seen validity) spots)) plan.inside
+  pub offsets_is : plan.offsets.items ≡ offsets_planned layout offsets values (map (seen validity) spots)
+  pub values_is : plan.values.items ≡ values_planned layout offsets values (map (seen validity) spots)
+  pub inside_is : AreInside (spots_inside layout offsets (map (seen validity) spots)) plan.inside

@@ -19,14 +19,14 @@ pub record HasSpans (offsets : List ℕ) (limit total : ℕ) : Type 0 where
 abbrev pub IsSpread : Layout → Type 0
 IsSpread layout = (layout ≡ binary_layout 4) ⊎ (layout ≡ utf8_layout 4)
 
--- The values below this place stand in the second and the third buffer, and what is inside them among so many values,
--- which are not too many.
+-- The values below this place stand where these offsets and values have them, and what is inside them among so many
+-- values, which are not too many.
 abbrev pub ReadsWithin : Layout → ℕ → ℕ → List ℕ → List ℕ → Type 0
-ReadsWithin null_layout limit total second third = Unit {0}
-ReadsWithin bits_layout limit total second third = Unit {0}
-ReadsWithin (bytes_layout size) limit total second third = size * limit ≤ length second
-ReadsWithin (binary_layout offset) limit total second third = HasSpans second limit (length third)
-ReadsWithin (utf8_layout offset) limit total second third = HasSpans second limit (length third)
-ReadsWithin (list_layout offset) limit total second third = HasSpans second limit total × (total ≤ values_limit)
-ReadsWithin (fixed_size_list_layout size) limit total second third = size * limit ≤ values_limit
-ReadsWithin struct_layout limit total second third = Unit {0}
+ReadsWithin null_layout limit total offsets values = Unit {0}
+ReadsWithin bits_layout limit total offsets values = Unit {0}
+ReadsWithin (bytes_layout size) limit total offsets values = size * limit ≤ length values
+ReadsWithin (binary_layout offset) limit total offsets values = HasSpans offsets limit (length values)
+ReadsWithin (utf8_layout offset) limit total offsets values = HasSpans offsets limit (length values)
+ReadsWithin (list_layout offset) limit total offsets values = HasSpans offsets limit total × (total ≤ values_limit)
+ReadsWithin (fixed_size_list_layout size) limit total offsets values = size * limit ≤ values_limit
+ReadsWithin struct_layout limit total offsets values = Unit {0}

@@ -32,18 +32,18 @@ fn source_of<'a>(field: &Field, head: &BatchHead, place: Place, body: &'a [u8]) 
 /// The column that was planned, with the columns inside it.
 fn column_of(layout: Layout, count: usize, plan: Plan, inside: Vec<Column>) -> Column
     requires { (cells : List Cell) × (length cells ≡ count) × IsKept (layout_named layout) cells plan.nulls
-        plan.validity.items plan.second.items plan.third.items inside.items }
+        plan.validity.items plan.offsets.items plan.values.items inside.items }
     ensures shape { result.shape ≡ shape (layout_named layout) (shapes_held inside.items) }
     ensures cells { (cells : List Cell) → length cells ≡ count → IsKept (layout_named layout) cells plan.nulls
-        plan.validity.items plan.second.items plan.third.items inside.items → result.cells ≡ cells }
+        plan.validity.items plan.offsets.items plan.values.items inside.items → result.cells ≡ cells }
 {
     Column::from_parts(
         layout,
         count,
         plan.nulls,
         plan.validity,
-        plan.second,
-        plan.third,
+        plan.offsets,
+        plan.values,
         inside,
     )
 }

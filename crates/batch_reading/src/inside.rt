@@ -16,7 +16,7 @@ ghost use Rattle.batch_reading.specs.Spread.{HasSpans};
 use crate::one_run::{contiguous_range, run_lists};
 use crate::plan::ChildSelection;
 use crate::selection::{Cursor, Run, Selection, bit_at, is_marked, next_place};
-use crate::spans::{offset_at, put_offset};
+use batch_columns::{put_offset, start_at};
 use bitmaps::Bitmap;
 use std::alloc::{AllocError, Global};
 
@@ -142,8 +142,8 @@ fn put_elements(
     if !taken {
         return Ok(());
     }
-    let start = offset_at(offsets, place);
-    let end = offset_at(offsets, place + 1);
+    let start = start_at(offsets, place);
+    let end = start_at(offsets, place + 1);
     if start == end {
         return Ok(());
     }

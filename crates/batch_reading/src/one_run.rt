@@ -10,7 +10,8 @@ ghost use Rattle.batch_reading.specs.Spread.{HasSpans};
 
 use crate::plan::ChildSelection;
 use crate::selection::{Run, Selection};
-use crate::spans::{offset_at, part, put_offset};
+use crate::spans::part;
+use batch_columns::{put_offset, start_at};
 use std::alloc::{AllocError, Global};
 
 /// The run that is selected, where it is the only one and no cell of it is left out.
@@ -39,7 +40,7 @@ fn moved_offsets(
 {
     let mut ends = Vec::new(alloc);
     for number in 0..run.count + 1 {
-        put_offset(&mut ends, offset_at(offsets, run.start + number) - first)?;
+        put_offset(&mut ends, start_at(offsets, run.start + number) - first)?;
     }
     Ok(ends)
 }
@@ -71,8 +72,8 @@ pub(crate) fn run_spans(
     ensures bytes { IfOk result (λ made. made.1.items ≡ bytes_from bytes.now (start_of 4 offsets.now run.start)
         (start_of 4 offsets.now (run.start + run.count) - start_of 4 offsets.now run.start)) }
 {
-    let start = offset_at(offsets, run.start);
-    let end = offset_at(offsets, run.start + run.count);
+    let start = start_at(offsets, run.start);
+    let end = start_at(offsets, run.start + run.count);
     let spans = Vec::from_slice(alloc, part(bytes, start, end))?;
     Ok((run_offsets(alloc, offsets, run, start)?, spans))
 }
@@ -99,8 +100,8 @@ pub(crate) fn run_lists(
     ensures offsets { IfOk result (λ made. made.0.items ≡ offsets_from_zero offsets.now run.start run.count) }
     ensures inside { IfOk result (λ made. AreElements offsets.now run.start run.count made.1) }
 {
-    let start = offset_at(offsets, run.start);
-    let end = offset_at(offsets, run.start + run.count);
+    let start = start_at(offsets, run.start);
+    let end = start_at(offsets, run.start + run.count);
     let inside = ChildSelection {
         count: end - start,
         runs: run_of(alloc, start, end - start)?,

@@ -52,10 +52,10 @@ pub(crate) struct Plan {
     pub nulls: usize,
     /// The validity bitmap, no bytes where nothing is null.
     pub validity: Vec<u8>,
-    /// The second buffer.
-    pub second: Vec<u8>,
-    /// The third buffer.
-    pub third: Vec<u8>,
+    /// Where each value begins, and where the last one ends, in the layouts of variable size.
+    pub offsets: Vec<u8>,
+    /// The values, or the bytes that offsets lead into.
+    pub values: Vec<u8>,
     /// What is selected of the columns inside.
     pub inside: ChildSelection,
 }
@@ -74,14 +74,14 @@ fn nothing_inside(alloc: Global) -> ChildSelection
 /// The plan in the layout `Null`. It takes no memory.
 fn plan_nulls(alloc: Global, selection: &Selection<'_>) -> Plan
     requires { (limit : ℕ) × IsSelection limit selection.now }
-    ensures { (validity second third : List ℕ)
-        → IsPlanned null_layout validity second third (spots_of selection.now) result }
+    ensures { (validity offsets values : List ℕ)
+        → IsPlanned null_layout validity offsets values (spots_of selection.now) result }
 {
     Plan {
         nulls: selection.count,
         validity: Vec::new(alloc),
-        second: Vec::new(alloc),
-        third: Vec::new(alloc),
+        offsets: Vec::new(alloc),
+        values: Vec::new(alloc),
         inside: nothing_inside(alloc),
     }
 }
@@ -90,28 +90,28 @@ fn plan_nulls(alloc: Global, selection: &Selection<'_>) -> Plan
 fn plan_bits(
     alloc: Global,
     validity: &[u8],
-    second: &[u8],
+    values: &[u8],
     selection: &Selection<'_>,
 ) -> Result<Plan, AllocError>
     requires { (limit : ℕ) × IsSelection limit selection.now }
-    ensures { IfOk result (λ plan. (third : List ℕ)
-        → IsPlanned bits_layout validity.now second.now third (spots_of selection.now) plan) }
+    ensures { IfOk result (λ plan. (offsets : List ℕ)
+        → IsPlanned bits_layout validity.now offsets values.now (spots_of selection.now) plan) }
 {
     let SelectedValidity {
         validity,
         nulls,
         taken,
     } = marks_at(alloc, validity, selection)?;
-    let values = Selection {
+    let valid = Selection {
         there: &taken,
         ..*selection
     };
-    let bits = bits_taken(alloc, second, &values, false)?;
+    let bits = bits_taken(alloc, values, &valid, false)?;
     Ok(Plan {
         nulls,
         validity,
-        second: bits.into_bytes(),
-        third: Vec::new(alloc),
+        offsets: Vec::new(alloc),
+        values: bits.into_bytes(),
         inside: nothing_inside(alloc),
     })
 }
@@ -121,28 +121,28 @@ fn plan_blocks(
     alloc: Global,
     size: u32,
     validity: &[u8],
-    second: &[u8],
+    values: &[u8],
     selection: &Selection<'_>,
 ) -> Result<Plan, AllocError>
-    requires { (limit : ℕ) × IsSelection limit selection.now × (size * limit ≤ length second.now) }
+    requires { (limit : ℕ) × IsSelection limit selection.now × (size * limit ≤ length values.now) }
     ensures { IfOk result
-        (λ plan. (third : List ℕ)
-        → IsPlanned (bytes_layout size) validity.now second.now third (spots_of selection.now) plan) }
+        (λ plan. (offsets : List ℕ)
+        → IsPlanned (bytes_layout size) validity.now offsets values.now (spots_of selection.now) plan) }
 {
     let SelectedValidity {
         validity,
         nulls,
         taken,
     } = marks_at(alloc, validity, selection)?;
-    let values = Selection {
+    let valid = Selection {
         there: &taken,
         ..*selection
     };
     Ok(Plan {
         nulls,
         validity,
-        second: blocks_taken(alloc, size as usize, second, &values)?,
-        third: Vec::new(alloc),
+        offsets: Vec::new(alloc),
+        values: blocks_taken(alloc, size as usize, values, &valid)?,
         inside: nothing_inside(alloc),
     })
 }
@@ -152,30 +152,31 @@ fn plan_spans(
     alloc: Global,
     layout: Layout,
     validity: &[u8],
-    second: &[u8],
-    third: &[u8],
+    offsets: &[u8],
+    values: &[u8],
     selection: &Selection<'_>,
 ) -> Result<Plan, AllocError>
     requires layout { IsSpread (layout_named layout) }
-    requires selection { (limit : ℕ) × IsSelection limit selection.now × HasSpans second.now limit (length third.now) }
+    requires selection { (limit : ℕ) × IsSelection limit selection.now
+        × HasSpans offsets.now limit (length values.now) }
     ensures { IfOk result
-        (λ plan. IsPlanned (layout_named layout) validity.now second.now third.now (spots_of selection.now) plan) }
+        (λ plan. IsPlanned (layout_named layout) validity.now offsets.now values.now (spots_of selection.now) plan) }
 {
     let SelectedValidity {
         validity,
         nulls,
         taken,
     } = marks_at(alloc, validity, selection)?;
-    let values = Selection {
+    let valid = Selection {
         there: &taken,
         ..*selection
     };
-    let (offsets, bytes) = spans_taken(alloc, second, third, &values)?;
+    let (offsets, values) = spans_taken(alloc, offsets, values, &valid)?;
     Ok(Plan {
         nulls,
         validity,
-        second: offsets,
-        third: bytes,
+        offsets,
+        values,
         inside: nothing_inside(alloc),
     })
 }
@@ -198,8 +199,8 @@ fn plan_struct(
     selection: &Selection<'_>,
 ) -> Result<Plan, AllocError>
     requires { (limit : ℕ) × IsSelection limit selection.now }
-    ensures { IfOk result (λ plan. (second third : List ℕ)
-        → IsPlanned struct_layout validity.now second third (spots_of selection.now) plan) }
+    ensures { IfOk result (λ plan. (offsets values : List ℕ)
+        → IsPlanned struct_layout validity.now offsets values (spots_of selection.now) plan) }
 {
     let SelectedValidity {
         validity,
@@ -209,8 +210,8 @@ fn plan_struct(
     Ok(Plan {
         nulls,
         validity,
-        second: Vec::new(alloc),
-        third: Vec::new(alloc),
+        offsets: Vec::new(alloc),
+        values: Vec::new(alloc),
         inside: ChildSelection {
             count: selection.count,
             runs: same_runs(alloc, selection.runs)?,
@@ -244,24 +245,24 @@ fn plan_sized_lists(
 ) -> Result<Plan, AllocError>
     requires { (limit : ℕ) × IsSelection limit selection.now × (size * limit ≤ values_limit) }
     ensures { IfOk result
-        (λ plan. (second third : List ℕ)
-        → IsPlanned (fixed_size_list_layout size) validity.now second third (spots_of selection.now) plan) }
+        (λ plan. (offsets values : List ℕ)
+        → IsPlanned (fixed_size_list_layout size) validity.now offsets values (spots_of selection.now) plan) }
 {
     let SelectedValidity {
         validity,
         nulls,
         taken,
     } = marks_at(alloc, validity, selection)?;
-    let values = Selection {
+    let valid = Selection {
         there: &taken,
         ..*selection
     };
     Ok(Plan {
         nulls,
         validity,
-        second: Vec::new(alloc),
-        third: Vec::new(alloc),
-        inside: sized_inside(alloc, size, &values)?,
+        offsets: Vec::new(alloc),
+        values: Vec::new(alloc),
+        inside: sized_inside(alloc, size, &valid)?,
     })
 }
 
@@ -269,29 +270,29 @@ fn plan_sized_lists(
 fn plan_lists(
     alloc: Global,
     validity: &[u8],
-    second: &[u8],
+    offsets: &[u8],
     selection: &Selection<'_>,
 ) -> Result<Plan, AllocError>
-    requires { (limit : ℕ) × (total : ℕ) × IsSelection limit selection.now × HasSpans second.now limit total
+    requires { (limit : ℕ) × (total : ℕ) × IsSelection limit selection.now × HasSpans offsets.now limit total
         × (total ≤ values_limit) }
-    ensures { IfOk result (λ plan. (third : List ℕ)
-        → IsPlanned (list_layout 4) validity.now second.now third (spots_of selection.now) plan) }
+    ensures { IfOk result (λ plan. (values : List ℕ)
+        → IsPlanned (list_layout 4) validity.now offsets.now values (spots_of selection.now) plan) }
 {
     let SelectedValidity {
         validity,
         nulls,
         taken,
     } = marks_at(alloc, validity, selection)?;
-    let values = Selection {
+    let valid = Selection {
         there: &taken,
         ..*selection
     };
-    let (offsets, inside) = lists_inside(alloc, second, &values)?;
+    let (offsets, inside) = lists_inside(alloc, offsets, &valid)?;
     Ok(Plan {
         nulls,
         validity,
-        second: offsets,
-        third: Vec::new(alloc),
+        offsets,
+        values: Vec::new(alloc),
         inside,
     })
 }
@@ -303,32 +304,18 @@ pub(crate) fn plan_column(
     selection: &Selection<'_>,
 ) -> Result<Plan, AllocError>
     requires { (limit : ℕ) × (total : ℕ) × IsSelection limit selection.now
-        × ReadsWithin (layout_named source.now.layout) limit total source.now.second.now source.now.third.now }
+        × ReadsWithin (layout_named source.now.layout) limit total source.now.offsets.now source.now.values.now }
     ensures { IfOk result (λ plan. IsPlanned (layout_named source.now.layout) source.now.validity.now
-        source.now.second.now source.now.third.now (spots_of selection.now) plan) }
+        source.now.offsets.now source.now.values.now (spots_of selection.now) plan) }
 {
-    let (validity, second) = (source.validity, source.second);
+    let (validity, offsets, values) = (source.validity, source.offsets, source.values);
     match source.layout {
         Layout::Null => Ok(plan_nulls(alloc, selection)),
-        Layout::Bits => plan_bits(alloc, validity, second, selection),
-        Layout::Bytes { size } => plan_blocks(alloc, size, validity, second, selection),
-        Layout::Binary => plan_spans(
-            alloc,
-            Layout::Binary,
-            validity,
-            second,
-            source.third,
-            selection,
-        ),
-        Layout::Utf8 => plan_spans(
-            alloc,
-            Layout::Utf8,
-            validity,
-            second,
-            source.third,
-            selection,
-        ),
-        Layout::List => plan_lists(alloc, validity, second, selection),
+        Layout::Bits => plan_bits(alloc, validity, values, selection),
+        Layout::Bytes { size } => plan_blocks(alloc, size, validity, values, selection),
+        Layout::Binary => plan_spans(alloc, Layout::Binary, validity, offsets, values, selection),
+        Layout::Utf8 => plan_spans(alloc, Layout::Utf8, validity, offsets, values, selection),
+        Layout::List => plan_lists(alloc, validity, offsets, selection),
         Layout::FixedSizeList { size } => plan_sized_lists(alloc, size, validity, selection),
         Layout::Struct => plan_struct(alloc, validity, selection),
     }

@@ -1,34 +1,18 @@
 //! The bytes of selected values that stand where offsets say.
 
-ghost use Rattle.std.specs.Prelude.{◌≡◌, ℕ, ◌+◌, ◌-◌, ◌*◌, ◌<◌, ◌≤◌, ◌++◌, [], map, length, IfOk, OnOk};
+ghost use Rattle.std.specs.Prelude.{◌≡◌, ℕ, ◌+◌, ◌-◌, ◌<◌, ◌≤◌, ◌++◌, [], map, length, IfOk, OnOk};
 ghost use Rattle.std.specs.List.{flat_map};
 ghost use Rattle.byteorder.specs.Endian.{little_bytes};
 ghost use Rattle.batch_types.specs.Canonical.{offsets_of};
-ghost use Rattle.batch_types.specs.Placed.{bytes_from, start_of, value_bytes};
+ghost use Rattle.batch_types.specs.Placed.{bytes_from, value_bytes};
 ghost use Rattle.batch_reading.specs.Spots.{spots_of, IsSelection};
 ghost use Rattle.batch_reading.specs.Spread.{HasSpans};
 ghost use Rattle.batch_reading.specs.Taken.{span_taken};
 
 use crate::one_run::{contiguous_range, run_spans};
 use crate::selection::{Cursor, Selection, is_marked, next_place};
-use byteorder::{ByteOrder, LittleEndian};
+use batch_columns::{put_offset, start_at};
 use std::alloc::{AllocError, Global};
-
-/// Offset `number` of some of four bytes each, without its sign.
-pub(crate) fn offset_at(offsets: &[u8], number: usize) -> usize
-    requires { 4 * number + 4 ≤ length offsets.now }
-    ensures { result ≡ start_of 4 offsets.now number }
-{
-    let start = 4 * number;
-    LittleEndian::read_int(&offsets[start..start + 4], 4).unsigned_abs() as usize
-}
-
-/// Appends an offset, the lowest four bytes of a number.
-pub(crate) fn put_offset(offsets: &mut Vec<u8>, number: usize) -> Result<(), AllocError>
-    ensures { OnOk result (offsets.new.items ≡ offsets.old.items ++ little_bytes 4 number) }
-{
-    offsets.extend_from_slice(&(number as u64).to_le_bytes()[..4])
-}
 
 /// A part of some bytes.
 pub(crate) fn part(bytes: &[u8], start: usize, end: usize) -> &[u8]
@@ -43,8 +27,8 @@ fn span<'a>(offsets: &[u8], bytes: &'a [u8], place: usize) -> &'a [u8]
     requires { (limit : ℕ) × HasSpans offsets.now limit (length bytes.now) × (place < limit) }
     ensures { result.now ≡ value_bytes 4 offsets.now bytes.now place }
 {
-    let start = offset_at(offsets, place);
-    let end = offset_at(offsets, place + 1);
+    let start = start_at(offsets, place);
+    let end = start_at(offsets, place + 1);
     part(bytes, start, end)
 }
 

@@ -17,16 +17,16 @@ fn put_cell(column: &Column, row: usize, answer: &mut Answer) -> Result<(), Requ
     }
 }
 
-// How many cells there are, and each; and the bytes of the second buffer.
+// How many cells there are, and each; and the bytes of buffer 1, offsets or values.
 fn put_cells(column: &Column, answer: &mut Answer) -> Result<(), RequestFault> {
     answer.number(column.len() as u64)?;
     for row in 0..column.len() {
         put_cell(column, row, answer)?;
     }
-    answer.bytes(column.second())
+    answer.bytes(column.buffer(1))
 }
 
-/// How many columns there are; and of each its cells, its second buffer, and the columns inside it, on so many levels.
+/// How many columns there are; and of each its cells, its buffer 1, and the columns inside it, on so many levels.
 pub(crate) fn put_columns(
     columns: &[Column],
     levels: usize,

@@ -46,8 +46,8 @@ fn put_column(alloc: Global, column: &Column, answer: &mut Answer) -> Result<(),
     answer.number(column.len() as u64)?;
     answer.number(column.null_count() as u64)?;
     answer.bytes(column.validity())?;
-    answer.bytes(column.second())?;
-    answer.bytes(column.third())?;
+    answer.bytes(column.buffer(1))?;
+    answer.bytes(column.buffer(2))?;
     answer.number(column.inside().len() as u64)?;
     put_looks(alloc, column, answer)
 }

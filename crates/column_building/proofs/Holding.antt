@@ -57,16 +57,16 @@ module _ (blank : Cell) (valued : is_null blank ≡ false) where
   marked [] = refl
   marked (slot ∷ slots) = ap₂ (λ b bs. b ∷ bs) (ap not (null_one slot) ∙ not_not (slot_there slot)) (marked slots)
 
-  pub slots_kept : (layout : Layout) (slots : List Slot) (nulls : ℕ) (validity second third : List ℕ) (inside : List Contents)
-      → CanSurround layout (slot_cells blank slots) second inside
-      → nulls ≡ zeros (map slot_there slots) → validity ≡ validity_bytes (map slot_there slots) → third ≡ []
-      → IsKept layout (slot_cells blank slots) nulls validity second third inside
-  slots_kept layout slots nulls validity second third inside can n v t = record {
+  pub slots_kept : (layout : Layout) (slots : List Slot) (nulls : ℕ) (validity offsets values : List ℕ) (inside : List Contents)
+      → CanSurround layout (slot_cells blank slots) offsets inside
+      → nulls ≡ zeros (map slot_there slots) → validity ≡ validity_bytes (map slot_there slots) → values ≡ []
+      → IsKept layout (slot_cells blank slots) nulls validity offsets values inside
+  slots_kept layout slots nulls validity offsets values inside can n v t = record {
     nulls_counted = n ∙ sym (nulls_marked slots);
-    first_buffer =
-        v ∙ sym (ap₂ (λ k bits. if k == 0 then [] else packed_bytes bits) (nulls_marked slots) (marked slots)) ∙ sym can.first_buffer;
-    second_buffer = can.second_buffer;
-    third_buffer = t ∙ sym can.third_buffer;
+    validity_kept =
+        v ∙ sym (ap₂ (λ k bits. if k == 0 then [] else packed_bytes bits) (nulls_marked slots) (marked slots)) ∙ sym can.validity_kept;
+    offsets_kept = can.offsets_kept;
+    values_kept = t ∙ sym can.values_kept;
     fit = can.fit;
     held_inside = can.held_inside;
     room = can.room;
@@ -164,9 +164,9 @@ module _ (inside : Shapes) (slots : List Slot) where
     list_surrounds columns offsets built fit o =
         let held = first_held 0 lists inside elements columns built gathered in
         record {
-          first_buffer = refl;
-          second_buffer = o;
-          third_buffer = refl;
+          validity_kept = refl;
+          offsets_kept = o;
+          values_kept = refl;
           fit = subst (λ l. AllByRecursion (IsCellOf (shape (list_layout 4) l)) lists) (sym held.0) fit;
           held_inside = held.1;
           room = list_room few;
@@ -202,15 +202,15 @@ module _ (size : ℕ) (inside : Shapes) (slots : List Slot) where
 
   module _ (few_rows : length slots ≤ values_limit) (elements : List Cell)
       (gathered : elements ≡ flat_map (elements_or (replicate size (first_blank inside))) blocks) where
-    pub blocks_surround : (columns : List Contents) (second : List ℕ) → IsBuiltFirst inside elements columns
-        → AllByRecursion (IsCellOf (shape (fixed_size_list_layout size) inside)) blocks → second ≡ []
-        → CanSurround (fixed_size_list_layout size) blocks second columns
-    blocks_surround columns second built fit none =
+    pub blocks_surround : (columns : List Contents) (offsets : List ℕ) → IsBuiltFirst inside elements columns
+        → AllByRecursion (IsCellOf (shape (fixed_size_list_layout size) inside)) blocks → offsets ≡ []
+        → CanSurround (fixed_size_list_layout size) blocks offsets columns
+    blocks_surround columns offsets built fit none =
         let held = first_held size blocks inside elements columns built gathered in
         record {
-          first_buffer = refl;
-          second_buffer = none;
-          third_buffer = refl;
+          validity_kept = refl;
+          offsets_kept = none;
+          values_kept = refl;
           fit = subst (λ l. AllByRecursion (IsCellOf (shape (fixed_size_list_layout size) l)) blocks) (sym held.0) fit;
           held_inside = held.1;
           room = tt;
@@ -266,14 +266,14 @@ module _ (inside : Shapes) (slots : List Slot) where
   abbrev structs : List Cell
   structs = slot_cells (tuple_cell (blanks_of inside)) slots
 
-  pub struct_surrounds : (columns : List Contents) (second : List ℕ) → AreBuiltFields inside 0 structs columns
-      → AllByRecursion (IsCellOf (shape struct_layout inside)) structs → second ≡ [] → CanSurround struct_layout structs second columns
-  struct_surrounds columns second built fit none =
+  pub struct_surrounds : (columns : List Contents) (offsets : List ℕ) → AreBuiltFields inside 0 structs columns
+      → AllByRecursion (IsCellOf (shape struct_layout inside)) structs → offsets ≡ [] → CanSurround struct_layout structs offsets columns
+  struct_surrounds columns offsets built fit none =
       let held = fields_held inside 0 structs columns built in
       record {
-        first_buffer = refl;
-        second_buffer = none;
-        third_buffer = refl;
+        validity_kept = refl;
+        offsets_kept = none;
+        values_kept = refl;
         fit = subst (λ l. AllByRecursion (IsCellOf (shape struct_layout l)) structs) (sym held.0) fit;
         held_inside = held.1;
         room = tt;

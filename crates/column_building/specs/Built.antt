@@ -11,6 +11,7 @@ use Rattle.batch_types.specs.Shapes.{Shape, shape, Shapes, no_shape, shape_then}
 use Rattle.batch_types.specs.Typed.{IsCellOf}
 use Rattle.batch_types.specs.Canonical.{own_buffers, validity_of}
 use Rattle.batch_types.specs.Written.{HasRoom, AreRooms}
+use Rattle.batch_columns.specs.Buffers.{offsets_among, values_among}
 use Rattle.batch_columns.specs.Contents.{Contents}
 use Rattle.batch_columns.specs.Held.{shapes_held}
 use Rattle.batch_columns.specs.Kept.{HaveInside}
@@ -54,11 +55,11 @@ DoFieldsFit no_shape k cells = Unit {0}
 DoFieldsFit (shape_then s rest) k cells =
     AllByRecursion (IsCellOf s) (map (field_or (blank_of s) k) cells) × DoFieldsFit rest (suc k) cells
 
--- what a column of these cells keeps beside its validity: its second buffer and the columns inside it
-pub record CanSurround (layout : Layout) (cells : List Cell) (second : List ℕ) (inside : List Contents) : Type 0 where
-  pub first_buffer : get_or (own_buffers layout cells) 0 [] ≡ validity_of cells
-  pub second_buffer : second ≡ get_or (own_buffers layout cells) 1 []
-  pub third_buffer : get_or (own_buffers layout cells) 2 [] ≡ []
+-- what a column of these cells keeps beside its validity: its offsets and the columns inside it
+pub record CanSurround (layout : Layout) (cells : List Cell) (offsets : List ℕ) (inside : List Contents) : Type 0 where
+  pub validity_kept : get_or (own_buffers layout cells) 0 [] ≡ validity_of cells
+  pub offsets_kept : offsets ≡ offsets_among layout (own_buffers layout cells)
+  pub values_kept : values_among layout (own_buffers layout cells) ≡ []
   pub fit : AllByRecursion (IsCellOf (shape layout (shapes_held inside))) cells
   pub held_inside : HaveInside layout cells inside
   pub room : HasRoom layout cells

@@ -60,19 +60,19 @@ fn validity(alloc: Global, slots: &[Option<&Cell>]) -> Result<(Vec<u8>, usize), 
     Ok((there.into_bytes(), nulls))
 }
 
-/// The column of some slots around the columns inside it, with this second buffer.
+/// The column of some slots around the columns inside it, with these offsets.
 pub(crate) fn around(
     alloc: Global,
     layout: Layout,
     slots: &[Option<&Cell>],
-    second: Vec<u8>,
+    offsets: Vec<u8>,
     inside: Vec<Column>,
 ) -> Result<Column, AllocError>
     requires { (blank : Seen) × (is_null_cell blank ≡ false)
-        × CanSurround (layout_named layout) (slot_cells blank slots.now) second.items inside.items }
+        × CanSurround (layout_named layout) (slot_cells blank slots.now) offsets.items inside.items }
     ensures shape { IfOk result (λ column. column.shape ≡ shape (layout_named layout) (shapes_held inside.items)) }
     ensures cells { IfOk result (λ column. (blank : Seen) → is_null_cell blank ≡ false
-        → CanSurround (layout_named layout) (slot_cells blank slots.now) second.items inside.items
+        → CanSurround (layout_named layout) (slot_cells blank slots.now) offsets.items inside.items
         → column.cells ≡ slot_cells blank slots.now) }
 {
     let (validity, nulls) = validity(alloc, slots)?;
@@ -81,7 +81,7 @@ pub(crate) fn around(
         slots.len(),
         nulls,
         validity,
-        second,
+        offsets,
         Vec::new(alloc),
         inside,
     ))

@@ -11,7 +11,7 @@ ghost use Rattle.batch_cells.specs.CellViews.{cell_of};
 ghost use Rattle.column_building.specs.Slots.{slot_cell, slot_cells, elements_seen, elements_count, elements_counted};
 
 use batch_cells::Cell;
-use batch_columns::VALUES_LIMIT;
+use batch_columns::{VALUES_LIMIT, put_offset};
 use std::alloc::{AllocError, Global};
 
 /// The cells as they are lent, none of them blank.
@@ -87,13 +87,6 @@ fn put_list<'a>(
         Some(cell) => put_elements(slots, cell, size),
         None => put_blanks(slots, size),
     }
-}
-
-/// Appends the lowest four bytes of a number.
-fn put_offset(offsets: &mut Vec<u8>, number: usize) -> Result<(), AllocError>
-    ensures { OnOk result (offsets.new.items ≡ offsets.old.items ++ little_bytes 4 number) }
-{
-    offsets.extend_from_slice(&(number as u64).to_le_bytes()[..4])
 }
 
 /// Appends the elements of the list in a slot, and the offset where they end.

@@ -179,8 +179,8 @@ fn column_weight(column: &Column) -> u64 {
     (column.len() as u64)
         .wrapping_add(column.null_count() as u64)
         .wrapping_add(weight_of(column.validity()))
-        .wrapping_add(weight_of(column.second()))
-        .wrapping_add(weight_of(column.third()))
+        .wrapping_add(weight_of(column.offsets()))
+        .wrapping_add(weight_of(column.values()))
 }
 
 fn head_weight(head: &BatchHead) -> u64 {

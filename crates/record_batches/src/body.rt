@@ -11,8 +11,8 @@ ghost use Rattle.batch_columns.specs.Contents.{layout_in};
 ghost use Rattle.record_batches.specs.Parts.{parts_held};
 ghost use Rattle.record_batches.specs.Sound.{AreSound};
 
-use crate::buffers::{buffer_count, padding};
-use batch_columns::{Batch, Column};
+use crate::buffers::padding;
+use batch_columns::{Batch, Column, buffers_in};
 use std::alloc::AllocError;
 
 /// The bytes between two buffers, and more.
@@ -44,8 +44,8 @@ fn append_own(text: &mut Vec<u8>, column: &Column) -> Result<(), AllocError>
     ensures fit { OnOk result (AllByRecursion (IsCellOf column.now.shape) column.now.cells) }
     ensures room { OnOk result (HasRoom (layout_in column.now) column.now.cells) }
 {
-    let buffers = [column.validity(), column.second(), column.third()];
-    append_buffers(text, &buffers[..buffer_count(column.layout())])
+    let buffers = [column.buffer(0), column.buffer(1), column.buffer(2)];
+    append_buffers(text, &buffers[..buffers_in(column.layout())])
 }
 
 /// Appends the buffers of columns and of those inside them, depth first.

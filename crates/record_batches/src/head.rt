@@ -14,8 +14,8 @@ ghost use Rattle.record_batches.specs.Adds.{Adds};
 ghost use Rattle.record_batches.specs.Parts.{parts_held, buffers_alone};
 ghost use Rattle.record_batches.specs.Sound.{AreSound};
 
-use crate::buffers::{buffer_count, padding};
-use batch_columns::{Batch, Column};
+use crate::buffers::padding;
+use batch_columns::{Batch, Column, buffers_in};
 use header_types::{BatchHead, Schema};
 use std::alloc::{AllocError, Global};
 
@@ -64,8 +64,8 @@ impl HeadWriter {
     {
         self.nodes
             .push((column.len() as i64, column.null_count() as i64))?;
-        let buffers = [column.validity(), column.second(), column.third()];
-        self.put_buffers(&buffers[..buffer_count(column.layout())])
+        let buffers = [column.buffer(0), column.buffer(1), column.buffer(2)];
+        self.put_buffers(&buffers[..buffers_in(column.layout())])
     }
 }
 

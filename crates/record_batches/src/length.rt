@@ -35,8 +35,8 @@ fn own_length(column: &Column) -> u64
     ensures room { HasRoom (layout_in column.now) column.now.cells }
 {
     padded_length(column.validity())
-        .saturating_add(padded_length(column.second()))
-        .saturating_add(padded_length(column.third()))
+        .saturating_add(padded_length(column.offsets()))
+        .saturating_add(padded_length(column.values()))
 }
 
 /// How many bytes the buffers of columns and of those inside them have in a body; the largest number where they are

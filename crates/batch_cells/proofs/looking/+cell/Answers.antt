@@ -12,14 +12,14 @@ use Rattle.batch_cells.proofs.looking.+cell.Goals as goal
 pub block_at-block_span-start-requires : goal.block_at-block_span-start-requires
 block_at-block_span-start-requires t c =
     block_within c.args.column.now.shape c.args.column.now.cells c.inside.result.now c.elements-item.result c.args.size c.args.row
-    c.requires.sized c.second-blocks.ensures.fit c.inside.ensures.held (omega (arith, c.in-len1-up.len_at_least)) c.elements-item.is
+    c.requires.sized c.layout.ensures.fit c.inside.ensures.held (omega (arith, c.in-len1-up.len_at_least)) c.elements-item.is
     c.requires.there.within
 
 pub block_at-returns-in_ok-cells_between-in-len1-up : goal.block_at-returns-in_ok-cells_between-in-len1-up
 block_at-returns-in_ok-cells_between-in-len1-up t c =
     c.list_of.ensures ∙ ap (λ cells. list_cell (cells_of cells)) c.in_ok-cells_between-in-len1-up.ensures
-    ∙ block_cells c.written_values_are_the_cells.ensures.cells c.args.column.now c.args.row c.requires.there c.second-blocks.ensures.fit
-    c.second-blocks.ensures.room c.inside.result.now c.inside.ensures.held c.inside.ensures.shapes c.args.size
+    ∙ block_cells c.written_values_are_the_cells.ensures.cells c.args.column.now c.args.row c.requires.there c.layout.ensures.fit
+    c.layout.ensures.room c.inside.result.now c.inside.ensures.held c.inside.ensures.shapes c.args.size
     c.block_span-start.result.0 c.block_span-start.result.1 c.elements-item.result c.requires.sized (omega (arith, c.in-len1-up.len_at_least))
     c.elements-item.is c.block_span-start.ensures.start c.block_span-start.ensures.end
 

@@ -6,27 +6,27 @@ use Rattle.batch_columns.specs.Held.{elements_held}
 use Rattle.batch_cells.proofs.Looked.{offsets_long, list_there}
 use Rattle.batch_cells.proofs.looking.list_span.Goals as goal
 
-pub offset_at-requires : goal.offset_at-requires
-offset_at-requires c =
-    omega (arith, offsets_long c.args.column.now c.second-offsets.result.now c.requires.list c.second-offsets.ensures.buffer, c.requires.there.within)
+pub start_at-requires : goal.start_at-requires
+start_at-requires c =
+    omega (arith, offsets_long c.args.column.now c.offsets-offsets.result.now c.requires.list c.offsets-offsets.ensures.buffer, c.requires.there.within)
 
 pub overflow_add-row : goal.overflow_add-row
 overflow_add-row c =
     omega (
       arith,
-      offsets_long c.args.column.now c.second-offsets.result.now c.requires.list c.second-offsets.ensures.buffer,
+      offsets_long c.args.column.now c.offsets-offsets.result.now c.requires.list c.offsets-offsets.ensures.buffer,
       c.requires.there.within,
-      c.second-offsets.type_inv.0,
+      c.offsets-offsets.type_inv.0,
     )
 
-pub offset_at-requires-2 : goal.offset_at-requires-2
-offset_at-requires-2 c =
-    omega (arith, offsets_long c.args.column.now c.second-offsets.result.now c.requires.list c.second-offsets.ensures.buffer, c.requires.there.within)
+pub start_at-requires-2 : goal.start_at-requires-2
+start_at-requires-2 c =
+    omega (arith, offsets_long c.args.column.now c.offsets-offsets.result.now c.requires.list c.offsets-offsets.ensures.buffer, c.requires.there.within)
 
 pub returns : goal.returns
 returns c inside held shapes =
     ap₂ (λ start end. list_cell (elements_held inside (range_with_len start (end - start))))
-    (c.offset_at.ensures ∙ ap (λ b. start_of 4 b c.args.row) c.second-offsets.ensures.buffer)
-    (c.offset_at-2.ensures ∙ ap (λ b. start_of 4 b (c.args.row + 1)) c.second-offsets.ensures.buffer)
-    ∙ list_there c.written_values_are_the_cells.ensures.cells c.args.column.now c.args.row c.requires.there c.second-offsets.ensures.fit
-    c.second-offsets.ensures.room inside held shapes c.requires.list
+    (c.start_at.ensures ∙ ap (λ b. start_of 4 b c.args.row) c.offsets-offsets.ensures.buffer)
+    (c.start_at-2.ensures ∙ ap (λ b. start_of 4 b (c.args.row + 1)) c.offsets-offsets.ensures.buffer)
+    ∙ list_there c.written_values_are_the_cells.ensures.cells c.args.column.now c.args.row c.requires.there c.offsets-offsets.ensures.fit
+    c.offsets-offsets.ensures.room inside held shapes c.requires.list

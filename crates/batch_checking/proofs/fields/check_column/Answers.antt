@@ -29,13 +29,13 @@ returns-in-Ok-clause-seen c = record {
   steady = record {
     few = few_values c.args.body.now c.args.field.now c.args.head.now c.args.place c.args.asked c.args.around.now c.requires c.in-Some.source c.in-Some.ensures.source;
     steady = steady_by c.in-Some.source.layout c.in-Some.source.length c.in-Some.source.nulls c.first_inside-first.result c.in-Some.source.validity.now
-        c.in-Some.source.second.now c.in-Some.source.third.now c.in-Ok.ensures.kept.0 c.in-Ok.ensures.kept.1.1.0;
+        c.in-Some.source.offsets.now c.in-Some.source.values.now c.in-Ok.ensures.kept.0 c.in-Ok.ensures.kept.1.1.0;
   };
   below = reaches c.args.body.now c.args.field.now c.args.head.now c.args.place c.args.asked c.args.around.now c.requires c.in-Some.source c.in-Some.ensures.source
       c.in-Ok.ensures.kept.1.1.1.0;
-  leads = subst (LeadsInto (layout_named c.in-Some.source.layout) c.in-Some.source.length c.in-Some.source.second.now) c.first_inside-first.ensures
+  leads = subst (LeadsInto (layout_named c.in-Some.source.layout) c.in-Some.source.length c.in-Some.source.offsets.now) c.first_inside-first.ensures
       (leads_by c.in-Some.source.layout c.in-Some.source.length c.in-Some.source.nulls c.first_inside-first.result c.in-Some.source.validity.now
-      c.in-Some.source.second.now c.in-Some.source.third.now c.in-Ok.ensures.kept.0 c.in-Ok.ensures.kept.1.1.0);
+      c.in-Some.source.offsets.now c.in-Some.source.values.now c.in-Ok.ensures.kept.0 c.in-Ok.ensures.kept.1.1.0);
 }
 
 pub returns-in-Err-clause-fault : goal.returns-in-Err-clause-fault

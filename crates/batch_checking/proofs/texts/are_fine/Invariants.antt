@@ -9,4 +9,4 @@ abbrev pub invariant-loop-row : goal.invariant-loop-row
 invariant-loop-row l =
     (length l.guesses ≡ 16)
     × ((row : ℕ) → row < l.row → Holds (places_around (range_with_len 0 l.rows) l.around) row → IsValidAt l.source row
-    → IsUtf8 (value_bytes 4 l.source.second.now l.source.third.now row))
+    → IsUtf8 (value_bytes 4 l.source.offsets.now l.source.values.now row))

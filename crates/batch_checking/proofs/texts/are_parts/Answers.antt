@@ -7,8 +7,8 @@ use Rattle.batch_checking.proofs.texts.are_parts.Goals as goal
 
 pub returns-in-Ok : goal.returns-in-Ok
 returns-in-Ok c = λ yes row below.
-    let offsets = c.args.source.now.second.now in
-    let bytes = c.args.source.now.third.now in
+    let offsets = c.args.source.now.offsets.now in
+    let bytes = c.args.source.now.values.now in
     let ends = value_ends offsets c.args.source.now.length (length bytes) row c.requires.spread below in
     let all = c.are_boundaries.ensures yes in
     let same = c.in-Ok.ensures.0 in

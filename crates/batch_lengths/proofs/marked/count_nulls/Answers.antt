@@ -13,6 +13,6 @@ pub returns : goal.returns
 returns c = record {
   nulls = c.is_null_marked.ensures;
   lengths =
-      sym (no_spans (layout_named c.args.source.now.layout) c.args.source.now.second.now
+      sym (no_spans (layout_named c.args.source.now.layout) c.args.source.now.offsets.now
       (map (seen c.args.source.now.validity.now) (spots_marked c.args.marks.now)) c.requires.even);
 }

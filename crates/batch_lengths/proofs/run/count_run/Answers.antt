@@ -8,4 +8,4 @@ pub returns : goal.returns
 returns c =
     null_counted_run c.args.source.now c.args.start c.args.count
     (null_of c.is_whole.result (has_null c.args.source.now.validity.now (run_spots c.args.start c.args.count)) c.is_whole.ensures c.if-is_whole.false)
-    (sym c.has_spans.ensures ∙ c.if-has_spans.false)
+    (sym c.has_offsets.ensures ∙ c.if-has_offsets.false)

@@ -32,12 +32,12 @@ flat s start count reads (inr (inr (inr (inr is)))) = flat_inside s start count 
 
 none_before : (s : EncodedColumn) (start : ℕ)
     → (s.layout ≡ Null) ⊎ ((s.layout ≡ Bits) ⊎ (((size : ℕ) × (s.layout ≡ Bytes size)) ⊎ ((s.layout ≡ Binary) ⊎ (s.layout ≡ Utf8))))
-    → 0 ≡ end_inside (layout_named s.layout) s.second.now start
-none_before s start (inl is) = ap (λ l. end_inside (layout_named l) s.second.now start) (sym is)
-none_before s start (inr (inl is)) = ap (λ l. end_inside (layout_named l) s.second.now start) (sym is)
-none_before s start (inr (inr (inl (size, is)))) = ap (λ l. end_inside (layout_named l) s.second.now start) (sym is)
-none_before s start (inr (inr (inr (inl is)))) = ap (λ l. end_inside (layout_named l) s.second.now start) (sym is)
-none_before s start (inr (inr (inr (inr is)))) = ap (λ l. end_inside (layout_named l) s.second.now start) (sym is)
+    → 0 ≡ end_inside (layout_named s.layout) s.offsets.now start
+none_before s start (inl is) = ap (λ l. end_inside (layout_named l) s.offsets.now start) (sym is)
+none_before s start (inr (inl is)) = ap (λ l. end_inside (layout_named l) s.offsets.now start) (sym is)
+none_before s start (inr (inr (inl (size, is)))) = ap (λ l. end_inside (layout_named l) s.offsets.now start) (sym is)
+none_before s start (inr (inr (inr (inl is)))) = ap (λ l. end_inside (layout_named l) s.offsets.now start) (sym is)
+none_before s start (inr (inr (inr (inr is)))) = ap (λ l. end_inside (layout_named l) s.offsets.now start) (sym is)
 
 pub returns-in-Null : goal.returns-in-Null
 returns-in-Null c =

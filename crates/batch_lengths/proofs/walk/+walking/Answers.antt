@@ -33,11 +33,11 @@ field_walk : (fields : List Field) (i : ℕ) (x : Field) → i < length fields �
 field_walk fields i x there is head place body end m = subst (λ f. MayWalk f head place body end) (forest_next fields i x there is) m
 
 less_inside : (field : Field) (s : EncodedColumn) (head : BatchHead) (first : Place) (body : List ℕ) (end less : ℕ) → less ≤ end → ReadsTo s end
-    → MayWalk (fields_in field) head first body (end_inside (layout_named s.layout) s.second.now end)
-    → MayWalk (fields_in field) head first body (end_inside (layout_named s.layout) s.second.now less)
+    → MayWalk (fields_in field) head first body (end_inside (layout_named s.layout) s.offsets.now end)
+    → MayWalk (fields_in field) head first body (end_inside (layout_named s.layout) s.offsets.now less)
 less_inside field s head first body end less few reads m =
-    walk_less (fields_in field) head first body (end_inside (layout_named s.layout) s.second.now end) (end_inside (layout_named s.layout) s.second.now less)
-    (end_less (layout_named s.layout) s.second.now less end few reads.reaches) m
+    walk_less (fields_in field) head first body (end_inside (layout_named s.layout) s.offsets.now end) (end_inside (layout_named s.layout) s.offsets.now less)
+    (end_less (layout_named s.layout) s.offsets.now less end few reads.reaches) m
 
 ends : (a b x y e : ℕ) → a ≡ x → b ≡ y → x + y ≡ e → e ≡ a + b
 ends a b x y e p q r = omega (arith, p, q, r)
@@ -252,7 +252,7 @@ gather_alike-returns-else-is_marked-clause-end t c =
     omega (
       arith,
       c.requires.behind,
-      end_less (layout_named c.args.source.now.layout) c.args.source.now.second.now (c.args.marks.now.start + c.args.number) (c.args.marks.now.start + c.args.number + c.args.alike)
+      end_less (layout_named c.args.source.now.layout) c.args.source.now.offsets.now (c.args.marks.now.start + c.args.number) (c.args.marks.now.start + c.args.number + c.args.alike)
           (omega arith)
           (reads_less c.args.source.now (c.args.marks.now.start + c.args.number + c.args.alike) (c.args.marks.now.start + c.args.marks.now.count)
           (omega (arith, c.requires.there)) c.requires.reads).reaches,
@@ -262,9 +262,9 @@ pub gather_alike-returns-else-is_marked-clause-adds : goal.gather_alike-returns-
 gather_alike-returns-else-is_marked-clause-adds t c =
     adds_blank (fields_in c.args.field.now) c.args.head.now c.args.first c.args.body.now
     (counted_with (fields_in c.args.field.now) c.args.head.now c.args.first c.args.body.now c.args.table.now (spots_marked c.args.gathered.now))
-    (spots_inside (layout_named c.args.source.now.layout) c.args.source.now.second.now (marked_from c.args.marks.now c.args.number c.args.alike))
+    (spots_inside (layout_named c.args.source.now.layout) c.args.source.now.offsets.now (marked_from c.args.marks.now c.args.number c.args.alike))
     (omega (arith, c.requires.room, with_long (fields_in c.args.field.now) c.args.head.now c.args.first c.args.body.now c.args.table.now c.requires.room (spots_marked c.args.gathered.now)))
-    (unmarked_inside (layout_named c.args.source.now.layout) c.args.source.now.second.now c.args.marks.now c.args.number c.args.alike
+    (unmarked_inside (layout_named c.args.source.now.layout) c.args.source.now.offsets.now c.args.marks.now c.args.number c.args.alike
     (λ k below. c.requires.alike k below ∙ sym c.is_marked.ensures ∙ c.if-is_marked.false))
 
 pub walk_places-loop-done-preserved : goal.walk_places-loop-done-preserved
@@ -274,19 +274,19 @@ walk_places-loop-done-preserved t c =
       few = c.alike-alike.ensures.within;
       gathered = c.gather_alike.ensures.gathered;
       behind =
-          subst (λ n. c.gather_alike.new.gathered.start + c.gather_alike.new.gathered.count ≤ end_inside (layout_named c.args.source.now.layout) c.args.source.now.second.now n) next
+          subst (λ n. c.gather_alike.new.gathered.start + c.gather_alike.new.gathered.count ≤ end_inside (layout_named c.args.source.now.layout) c.args.source.now.offsets.now n) next
           c.gather_alike.ensures.end;
       long = c.gather_alike.ensures.long ∙ c.loop-done.invariant.long;
       adds =
           c.gather_alike.ensures.adds
           ∙ ap (λ made. counted_with (fields_in c.args.field.now) c.args.head.now c.args.first c.args.body.now made
-          (spots_inside (layout_named c.args.source.now.layout) c.args.source.now.second.now (marked_from c.args.marks.now c.loop-done.done c.alike-alike.result)))
+          (spots_inside (layout_named c.args.source.now.layout) c.args.source.now.offsets.now (marked_from c.args.marks.now c.loop-done.done c.alike-alike.result)))
           c.loop-done.invariant.adds
           ∙ with_both (fields_in c.args.field.now) c.args.head.now c.args.first c.args.body.now c.args.table.now c.requires.room
-          (spots_inside (layout_named c.args.source.now.layout) c.args.source.now.second.now (marked_from c.args.marks.now 0 c.loop-done.done))
-          (spots_inside (layout_named c.args.source.now.layout) c.args.source.now.second.now (marked_from c.args.marks.now c.loop-done.done c.alike-alike.result))
-          (spots_inside (layout_named c.args.source.now.layout) c.args.source.now.second.now (marked_from c.args.marks.now 0 (c.loop-done.done + c.alike-alike.result)))
-          (inside_more (layout_named c.args.source.now.layout) c.args.source.now.second.now c.args.marks.now c.loop-done.done c.alike-alike.result);
+          (spots_inside (layout_named c.args.source.now.layout) c.args.source.now.offsets.now (marked_from c.args.marks.now 0 c.loop-done.done))
+          (spots_inside (layout_named c.args.source.now.layout) c.args.source.now.offsets.now (marked_from c.args.marks.now c.loop-done.done c.alike-alike.result))
+          (spots_inside (layout_named c.args.source.now.layout) c.args.source.now.offsets.now (marked_from c.args.marks.now 0 (c.loop-done.done + c.alike-alike.result)))
+          (inside_more (layout_named c.args.source.now.layout) c.args.source.now.offsets.now c.args.marks.now c.loop-done.done c.alike-alike.result);
     }
 
 pub walk_places-walk_some-requires : goal.walk_places-walk_some-requires
@@ -296,7 +296,7 @@ walk_places-walk_some-requires t c = (
     (λ one. (c.loop-done.invariant.gathered one).0),
     (
       walk_less (fields_in c.args.field.now) c.args.head.now c.args.first c.args.body.now
-          (end_inside (layout_named c.args.source.now.layout) c.args.source.now.second.now (c.args.marks.now.start + c.loop-done.done))
+          (end_inside (layout_named c.args.source.now.layout) c.args.source.now.offsets.now (c.args.marks.now.start + c.loop-done.done))
           (c.loop-done.gathered.start + c.loop-done.gathered.count) c.loop-done.invariant.behind
           (less_inside c.args.field.now c.args.source.now c.args.head.now c.args.first c.args.body.now (c.args.marks.now.start + c.args.marks.now.count)
           (c.args.marks.now.start + c.loop-done.done) (omega (arith, c.loop-done.invariant.few)) c.requires.reads c.requires.may),

@@ -45,11 +45,11 @@ abbrev pub invariant-walk_places-loop-done : goal.invariant-walk_places-loop-don
 invariant-walk_places-loop-done l = record {
   few : l.done ≤ l.marks.count;
   gathered : IsGathered l.gathered;
-  behind : l.gathered.start + l.gathered.count ≤ end_inside (layout_named l.source.layout) l.source.second.now (l.marks.start + l.done);
+  behind : l.gathered.start + l.gathered.count ≤ end_inside (layout_named l.source.layout) l.source.offsets.now (l.marks.start + l.done);
   long : length l.table ≡ length l.fn.table;
   adds : counted_with (fields_in l.field) l.head l.first l.body l.table (spots_marked l.gathered)
       ≡ counted_with (fields_in l.field) l.head l.first l.body l.fn.table
-      (spots_inside (layout_named l.source.layout) l.source.second.now (marked_from l.marks 0 l.done));
+      (spots_inside (layout_named l.source.layout) l.source.offsets.now (marked_from l.marks 0 l.done));
 }
 
 abbrev pub decreases-walk_places-loop-done : goal.decreases-walk_places-loop-done

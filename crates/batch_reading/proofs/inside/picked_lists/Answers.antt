@@ -14,7 +14,7 @@ use Rattle.batch_reading.proofs.inside.picked_lists.Goals as goal
 
 pub loop-number-init : goal.loop-number-init
 loop-number-init c = record {
-  ended = c.in_ok-put_offset.ensures ∙ ap (λ l. l ++ little_bytes 4 0) c.new-ends.ensures.items;
+  ended = c.in_ok-put_offset.ensures.ok ∙ ap (λ l. l ++ little_bytes 4 0) c.new-ends.ensures.items;
   placed = ap (λ l. places_of l ++ []) c.new.ensures.items;
   kept = (
     0,

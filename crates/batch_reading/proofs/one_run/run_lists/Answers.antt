@@ -7,11 +7,11 @@ overflow_sub-inside c =
     let up =
     starts_to c.args.offsets.now c.requires.offsets.0 c.requires.offsets.1 c.requires.offsets.2 c.args.run.start
     (c.args.run.start + c.args.run.count) (omega arith) (omega (arith, c.requires.offsets.3)) in
-    omega (arith, up, c.offset_at-start.ensures, c.offset_at-end.ensures)
+    omega (arith, up, c.start_at-start.ensures, c.start_at-end.ensures)
 
 pub overflow_sub-end : goal.overflow_sub-end
 overflow_sub-end c =
     let up =
     starts_to c.args.offsets.now c.requires.offsets.0 c.requires.offsets.1 c.requires.offsets.2 c.args.run.start
     (c.args.run.start + c.args.run.count) (omega arith) (omega (arith, c.requires.offsets.3)) in
-    omega (arith, up, c.offset_at-start.ensures, c.offset_at-end.ensures)
+    omega (arith, up, c.start_at-start.ensures, c.start_at-end.ensures)

@@ -11,6 +11,6 @@ part-requires c =
     starts_to c.args.offsets.now limit (length c.args.bytes.now) c.requires.offsets.1 start (start + c.args.run.count)
     (omega arith) (omega (arith, c.requires.offsets.2)) in
     let reach = run_reach c.args.offsets.now limit (length c.args.bytes.now) c.requires.offsets.1 start c.args.run.count c.requires.some c.requires.offsets.2 in (
-      omega (arith, up, c.offset_at-start.ensures, c.offset_at-end.ensures),
-      omega (arith, reach, c.offset_at-end.ensures),
+      omega (arith, up, c.start_at-start.ensures, c.start_at-end.ensures),
+      omega (arith, reach, c.start_at-end.ensures),
     )

@@ -6,14 +6,14 @@ use Rattle.batch_reading.proofs.Planning.{as_spots}
 use Rattle.batch_reading.proofs.plan.plan_lists.Goals as goal
 
 pub returns : goal.returns
-returns c = λ third. record {
+returns c = λ values. record {
   nulls_are = c.in_ok-validity.ensures.nulls;
   validity_is = c.in_ok-validity.ensures.validity;
-  second_is =
+  offsets_is =
       c.in_ok-offsets.ensures.offsets
-      ∙ ap (λ taken. offsets_of 4 (map (λ spot. length (elements_taken c.args.second.now spot)) taken)) c.in_ok-validity.ensures.taken;
-  third_is = c.new.ensures.items;
+      ∙ ap (λ taken. offsets_of 4 (map (λ spot. length (elements_taken c.args.offsets.now spot)) taken)) c.in_ok-validity.ensures.taken;
+  values_is = c.new.ensures.items;
   inside_is =
       as_spots _ _ c.in_ok-offsets.inside c.in_ok-offsets.ensures.inside
-      (ap (spots_inside (list_layout 4) c.args.second.now) (sym c.in_ok-validity.ensures.taken));
+      (ap (spots_inside (list_layout 4) c.args.offsets.now) (sym c.in_ok-validity.ensures.taken));
 }

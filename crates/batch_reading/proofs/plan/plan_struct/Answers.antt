@@ -5,11 +5,11 @@ use Rattle.batch_reading.proofs.Planning.{same_in_struct}
 use Rattle.batch_reading.proofs.plan.plan_struct.Goals as goal
 
 pub returns : goal.returns
-returns c = λ second third. record {
+returns c = λ offsets values. record {
   nulls_are = c.in_ok-validity.ensures.nulls;
   validity_is = c.in_ok-validity.ensures.validity;
-  second_is = c.new.ensures.items;
-  third_is = c.new-2.ensures.items;
+  offsets_is = c.new.ensures.items;
+  values_is = c.new-2.ensures.items;
   inside_is = record {
     rising = (c.requires.0, subst (DoRun 0 c.requires.0) (sym c.in_ok-same_runs.ensures) c.requires.1.rising);
     counted = c.requires.1.counted ∙ ap (λ runs. length (places_of runs)) (sym c.in_ok-same_runs.ensures);
@@ -17,6 +17,6 @@ returns c = λ second third. record {
     spots_are =
         ap (λ runs. spots_at runs c.args.selection.now.count c.in_ok-validity.field-0.taken) c.in_ok-same_runs.ensures
         ∙ c.in_ok-validity.ensures.taken
-        ∙ sym (same_in_struct second (map (seen c.args.validity.now) (spots_of c.args.selection.now)));
+        ∙ sym (same_in_struct offsets (map (seen c.args.validity.now) (spots_of c.args.selection.now)));
   };
 }

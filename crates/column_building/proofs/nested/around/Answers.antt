@@ -9,7 +9,7 @@ from_parts-requires c = (
   slot_cells c.requires.0 c.args.slots.now,
   slots_long c.requires.0 c.args.slots.now,
   slots_kept c.requires.0 c.requires.1 (layout_named c.args.layout) c.args.slots.now c.in_ok-validity.nulls c.in_ok-validity.validity.items
-      c.args.second.items c.new.result.items c.args.inside.items c.requires.2 c.in_ok-validity.ensures.nulls c.in_ok-validity.ensures.bytes
+      c.args.offsets.items c.new.result.items c.args.inside.items c.requires.2 c.in_ok-validity.ensures.nulls c.in_ok-validity.ensures.bytes
       c.new.ensures.items,
 )
 
@@ -18,4 +18,4 @@ returns-clause-cells c =
     λ blank valued can.
     c.from_parts.ensures.cells (slot_cells blank c.args.slots.now) (slots_long blank c.args.slots.now)
     (slots_kept blank valued (layout_named c.args.layout) c.args.slots.now c.in_ok-validity.nulls c.in_ok-validity.validity.items
-    c.args.second.items c.new.result.items c.args.inside.items can c.in_ok-validity.ensures.nulls c.in_ok-validity.ensures.bytes c.new.ensures.items)
+    c.args.offsets.items c.new.result.items c.args.inside.items can c.in_ok-validity.ensures.nulls c.in_ok-validity.ensures.bytes c.new.ensures.items)
