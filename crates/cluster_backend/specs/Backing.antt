@@ -5,10 +5,9 @@ use Rattle.std.specs.List.{AllZip}
 use Rattle.ballots.specs.declared.value.Value.{Value}
 use Rattle.table_types.specs.Uploads.{Upload}
 use Rattle.table_types.specs.Answers.{answer_of}
-use Rattle.table_types.specs.Tables.{Version, effective}
+use Rattle.table_types.specs.Tables.{Version, effective, table_names}
 use Rattle.table_versions.specs.Values.{AreUploadsIn}
 use Rattle.table_versions.specs.State.{values_limit}
-use Rattle.table_versions.specs.Ledger.{table_names}
 use Rattle.table_versions.specs.Outcomes.{told}
 use Rattle.table_versions.specs.declared.outcome.Outcome.{Outcome}
 use Rattle.agreement.specs.declared.refusal.Refusal.TheVariants as refusal

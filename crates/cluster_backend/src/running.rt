@@ -3,9 +3,8 @@
 ghost use Rattle.std.specs.Prelude.{◌≡◌, ◌≢◌, List, [], map, string_bytes, IfOk};
 ghost use Rattle.std.specs.List.{AllZip};
 ghost use Rattle.table_types.specs.Uploads.{Upload as Uploaded};
-ghost use Rattle.table_types.specs.Tables.{effective};
+ghost use Rattle.table_types.specs.Tables.{effective, table_names};
 ghost use Rattle.table_versions.specs.Info.{IsLatest};
-ghost use Rattle.table_versions.specs.Ledger.{table_names};
 ghost use Rattle.table_backend.specs.Backing.{TellsLatest};
 ghost use Rattle.cluster_backend.specs.Backing.{AreAgreed, HasTables, IsAnswered};
 

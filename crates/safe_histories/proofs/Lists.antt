@@ -1,6 +1,6 @@
 -- Lists: what is in them, by places and by cases; lists of which one begins the other.
-use Rattle.std.proofs.Common.{◌≡◌, ℕ, zero, suc, ◌+◌, ◌<◌, ◌⊎◌, inl, inr, Bool, true, false, cond, List, [], ◌∷◌, ◌++◌, length, take, drop, map, Option, Some, None, slice_get, refl, sym, ap, ap₂, subst, ◌∙◌, arith}
-use Rattle.std.specs.List.{Contains, AllByRecursion, filter, filter_map, cons_option}
+use Rattle.std.proofs.Common.{◌≡◌, ℕ, zero, suc, ◌+◌, ◌<◌, ◌⊎◌, inl, inr, List, [], ◌∷◌, ◌++◌, length, take, drop, map, Option, Some, None, slice_get, refl, sym, ap, ap₂, subst, ◌∙◌, arith}
+use Rattle.std.specs.List.{Contains, AllByRecursion, filter_map, cons_option}
 
 pub some_same : {X : Type 0} (x y : X) → Some x ≡ Some y → x ≡ y
 some_same x y same = cc
@@ -55,18 +55,6 @@ in_cases (z ∷ zs) ys x (inr later) = in_cases_more z zs ys x (in_cases zs ys x
     in_cases_more : {X : Type 0} (z : X) (zs ys : List X) (x : X) → In zs x ⊎ In ys x → In (z ∷ zs) x ⊎ In ys x
     in_cases_more z zs ys x (inl there) = inl (inr there)
     in_cases_more z zs ys x (inr there) = inr there
-
-in_passed : {X : Type 0} (y : X) (ys : List X) (x : X) (b : Bool) → In (cond b (y ∷ ys) ys) x → (y ≡ x) ⊎ In ys x
-in_passed y ys x true there = there
-in_passed y ys x false there = inr there
-
-pub in_filter : {X : Type 0} (p : X → Bool) (xs : List X) (x : X) → In (filter p xs) x → In xs x
-in_filter p [] x there = there
-in_filter p (y ∷ ys) x there = in_filter_more p y ys x (in_filter p ys x) (in_passed y (filter p ys) x (p y) there)
-  where
-    in_filter_more : {X : Type 0} (p : X → Bool) (y : X) (ys : List X) (x : X) → (In (filter p ys) x → In ys x) → (y ≡ x) ⊎ In (filter p ys) x → In (y ∷ ys) x
-    in_filter_more p y ys x more (inl same) = inl same
-    in_filter_more p y ys x more (inr later) = inr (more later)
 
 pub in_take : {X : Type 0} (n : ℕ) (xs : List X) (x : X) → In (take n xs) x → In xs x
 in_take zero xs x there = absurd there

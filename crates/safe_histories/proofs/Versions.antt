@@ -1,41 +1,30 @@
 -- Versions of tables: what stands in one, and where.
-use Rattle.std.proofs.Common.{◌≡◌, ◌≢◌, ℕ, ◌<◌, ◌≤◌, ◌⊎◌, inl, inr, Bool, true, false, if◌then◌else◌, List, [], ◌∷◌, ◌++◌, length, take, get_or, Some, None, slice_get, refl, sym, ap, subst, ◌∙◌}
+use Rattle.std.proofs.Common.{◌≡◌, ◌≢◌, ◌&&◌, ℕ, ◌<◌, ◌≤◌, inl, inr, Bool, true, false, if◌then◌else◌, List, [], ◌∷◌, ◌++◌, length, take, get_or, Some, None, slice_get, refl, sym, ap, subst, ◌∙◌}
 use Rattle.std.specs.Prelude.{nat_le}
-use Rattle.std.specs.List.{filter, list_any}
 use Rattle.std.proofs.lemmas.Bool.{leb-true}
 use Rattle.std.proofs.lemmas.Option.{slice_get_within, get_or_from_slice_get}
 use Rattle.table_types.specs.Uploads.{Upload}
-use Rattle.table_types.specs.Tables.{has_id, is_to, shape_text, has_shape, firsts, like_the_first, effective}
+use Rattle.table_types.specs.Tables.{is_to, counts_here, counted_behind, effective}
 use Rattle.table_types.specs.Tables.{Version, first_of_all, version_of}
-use Rattle.safe_histories.proofs.Lists.{In, some_same, none_is_some, in_cases, in_filter, in_take, at_taken}
+use Rattle.safe_histories.proofs.Lists.{In, some_same, none_is_some, in_take, at_taken}
 
 -- ---- uploads that count are uploads of the list
 
-first_in : (x : Upload) (rest : List Upload) (upload : Upload) (b : Bool) → In (if b then [] else x ∷ []) upload → In (x ∷ rest) upload
-first_in x rest upload true there = absurd there
-first_in x rest upload false (inl same) = inl same
-first_in x rest upload false (inr none) = absurd none
+in_one : (x : Upload) (xs with_it without : List Upload) (upload : Upload) (b : Bool) → (In with_it upload → In xs upload)
+    → (In without upload → In xs upload) → In (if b then x ∷ with_it else without) upload → In (x ∷ xs) upload
+in_one x xs with_it without upload true more others (inl same) = inl same
+in_one x xs with_it without upload true more others (inr later) = inr (more later)
+in_one x xs with_it without upload false more others there = inr (others there)
 
-in_firsts : (before xs : List Upload) (upload : Upload) → In (firsts before xs) upload → In xs upload
-in_firsts before [] upload there = there
-in_firsts before (x ∷ rest) upload there =
-    let new = list_any (has_id x.id) before in
-    by_cases x rest upload new (firsts (before ++ x ∷ []) rest) (in_firsts (before ++ x ∷ []) rest upload)
-    (in_cases (if new then [] else x ∷ []) (firsts (before ++ x ∷ []) rest) upload there)
-  where
-    by_cases : (x : Upload) (rest : List Upload) (upload : Upload) (b : Bool) (later : List Upload) → (In later upload → In rest upload)
-        → In (if b then [] else x ∷ []) upload ⊎ In later upload → In (x ∷ rest) upload
-    by_cases x rest upload b later more (inl here) = first_in x rest upload b here
-    by_cases x rest upload b later more (inr there) = inr (more there)
-
-in_like : (xs : List Upload) (upload : Upload) → In (like_the_first xs) upload → In xs upload
-in_like [] upload there = there
-in_like (x ∷ rest) upload (inl same) = inl same
-in_like (x ∷ rest) upload (inr later) = inr (in_filter (has_shape (shape_text x)) rest upload later)
+in_behind : (table : List ℕ) (before counted xs : List Upload) (upload : Upload) → In (counted_behind table before counted xs) upload → In xs upload
+in_behind table before counted [] upload there = there
+in_behind table before counted (x ∷ xs) upload there =
+    in_one x xs (counted_behind table (before ++ x ∷ []) (counted ++ x ∷ []) xs) (counted_behind table (before ++ x ∷ []) counted xs) upload
+    (is_to table x && counts_here before counted x) (in_behind table (before ++ x ∷ []) (counted ++ x ∷ []) xs upload)
+    (in_behind table (before ++ x ∷ []) counted xs upload) there
 
 pub in_effective : (table : List ℕ) (uploads : List Upload) (upload : Upload) → In (effective table uploads) upload → In uploads upload
-in_effective table uploads upload there =
-    in_firsts [] uploads upload (in_filter (is_to table) (firsts [] uploads) upload (in_like (filter (is_to table) (firsts [] uploads)) upload there))
+in_effective table uploads upload there = in_behind table [] [] uploads upload there
 
 -- ---- a version is the first so many of them
 

@@ -39,7 +39,7 @@ SameTicketSameBytes steps =
     → IsStep steps i (Get k table version) (Answer x) → IsStep steps j (Get l table version) (Answer y) → x ≡ y
 
 -- The bytes are those of the version of the table that valid uploads make by the rules of tables: it has so many uploads, of
--- different names, of which this is the one at this place.
+-- different ids, of which this is the one at this place.
 pub record StandsIn (table bytes : List ℕ) (count number : ℕ) (upload : Upload) : Type 0 where
   pub uploads : List Upload
   pub valid : AllByRecursion IsUpload uploads

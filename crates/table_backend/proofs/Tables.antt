@@ -1,15 +1,18 @@
 -- What tables say of the uploads that they have taken.
-use Rattle.std.proofs.Common.{◌≡◌, ◌≢◌, ◌≤◌, ◌<◌, ◌+◌, ℕ, suc, Bool, true, false, cond, List, [], ◌∷◌, ◌++◌, length, get_or, refl, sym, ap, subst, ◌∙◌, arith, string_bytes, map}
-use Rattle.std.specs.Prelude.{String, Option, Some, take}
+use Rattle.std.proofs.Common.{◌≡◌, ◌≢◌, ◌≤◌, ◌<◌, ◌+◌, ℕ, true, List, [], ◌∷◌, ◌++◌, length, get_or, refl, sym, ap, subst, ◌∙◌, arith, string_bytes, map}
+use Rattle.std.specs.Prelude.{String, Option, None, Some, take}
 use Rattle.std.specs.declared.alloc.Global.{Global}
 use Rattle.std.specs.Str.{bytes_eq}
 use Rattle.std.proofs.lemmas.List.{take_more, map_push, length-map, get_or-map}
 use Rattle.std.proofs.lemmas.List.Folds.{list_any_at}
 use Rattle.std.proofs.lemmas.Slice.Eq.{bytes_eq-Decides}
-use Rattle.std.specs.List.{AllByRecursion, AllZip, filter, list_any}
+use Rattle.std.specs.Option.{option_map}
+use Rattle.std.specs.List.{AllByRecursion, AllZip, list_any}
 use Rattle.table_types.specs.Uploads.{Upload, schema_text}
 use Rattle.table_types.specs.Valid.{IsTableName, IsUpload, FitsFrame}
-use Rattle.table_types.specs.Tables.{firsts, has_id, has_shape, is_to, like_the_first, shape_text, effective}
+use Rattle.table_types.specs.Answers.{answer_of}
+use Rattle.table_types.specs.Tables.{Version, effective}
+use Rattle.table_types.proofs.Filtered.{all_effective, few_effective}
 use Rattle.table_versions.specs.Info.{IsLatest, IsInfoOf}
 use Rattle.table_versions.specs.declared.info.TableInfo.{TableInfo}
 use Rattle.upload_parts.proofs.CallerLemmas.{message_long}
@@ -17,63 +20,6 @@ use Rattle.flight_calls.specs.declared.table_description.TableDescription.{Table
 use Rattle.flight_calls.specs.Replies.{Description}
 use Rattle.flight_calls.specs.Backing.{Describes, DescribeAll}
 use Rattle.table_backend.specs.Backing.{DescribesTable, TellsLatest}
-
--- ---- the uploads that count are among those that came
-
-kept : (P : Upload → Type 0) (x : Upload) (xs : List Upload) (b : Bool) → P x → AllByRecursion P xs → AllByRecursion P (cond b (x ∷ xs) xs)
-kept P x xs true one all = (one, all)
-kept P x xs false one all = all
-
-all_filtered : (P : Upload → Type 0) (p : Upload → Bool) (xs : List Upload) → AllByRecursion P xs → AllByRecursion P (filter p xs)
-all_filtered P p [] all = tt
-all_filtered P p (x ∷ xs) all = kept P x (filter p xs) (p x) all.0 (all_filtered P p xs all.1)
-
-all_like : (P : Upload → Type 0) (xs : List Upload) → AllByRecursion P xs → AllByRecursion P (like_the_first xs)
-all_like P [] all = tt
-all_like P (x ∷ xs) all = (all.0, all_filtered P (has_shape (shape_text x)) xs all.1)
-
-unless_all : (P : Upload → Type 0) (x : Upload) (rest : List Upload) (b : Bool) → P x → AllByRecursion P rest → AllByRecursion P ((cond b [] (x ∷ [])) ++ rest)
-unless_all P x rest true one all = all
-unless_all P x rest false one all = (one, all)
-
-all_firsts : (P : Upload → Type 0) (before xs : List Upload) → AllByRecursion P xs → AllByRecursion P (firsts before xs)
-all_firsts P before [] all = tt
-all_firsts P before (x ∷ xs) all =
-    unless_all P x (firsts (before ++ x ∷ []) xs) (list_any (has_id x.id) before) all.0 (all_firsts P (before ++ x ∷ []) xs all.1)
-
-all_effective : (P : Upload → Type 0) (table : List ℕ) (uploads : List Upload) → AllByRecursion P uploads → AllByRecursion P (effective table uploads)
-all_effective P table uploads all =
-    all_like P (filter (is_to table) (firsts [] uploads)) (all_filtered P (is_to table) (firsts [] uploads) (all_firsts P [] uploads all))
-
-fewer : (x : Upload) (xs : List Upload) (b : Bool) (n : ℕ) → length xs ≤ n → length (cond b (x ∷ xs) xs) ≤ suc n
-fewer x xs true n few = omega (arith, few)
-fewer x xs false n few = omega (arith, few)
-
-few_filtered : (p : Upload → Bool) (xs : List Upload) → length (filter p xs) ≤ length xs
-few_filtered p [] = omega arith
-few_filtered p (x ∷ xs) = fewer x (filter p xs) (p x) (length xs) (few_filtered p xs)
-
-few_like : (xs : List Upload) → length (like_the_first xs) ≤ length xs
-few_like [] = omega arith
-few_like (x ∷ xs) = omega (arith, few_filtered (has_shape (shape_text x)) xs)
-
-fewer_unless : (x : Upload) (rest : List Upload) (b : Bool) (n : ℕ) → length rest ≤ n → length ((cond b [] (x ∷ [])) ++ rest) ≤ suc n
-fewer_unless x rest true n few = omega (arith, few)
-fewer_unless x rest false n few = omega (arith, few)
-
-few_firsts : (before xs : List Upload) → length (firsts before xs) ≤ length xs
-few_firsts before [] = omega arith
-few_firsts before (x ∷ xs) =
-    fewer_unless x (firsts (before ++ x ∷ []) xs) (list_any (has_id x.id) before) (length xs) (few_firsts (before ++ x ∷ []) xs)
-
-few_effective : (table : List ℕ) (uploads : List Upload) → length (effective table uploads) ≤ length uploads
-few_effective table uploads =
-    omega (
-      arith,
-      few_like (filter (is_to table) (firsts [] uploads)),
-      few_filtered (is_to table) (firsts [] uploads),
-      few_firsts [] uploads,
-    )
 
 -- ---- the latest version of a table
 
@@ -188,3 +134,15 @@ one_more_told R names i x name old new found there is same all told put =
     ∙ ap (λ n. map string_bytes (take i names) ++ n ∷ []) (sym (same ∙ ap string_bytes is)) in
     subst (λ l. AllZip R l new) (sym named)
     (subst (λ l. AllZip R (map string_bytes (take i names) ++ name ∷ []) l) (sym put) (all_zip_push R (map string_bytes (take i names)) old name found all told))
+
+-- ---- the answer to a ticket
+
+-- an answer that there is, is that of a version that there is
+pub answered_version : (found : Option Version) (answer : List ℕ) → Some answer ≡ option_map answer_of found
+    → (x : Version) × (found ≡ Some x) × (answer ≡ answer_of x)
+answered_version None answer same = absurd cc
+answered_version (Some x) answer same = (x, refl, ap given same)
+  where
+    given : Option (List ℕ) → List ℕ
+    given None = answer
+    given (Some bytes) = bytes

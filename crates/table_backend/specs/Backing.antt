@@ -8,9 +8,9 @@ use Rattle.table_types.specs.Uploads.{Upload, upload_text}
 use Rattle.table_types.specs.Valid.{IsUpload}
 use Rattle.table_types.specs.Answers.{answer_of}
 use Rattle.table_types.specs.Tables.{effective, version_of, Outcome, applied, mismatched, conflicting, unknown, outcome_of}
+use Rattle.table_types.specs.Tables.{table_names, records_of}
 use Rattle.table_versions.specs.Values.{AreUploadsIn}
 use Rattle.table_versions.specs.State.{values_limit, TablesState, HasTaken, IsSame}
-use Rattle.table_versions.specs.Ledger.{table_names, records_of}
 use Rattle.call_words.specs.declared.back_fault.BackFault.{BackFault}
 use Rattle.call_words.specs.declared.back_fault.BackFault.TheVariants as faults
 use Rattle.call_reading.specs.Requests.{Request, describes, shows, lists, serves, puts}

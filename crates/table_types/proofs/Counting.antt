@@ -1,13 +1,12 @@
--- Each upload counts once, and what is told of one whose name has come stays.
-use Rattle.std.proofs.Common.{◌≡◌, ◌≢◌, refl, sym, ap, ap₂, subst, ◌∙◌, ℕ, zero, suc, ◌+◌, ◌-◌, ◌<◌, ◌≤◌, ◌||◌, Bool, true, false, true≢false, cond, if◌then◌else◌, Option, Some, None, List, [], ◌∷◌, ◌++◌, length, get_or, append_assoc, arith}
+-- Each upload counts once, and what is told of one whose id has come stays.
+use Rattle.std.proofs.Common.{◌≡◌, ◌≢◌, refl, sym, ap, subst, ◌∙◌, ℕ, zero, suc, ◌+◌, ◌-◌, ◌<◌, ◌≤◌, ◌||◌, Bool, true, false, true≢false, cond, if◌then◌else◌, Option, Some, None, List, [], ◌∷◌, ◌++◌, length, get_or, append_assoc, arith}
 use Rattle.std.specs.List.{AllByRecursion, filter, list_any}
 use Rattle.std.specs.Str.{bytes_eq}
 use Rattle.std.proofs.lemmas.Bool.{or_parts}
-use Rattle.std.proofs.lemmas.List.{append-nil}
-use Rattle.std.proofs.lemmas.List.Folds.{list_any-append}
 use Rattle.table_types.specs.Uploads.{Upload}
-use Rattle.table_types.specs.Tables.{has_id, is_to, shape_text, has_shape, is_same, firsts, like_the_first, effective}
-use Rattle.table_types.specs.Tables.{Outcome, applied, mismatched, conflicting, unknown, first_named, place_from, told_of, outcome_of}
+use Rattle.table_types.specs.Tables.{has_id, is_to, shape_text, has_shape, is_same, firsts, effective}
+use Rattle.table_types.specs.Tables.{Outcome, applied, mismatched, conflicting, unknown, first_with_id, place_from, told_of, outcome_of}
+use Rattle.table_types.proofs.Filtered.{like_the_first, effective_is}
 use Rattle.table_types.proofs.Growing.{same_bytes, bytes_same, all_filtered, all_like, all_there, all_mapped, IsNew, any_parts, are_new, added, added_new, effective_both, none_is_some}
 
 -- ---- names
@@ -21,29 +20,29 @@ named_cons first x rest longer true more is = is
 named_cons first x rest longer false more is = more is
 
 -- the first of a name in a list is the first of it in a longer one
-named_stays : (id : List ℕ) (xs ys : List Upload) (first : Upload) → first_named id xs ≡ Some first → first_named id (xs ++ ys) ≡ Some first
+named_stays : (id : List ℕ) (xs ys : List Upload) (first : Upload) → first_with_id id xs ≡ Some first → first_with_id id (xs ++ ys) ≡ Some first
 named_stays id [] ys first is = absurd (none_is_some first is)
-named_stays id (x ∷ xs) ys first is = named_cons first x (first_named id xs) (first_named id (xs ++ ys)) (has_id id x) (named_stays id xs ys first) is
+named_stays id (x ∷ xs) ys first is = named_cons first x (first_with_id id xs) (first_with_id id (xs ++ ys)) (has_id id x) (named_stays id xs ys first) is
 
 any_cons : (first x : Upload) (rest : Option Upload) (b any : Bool) → (rest ≡ Some first → any ≡ true) → named_or b x rest ≡ Some first → b || any ≡ true
 any_cons first x rest true any more is = refl
 any_cons first x rest false any more is = more is
 
 -- some upload has the name
-pub named_any : (id : List ℕ) (xs : List Upload) (first : Upload) → first_named id xs ≡ Some first → list_any (has_id id) xs ≡ true
+pub named_any : (id : List ℕ) (xs : List Upload) (first : Upload) → first_with_id id xs ≡ Some first → list_any (has_id id) xs ≡ true
 named_any id [] first is = absurd (none_is_some first is)
-named_any id (x ∷ xs) first is = any_cons first x (first_named id xs) (has_id id x) (list_any (has_id id) xs) (named_any id xs first) is
+named_any id (x ∷ xs) first is = any_cons first x (first_with_id id xs) (has_id id x) (list_any (has_id id) xs) (named_any id xs first) is
 
 passed : (x : Upload) (rest : Option Upload) (b : Bool) → b ≡ false → named_or b x rest ≡ rest
 passed x rest true is = absurd (true≢false is)
 passed x rest false is = refl
 
 -- the first of a name stands behind those that have another
-named_behind : (id : List ℕ) (before xs : List Upload) → list_any (has_id id) before ≡ false → first_named id (before ++ xs) ≡ first_named id xs
+named_behind : (id : List ℕ) (before xs : List Upload) → list_any (has_id id) before ≡ false → first_with_id id (before ++ xs) ≡ first_with_id id xs
 named_behind id [] xs none = refl
 named_behind id (b ∷ before) xs none =
     let parts = or_parts (has_id id b) (list_any (has_id id) before) none in
-    passed b (first_named id (before ++ xs)) (has_id id b) parts.0 ∙ named_behind id before xs parts.1
+    passed b (first_with_id id (before ++ xs)) (has_id id b) parts.0 ∙ named_behind id before xs parts.1
 
 -- ---- places
 
@@ -76,7 +75,7 @@ told_same : (first upload : Upload) (xs ys : List Upload) (b : Bool) → place_f
 told_same first upload xs ys true same = same
 told_same first upload xs ys false same = refl
 
-told_stays : (before after : List Upload) (upload : Upload) (outcome : Outcome) (first : Option Upload) → first_named upload.id before ≡ first
+told_stays : (before after : List Upload) (upload : Upload) (outcome : Outcome) (first : Option Upload) → first_with_id upload.id before ≡ first
     → told_of first upload (effective upload.table before) ≡ outcome → outcome ≢ unknown → outcome_of (before ++ after) upload ≡ outcome
 told_stays before after upload outcome None named told known = absurd (known (sym told))
 told_stays before after upload outcome (Some first) named told known =
@@ -91,7 +90,7 @@ told_stays before after upload outcome (Some first) named told known =
 pub outcomes_stay : (before after : List Upload) (upload : Upload) (outcome : Outcome) → outcome_of before upload ≡ outcome → outcome ≢ unknown
     → outcome_of (before ++ after) upload ≡ outcome
 outcomes_stay before after upload outcome told known =
-    told_stays before after upload outcome (first_named upload.id before) refl told known
+    told_stays before after upload outcome (first_with_id upload.id before) refl told known
 
 -- ---- different names
 
@@ -129,7 +128,8 @@ apart_firsts before (x ∷ xs) =
 
 apart_effective : (table : List ℕ) (uploads : List Upload) → AreApart (effective table uploads)
 apart_effective table uploads =
-    apart_like (filter (is_to table) (firsts [] uploads)) (apart_filtered (is_to table) (firsts [] uploads) (apart_firsts [] uploads))
+    subst AreApart (sym (effective_is table uploads))
+    (apart_like (filter (is_to table) (firsts [] uploads)) (apart_filtered (is_to table) (firsts [] uploads) (apart_firsts [] uploads)))
 
 apart_at : (xs : List Upload) (i j : ℕ) (none : Upload) → AreApart xs → i < j → j < length xs → (get_or xs i none).id ≢ (get_or xs j none).id
 apart_at [] i j none apart below within same = absurd (omega (arith, within))
@@ -140,23 +140,23 @@ apart_at (x ∷ xs) zero (suc j) none apart below within same =
 apart_at (x ∷ xs) (suc i) (suc j) none apart below within same =
     apart_at xs i j none apart.1 (omega (arith, below)) (omega (arith, within)) same
 
-pub names_differ : (table : List ℕ) (uploads : List Upload) (i j : ℕ) (none : Upload) → i < j → j < length (effective table uploads)
+pub ids_differ : (table : List ℕ) (uploads : List Upload) (i j : ℕ) (none : Upload) → i < j → j < length (effective table uploads)
     → (get_or (effective table uploads) i none).id ≢ (get_or (effective table uploads) j none).id
-names_differ table uploads i j none below within = apart_at (effective table uploads) i j none (apart_effective table uploads) below within
+ids_differ table uploads i j none below within = apart_at (effective table uploads) i j none (apart_effective table uploads) below within
 
 -- ---- where an applied upload stands
 
 -- the first of its own name among these
 abbrev IsFirst : List Upload → Upload → Type 0
-IsFirst uploads u = first_named u.id uploads ≡ Some u
+IsFirst uploads u = first_with_id u.id uploads ≡ Some u
 
 first_added : (uploads : List Upload) (x : Upload) (others : List Upload) (b : Bool) → (b ≡ false → IsFirst uploads x) → AllByRecursion (IsFirst uploads) others
     → AllByRecursion (IsFirst uploads) ((if b then [] else x ∷ []) ++ others)
 first_added uploads x others true here rest = rest
 first_added uploads x others false here rest = (here refl, rest)
 
-own_name : (x : Upload) (rest : List Upload) → first_named x.id (x ∷ rest) ≡ Some x
-own_name x rest = ap (λ b. named_or b x (first_named x.id rest)) (same_bytes x.id)
+own_name : (x : Upload) (rest : List Upload) → first_with_id x.id (x ∷ rest) ≡ Some x
+own_name x rest = ap (λ b. named_or b x (first_with_id x.id rest)) (same_bytes x.id)
 
 are_first : (before xs : List Upload) → AllByRecursion (IsFirst (before ++ xs)) (firsts before xs)
 are_first before [] = tt
@@ -167,8 +167,9 @@ are_first before (x ∷ xs) =
 
 effective_first : (table : List ℕ) (uploads : List Upload) → AllByRecursion (IsFirst uploads) (effective table uploads)
 effective_first table uploads =
-    all_like (IsFirst uploads) (filter (is_to table) (firsts [] uploads))
-    (all_filtered (IsFirst uploads) (is_to table) (firsts [] uploads) (are_first [] uploads))
+    subst (AllByRecursion (IsFirst uploads)) (sym (effective_is table uploads))
+    (all_like (IsFirst uploads) (filter (is_to table) (firsts [] uploads))
+    (all_filtered (IsFirst uploads) (is_to table) (firsts [] uploads) (are_first [] uploads)))
 
 abbrev number_in : Outcome → ℕ
 number_in (applied n) = n
@@ -224,7 +225,7 @@ abbrev pub StandsAt : List Upload → Upload → Upload → ℕ → Type 0
 StandsAt counted upload none number =
     (number ≤ length counted) × (1 ≤ number) × (is_same (get_or counted (number - 1) none) upload ≡ true)
 
-same_first : (uploads : List Upload) (upload first none : Upload) (number : ℕ) (b : Bool) → is_same first upload ≡ b → first_named upload.id uploads ≡ Some first
+same_first : (uploads : List Upload) (upload first none : Upload) (number : ℕ) (b : Bool) → is_same first upload ≡ b → first_with_id upload.id uploads ≡ Some first
     → (if b then place_from 1 upload.id (effective upload.table uploads) else conflicting) ≡ applied number
     → StandsAt (effective upload.table uploads) upload none number
 same_first uploads upload first none number false is named told = absurd (true≢false (sym (ap is_applied told)))
@@ -232,17 +233,17 @@ same_first uploads upload first none number true is named told =
     let counted : List Upload = effective upload.table uploads in
     let found = found_at 1 number upload.id (effective upload.table uploads) told in
     let there : number - 1 < length (effective upload.table uploads) = omega (arith, found.from, found.within) in
-    let own : first_named (get_or (effective upload.table uploads) (number - 1) none).id uploads ≡ Some (get_or (effective upload.table uploads) (number - 1) none) =
+    let own : first_with_id (get_or (effective upload.table uploads) (number - 1) none).id uploads ≡ Some (get_or (effective upload.table uploads) (number - 1) none) =
     all_there (IsFirst uploads) (effective upload.table uploads) (number - 1) none (effective_first upload.table uploads) there in
     let id : (get_or (effective upload.table uploads) (number - 1) none).id ≡ upload.id = bytes_same _ _ (found.named none) in
     let one : first ≡ get_or (effective upload.table uploads) (number - 1) none =
-    some_same first (get_or (effective upload.table uploads) (number - 1) none) (sym named ∙ ap (λ n. first_named n uploads) (sym id) ∙ own) in (
+    some_same first (get_or (effective upload.table uploads) (number - 1) none) (sym named ∙ ap (λ n. first_with_id n uploads) (sym id) ∙ own) in (
       omega (arith, found.within),
       found.from,
       ap (λ u. is_same u upload) (sym one) ∙ is,
     )
 
-told_where : (uploads : List Upload) (upload none : Upload) (number : ℕ) (first : Option Upload) → first_named upload.id uploads ≡ first
+told_where : (uploads : List Upload) (upload none : Upload) (number : ℕ) (first : Option Upload) → first_with_id upload.id uploads ≡ first
     → told_of first upload (effective upload.table uploads) ≡ applied number → StandsAt (effective upload.table uploads) upload none number
 told_where uploads upload none number None named told = absurd (true≢false (sym (ap is_applied told)))
 told_where uploads upload none number (Some first) named told =
@@ -250,4 +251,4 @@ told_where uploads upload none number (Some first) named told =
 
 pub stands_at : (uploads : List Upload) (upload none : Upload) (number : ℕ) → outcome_of uploads upload ≡ applied number
     → StandsAt (effective upload.table uploads) upload none number
-stands_at uploads upload none number told = told_where uploads upload none number (first_named upload.id uploads) refl told
+stands_at uploads upload none number told = told_where uploads upload none number (first_with_id upload.id uploads) refl told

@@ -1,5 +1,5 @@
 -- What a list of uploads makes, and what more of them add to it.
-use Rattle.std.proofs.Common.{◌≡◌, ◌≢◌, refl, sym, ap, ap₂, subst, ◌∙◌, ℕ, zero, suc, ◌+◌, ◌-◌, ◌<◌, ◌≤◌, ◌||◌, Bool, true, false, true≢false, cond, if◌then◌else◌, Option, Some, None, List, [], ◌∷◌, ◌++◌, length, take, get_or, length-append, append_assoc, arith}
+use Rattle.std.proofs.Common.{◌≡◌, refl, sym, ap, ◌∙◌, ℕ, zero, suc, ◌+◌, ◌-◌, ◌<◌, Bool, true, false, cond, if◌then◌else◌, Option, Some, None, List, [], ◌∷◌, ◌++◌, length, take, get_or, length-append, append_assoc, arith}
 use Rattle.std.specs.Prelude.{nat_le}
 use Rattle.std.proofs.lemmas.Bool.{le-leb}
 use Rattle.std.specs.List.{AllByRecursion, filter, list_any}
@@ -10,10 +10,10 @@ use Rattle.std.proofs.lemmas.List.Elements.{filter-append}
 use Rattle.std.proofs.lemmas.List.Folds.{list_any-append}
 use Rattle.std.proofs.lemmas.Slice.Eq.{bytes_eq-Decides}
 use Rattle.std.proofs.Math.Seq.{take-append_seam}
-use Rattle.table_types.specs.Uploads.{Upload, upload_text}
-use Rattle.table_types.specs.Tables.{has_id, is_to, shape_text, has_shape, is_same, firsts, like_the_first, effective}
-use Rattle.table_types.specs.Tables.{Version, first_of_all, version_of, Outcome, applied, mismatched, conflicting, unknown}
-use Rattle.table_types.specs.Tables.{first_named, place_from, told_of, outcome_of}
+use Rattle.table_types.specs.Uploads.{Upload}
+use Rattle.table_types.specs.Tables.{has_id, is_to, shape_text, has_shape, firsts, effective}
+use Rattle.table_types.specs.Tables.{Version, first_of_all, version_of}
+use Rattle.table_types.proofs.Filtered.{like_the_first, like_more, effective_is}
 
 -- ---- equal bytes
 
@@ -81,10 +81,6 @@ are_new before (x ∷ rest) =
 
 -- ---- the effective ones
 
-abbrev like_more : List Upload → List Upload → List Upload
-like_more [] ys = like_the_first ys
-like_more (x ∷ xs) ys = filter (has_shape (shape_text x)) ys
-
 like_both : (xs ys : List Upload) → like_the_first (xs ++ ys) ≡ like_the_first xs ++ like_more xs ys
 like_both [] ys = refl
 like_both (x ∷ xs) ys = ap (λ l. x ∷ l) (filter-append (has_shape (shape_text x)) xs ys)
@@ -95,9 +91,11 @@ added table before after = like_more (filter (is_to table) (firsts [] before)) (
 
 pub effective_both : (table : List ℕ) (before after : List Upload) → effective table (before ++ after) ≡ effective table before ++ added table before after
 effective_both table before after =
-    ap (λ l. like_the_first (filter (is_to table) l)) (firsts_both [] before after)
+    effective_is table (before ++ after)
+    ∙ ap (λ l. like_the_first (filter (is_to table) l)) (firsts_both [] before after)
     ∙ ap like_the_first (filter-append (is_to table) (firsts [] before) (firsts before after))
     ∙ like_both (filter (is_to table) (firsts [] before)) (filter (is_to table) (firsts before after))
+    ∙ ap (λ l. l ++ added table before after) (sym (effective_is table before))
 
 pub effective_grows : (table : List ℕ) (before after : List Upload) → take (length (effective table before)) (effective table (before ++ after)) ≡ effective table before
 effective_grows table before after =

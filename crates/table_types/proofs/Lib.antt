@@ -1,3 +1,4 @@
+pub mod Filtered
 pub mod Growing
 pub mod Counting
 pub mod Shapes

@@ -1,13 +1,14 @@
 -- The effective uploads to a table are to it and of one shape, and every upload of that shape is among them.
 use Rattle.std.proofs.lemmas.Bool.{or_parts, and_parts}
 use Rattle.std.proofs.lemmas.List.Folds.{list_any-append}
-use Rattle.std.proofs.Common.{◌≡◌, ◌≢◌, ◌↔◌, ◌&&◌, refl, sym, ap, ap₂, subst, ◌∙◌, ℕ, zero, suc, ◌+◌, ◌<◌, ◌≤◌, ◌||◌, Bool, true, false, true≢false, cond, if◌then◌else◌, Option, Some, None, List, [], ◌∷◌, ◌++◌, length, get_or, arith}
+use Rattle.std.proofs.Common.{◌≡◌, ◌≢◌, ◌↔◌, ◌&&◌, refl, sym, ap, ap₂, subst, ◌∙◌, ℕ, zero, suc, ◌+◌, ◌<◌, ◌||◌, Bool, true, false, true≢false, cond, if◌then◌else◌, Option, Some, None, List, [], ◌∷◌, ◌++◌, length, get_or, arith}
 use Rattle.std.specs.List.{AllByRecursion, filter, list_any}
 use Rattle.std.specs.Str.{bytes_eq}
 use Rattle.table_types.specs.Uploads.{Upload, upload_text}
-use Rattle.table_types.specs.Tables.{has_id, is_to, shape_text, has_shape, is_same, firsts, like_the_first, effective}
-use Rattle.table_types.specs.Tables.{Outcome, applied, mismatched, conflicting, unknown, first_named, place_from, told_of, outcome_of}
-use Rattle.table_types.proofs.Growing.{same_bytes, bytes_same, all_filtered, all_like, all_there, none_is_some}
+use Rattle.table_types.specs.Tables.{has_id, is_to, shape_text, has_shape, is_same, firsts, effective}
+use Rattle.table_types.specs.Tables.{Outcome, applied, mismatched, conflicting, unknown, first_with_id, place_from, told_of, outcome_of}
+use Rattle.table_types.proofs.Filtered.{like_the_first, effective_is}
+use Rattle.table_types.proofs.Growing.{same_bytes, bytes_same, all_like, all_there, none_is_some}
 use Rattle.table_types.proofs.Counting.{named_or, some_same}
 
 -- ---- all pass what they were filtered by
@@ -26,7 +27,8 @@ pub is_of_table : (table : List ℕ) (uploads : List Upload) (i : ℕ) (none : U
 is_of_table table uploads i none within =
     bytes_same (get_or (effective table uploads) i none).table table
     (all_there (λ u. is_to table u ≡ true) (effective table uploads) i none
-    (all_like (λ u. is_to table u ≡ true) (filter (is_to table) (firsts [] uploads)) (all_pass (is_to table) (firsts [] uploads))) within)
+    (subst (AllByRecursion (λ u. is_to table u ≡ true)) (sym (effective_is table uploads))
+    (all_like (λ u. is_to table u ≡ true) (filter (is_to table) (firsts [] uploads)) (all_pass (is_to table) (firsts [] uploads)))) within)
 
 like_shape : (xs : List Upload) (i : ℕ) (none : Upload) → i < length (like_the_first xs)
     → shape_text (get_or (like_the_first xs) i none) ≡ shape_text (get_or (like_the_first xs) 0 none)
@@ -38,7 +40,9 @@ like_shape (x ∷ xs) (suc i) none within =
 
 pub is_of_shape : (table : List ℕ) (uploads : List Upload) (i : ℕ) (none : Upload) → i < length (effective table uploads)
     → shape_text (get_or (effective table uploads) i none) ≡ shape_text (get_or (effective table uploads) 0 none)
-is_of_shape table uploads = like_shape (filter (is_to table) (firsts [] uploads))
+is_of_shape table uploads i none =
+    subst (λ l. i < length l → shape_text (get_or l i none) ≡ shape_text (get_or l 0 none)) (sym (effective_is table uploads))
+    (like_shape (filter (is_to table) (firsts [] uploads)) i none)
 
 -- ---- what passes is not lost
 
@@ -83,8 +87,8 @@ still_new id before x new other =
     list_any-append (has_id id) before (x ∷ []) ∙ ap₂ (λ a b. a || (b || false)) new other
 
 first_step : (q : Upload → Bool) (id : List ℕ) (before : List Upload) (x : Upload) (xs : List Upload) (u : Upload) (b : Bool) → has_id id x ≡ b → q u ≡ true
-    → list_any (has_id id) before ≡ false → named_or b x (first_named id xs) ≡ Some u
-    → (list_any (has_id id) (before ++ x ∷ []) ≡ false → first_named id xs ≡ Some u → list_any q (firsts (before ++ x ∷ []) xs) ≡ true)
+    → list_any (has_id id) before ≡ false → named_or b x (first_with_id id xs) ≡ Some u
+    → (list_any (has_id id) (before ++ x ∷ []) ≡ false → first_with_id id xs ≡ Some u → list_any q (firsts (before ++ x ∷ []) xs) ≡ true)
     → list_any q (firsts before (x ∷ xs)) ≡ true
 first_step q id before x xs u true is own new named rest =
     let same : x ≡ u = some_same x u named in
@@ -95,7 +99,7 @@ first_step q id before x xs u false is own new named rest =
 
 -- the first of a name is among those that come first, where none before had it
 any_first : (q : Upload → Bool) (id : List ℕ) (before xs : List Upload) (u : Upload) → q u ≡ true → list_any (has_id id) before ≡ false
-    → first_named id xs ≡ Some u → list_any q (firsts before xs) ≡ true
+    → first_with_id id xs ≡ Some u → list_any q (firsts before xs) ≡ true
 any_first q id before [] u own new named = absurd (none_is_some u named)
 any_first q id before (x ∷ xs) u own new named =
     first_step q id before x xs u (has_id id x) refl own new named (any_first q id (before ++ x ∷ []) xs u own)
@@ -140,7 +144,7 @@ placed place id [] there = absurd (true≢false (sym there))
 placed place id (x ∷ xs) there =
     placed_step place id (place_from (suc place) id xs) (has_id id x) (list_any (has_id id) xs) (placed (suc place) id xs) there
 
-pub is_counted : (uploads : List Upload) (upload none : Upload) → first_named upload.id uploads ≡ Some upload
+pub is_counted : (uploads : List Upload) (upload none : Upload) → first_with_id upload.id uploads ≡ Some upload
     → shape_text upload ≡ shape_text (get_or (effective upload.table uploads) 0 none) → (n : ℕ) × (outcome_of uploads upload ≡ applied n)
 is_counted uploads upload none named shaped =
     let to_it : list_any (is_like upload) (filter (is_to upload.table) (firsts [] uploads)) ≡ true =
@@ -148,7 +152,9 @@ is_counted uploads upload none named shaped =
     (any_first (is_like upload) upload.id [] uploads upload (like_itself upload) refl named) in
     let there : list_any (has_id upload.id) (effective upload.table uploads) ≡ true =
     any_of upload (effective upload.table uploads)
-    (any_like (is_like upload) (filter (is_to upload.table) (firsts [] uploads)) none (λ u like. like_shaped upload u like ∙ shaped) to_it) in
+    (subst (λ l. list_any (is_like upload) l ≡ true) (sym (effective_is upload.table uploads))
+    (any_like (is_like upload) (filter (is_to upload.table) (firsts [] uploads)) none
+    (λ u like. like_shaped upload u like ∙ shaped ∙ ap (λ l. shape_text (get_or l 0 none)) (effective_is upload.table uploads)) to_it)) in
     let found = placed 1 upload.id (effective upload.table uploads) there in (
       found.0,
       ap (λ o. told_of o upload (effective upload.table uploads)) named
@@ -176,16 +182,16 @@ found_named : (x : Upload) (rest : Option Upload) (b any : Bool) → (rest ≡ N
 found_named x rest true any more none there = none_is_some x (sym none)
 found_named x rest false any more none there = more none there
 
-any_named : (id : List ℕ) (xs : List Upload) → first_named id xs ≡ None → list_any (has_id id) xs ≡ true → ⊥
+any_named : (id : List ℕ) (xs : List Upload) → first_with_id id xs ≡ None → list_any (has_id id) xs ≡ true → ⊥
 any_named id [] none there = true≢false (sym there)
 any_named id (x ∷ xs) none there =
-    found_named x (first_named id xs) (has_id id x) (list_any (has_id id) xs) (any_named id xs) none there
+    found_named x (first_with_id id xs) (has_id id x) (list_any (has_id id) xs) (any_named id xs) none there
 
-none_named : (id : List ℕ) (xs : List Upload) → list_any (has_id id) xs ≡ false → first_named id xs ≡ None
+none_named : (id : List ℕ) (xs : List Upload) → list_any (has_id id) xs ≡ false → first_with_id id xs ≡ None
 none_named id [] none = refl
 none_named id (x ∷ xs) none =
     let parts = or_parts (has_id id x) (list_any (has_id id) xs) none in
-    ap (λ b. named_or b x (first_named id xs)) parts.0 ∙ none_named id xs parts.1
+    ap (λ b. named_or b x (first_with_id id xs)) parts.0 ∙ none_named id xs parts.1
 
 known_told : (first upload : Upload) (counted : List Upload) (b : Bool) → is_unknown (if b then place_from 1 upload.id counted else conflicting) ≡ false
 known_told first upload counted true = known_place 1 upload.id counted
@@ -195,7 +201,7 @@ either_bool : (b : Bool) → (b ≡ true → ⊥) → b ≡ false
 either_bool true not = absurd (not refl)
 either_bool false not = refl
 
-name_missing : (uploads : List Upload) (upload : Upload) (first : Option Upload) → first_named upload.id uploads ≡ first
+name_missing : (uploads : List Upload) (upload : Upload) (first : Option Upload) → first_with_id upload.id uploads ≡ first
     → told_of first upload (effective upload.table uploads) ≡ unknown → list_any (has_id upload.id) uploads ≡ false
 name_missing uploads upload None named told =
     either_bool (list_any (has_id upload.id) uploads) (λ there. absurd (any_named upload.id uploads named there))
@@ -204,7 +210,7 @@ name_missing uploads upload (Some first) named told =
 
 pub unknown_where : (uploads : List Upload) (upload : Upload) → (outcome_of uploads upload ≡ unknown) ↔ (list_any (has_id upload.id) uploads ≡ false)
 unknown_where uploads upload = (
-  λ told. name_missing uploads upload (first_named upload.id uploads) refl told,
+  λ told. name_missing uploads upload (first_with_id upload.id uploads) refl told,
   λ none. ap (λ o. told_of o upload (effective upload.table uploads)) (none_named upload.id uploads none),
 )
 
@@ -226,13 +232,13 @@ not_same : (first upload : Upload) (counted : List Upload) (b : Bool) → (if b 
 not_same first upload counted true told = absurd (true≢false (sym (ap is_conflict told) ∙ no_conflict 1 upload.id counted))
 not_same first upload counted false told = refl
 
-conflict_by : (uploads : List Upload) (upload : Upload) (found : Option Upload) → first_named upload.id uploads ≡ found
+conflict_by : (uploads : List Upload) (upload : Upload) (found : Option Upload) → first_with_id upload.id uploads ≡ found
     → told_of found upload (effective upload.table uploads) ≡ conflicting
-    → (first : Upload) × (first_named upload.id uploads ≡ Some first) × (is_same first upload ≡ false)
+    → (first : Upload) × (first_with_id upload.id uploads ≡ Some first) × (is_same first upload ≡ false)
 conflict_by uploads upload None named told = absurd (true≢false (sym (ap is_conflict told)))
 conflict_by uploads upload (Some first) named told =
     (first, named, not_same first upload (effective upload.table uploads) (is_same first upload) told)
 
 pub conflict_where : (uploads : List Upload) (upload : Upload) → outcome_of uploads upload ≡ conflicting
-    → (first : Upload) × (first_named upload.id uploads ≡ Some first) × (is_same first upload ≡ false)
-conflict_where uploads upload told = conflict_by uploads upload (first_named upload.id uploads) refl told
+    → (first : Upload) × (first_with_id upload.id uploads ≡ Some first) × (is_same first upload ≡ false)
+conflict_where uploads upload told = conflict_by uploads upload (first_with_id upload.id uploads) refl told

@@ -17,7 +17,7 @@ data_text header metadata body = canonical data_descriptor (None, (header, (meta
 abbrev pub in_frame : List ℕ → List ℕ
 in_frame payload = frame_text (record { flag = 0; payload = payload })
 
--- the messages of an upload: each batch with the upload's own name; without batches one message with the name alone
+-- the messages of an upload: each batch with the upload's id; without batches one message with the id alone
 abbrev pub batch_message : Upload → Rows → List ℕ
 batch_message upload rows =
     data_text (head_text upload.schema rows) upload.id (canonical_body upload.schema rows)

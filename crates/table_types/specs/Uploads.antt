@@ -11,7 +11,7 @@ use Rattle.header_writing.specs.Canonical.{header_text}
 use Rattle.batch_types.specs.Cells.{Rows}
 use Rattle.batch_types.specs.Canonical.{canonical_head, canonical_body}
 
--- which table it is for, by name; its own name, which its client chose; the schema of its batches; and these
+-- which table it is for, by name; its id, which its client chose; the schema of its batches; and these
 pub record Upload : Type 0 where
   pub table : List ℕ
   pub id : List ℕ

@@ -14,7 +14,7 @@ use Rattle.table_types.specs.Served.{upload_messages, schema_message}
 abbrev pub name_limit : ℕ
 name_limit = 64
 
--- how many bytes the name of an upload has
+-- how many bytes the id of an upload has
 abbrev pub id_size : ℕ
 id_size = 16
 
@@ -52,7 +52,7 @@ pub record IsId (id : List ℕ) : Type 0 where
 abbrev pub FitsFrame : List ℕ → Type 0
 FitsFrame message = length message ≤ payload_limit
 
--- Its name and its table's are such; its schema can be written, and so can its batches, which are of it and not too many;
+-- Its id and its table's name are such; its schema can be written, and so can its batches, which are of it and not too many;
 -- its encoding is not too long, nor is a message that is served of it.
 pub record IsUpload (upload : Upload) : Type 0 where
   pub table_named : IsTableName upload.table

@@ -13,7 +13,7 @@ ghost use Rattle.batch_types.specs.Written.{CanBeWritten};
 ghost use Rattle.table_types.specs.declared.names.TheConstants.{MAX_TABLE_NAME_BYTES};
 ghost use Rattle.table_types.specs.Valid.{IsUpload, name_limit, upload_limit};
 ghost use Rattle.table_types.specs.Texts.{IsUploadText, AreUploadsOf};
-ghost use Rattle.table_types.specs.Tables.{bare_schema, has_id, shape_text, is_same, effective, Version, version_of, Outcome, applied, conflicting, unknown, first_named, outcome_of};
+ghost use Rattle.table_types.specs.Tables.{bare_schema, has_id, shape_text, is_same, effective, Version, version_of, Outcome, applied, conflicting, unknown, first_with_id, outcome_of};
 ghost use Rattle.std.specs.List.{AllByRecursion, list_any};
 ghost use Rattle.table_types.specs.Ticket.{TableVersion, IsTableVersion, ticket_text, IsTicket};
 
@@ -59,7 +59,7 @@ pub fn batches_have_headers()
 }
 
 /// Tables only grow: where one list of uploads begins another, each effective upload of the one is the other's too, at the
-/// same place, and so is each version of each table; and what is told of an upload whose name has come never changes.
+/// same place, and so is each version of each table; and what is told of an upload whose id has come never changes.
 pub fn tables_grow()
     ensures effective { (table : List ℕ) (before after : List Upload)
         → take (length (effective table before)) (effective table (before ++ after)) ≡ effective table before }
@@ -69,7 +69,7 @@ pub fn tables_grow()
         → outcome_of before upload ≡ outcome → outcome ≢ unknown → outcome_of (before ++ after) upload ≡ outcome }
 {}
 
-/// An upload counts once: the uploads of a version have different names; and an upload that is told to be applied as some
+/// An upload counts once: the uploads of a version have different ids; and an upload that is told to be applied as some
 /// version is the last of that version's uploads, and stands at that place of each later one.
 pub fn uploads_count_once()
     ensures apart { (table : List ℕ) (uploads : List Upload) (i j : ℕ) (none : Upload)
@@ -89,17 +89,17 @@ pub fn tables_have_one_shape()
         → shape_text (get_or (effective table uploads) i none) ≡ shape_text (get_or (effective table uploads) 0 none) }
 {}
 
-/// No upload is lost: one that came first of its name is applied where it has the shape of its table, and so is the first
-/// upload to a table. Nothing is known of an upload exactly where none of its name has come; and a conflict is told only
-/// where another came first under its name.
+/// No upload is lost: one that came first of its id is applied where it has the shape of its table, and so is the first
+/// upload to a table. Nothing is known of an upload exactly where none of its id has come; and a conflict is told only
+/// where another came first under its id.
 pub fn no_upload_is_lost()
-    ensures counted { (uploads : List Upload) (upload none : Upload) → first_named upload.id uploads ≡ Some upload
+    ensures counted { (uploads : List Upload) (upload none : Upload) → first_with_id upload.id uploads ≡ Some upload
         → shape_text upload ≡ shape_text (get_or (effective upload.table uploads) 0 none)
         → (number : ℕ) × (outcome_of uploads upload ≡ applied number) }
     ensures unknown { (uploads : List Upload) (upload : Upload)
         → (outcome_of uploads upload ≡ unknown) ↔ (list_any (has_id upload.id) uploads ≡ false) }
     ensures conflict { (uploads : List Upload) (upload : Upload) → outcome_of uploads upload ≡ conflicting
-        → (first : Upload) × (first_named upload.id uploads ≡ Some first) × (is_same first upload ≡ false) }
+        → (first : Upload) × (first_with_id upload.id uploads ≡ Some first) × (is_same first upload ≡ false) }
 {}
 
 /// A shape is a schema without its metadata: uploads whose schemas differ in metadata alone have one shape; and where two

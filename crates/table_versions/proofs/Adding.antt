@@ -11,11 +11,11 @@ use Rattle.header_types.specs.Fields.{SchemaTree}
 use Rattle.table_types.specs.Uploads.{Upload}
 use Rattle.table_types.specs.Served.{in_frame, upload_messages, schema_message}
 use Rattle.table_types.specs.Answers.{answer_of}
-use Rattle.table_types.specs.Tables.{is_to, effective}
+use Rattle.table_types.specs.Tables.{is_to, effective, rows_of_upload}
 use Rattle.table_versions.specs.declared.place.Place.{Place}
 use Rattle.table_versions.specs.declared.table.Table.{Table}
 use Rattle.table_versions.specs.declared.prepared.Part.{Part}
-use Rattle.table_versions.specs.Ledger.{frames_of, frames_text, rows_of_upload, TableEntries, FrameEntries, table_in, is_place, frames_in, names_in}
+use Rattle.table_versions.specs.Ledger.{frames_of, frames_text, TableEntries, FrameEntries, table_in, is_place, frames_in, names_in}
 use Rattle.table_versions.specs.Ledger.{IsTableOf, IsTable, HasFrames, IsPartOf}
 use Rattle.table_versions.specs.Steps.{PutsTable, PutsFrames, IsOpened, IsGrown}
 use Rattle.table_versions.proofs.Growing.{bytes_same, effective_other}

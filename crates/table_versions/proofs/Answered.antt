@@ -10,13 +10,13 @@ use Rattle.std.proofs.lemmas.Bool.{le-leb, leb-true}
 use Rattle.std.proofs.lemmas.Grind.{flat_map-append}
 use Rattle.table_types.specs.Answers.{answer_of}
 use Rattle.table_versions.specs.declared.table.Table.{Table}
-use Rattle.table_types.specs.Tables.{Version, first_of_all, version_of, conflicting, unknown, is_same, first_named, place_from, told_of, effective, outcome_of}
+use Rattle.table_types.specs.Tables.{Version, first_of_all, version_of, conflicting, unknown, is_same, first_with_id, place_from, told_of, effective, outcome_of}
 use Rattle.table_versions.specs.declared.first.First.{First}
 use Rattle.table_versions.specs.Outcomes.{told}
 use Rattle.table_versions.specs.Ledger.{frames_of, seen_first, told_of_first, FirstEntries, TableEntries, FrameEntries, first_in, table_in, frames_in, HasFrames, IsTable, IsLedger}
 use Rattle.table_versions.specs.Answering.{AreFrames}
 use Rattle.table_versions.proofs.Growing.{bytes_same, named_all}
-use Rattle.table_versions.proofs.Sizes.{all_effective, few_effective}
+use Rattle.table_types.proofs.Filtered.{all_effective, few_effective}
 use Rattle.table_versions.proofs.Frames.{all_taken, few_taken, answer_text, answer_frames}
 
 none_is_some : {X : Type 0} (x : X) → None ≡ Some x → ⊥
@@ -33,9 +33,9 @@ OneEncoding = (x y : Upload) → IsUpload x → IsUpload y → upload_text x ≡
 
 module _ (one : OneEncoding) (firsts : FirstEntries) (tables : TableEntries) (frames : FrameEntries) (uploads : List Upload) (ledger : IsLedger firsts tables frames uploads)
     (u : Upload) (valid : IsUpload u) where
-  -- the first of its name in the list, where one is kept
-  first_there : (first : First) (named : Option Upload) → first_in firsts u.id ≡ Some first → first_named u.id uploads ≡ named
-      → (head : Upload) × (first_named u.id uploads ≡ Some head) × (first.text ≡ upload_text head) × (told first.outcome ≡ outcome_of uploads head)
+  -- the first of its id in the list, where one is kept
+  first_there : (first : First) (named : Option Upload) → first_in firsts u.id ≡ Some first → first_with_id u.id uploads ≡ named
+      → (head : Upload) × (first_with_id u.id uploads ≡ Some head) × (first.text ≡ upload_text head) × (told first.outcome ≡ outcome_of uploads head)
   first_there first None here is =
       absurd (none_is_some (seen_first first) (sym (ap (option_map seen_first) (sym here) ∙ ledger.firsts_are u.id ∙ ap (option_map (told_of_first uploads)) is)))
   first_there first (Some head) here is =
@@ -46,16 +46,16 @@ module _ (one : OneEncoding) (firsts : FirstEntries) (tables : TableEntries) (fr
       (head, is, ap (λ p. p.0) seen, ap (λ p. p.1) seen)
 
   pub told_none : first_in firsts u.id ≡ None → unknown ≡ outcome_of uploads u
-  told_none here = none (first_named u.id uploads) refl (sym (ap (option_map seen_first) (sym here) ∙ ledger.firsts_are u.id))
+  told_none here = none (first_with_id u.id uploads) refl (sym (ap (option_map seen_first) (sym here) ∙ ledger.firsts_are u.id))
     where
-      none : (named : Option Upload) → first_named u.id uploads ≡ named → option_map (told_of_first uploads) (first_named u.id uploads) ≡ None → unknown ≡ outcome_of uploads u
+      none : (named : Option Upload) → first_with_id u.id uploads ≡ named → option_map (told_of_first uploads) (first_with_id u.id uploads) ≡ None → unknown ≡ outcome_of uploads u
       none None is same = sym (ap (λ o. told_of o u (effective u.table uploads)) is)
       none (Some head) is same =
           absurd (none_is_some (told_of_first uploads head) (sym same ∙ ap (option_map (told_of_first uploads)) is))
 
   pub told_same : (first : First) → first_in firsts u.id ≡ Some first → first.text ≡ upload_text u → told first.outcome ≡ outcome_of uploads u
   told_same first here same =
-      let f = first_there first (first_named u.id uploads) here refl in
+      let f = first_there first (first_with_id u.id uploads) here refl in
       let is : f.0 ≡ u = one f.0 u (named_all IsUpload u.id uploads f.0 ledger.valid f.1) valid (sym f.2 ∙ same) in
       f.3 ∙ ap (outcome_of uploads) is
 
@@ -65,7 +65,7 @@ module _ (one : OneEncoding) (firsts : FirstEntries) (tables : TableEntries) (fr
 
   pub told_other : (first : First) → first_in firsts u.id ≡ Some first → first.text ≢ upload_text u → conflicting ≡ outcome_of uploads u
   told_other first here differ =
-      let f = first_there first (first_named u.id uploads) here refl in
+      let f = first_there first (first_with_id u.id uploads) here refl in
       let other : is_same f.0 u ≡ false = not_same f.0 (is_same f.0 u) refl (λ same. differ (f.2 ∙ same)) in
       sym (ap (λ o. told_of o u (effective u.table uploads)) f.1 ∙ ap (λ b. if b then place_from 1 u.id (effective u.table uploads) else conflicting) other)
 

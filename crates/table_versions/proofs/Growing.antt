@@ -7,8 +7,9 @@ use Rattle.std.proofs.lemmas.List.{append-nil}
 use Rattle.std.proofs.lemmas.List.Elements.{filter-append}
 use Rattle.std.proofs.lemmas.Slice.Eq.{bytes_eq-Decides}
 use Rattle.table_types.specs.Uploads.{Upload, upload_text}
-use Rattle.table_types.specs.Tables.{has_id, is_to, shape_text, has_shape, firsts, like_the_first, effective}
-use Rattle.table_types.specs.Tables.{Outcome, applied, mismatched, conflicting, first_named, place_from, told_of, outcome_of}
+use Rattle.table_types.specs.Tables.{has_id, is_to, shape_text, has_shape, firsts, effective}
+use Rattle.table_types.proofs.Filtered.{like_the_first, effective_is}
+use Rattle.table_types.specs.Tables.{Outcome, applied, mismatched, conflicting, first_with_id, place_from, told_of, outcome_of}
 
 -- ---- equal bytes
 
@@ -35,26 +36,26 @@ named_or_then true x rest more = refl
 named_or_then false x rest more = refl
 
 -- with one upload more, the first of a name is the one that was first, or this
-pub named_push : (id : List ℕ) (xs : List Upload) (u : Upload) → first_named id (xs ++ u ∷ []) ≡ or_then (first_named id xs) (named_or (has_id id u) u None)
+pub named_push : (id : List ℕ) (xs : List Upload) (u : Upload) → first_with_id id (xs ++ u ∷ []) ≡ or_then (first_with_id id xs) (named_or (has_id id u) u None)
 named_push id [] u = refl
 named_push id (x ∷ xs) u =
-    ap (named_or (has_id id x) x) (named_push id xs u) ∙ named_or_then (has_id id x) x (first_named id xs) (named_or (has_id id u) u None)
+    ap (named_or (has_id id x) x) (named_push id xs u) ∙ named_or_then (has_id id x) x (first_with_id id xs) (named_or (has_id id u) u None)
 
 none_cons : (x : Upload) (rest : Option Upload) (b any : Bool) → (rest ≡ None → any ≡ false) → named_or b x rest ≡ None → b || any ≡ false
 none_cons x rest true any more is = absurd (none_is_some x (sym is))
 none_cons x rest false any more is = more is
 
-pub none_any : (id : List ℕ) (xs : List Upload) → first_named id xs ≡ None → list_any (has_id id) xs ≡ false
+pub none_any : (id : List ℕ) (xs : List Upload) → first_with_id id xs ≡ None → list_any (has_id id) xs ≡ false
 none_any id [] is = refl
-none_any id (x ∷ xs) is = none_cons x (first_named id xs) (has_id id x) (list_any (has_id id) xs) (none_any id xs) is
+none_any id (x ∷ xs) is = none_cons x (first_with_id id xs) (has_id id x) (list_any (has_id id) xs) (none_any id xs) is
 
 any_cons : (first x : Upload) (rest : Option Upload) (b any : Bool) → (rest ≡ Some first → any ≡ true) → named_or b x rest ≡ Some first → b || any ≡ true
 any_cons first x rest true any more is = refl
 any_cons first x rest false any more is = more is
 
-pub some_any : (id : List ℕ) (xs : List Upload) (first : Upload) → first_named id xs ≡ Some first → list_any (has_id id) xs ≡ true
+pub some_any : (id : List ℕ) (xs : List Upload) (first : Upload) → first_with_id id xs ≡ Some first → list_any (has_id id) xs ≡ true
 some_any id [] first is = absurd (none_is_some first is)
-some_any id (x ∷ xs) first is = any_cons first x (first_named id xs) (has_id id x) (list_any (has_id id) xs) (some_any id xs first) is
+some_any id (x ∷ xs) first is = any_cons first x (first_with_id id xs) (has_id id x) (list_any (has_id id) xs) (some_any id xs first) is
 
 some_is : (first x : Upload) → Some x ≡ Some first → x ≡ first
 some_is first x same = cc
@@ -65,16 +66,16 @@ named_cons P first x rest true here more is = subst P (some_is first x is) (here
 named_cons P first x rest false here more is = more is
 
 -- what is so of all, and of none but those of the name, is so of the first of a name
-pub named_has : (id : List ℕ) (xs : List Upload) (first : Upload) → first_named id xs ≡ Some first → first.id ≡ id
+pub named_has : (id : List ℕ) (xs : List Upload) (first : Upload) → first_with_id id xs ≡ Some first → first.id ≡ id
 named_has id [] first is = absurd (none_is_some first is)
 named_has id (x ∷ xs) first is =
-    named_cons (λ u. u.id ≡ id) first x (first_named id xs) (has_id id x) (bytes_same x.id id) (named_has id xs first) is
+    named_cons (λ u. u.id ≡ id) first x (first_with_id id xs) (has_id id x) (bytes_same x.id id) (named_has id xs first) is
 
-pub named_all : (P : Upload → Type 0) (id : List ℕ) (xs : List Upload) (first : Upload) → AllByRecursion P xs → first_named id xs ≡ Some first → P first
+pub named_all : (P : Upload → Type 0) (id : List ℕ) (xs : List Upload) (first : Upload) → AllByRecursion P xs → first_with_id id xs ≡ Some first → P first
 named_all P id [] first all is = absurd (none_is_some first is)
-named_all P id (x ∷ xs) first all is = named_cons P first x (first_named id xs) (has_id id x) (λ here. all.0) (named_all P id xs first all.1) is
+named_all P id (x ∷ xs) first all is = named_cons P first x (first_with_id id xs) (has_id id x) (λ here. all.0) (named_all P id xs first all.1) is
 
--- ---- those that come first of their names
+-- ---- those that come first of their ids
 
 abbrev pub unless : Bool → Upload → List Upload
 unless b u = if b then [] else u ∷ []
@@ -121,13 +122,15 @@ like_added xs u false false = ap like_the_first (append-nil xs) ∙ sym (append-
 
 pub effective_push : (table : List ℕ) (uploads : List Upload) (u : Upload) → effective table (uploads ++ u ∷ []) ≡ effective table uploads ++ added_to table uploads u
 effective_push table uploads u =
-    ap (λ l. like_the_first (filter (is_to table) l)) (firsts_push [] uploads u)
+    effective_is table (uploads ++ u ∷ [])
+    ∙ ap (λ l. like_the_first (filter (is_to table) l)) (firsts_push [] uploads u)
     ∙ ap like_the_first (filter-append (is_to table) (firsts [] uploads) (unless (list_any (has_id u.id) uploads) u))
     ∙ ap (λ l. like_the_first (filter (is_to table) (firsts [] uploads) ++ l)) (filter_one (is_to table) u (list_any (has_id u.id) uploads))
     ∙ like_added (filter (is_to table) (firsts [] uploads)) u (list_any (has_id u.id) uploads) (is_to table u)
+    ∙ ap (λ l. l ++ (if list_any (has_id u.id) uploads then [] else (if is_to table u then like_more l u else []))) (sym (effective_is table uploads))
 
 module _ (table : List ℕ) (uploads : List Upload) (u : Upload) where
-  -- one whose name has come adds nothing
+  -- one whose id has come adds nothing
   pub effective_named : list_any (has_id u.id) uploads ≡ true → effective table (uploads ++ u ∷ []) ≡ effective table uploads
   effective_named named =
       effective_push table uploads u
@@ -182,7 +185,8 @@ firsts_none q before (x ∷ xs) none =
 
 pub effective_none : (q : Upload → Bool) (table : List ℕ) (uploads : List Upload) → list_any q uploads ≡ false → list_any q (effective table uploads) ≡ false
 effective_none q table uploads none =
-    like_none q (filter (is_to table) (firsts [] uploads)) (kept_none (is_to table) q (firsts [] uploads) (firsts_none q [] uploads none))
+    ap (list_any q) (effective_is table uploads)
+    ∙ like_none q (filter (is_to table) (firsts [] uploads)) (kept_none (is_to table) q (firsts [] uploads) (firsts_none q [] uploads none))
 
 -- ---- the place of a new upload
 
@@ -207,27 +211,27 @@ place_last place (x ∷ xs) u none =
 
 -- ---- what is told of the first of a name
 
-pub told_first : (uploads : List Upload) (first : Upload) → first_named first.id uploads ≡ Some first
+pub told_first : (uploads : List Upload) (first : Upload) → first_with_id first.id uploads ≡ Some first
     → outcome_of uploads first ≡ place_from 1 first.id (effective first.table uploads)
 told_first uploads first named =
     ap (λ o. told_of o first (effective first.table uploads)) named
     ∙ ap (λ b. if b then place_from 1 first.id (effective first.table uploads) else conflicting) (same_bytes (upload_text first))
 
--- a new upload is the first of its name
-pub new_is_first : (uploads : List Upload) (u : Upload) → first_named u.id uploads ≡ None → first_named u.id (uploads ++ u ∷ []) ≡ Some u
+-- a new upload is the first of its id
+pub new_is_first : (uploads : List Upload) (u : Upload) → first_with_id u.id uploads ≡ None → first_with_id u.id (uploads ++ u ∷ []) ≡ Some u
 new_is_first uploads u new =
     named_push u.id uploads u
     ∙ ap₂ (λ o b. or_then o (named_or b u None)) new (same_bytes u.id)
 
--- one whose name has come is not
-pub still_first : (id : List ℕ) (uploads : List Upload) (u first : Upload) → first_named id uploads ≡ Some first → first_named id (uploads ++ u ∷ []) ≡ Some first
+-- one whose id has come is not
+pub still_first : (id : List ℕ) (uploads : List Upload) (u first : Upload) → first_with_id id uploads ≡ Some first → first_with_id id (uploads ++ u ∷ []) ≡ Some first
 still_first id uploads u first named =
     named_push id uploads u ∙ ap (λ o. or_then o (named_or (has_id id u) u None)) named
 
 -- no other name has a new first
-pub other_first : (id : List ℕ) (uploads : List Upload) (u : Upload) → has_id id u ≡ false → first_named id (uploads ++ u ∷ []) ≡ first_named id uploads
+pub other_first : (id : List ℕ) (uploads : List Upload) (u : Upload) → has_id id u ≡ false → first_with_id id (uploads ++ u ∷ []) ≡ first_with_id id uploads
 other_first id uploads u other =
-    named_push id uploads u ∙ ap (λ b. or_then (first_named id uploads) (named_or b u None)) other ∙ or_none (first_named id uploads)
+    named_push id uploads u ∙ ap (λ b. or_then (first_with_id id uploads) (named_or b u None)) other ∙ or_none (first_with_id id uploads)
   where
     or_none : (o : Option Upload) → or_then o None ≡ o
     or_none None = refl

@@ -7,7 +7,7 @@ use Rattle.std.proofs.lemmas.List.{append-nil}
 use Rattle.table_types.specs.Uploads.{Upload, upload_text}
 use Rattle.table_types.specs.Valid.{IsUpload}
 use Rattle.table_types.specs.Tables.{has_id, is_to, shape_text, has_shape, effective}
-use Rattle.table_types.specs.Tables.{Outcome, applied, mismatched, first_named, place_from, outcome_of}
+use Rattle.table_types.specs.Tables.{Outcome, applied, mismatched, first_with_id, place_from, outcome_of}
 use Rattle.table_versions.specs.declared.first.First.{First}
 use Rattle.table_versions.specs.declared.place.Place.{Place}
 use Rattle.table_versions.specs.declared.table.Table.{Table}
@@ -31,8 +31,8 @@ module _ (stay : OutcomesStay) (first_uploads : FirstEntries) (tables : TableEnt
   abbrev after : List Upload
   after = uploads ++ u ∷ []
 
-  -- an upload whose name has come
-  pub ledger_repeat : (first : Upload) → first_named u.id uploads ≡ Some first → IsLedger first_uploads tables frames (uploads ++ u ∷ [])
+  -- an upload whose id has come
+  pub ledger_repeat : (first : Upload) → first_with_id u.id uploads ≡ Some first → IsLedger first_uploads tables frames (uploads ++ u ∷ [])
   ledger_repeat first named =
       let any : list_any (has_id u.id) uploads ≡ true = some_any u.id uploads first named in
       record {
@@ -44,7 +44,7 @@ module _ (stay : OutcomesStay) (first_uploads : FirstEntries) (tables : TableEnt
         names_are = ledger.names_are ∙ sym (names_named uploads u any);
       }
 
-  module _ (named : first_named u.id uploads ≡ None) where
+  module _ (named : first_with_id u.id uploads ≡ None) where
     any : list_any (has_id u.id) uploads ≡ false
     any = none_any u.id uploads named
 
@@ -58,7 +58,7 @@ module _ (stay : OutcomesStay) (first_uploads : FirstEntries) (tables : TableEnt
 
     firsts_after : (new : FirstEntries) (entry : First) (outcome : Outcome) → PutsFirst first_uploads new u.id entry → seen_first entry ≡ (upload_text u, outcome)
         → outcome_of after u ≡ outcome
-        → (id : List ℕ) → option_map seen_first (first_in new id) ≡ option_map (told_of_first after) (first_named id after)
+        → (id : List ℕ) → option_map seen_first (first_in new id) ≡ option_map (told_of_first after) (first_with_id id after)
     firsts_after new entry outcome puts seen told =
         firsts_new stay uploads u first_uploads new entry puts named (seen ∙ ap (λ o. (upload_text u, o)) (sym told)) ledger.firsts_are
 

@@ -4,8 +4,8 @@ use Rattle.std.specs.List.{filter, list_any}
 use Rattle.std.specs.Str.{bytes_eq}
 use Rattle.std.proofs.lemmas.List.Folds.{list_any-append}
 use Rattle.table_types.specs.Uploads.{Upload}
-use Rattle.table_types.specs.Tables.{is_to, firsts, like_the_first, effective}
-use Rattle.table_versions.specs.Ledger.{names_after, table_names}
+use Rattle.table_types.specs.Tables.{is_to, firsts, effective, names_after, table_names}
+use Rattle.table_types.proofs.Filtered.{like_the_first, effective_is}
 use Rattle.table_versions.proofs.Growing.{same_bytes, bytes_same}
 use Rattle.table_versions.proofs.Taking.{none_of, no_more, none_filtered}
 
@@ -55,7 +55,7 @@ any_to name uploads = list_any (is_to name) (firsts [] uploads)
 named_back : (name : List ℕ) (uploads : List Upload) (b : Bool) → any_to name uploads ≡ b → effective name uploads ≢ [] → b ≡ true
 named_back name uploads true is some = refl
 named_back name uploads false is some =
-    absurd (some (ap like_the_first (none_filtered (is_to name) (firsts [] uploads) is)))
+    absurd (some (effective_is name uploads ∙ ap like_the_first (none_filtered (is_to name) (firsts [] uploads) is)))
 
 pub named_are_tables : (name : List ℕ) (uploads : List Upload) → (list_any (bytes_eq name) (table_names uploads) ≡ true) ↔ (effective name uploads ≢ [])
 named_are_tables name uploads =
@@ -63,6 +63,6 @@ named_are_tables name uploads =
       λ named none.
           true≢false
           (sym (sym whole ∙ named)
-          ∙ none_of (is_to name) (firsts [] uploads) (no_more (filter (is_to name) (firsts [] uploads)) none)),
+          ∙ none_of (is_to name) (firsts [] uploads) (no_more (filter (is_to name) (firsts [] uploads)) (sym (effective_is name uploads) ∙ none))),
       λ some. whole ∙ named_back name uploads (any_to name uploads) refl some,
     )

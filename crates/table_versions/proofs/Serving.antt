@@ -18,7 +18,8 @@ use Rattle.table_types.specs.Uploads.{Upload, head_text}
 use Rattle.table_types.specs.Valid.{IsUpload, FitsFrame, upload_limit}
 use Rattle.table_types.specs.Served.{data_text, in_frame, batch_message, messages_of}
 use Rattle.uploads.specs.Parts.{batch_parts, batch_text, HasLeft, Gives}
-use Rattle.table_versions.specs.Ledger.{frames_of, rows_of_upload}
+use Rattle.table_types.specs.Tables.{rows_of_upload}
+use Rattle.table_versions.specs.Ledger.{frames_of}
 use Rattle.table_versions.specs.Serving.{IsWrittenHead}
 use Rattle.table_versions.proofs.Messages.{text_long, held_long, present_long, both_long, body_long}
 use Rattle.table_versions.proofs.Sizes.{rows_few}

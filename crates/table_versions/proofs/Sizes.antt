@@ -1,6 +1,6 @@
 -- How large the numbers of a table can be.
-use Rattle.std.proofs.Common.{◌≡◌, refl, ap, ℕ, suc, ◌+◌, ◌*◌, ◌≤◌, Bool, true, false, cond, List, [], ◌∷◌, ◌++◌, map, length, length-append, arith}
-use Rattle.std.specs.List.{AllByRecursion, filter, flat_map, sum_by, list_any}
+use Rattle.std.proofs.Common.{◌≡◌, refl, ap, ℕ, suc, ◌+◌, ◌*◌, ◌≤◌, List, [], ◌∷◌, map, length, length-append, arith}
+use Rattle.std.specs.List.{AllByRecursion, flat_map, sum_by}
 use Rattle.std.proofs.lemmas.Grind.{flat_map-append}
 use Rattle.std.proofs.lemmas.List.Sums.{sum_by-cons}
 use Rattle.byteorder.specs.Endian.{big_bytes}
@@ -11,9 +11,8 @@ use Rattle.table_types.specs.Uploads.{Upload}
 use Rattle.table_types.specs.Valid.{IsUpload, FitsFrame, batches_limit}
 use Rattle.table_types.specs.Served.{in_frame, batch_message, messages_of, upload_messages, schema_message}
 use Rattle.table_types.specs.Answers.{answer_of}
-use Rattle.table_types.specs.Tables.{has_id, is_to, shape_text, has_shape, firsts, like_the_first, effective}
-use Rattle.table_versions.specs.Ledger.{frames_text, rows_of_upload, records_of}
-use Rattle.table_versions.proofs.Growing.{unless}
+use Rattle.table_types.specs.Tables.{rows_of_upload, records_of}
+use Rattle.table_versions.specs.Ledger.{frames_text}
 
 -- ---- frames
 
@@ -87,61 +86,4 @@ answer_few first xs one valid =
       length-append (in_frame (schema_message first.schema)) (flat_map in_frame (flat_map upload_messages xs)),
       framed (schema_message first.schema) one.schema_served,
       served_long xs valid,
-    )
-
--- ---- the effective ones
-
-kept : (P : Upload → Type 0) (x : Upload) (xs : List Upload) (b : Bool) → P x → AllByRecursion P xs → AllByRecursion P (cond b (x ∷ xs) xs)
-kept P x xs true one all = (one, all)
-kept P x xs false one all = all
-
-all_filtered : (P : Upload → Type 0) (p : Upload → Bool) (xs : List Upload) → AllByRecursion P xs → AllByRecursion P (filter p xs)
-all_filtered P p [] all = tt
-all_filtered P p (x ∷ xs) all = kept P x (filter p xs) (p x) all.0 (all_filtered P p xs all.1)
-
-all_like : (P : Upload → Type 0) (xs : List Upload) → AllByRecursion P xs → AllByRecursion P (like_the_first xs)
-all_like P [] all = tt
-all_like P (x ∷ xs) all = (all.0, all_filtered P (has_shape (shape_text x)) xs all.1)
-
-unless_all : (P : Upload → Type 0) (x : Upload) (rest : List Upload) (b : Bool) → P x → AllByRecursion P rest → AllByRecursion P (unless b x ++ rest)
-unless_all P x rest true one all = all
-unless_all P x rest false one all = (one, all)
-
-all_firsts : (P : Upload → Type 0) (before xs : List Upload) → AllByRecursion P xs → AllByRecursion P (firsts before xs)
-all_firsts P before [] all = tt
-all_firsts P before (x ∷ xs) all =
-    unless_all P x (firsts (before ++ x ∷ []) xs) (list_any (has_id x.id) before) all.0 (all_firsts P (before ++ x ∷ []) xs all.1)
-
-pub all_effective : (P : Upload → Type 0) (table : List ℕ) (uploads : List Upload) → AllByRecursion P uploads → AllByRecursion P (effective table uploads)
-all_effective P table uploads all =
-    all_like P (filter (is_to table) (firsts [] uploads)) (all_filtered P (is_to table) (firsts [] uploads) (all_firsts P [] uploads all))
-
-fewer : (x : Upload) (xs : List Upload) (b : Bool) (n : ℕ) → length xs ≤ n → length (cond b (x ∷ xs) xs) ≤ suc n
-fewer x xs true n few = omega (arith, few)
-fewer x xs false n few = omega (arith, few)
-
-few_filtered : (p : Upload → Bool) (xs : List Upload) → length (filter p xs) ≤ length xs
-few_filtered p [] = omega arith
-few_filtered p (x ∷ xs) = fewer x (filter p xs) (p x) (length xs) (few_filtered p xs)
-
-few_like : (xs : List Upload) → length (like_the_first xs) ≤ length xs
-few_like [] = omega arith
-few_like (x ∷ xs) = omega (arith, few_filtered (has_shape (shape_text x)) xs)
-
-fewer_unless : (x : Upload) (rest : List Upload) (b : Bool) (n : ℕ) → length rest ≤ n → length (unless b x ++ rest) ≤ suc n
-fewer_unless x rest true n few = omega (arith, few)
-fewer_unless x rest false n few = omega (arith, few)
-
-few_firsts : (before xs : List Upload) → length (firsts before xs) ≤ length xs
-few_firsts before [] = omega arith
-few_firsts before (x ∷ xs) =
-    fewer_unless x (firsts (before ++ x ∷ []) xs) (list_any (has_id x.id) before) (length xs) (few_firsts (before ++ x ∷ []) xs)
-
-pub few_effective : (table : List ℕ) (uploads : List Upload) → length (effective table uploads) ≤ length uploads
-few_effective table uploads =
-    omega (
-      arith,
-      few_like (filter (is_to table) (firsts [] uploads)),
-      few_filtered (is_to table) (firsts [] uploads),
-      few_firsts [] uploads,
     )

@@ -6,7 +6,7 @@ use Rattle.std.specs.Str.{bytes_eq}
 use Rattle.table_types.specs.Uploads.{Upload, upload_text}
 use Rattle.table_types.specs.Valid.{IsUpload}
 use Rattle.table_types.specs.Served.{schema_message}
-use Rattle.table_types.specs.Tables.{Outcome, applied, mismatched, first_named, has_shape, shape_text, effective}
+use Rattle.table_types.specs.Tables.{Outcome, applied, mismatched, first_with_id, has_shape, shape_text, effective}
 use Rattle.table_versions.specs.declared.first.First.{First}
 use Rattle.table_versions.specs.declared.table.Table.{Table}
 use Rattle.table_versions.specs.declared.prepared.Part.{Part}
@@ -17,7 +17,8 @@ use Rattle.table_versions.specs.Steps.{PutsFirst}
 use Rattle.table_versions.specs.Steps.{HasRoomToGrow, Places}
 use Rattle.table_versions.proofs.Taking.{OutcomesStay}
 use Rattle.table_versions.proofs.Growing.{same_bytes, bytes_same}
-use Rattle.table_versions.proofs.Sizes.{framed, frames_long, rows_few, records_few, answer_few, all_effective, few_effective}
+use Rattle.table_types.proofs.Filtered.{all_effective, few_effective}
+use Rattle.table_versions.proofs.Sizes.{framed, frames_long, rows_few, records_few, answer_few}
 use Rattle.table_versions.proofs.Ledgers.{ledger_repeat, ledger_unlike, ledger_open, ledger_add}
 
 none_is_some : {X : Type 0} (x : X) → None ≡ Some x → ⊥
@@ -88,15 +89,15 @@ module _ (stay : OutcomesStay) (firsts new : FirstEntries) (tables more : TableE
   pub taken_repeat : is_some (first_in firsts prepared.id) ≡ true → IsLedger firsts tables frames (uploads ++ u ∷ [])
   taken_repeat come =
       let here : is_some (first_in firsts u.id) ≡ true = ap (λ n. is_some (first_in firsts n)) (sym ready.id) ∙ come in
-      let named = some_told uploads (first_in firsts u.id) (first_named u.id uploads) here (ledger.firsts_are u.id) in
+      let named = some_told uploads (first_in firsts u.id) (first_with_id u.id uploads) here (ledger.firsts_are u.id) in
       ledger_repeat stay firsts tables frames uploads ledger u ready.valid named.0 named.1
 
   module _ (come : is_some (first_in firsts prepared.id) ≡ false) (entry : First) (text : entry.text ≡ prepared.text)
       (puts_entry : PutsFirst firsts new prepared.id entry)
       (places_it : Places tables more frames served (string_bytes prepared.table) prepared.part (told entry.outcome)) where
-    named : first_named u.id uploads ≡ None
+    named : first_with_id u.id uploads ≡ None
     named =
-        none_told uploads (first_in firsts u.id) (first_named u.id uploads) (ap (λ n. is_some (first_in firsts n)) (sym ready.id) ∙ come)
+        none_told uploads (first_in firsts u.id) (first_with_id u.id uploads) (ap (λ n. is_some (first_in firsts n)) (sym ready.id) ∙ come)
         (ledger.firsts_are u.id)
 
     puts : PutsFirst firsts new u.id entry

@@ -4,15 +4,16 @@ use Rattle.std.specs.List.{filter, list_any}
 use Rattle.std.specs.Option.{option_map}
 use Rattle.std.proofs.lemmas.List.{append-nil}
 use Rattle.table_types.specs.Uploads.{Upload, upload_text}
-use Rattle.table_types.specs.Tables.{has_id, is_to, firsts, like_the_first, effective}
-use Rattle.table_types.specs.Tables.{Outcome, applied, mismatched, conflicting, unknown, first_named, place_from, outcome_of}
+use Rattle.table_types.specs.Tables.{has_id, is_to, firsts, effective, names_after, table_names}
+use Rattle.table_types.proofs.Filtered.{like_the_first, effective_is}
+use Rattle.table_types.specs.Tables.{Outcome, applied, mismatched, conflicting, unknown, first_with_id, place_from, outcome_of}
 use Rattle.table_versions.specs.declared.first.First.{First}
-use Rattle.table_versions.specs.Ledger.{names_after, table_names, FirstEntries, first_in}
+use Rattle.table_versions.specs.Ledger.{FirstEntries, first_in}
 use Rattle.table_versions.specs.Ledger.{seen_first, told_of_first}
 use Rattle.table_versions.specs.Steps.{PutsFirst}
 use Rattle.table_versions.proofs.Growing.{bytes_same, named_has, unless, firsts_push, told_first, new_is_first, still_first, other_first}
 
--- what is told of an upload whose name has come stays
+-- what is told of an upload whose id has come stays
 abbrev pub OutcomesStay : Type 0
 OutcomesStay = (before after : List Upload) (upload : Upload) (outcome : Outcome)
     → outcome_of before upload ≡ outcome → outcome ≢ unknown → outcome_of (before ++ after) upload ≡ outcome
@@ -37,57 +38,57 @@ known_not : (outcome : Outcome) → is_known outcome ≡ true → outcome ≢ un
 known_not outcome known is = true≢false (sym known ∙ ap is_known is)
 
 module _ (stay : OutcomesStay) (uploads : List Upload) (u : Upload) where
-  told_stays : (id : List ℕ) (first : Upload) → first_named id uploads ≡ Some first → outcome_of (uploads ++ u ∷ []) first ≡ outcome_of uploads first
+  told_stays : (id : List ℕ) (first : Upload) → first_with_id id uploads ≡ Some first → outcome_of (uploads ++ u ∷ []) first ≡ outcome_of uploads first
   told_stays id first named =
-      let own : first_named first.id uploads ≡ Some first = ap (λ n. first_named n uploads) (named_has id uploads first named) ∙ named in
+      let own : first_with_id first.id uploads ≡ Some first = ap (λ n. first_with_id n uploads) (named_has id uploads first named) ∙ named in
       stay uploads (u ∷ []) first (outcome_of uploads first) refl
       (known_not (outcome_of uploads first)
       (ap is_known (told_first uploads first own) ∙ place_known 1 first.id (effective first.table uploads)))
 
-  mapped_stay : (id : List ℕ) (first : Option Upload) → first_named id uploads ≡ first
+  mapped_stay : (id : List ℕ) (first : Option Upload) → first_with_id id uploads ≡ first
       → option_map (told_of_first (uploads ++ u ∷ [])) first ≡ option_map (told_of_first uploads) first
   mapped_stay id None named = refl
   mapped_stay id (Some first) named = ap (λ o. Some (upload_text first, o)) (told_stays id first named)
 
   -- where the first of this name is as before, so is what is kept of it
-  first_stays : (id : List ℕ) (entries : FirstEntries) → first_named id (uploads ++ u ∷ []) ≡ first_named id uploads
-      → option_map seen_first (first_in entries id) ≡ option_map (told_of_first uploads) (first_named id uploads)
-      → option_map seen_first (first_in entries id) ≡ option_map (told_of_first (uploads ++ u ∷ [])) (first_named id (uploads ++ u ∷ []))
+  first_stays : (id : List ℕ) (entries : FirstEntries) → first_with_id id (uploads ++ u ∷ []) ≡ first_with_id id uploads
+      → option_map seen_first (first_in entries id) ≡ option_map (told_of_first uploads) (first_with_id id uploads)
+      → option_map seen_first (first_in entries id) ≡ option_map (told_of_first (uploads ++ u ∷ [])) (first_with_id id (uploads ++ u ∷ []))
   first_stays id entries same is =
-      is ∙ sym (mapped_stay id (first_named id uploads) refl) ∙ ap (option_map (told_of_first (uploads ++ u ∷ []))) (sym same)
+      is ∙ sym (mapped_stay id (first_with_id id uploads) refl) ∙ ap (option_map (told_of_first (uploads ++ u ∷ []))) (sym same)
 
-  named_or_other : (id : List ℕ) (first : Upload) (b : Bool) → has_id id u ≡ b → first_named u.id uploads ≡ Some first
-      → first_named id (uploads ++ u ∷ []) ≡ first_named id uploads
+  named_or_other : (id : List ℕ) (first : Upload) (b : Bool) → has_id id u ≡ b → first_with_id u.id uploads ≡ Some first
+      → first_with_id id (uploads ++ u ∷ []) ≡ first_with_id id uploads
   named_or_other id first true is named =
-      let here : first_named id uploads ≡ Some first = ap (λ n. first_named n uploads) (sym (bytes_same u.id id is)) ∙ named in
+      let here : first_with_id id uploads ≡ Some first = ap (λ n. first_with_id n uploads) (sym (bytes_same u.id id is)) ∙ named in
       still_first id uploads u first here ∙ sym here
   named_or_other id first false is named = other_first id uploads u is
 
-  -- an upload whose name has come changes nothing
-  pub firsts_repeat : (entries : FirstEntries) (first : Upload) → first_named u.id uploads ≡ Some first
-      → ((id : List ℕ) → option_map seen_first (first_in entries id) ≡ option_map (told_of_first uploads) (first_named id uploads))
-      → (id : List ℕ) → option_map seen_first (first_in entries id) ≡ option_map (told_of_first (uploads ++ u ∷ [])) (first_named id (uploads ++ u ∷ []))
+  -- an upload whose id has come changes nothing
+  pub firsts_repeat : (entries : FirstEntries) (first : Upload) → first_with_id u.id uploads ≡ Some first
+      → ((id : List ℕ) → option_map seen_first (first_in entries id) ≡ option_map (told_of_first uploads) (first_with_id id uploads))
+      → (id : List ℕ) → option_map seen_first (first_in entries id) ≡ option_map (told_of_first (uploads ++ u ∷ [])) (first_with_id id (uploads ++ u ∷ []))
   firsts_repeat entries first named are id =
       first_stays id entries (named_or_other id first (has_id id u) refl named) (are id)
 
-  new_or_other : (old new : FirstEntries) (first : First) → PutsFirst old new u.id first → first_named u.id uploads ≡ None
+  new_or_other : (old new : FirstEntries) (first : First) → PutsFirst old new u.id first → first_with_id u.id uploads ≡ None
       → seen_first first ≡ (upload_text u, outcome_of (uploads ++ u ∷ []) u)
-      → (id : List ℕ) → option_map seen_first (first_in old id) ≡ option_map (told_of_first uploads) (first_named id uploads)
+      → (id : List ℕ) → option_map seen_first (first_in old id) ≡ option_map (told_of_first uploads) (first_with_id id uploads)
       → (b : Bool) → has_id id u ≡ b
-      → option_map seen_first (first_in new id) ≡ option_map (told_of_first (uploads ++ u ∷ [])) (first_named id (uploads ++ u ∷ []))
+      → option_map seen_first (first_in new id) ≡ option_map (told_of_first (uploads ++ u ∷ [])) (first_with_id id (uploads ++ u ∷ []))
   new_or_other old new first puts named seen id is true same =
       let id_is : u.id ≡ id = bytes_same u.id id same in
-      subst (λ (n : List ℕ). option_map seen_first (first_in new n) ≡ option_map (told_of_first (uploads ++ u ∷ [])) (first_named n (uploads ++ u ∷ []))) id_is
+      subst (λ (n : List ℕ). option_map seen_first (first_in new n) ≡ option_map (told_of_first (uploads ++ u ∷ [])) (first_with_id n (uploads ++ u ∷ []))) id_is
       (ap (option_map seen_first) puts.here ∙ ap Some seen ∙ ap (option_map (told_of_first (uploads ++ u ∷ []))) (sym (new_is_first uploads u named)))
   new_or_other old new first puts named seen id is false other =
       ap (option_map seen_first) (puts.others id other)
       ∙ first_stays id old (other_first id uploads u other) is
 
   -- a new one is put with what is told of it
-  pub firsts_new : (old new : FirstEntries) (first : First) → PutsFirst old new u.id first → first_named u.id uploads ≡ None
+  pub firsts_new : (old new : FirstEntries) (first : First) → PutsFirst old new u.id first → first_with_id u.id uploads ≡ None
       → seen_first first ≡ (upload_text u, outcome_of (uploads ++ u ∷ []) u)
-      → ((id : List ℕ) → option_map seen_first (first_in old id) ≡ option_map (told_of_first uploads) (first_named id uploads))
-      → (id : List ℕ) → option_map seen_first (first_in new id) ≡ option_map (told_of_first (uploads ++ u ∷ [])) (first_named id (uploads ++ u ∷ []))
+      → ((id : List ℕ) → option_map seen_first (first_in old id) ≡ option_map (told_of_first uploads) (first_with_id id uploads))
+      → (id : List ℕ) → option_map seen_first (first_in new id) ≡ option_map (told_of_first (uploads ++ u ∷ [])) (first_with_id id (uploads ++ u ∷ []))
   firsts_new old new first puts named seen are id =
       new_or_other old new first puts named seen id (are id) (has_id id u) refl
 
@@ -131,12 +132,12 @@ none_filtered p (x ∷ xs) none = kept_filtered x (filter p xs) (p x) (list_any 
 module _ (uploads : List Upload) (u : Upload) where
   -- a table that has no effective upload has had none
   pub is_no_table : effective u.table uploads ≡ [] → list_any (is_to u.table) (firsts [] uploads) ≡ false
-  is_no_table none = none_of (is_to u.table) (firsts [] uploads) (no_more (filter (is_to u.table) (firsts [] uploads)) none)
+  is_no_table none = none_of (is_to u.table) (firsts [] uploads) (no_more (filter (is_to u.table) (firsts [] uploads)) (sym (effective_is u.table uploads) ∙ none))
 
   there_is : (b : Bool) (first : Upload) (rest : List Upload) → list_any (is_to u.table) (firsts [] uploads) ≡ b → effective u.table uploads ≡ first ∷ rest → b ≡ true
   there_is true first rest is some = refl
   there_is false first rest is some =
-      let none : effective u.table uploads ≡ [] = ap like_the_first (none_filtered (is_to u.table) (firsts [] uploads) is) in
+      let none : effective u.table uploads ≡ [] = effective_is u.table uploads ∙ ap like_the_first (none_filtered (is_to u.table) (firsts [] uploads) is) in
       let clash : [] ≡ first ∷ rest = sym none ∙ some in
       absurd cc
 

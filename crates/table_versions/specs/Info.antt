@@ -2,9 +2,9 @@
 use Rattle.std.specs.Prelude.{◌≡◌, ℕ, Option, None, Some, List, [], ◌∷◌, length, string_bytes}
 use Rattle.table_types.specs.Uploads.{Upload, schema_text}
 use Rattle.table_types.specs.Answers.{answer_of}
+use Rattle.table_types.specs.Tables.{records_of}
 use Rattle.table_versions.specs.declared.info.TableInfo.{TableInfo}
 use Rattle.table_versions.specs.declared.table.Table.{Table}
-use Rattle.table_versions.specs.Ledger.{records_of}
 
 -- the table of this name with these effective uploads, of which this is the first
 pub record IsInfoOf (info : TableInfo) (name : List ℕ) (first : Upload) (counted : List Upload) : Type 0 where

@@ -1,9 +1,9 @@
--- What is kept of a list of uploads, by look-ups: of each name the upload that came first under it, of each table its
+-- What is kept of a list of uploads, by look-ups: of each id the upload that came first under it, of each table its
 -- latest version, and of each version the frames of its last upload.
-use Rattle.std.specs.Prelude.{◌≡◌, ℕ, suc, ◌==◌, ◌&&◌, Bool, Option, None, Some, List, [], ◌∷◌, ◌++◌, map, length}
-use Rattle.std.specs.Prelude.{slice_get, if◌then◌else◌, String, string_bytes}
+use Rattle.std.specs.Prelude.{◌≡◌, ℕ, suc, ◌==◌, ◌&&◌, Bool, Option, None, Some, List, [], ◌∷◌, map, length}
+use Rattle.std.specs.Prelude.{slice_get, String, string_bytes}
 use Rattle.std.specs.declared.alloc.Global.{Global}
-use Rattle.std.specs.List.{AllByRecursion, flat_map, sum_by, list_any}
+use Rattle.std.specs.List.{AllByRecursion, flat_map}
 use Rattle.std.specs.Map.{lookup, keys_of}
 use Rattle.std.specs.Option.{option_map}
 use Rattle.std.specs.Str.{bytes_eq}
@@ -12,7 +12,8 @@ use Rattle.table_types.specs.Uploads.{Upload, upload_text, schema_text}
 use Rattle.table_types.specs.Valid.{IsUpload}
 use Rattle.table_types.specs.Served.{in_frame, upload_messages, schema_message}
 use Rattle.table_types.specs.Answers.{answer_of}
-use Rattle.table_types.specs.Tables.{Outcome, is_to, shape_text, effective, firsts, first_named, outcome_of}
+use Rattle.table_types.specs.Tables.{Outcome, shape_text, effective, first_with_id, outcome_of}
+use Rattle.table_types.specs.Tables.{table_names, rows_of_upload, records_of}
 use Rattle.table_versions.specs.declared.first.First.{First}
 use Rattle.table_versions.specs.declared.place.Place.{Place}
 use Rattle.table_versions.specs.declared.table.Table.{Table}
@@ -20,7 +21,7 @@ use Rattle.table_versions.specs.declared.prepared.Part.{Part}
 use Rattle.table_versions.specs.declared.prepared.Prepared.{Prepared}
 use Rattle.table_versions.specs.Outcomes.{told}
 
--- ---- what is served, and how many rows there are
+-- ---- what is served
 
 -- the frames of an upload, each by itself
 abbrev pub frames_of : Upload → List (List ℕ)
@@ -33,26 +34,6 @@ frames_text upload = flat_map in_frame (upload_messages upload)
 -- the frame with which an answer begins
 abbrev pub schema_frame_of : SchemaTree → List ℕ
 schema_frame_of schema = in_frame (schema_message schema)
-
--- the rows of uploads, over all batches
-abbrev pub rows_of_upload : Upload → ℕ
-rows_of_upload upload = sum_by (λ rows. rows.count) upload.batches
-
-abbrev pub records_of : List Upload → ℕ
-records_of uploads = sum_by rows_of_upload uploads
-
--- ---- tables in order
-
--- the names of tables, each at its first upload of these, where no upload to it stands among these before them
-abbrev pub names_after : List Upload → List Upload → List (List ℕ)
-names_after before [] = []
-names_after before (upload ∷ rest) =
-    (if list_any (is_to upload.table) before then [] else upload.table ∷ []) ++ names_after (before ++ upload ∷ []) rest
-
--- The tables that there are, in the order of their first effective uploads: an upload is the first effective one of its
--- table where no other to it came first of its name.
-abbrev pub table_names : List Upload → List (List ℕ)
-table_names uploads = names_after [] (firsts [] uploads)
 
 -- ---- the three maps
 
@@ -82,7 +63,7 @@ names_in entries = map string_bytes (keys_of entries)
 
 -- ---- what they hold of uploads
 
--- the first of a name: its encoding, and what is told of it
+-- the first of an id: its encoding, and what is told of it
 abbrev pub seen_first : First → List ℕ × Outcome
 seen_first first = (first.text, told first.outcome)
 
@@ -110,12 +91,12 @@ HasFrames frames number version [] = Unit {0}
 HasFrames frames number version (upload ∷ rest) =
     (frames_in frames number version ≡ Some (frames_of upload)) × HasFrames frames number (suc version) rest
 
--- Of each name, table and version this is kept; a table's number is its place among the names.
+-- Of each id, table and version this is kept; a table's number is its place among the names.
 pub record IsLedger (first_uploads : FirstEntries) (tables : TableEntries) (frames : FrameEntries)
     (uploads : List Upload) : Type 0 where
   pub valid : AllByRecursion IsUpload uploads
   pub firsts_are : (id : List ℕ) → option_map seen_first (first_in first_uploads id)
-      ≡ option_map (told_of_first uploads) (first_named id uploads)
+      ≡ option_map (told_of_first uploads) (first_with_id id uploads)
   pub tables_are : (name : List ℕ) → IsTable (table_in tables name) (effective name uploads)
   pub numbers_are : (name : List ℕ) (table : Table) → table_in tables name ≡ Some table
       → slice_get (names_in tables) table.number ≡ Some name

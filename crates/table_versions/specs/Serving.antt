@@ -7,8 +7,9 @@ use Rattle.batch_types.specs.Canonical.{canonical_body}
 use Rattle.batch_types.specs.Written.{CanBeWritten}
 use Rattle.table_types.specs.Uploads.{Upload, head_text}
 use Rattle.table_types.specs.Valid.{upload_limit}
+use Rattle.table_types.specs.Tables.{rows_of_upload}
 use Rattle.table_versions.specs.declared.preparing.ServedFrames.{ServedFrames}
-use Rattle.table_versions.specs.Ledger.{frames_of, rows_of_upload}
+use Rattle.table_versions.specs.Ledger.{frames_of}
 
 -- the bytes are the header that is written of these rows
 pub record IsWrittenHead (bytes : List ℕ) (schema : SchemaTree) (rows : Rows) : Type 0 where

@@ -1,4 +1,4 @@
--- What the steps change in what is kept, by which an upload whose name is new is taken.
+-- What the steps change in what is kept, by which an upload whose id is new is taken.
 use Rattle.std.specs.Prelude.{◌≡◌, ◌≢◌, ◌↔◌, ℕ, suc, ◌+◌, ◌^◌, ◌<◌, IsTrue, Bool, false, Option, None, Some, List, [], ◌∷◌}
 use Rattle.std.specs.Prelude.{◌++◌, length}
 use Rattle.std.specs.Str.{bytes_eq}
@@ -10,7 +10,7 @@ use Rattle.table_versions.specs.declared.prepared.Part.{Part}
 use Rattle.table_versions.specs.Ledger.{FirstEntries, TableEntries, FrameEntries, first_in, table_in, is_place}
 use Rattle.table_versions.specs.Ledger.{frames_in, names_in}
 
--- the first of a name is put, and the others are as before
+-- the first of an id is put, and the others are as before
 pub record PutsFirst (old new : FirstEntries) (id : List ℕ) (first : First) : Type 0 where
   pub here : first_in new id ≡ Some first
   pub others : (other : List ℕ) → bytes_eq id other ≡ false → first_in new other ≡ first_in old other

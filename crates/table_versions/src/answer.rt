@@ -44,7 +44,7 @@ impl Answer {
     }
 
     /// Its frames, each by itself: that of the schema, and then those of each upload, which has one for each of its
-    /// batches, or one with its name alone where it has none.
+    /// batches, or one with its id alone where it has none.
     pub fn frames(&self) -> &[Bytes]
         ensures bytes { concat result.now ≡ self.now }
         ensures each { AllByRecursion IsMessageFrame result.now }

@@ -21,7 +21,7 @@ use bytes::Bytes;
 use std::alloc::Global;
 use table_types::laws::uploads_have_one_encoding;
 
-/// What is told of the upload with this name and this encoding.
+/// What is told of the upload with this id and this encoding.
 pub(crate) fn told_of(firsts: &Firsts, id: [u8; 16], text: &[u8]) -> Outcome
     ensures { (tables : TableEntries) (frames : FrameEntries) (uploads : List Upload) (upload : Upload)
         → IsLedger firsts.now.entries tables frames uploads → IsUpload upload → upload.id ≡ id

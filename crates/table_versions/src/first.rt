@@ -1,9 +1,9 @@
-//! The first upload of a name.
+//! The first upload of an id.
 
 use crate::outcome::Outcome;
 use bytes::Bytes;
 
-/// The upload that came first under its name.
+/// The upload that came first under its id.
 #[derive(Debug, Drop)]
 pub(crate) struct First {
     /// Its encoding.

@@ -9,31 +9,23 @@ ghost use Rattle.table_types.specs.Valid.{FitsFrame};
 use ballots::OutOfMemory;
 use bytes::Bytes;
 use grpc_frames::MESSAGE_FLAG;
-use proto_messages::append_bytes;
-use std::alloc::Global;
-use upload_parts::field_length;
-
-/// The number of the field with the header.
-const HEADER: u32 = 2;
-
-/// The number of the field with what the service adds.
-const METADATA: u32 = 3;
-
-/// The number of the field with the body.
-const BODY: u32 = 1_000;
+use proto_wire::FlightDataRef;
+use std::alloc::{AllocError, Global};
+use upload_parts::message_length;
 
 /// How many bytes stand before the message of a frame.
 const PREFIX_BYTES: usize = 5;
 
 /// How many bytes the message has with this header, what the service adds, and this body.
-fn message_length(header: &[u8], metadata: &[u8], body: &[u8]) -> usize
+fn data_length(header: &[u8], metadata: &[u8], body: &[u8]) -> usize
     requires { FitsFrame (data_text header.now metadata.now body.now) }
     ensures { result ≡ length (data_text header.now metadata.now body.now) }
 {
-    let header = field_length(HEADER, header.len() as u64);
-    let metadata = field_length(METADATA, metadata.len() as u64);
-    let body = field_length(BODY, body.len() as u64);
-    (header + metadata + body) as usize
+    message_length(
+        header.len() as u64,
+        metadata.len() as u64,
+        body.len() as u64,
+    ) as usize
 }
 
 /// The beginning of a frame with a message of so many bytes, and room for the message.
@@ -48,18 +40,24 @@ fn begun(alloc: Global, length: usize) -> Result<Vec<u8>, OutOfMemory>
 }
 
 /// Appends the message with this header, what the service adds, and this body.
-#[tactic(auto, using(proto_messages::proofs::CallerLemmas::chains))]
-fn append_message(
+fn append_message<'a>(
     frame: &mut Vec<u8>,
-    header: &[u8],
-    metadata: &[u8],
-    body: &[u8],
+    header: &'a [u8],
+    metadata: &'a [u8],
+    body: &'a [u8],
 ) -> Result<(), OutOfMemory>
     ensures { OnOk result (frame.new.items ≡ frame.old.items ++ data_text header.now metadata.now body.now) }
 {
-    append_bytes(frame, HEADER, header)?;
-    append_bytes(frame, METADATA, metadata)?;
-    append_bytes(frame, BODY, body)
+    let lent = FlightDataRef {
+        flight_descriptor: None,
+        data_header: header,
+        app_metadata: metadata,
+        data_body: body,
+    };
+    match lent.encode(frame) {
+        Ok(()) => Ok(()),
+        Err(_) => Err(AllocError),
+    }
 }
 
 /// The frame of the message with this header, what the service adds, and this body. Each byte is written once, into a
@@ -73,7 +71,7 @@ pub(crate) fn data_frame(
     requires { FitsFrame (data_text header.now metadata.now body.now) }
     ensures { IfOk result (λ frame. frame ≡ in_frame (data_text header.now metadata.now body.now)) }
 {
-    let length = message_length(header, metadata, body);
+    let length = data_length(header, metadata, body);
     let mut frame = begun(alloc, length)?;
     append_message(&mut frame, header, metadata, body)?;
     Ok(Bytes::from_vec(frame)?)

@@ -13,7 +13,7 @@ use crate::steps::{Firsts, Frames, NamedTables, has_come, put_first};
 use std::collections::VecDeque;
 use table_types::laws::tables_grow;
 
-/// Takes an upload behind those that were taken: one whose name has come changes nothing.
+/// Takes an upload behind those that were taken: one whose id has come changes nothing.
 pub(crate) fn take(
     firsts: &mut Firsts,
     tables: &mut NamedTables,

@@ -18,7 +18,7 @@
 //! (`AreUploadsIn` in `specs/Values`): values for nothing and bytes that are no upload's encoding add none.
 //!
 //! `outcome` and `latest` take the time of a look-up, `ready` and `apply` time in proportion to the new values, and
-//! `answer` in proportion to the number of frames, which answers share. The keys of the maps are names that clients choose,
+//! `answer` in proportion to the number of frames, which answers share. The keys of the maps are ids and names that clients choose,
 //! so they are hashed with random keys, which [`Tables::new`] is given.
 #![tactic(auto)]
 
@@ -46,4 +46,5 @@ pub use answer::Answer;
 pub use info::TableInfo;
 pub use outcome::Outcome;
 pub use ready::Ready;
+pub use table_types::Ticket;
 pub use tables::Tables;

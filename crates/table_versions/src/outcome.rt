@@ -7,8 +7,8 @@ pub enum Outcome {
     Applied(u64),
     /// It has another shape than its table: another schema, apart from metadata.
     SchemaMismatch,
-    /// Another upload came first under its name.
+    /// Another upload came first under its id.
     Conflict,
-    /// No upload of its name has come.
+    /// No upload of its id has come.
     Unknown,
 }

@@ -1,4 +1,4 @@
-//! How a table takes an upload whose name is new. No step takes memory.
+//! How a table takes an upload whose id is new. No step takes memory.
 
 ghost use Rattle.std.specs.Prelude.{◌≡◌, ◌+◌, ◌<◌, ◌≤◌, ◌^◌, None, Some, length, string_bytes};
 ghost use Rattle.indexmap.specs.IndexMap.{spare};
@@ -71,7 +71,7 @@ fn add_version(tables: &mut NamedTables, frames: &mut Frames, name: &str, part: 
     place.version
 }
 
-/// Takes the part of an upload whose name is new to its table, and says what is told of it.
+/// Takes the part of an upload whose id is new to its table, and says what is told of it.
 pub(crate) fn place(
     tables: &mut NamedTables,
     frames: &mut Frames,

@@ -23,7 +23,7 @@ pub(crate) struct Part {
 /// An upload with all that taking it needs.
 #[derive(Debug, Drop)]
 pub(crate) struct Prepared {
-    /// Its own name.
+    /// Its id.
     pub(crate) id: [u8; 16],
     /// Its encoding.
     pub(crate) text: Bytes,

@@ -45,7 +45,7 @@ fn rows_in(alloc: Global, header: &[u8]) -> Result<u64, OutOfMemory>
     }
 }
 
-/// What is served of an upload: each of its batches in a frame with its name, and without batches its name alone.
+/// What is served of an upload: each of its batches in a frame with its id, and without batches its id alone.
 fn served(alloc: Global, upload: &Upload) -> Result<ServedFrames, OutOfMemory>
     requires { IsUploadText upload.now }
     ensures { (uploaded : Uploaded) → IsUpload uploaded → upload_text uploaded ≡ upload.now

@@ -14,7 +14,7 @@ use crate::upload_frames::UploadFrames;
 use indexmap::IndexMap;
 use std::hash::RandomState;
 
-/// The first upload of each name.
+/// The first upload of each id.
 pub(crate) type Firsts = IndexMap<[u8; 16], First, RandomState>;
 
 /// The tables by name, in the order of their first effective uploads.
@@ -23,14 +23,14 @@ pub(crate) type NamedTables = IndexMap<String, Table, RandomState>;
 /// The frames of each effective upload, at the version that it made.
 pub(crate) type Frames = IndexMap<Place, UploadFrames, RandomState>;
 
-/// Whether an upload of the name has come.
+/// Whether an upload of the id has come.
 pub(crate) fn has_come(firsts: &Firsts, id: [u8; 16]) -> bool
     ensures { result ≡ is_some (first_in firsts.now.entries id) }
 {
     firsts.contains_key(&id)
 }
 
-/// Puts the first upload of a name.
+/// Puts the first upload of an id.
 pub(crate) fn put_first(firsts: &mut Firsts, id: [u8; 16], first: First)
     requires { 0 < spare firsts.old }
     ensures puts { PutsFirst firsts.old.entries firsts.new.entries id first }

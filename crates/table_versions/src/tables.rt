@@ -5,13 +5,12 @@ ghost use Rattle.std.specs.Option.{option_map};
 ghost use Rattle.table_types.specs.Uploads.{Upload as Uploaded, upload_text};
 ghost use Rattle.table_types.specs.Valid.{IsUpload};
 ghost use Rattle.table_types.specs.Answers.{answer_of};
-ghost use Rattle.table_types.specs.Tables.{effective, version_of, outcome_of};
+ghost use Rattle.table_types.specs.Tables.{effective, version_of, outcome_of, table_names};
 ghost use Rattle.table_versions.specs.Outcomes.{told};
 ghost use Rattle.table_versions.specs.Values.{AreUploadsIn};
 ghost use Rattle.ballots.specs.declared.value.Value.{Value as Agreed};
 ghost use Rattle.table_versions.specs.State.{values_limit, HasTaken, IsReadyFor, CanTake, IsSame};
 ghost use Rattle.table_versions.specs.Info.{IsLatest};
-ghost use Rattle.table_versions.specs.Ledger.{table_names};
 
 use crate::answer::Answer;
 use crate::answering::{answer_by, told_of};

@@ -35,7 +35,7 @@ batch_text parts = canonical batch_descriptor (parts.0, (parts.1, tt))
 abbrev pub batches_text : List (List ℕ × List ℕ) → List ℕ
 batches_text batches = fields_text (map (λ parts. bytes_field 4 (batch_text parts)) batches)
 
--- the message that is served of an encoded batch, with the upload's own name
+-- the message that is served of an encoded batch, with the upload's id
 abbrev pub served_of : List ℕ → List ℕ × List ℕ → List ℕ
 served_of id parts = data_text parts.0 id parts.1
 

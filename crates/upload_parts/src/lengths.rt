@@ -48,10 +48,10 @@ pub fn part_length(number: u32, count: u64) -> u64
 
 /// How many bytes the message of Arrow Flight has that holds a header, what the service adds and a body of so many bytes
 /// (Apache Arrow, "Flight.proto", `FlightData`).
-fn message_length(header: u64, metadata: u64, body: u64) -> u64
-    requires header_small { header ≤ 4194304 }
-    requires metadata_small { metadata ≤ 4194304 }
-    requires body_small { body ≤ 4194304 }
+pub fn message_length(header: u64, metadata: u64, body: u64) -> u64
+    requires header_small { header < 2 ^ 62 }
+    requires metadata_small { metadata < 2 ^ 62 }
+    requires body_small { body < 2 ^ 62 }
     ensures { (h m b : List ℕ) → length h ≡ header → length m ≡ metadata → length b ≡ body
         → result ≡ length (data_text h m b) }
 {

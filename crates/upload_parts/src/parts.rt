@@ -15,7 +15,7 @@ use proto_fields::split_field;
 pub struct Parts<'a> {
     /// The name of its table.
     pub table: &'a [u8],
-    /// Its own name.
+    /// Its id.
     pub id: &'a [u8],
     /// The message with its schema.
     pub schema: &'a [u8],

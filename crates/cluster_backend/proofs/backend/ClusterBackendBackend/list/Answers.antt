@@ -1,5 +1,5 @@
+use Rattle.table_types.specs.Tables.{table_names}
 use Rattle.std.proofs.Common.{map, string_bytes, subst, arith}
-use Rattle.table_versions.specs.Ledger.{table_names}
 use Rattle.call_reading.specs.Requests.{lists}
 use Rattle.flight_calls.specs.Replies.{listed}
 use Rattle.table_backend.proofs.Tables.{describe_all}

@@ -1,7 +1,7 @@
+use Rattle.table_types.specs.Tables.{table_names}
 use Rattle.std.proofs.Common.{◌≡◌, ◌≢◌, List, [], map, string_bytes, IfOk, OnErr, subst}
 use Rattle.std.proofs.lemmas.Result.{on_err_weaker}
 use Rattle.table_types.specs.Uploads.{Upload}
-use Rattle.table_versions.specs.Ledger.{table_names}
 use Rattle.agreement_rules.specs.Views.{Views}
 use Rattle.histories.specs.Texts.{HasUploads}
 use Rattle.node_core.specs.State.{NodeState, NodeHas}

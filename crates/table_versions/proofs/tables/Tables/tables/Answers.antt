@@ -1,5 +1,6 @@
 use Rattle.std.proofs.Common.{◌≡◌, sym, subst, ◌∙◌, map, string_bytes}
-use Rattle.table_versions.specs.Ledger.{names_in, table_names}
+use Rattle.table_types.specs.Tables.{table_names}
+use Rattle.table_versions.specs.Ledger.{names_in}
 use Rattle.table_versions.specs.State.{HasTaken}
 use Rattle.table_versions.proofs.States.{ledger_of, if_ok, on_err}
 use Rattle.table_versions.proofs.tables.Tables.tables.Goals as goal
