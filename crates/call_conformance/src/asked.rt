@@ -22,7 +22,7 @@ pub(crate) const INFO: &str = "\
     00000000322f6172726f772e666c696768742e70726f746f636f6c2e466c69676874536572766963652f476574466c696768\
     74496e666f000000000508011a01748000000000";
 
-/// The frame of a PutResult with the upload's name and version 1, and of one with version 9.
+/// The frame of a PutResult with the upload's id and version 1, and of one with version 9.
 pub(crate) const FIRST: &str = "00000000160a140a10000102030405060708090a0b0c0d0e0f1001";
 
 const NINTH: &str = "00000000160a140a10000102030405060708090a0b0c0d0e0f1009";

@@ -62,7 +62,7 @@ fn get(alloc: Global, backend: &mut TableBackend, version: u64) -> Result<Downlo
     }
 }
 
-/// The name of the upload of this number.
+/// The id of the upload of this number.
 fn id(number: u64) -> [u8; 16] {
     u128::from(number).to_be_bytes()
 }

@@ -28,7 +28,7 @@ IsTooMuch upload =
     (upload_limit < length (batches_text (batches_parts upload)))
     ⊎ (¬ AllByRecursion (λ parts. FitsFrame (served_of upload.id parts)) (batches_parts upload))
 
--- its names are such, and the batches that it keeps are of its schema; so many bytes are written of them
+-- its table's name and its id are such, and the batches that it keeps are of its schema; so many bytes are written of them
 pub record IsOnItsWay (i : UploadBuilder) : Type 0 where
   pub named : IsTableName (string_bytes i.table)
   pub id_named : IsId i.id

@@ -64,7 +64,7 @@ header_in data_values = data_values.1.0
 abbrev pub body_in : Data → List ℕ
 body_in data_values = data_values.1.1.1.0
 
--- the first message has the names of the table and of the upload, and the schema
+-- the first message has the table's name, the upload's id, and the schema
 pub record Opens (message table id : List ℕ) (schema : SchemaTree) : Type 0 where
   pub values : Data
   pub means : IsMessage data_descriptor message values

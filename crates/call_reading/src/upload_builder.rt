@@ -40,7 +40,7 @@ const SIZE_LIMIT: u64 = MAX_UPLOAD_BYTES as u64;
 pub(crate) struct UploadBuilder {
     /// The table that it is for.
     table: String,
-    /// Its own name.
+    /// Its id.
     id: [u8; 16],
     /// The schema of its batches.
     schema: Schema,

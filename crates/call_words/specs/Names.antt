@@ -1,5 +1,5 @@
 -- What a descriptor names: Apache Arrow, "Flight.proto", `FlightDescriptor`. How this service names tables and uploads in a
--- path is its own: a table by its name alone, an upload by its table and its own name in hexadecimal.
+-- path is its own: a table by its name alone, an upload by its table and its id in hexadecimal.
 use Rattle.std.specs.Prelude.{◌≡◌, ◌≢◌, ◌⊎◌, ℕ, List, [], ◌∷◌, Option, Some}
 use Rattle.hex.specs.Hex.{encode_lower}
 use Rattle.proto_messages.specs.Descriptor.{Values}
@@ -21,11 +21,11 @@ pub record NamesTable (descriptor : Descriptor) (table : List ℕ) : Type 0 wher
   pub is_path : IsPath descriptor (table ∷ [])
   pub named : IsTableName table
 
--- the name of an upload, two digits a byte, in lower case
+-- the id of an upload, two digits a byte, in lower case
 abbrev pub id_text : List ℕ → List ℕ
 id_text id = encode_lower id
 
--- it names an upload of this name to this table
+-- it names an upload of this id to this table
 pub record NamesUpload (descriptor : Descriptor) (table id : List ℕ) : Type 0 where
   pub is_path : IsPath descriptor (table ∷ id_text id ∷ [])
   pub named : IsTableName table

@@ -1,6 +1,6 @@
 -- What is told of an upload that counts: Apache Arrow, "Flight.proto", `PutResult`, "Upload response message". Its metadata are
 -- a message of two fields in its one written encoding (Protocol Buffers, "Encoding"), which is this service's own: the
--- upload's name, and the version that it made.
+-- upload's id, and the version that it made.
 use Rattle.std.specs.Prelude.{ℕ, List}
 use Rattle.proto_fields.specs.Scalar.{TypeBytes, TypeUint64}
 use Rattle.proto_messages.specs.Descriptor.{Descriptor, NoMore, One}

@@ -23,7 +23,7 @@ pub fn paths_are_one()
     ensures apart { (x : Named) (refusal : Refused) → ¬ PathFault (path_text x) refusal }
 {}
 
-/// A descriptor names one table, or one upload, and one that names one is not refused for it. The names of uploads are
+/// A descriptor names one table, or one upload, and one that names one is not refused for it. The ids of uploads are
 /// told apart by their digits, of which there are 32.
 pub fn descriptors_name_one()
     ensures table { (d : Descriptor) (x y : List ℕ) → NamesTable d x → NamesTable d y → x ≡ y }

@@ -13,6 +13,6 @@ mod status;
 pub use back_fault::BackFault;
 pub use call_fault::CallFault;
 pub use method::{Method, SERVICE};
-pub use names::{id_digits, id_in, table_in, upload_in};
+pub use names::{id_digits, id_in, table_descriptor, table_in, upload_descriptor, upload_in};
 pub use refusal::Refusal;
 pub use status::Status;

@@ -1,16 +1,18 @@
-//! What descriptors name: tables and uploads.
+//! What descriptors name: tables and uploads; and the descriptors that name them.
 
 ghost use Rattle.std.specs.Prelude.{◌≡◌, ◌≢◌, IfOk, IfErr, IfSome, IfNone, OnOk, ℕ, List};
 ghost use Rattle.table_types.specs.Valid.{IsTableName, IsId};
 ghost use Rattle.proto_wire.specs.FlightValues.{descriptor_values};
 ghost use Rattle.call_words.specs.Names.{id_text, NamesTable, NamesUpload, TableFault, UploadNameFault};
+ghost use Rattle.call_words.specs.Names.{table_descriptor as of_table, upload_descriptor as of_upload};
 
 use crate::refusal::Refusal;
 use hex::FromHex;
 use proto_wire::{DescriptorType, FlightDescriptor};
+use std::alloc::{AllocError, Global};
 use table_types::is_table_name;
 
-/// The name of an upload in this text: 32 hexadecimal digits in lower case. `None` for any other text.
+/// The id of an upload in this text: 32 hexadecimal digits in lower case. `None` for any other text.
 pub fn id_in(text: &[u8]) -> Option<[u8; 16]>
     ensures some { IfSome result (λ id. text.now ≡ id_text id) }
     ensures named { IfSome result IsId }
@@ -25,7 +27,7 @@ pub fn id_in(text: &[u8]) -> Option<[u8; 16]>
     Some(id)
 }
 
-/// The name of an upload in 32 hexadecimal digits, in lower case.
+/// The id of an upload in 32 hexadecimal digits, in lower case.
 pub fn id_digits(id: [u8; 16]) -> [u8; 32]
     ensures { result ≡ id_text id }
 {
@@ -56,7 +58,7 @@ pub fn table_in(descriptor: &FlightDescriptor) -> Result<&str, Refusal>
     }
 }
 
-/// The table and the upload's own name that a descriptor names by a path of two elements; a command beside the path is
+/// The table and the upload's id that a descriptor names by a path of two elements; a command beside the path is
 /// passed over.
 ///
 /// The refusals are [`Refusal::CmdDescriptor`] for a command, and [`Refusal::BadDescriptor`] for any other descriptor that
@@ -82,4 +84,39 @@ pub fn upload_in(descriptor: &FlightDescriptor) -> Result<(&str, [u8; 16]), Refu
         Some(id) => Ok((table.as_str(), id)),
         None => Err(Refusal::BadDescriptor),
     }
+}
+
+/// The descriptor of a table: a path of its name. [`AllocError`] says that memory was refused.
+pub fn table_descriptor(alloc: Global, table: &str) -> Result<FlightDescriptor, AllocError>
+    ensures { IfOk result (λ descriptor. descriptor_values descriptor ≡ of_table table.now) }
+{
+    let table = String::from_str(alloc, table)?;
+    let mut path = Vec::new(alloc);
+    path.push(table)?;
+    Ok(FlightDescriptor {
+        descriptor_type: DescriptorType::PATH,
+        cmd: Vec::new(alloc),
+        path,
+    })
+}
+
+/// The descriptor of an upload: a path of its table's name and of its id in 32 hexadecimal digits, in lower case.
+/// [`AllocError`] says that memory was refused.
+pub fn upload_descriptor(
+    alloc: Global,
+    table: &str,
+    id: [u8; 16],
+) -> Result<FlightDescriptor, AllocError>
+    ensures { IfOk result (λ descriptor. descriptor_values descriptor ≡ of_upload table.now id) }
+{
+    let table = String::from_str(alloc, table)?;
+    let id = hex::encode(alloc, id)?;
+    let mut path = Vec::new(alloc);
+    path.push(table)?;
+    path.push(id)?;
+    Ok(FlightDescriptor {
+        descriptor_type: DescriptorType::PATH,
+        cmd: Vec::new(alloc),
+        path,
+    })
 }

@@ -29,7 +29,7 @@ pub enum Refusal {
     MessageCount,
     /// A message is not one of the message type that the method asks for.
     Wire(WireFault),
-    /// The descriptor is no path, or does not name a table, and in an upload a name of its own, as it should.
+    /// The descriptor is no path, or does not name a table, and in an upload its id, as it should.
     BadDescriptor,
     /// The descriptor is a command.
     CmdDescriptor,
@@ -51,7 +51,7 @@ pub enum Refusal {
     TooLarge,
     /// The upload has another shape than its table.
     SchemaMismatch,
-    /// Another upload came first under the upload's name.
+    /// Another upload came first under the upload's id.
     Conflict,
     /// What becomes of the upload is not known yet.
     Undecided,

@@ -12,7 +12,7 @@ pub enum Status {
     InvalidArgument,
     /// What was asked for does not exist.
     NotFound,
-    /// Another upload came first under the upload's name.
+    /// Another upload came first under the upload's id.
     AlreadyExists,
     /// A limit was met, or memory was refused.
     ResourceExhausted,

@@ -145,7 +145,7 @@ MessageSays Gives IsResult message (Err (faults.Call calls.OutOfMemory)) = Unit 
 MessageSays Gives IsResult message (Err (faults.Call calls.Read)) = ⊥
 MessageSays Gives IsResult message (Err (faults.Call calls.Write)) = ⊥
 
--- the message is the result of an upload of this name, which made this version
+-- the message is the result of an upload of this id, which made this version
 pub record IsResultOf (id : List ℕ) (version : ℕ) (message : List ℕ) : Type 0 where
   pub is : message ≡ put_result id version
   pub fits : FitsFrame message

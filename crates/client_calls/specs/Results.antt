@@ -62,7 +62,7 @@ HasInfos messages = (all : List (Values info_descriptor)) × MeanInfos messages 
 
 -- ---- what is told of an upload
 
--- There is one message: the one encoding of the result of an upload of this name, which made this version. Versions are numbered
+-- There is one message: the one encoding of the result of an upload of this id, which made this version. Versions are numbered
 -- from 1 on, in 64 bits.
 pub record GivesVersion (id : List ℕ) (messages : List (List ℕ)) (version : ℕ) : Type 0 where
   pub only : messages ≡ put_result id version ∷ []

@@ -68,8 +68,8 @@ pub fn read_download<R: Read>(alloc: Global, r: &mut R) -> Result<Download, Clie
 /// and the uploads of the version.
 ///
 /// The answer is the message of a schema, then those of uploads, each of which has one encoding, and the trailer of a call that
-/// was answered. The batches that follow one another under one name are of one upload, a name alone is of an upload without
-/// batches, and no two uploads have one name.
+/// was answered. The batches that follow one another under one id are of one upload, an id alone is of an upload without
+/// batches, and no two uploads have one id.
 ///
 /// - [`ClientFault::Status`]: the service refused the call, with this status and this text, whatever messages came before.
 /// - [`ClientFault::BadAnswer`]: what came is neither such an answer nor a refusal, within [`MAX_ANSWER_FRAMES`] frames.

@@ -33,7 +33,7 @@ pub fn answers_are_one()
 }
 
 /// Of an answer whose messages are those of a version, [`call_get`] gives what is served of the version: its schema, and of each
-/// upload its own name and its batches, cell for cell. It leaves what stands behind the answer; and only where a read failed, a
+/// upload its id and its batches, cell for cell. It leaves what stands behind the answer; and only where a read failed, a
 /// write did or memory was refused it tells something else.
 ///
 /// [`call_get`]: crate::call_get

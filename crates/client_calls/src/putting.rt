@@ -17,7 +17,7 @@ use std::alloc::Global;
 use std::io::{Read, Write};
 use uploads::Upload;
 
-/// Reads the answer to an upload of this name.
+/// Reads the answer to an upload of this id.
 fn read_version<R: Read>(alloc: Global, r: &mut R, id: &[u8]) -> Result<u64, ClientFault>
     ensures { WhereKnown (R.remaining r.old) (R.remaining r.new) (Receives (GivesVersion id.now) (HasVersion id.now) result) }
 {
@@ -31,8 +31,8 @@ fn read_version<R: Read>(alloc: Global, r: &mut R, id: &[u8]) -> Result<u64, Cli
 /// Uploads (Apache Arrow, "Flight.proto", `DoPut`): writes the request with the upload, and reads which version of its table
 /// it made.
 ///
-/// The answer is one message, the one encoding of a `PutResult` whose metadata are the upload's own name and the version, and
-/// the trailer of a call that was answered. A result of another name is none of this upload.
+/// The answer is one message, the one encoding of a `PutResult` whose metadata are the upload's id and the version, and
+/// the trailer of a call that was answered. A result of another id is none of this upload.
 ///
 /// - [`ClientFault::Status`]: the service refused the upload, with this status and this text, whatever messages came before.
 /// - [`ClientFault::BadAnswer`]: what came is neither such an answer nor a refusal, within [`MAX_ANSWER_FRAMES`] frames.

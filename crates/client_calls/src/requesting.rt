@@ -2,17 +2,15 @@
 
 ghost use Rattle.std.specs.Prelude.{◌≡◌, ◌∷◌, [], IfOk};
 ghost use Rattle.grpc_frames.specs.FrameFaults.{WhereKnown};
-ghost use Rattle.proto_wire.specs.FlightValues.{descriptor_values};
 ghost use Rattle.call_words.specs.Methods.{path_text};
-ghost use Rattle.call_words.specs.Names.{table_descriptor};
 ghost use Rattle.call_words.specs.Texts.{call_text};
 ghost use Rattle.client_calls.specs.Requests.{table_message, info_request, criteria_message, list_request, ticket_message, get_request};
 ghost use Rattle.client_calls.specs.Sending.{Sends, IsText};
 
 use crate::sending::{path_of, send_end, send_message};
-use call_words::{CallFault, Method};
+use call_words::{CallFault, Method, table_descriptor};
 use proto_messages::ProtoMessage;
-use proto_wire::{Criteria, DescriptorType, FlightDescriptor, Ticket as TicketMessage};
+use proto_wire::{Criteria, Ticket as TicketMessage};
 use std::alloc::{AllocError, Global};
 use std::io::Write;
 use table_types::Ticket;
@@ -31,25 +29,11 @@ fn send_one<W: Write>(w: &mut W, path: &[u8], message: &[u8]) -> Result<(), Call
     send_end(w)
 }
 
-/// The descriptor of a table.
-fn descriptor_of(alloc: Global, table: &str) -> Result<FlightDescriptor, AllocError>
-    ensures { IfOk result (λ descriptor. descriptor_values descriptor ≡ table_descriptor table.now) }
-{
-    let name = String::from_str(alloc, table)?;
-    let mut path = Vec::new(alloc);
-    path.push(name)?;
-    Ok(FlightDescriptor {
-        descriptor_type: DescriptorType::PATH,
-        cmd: Vec::new(alloc),
-        path,
-    })
-}
-
 /// The message that asks what is told of a table.
 fn table_message(alloc: Global, table: &str) -> Result<Vec<u8>, CallFault>
     ensures { IsText (table_message table.now) result }
 {
-    let descriptor = descriptor_of(alloc, table)?;
+    let descriptor = table_descriptor(alloc, table)?;
     let mut message = Vec::new(alloc);
     match descriptor.encode(&mut message) {
         Ok(()) => Ok(message),

@@ -1,96 +1,84 @@
 //! The request with an upload.
 
-ghost use Rattle.std.specs.Prelude.{◌≡◌, [], map, IfOk};
-ghost use Rattle.std.specs.Option.{option_map};
+ghost use Rattle.std.specs.Prelude.{◌≡◌, [], map, Some, IfOk};
 ghost use Rattle.grpc_frames.specs.FrameFaults.{WhereKnown};
 ghost use Rattle.proto_messages.specs.Canonical.{canonical};
 ghost use Rattle.proto_wire.specs.Flight.{data_descriptor};
-ghost use Rattle.proto_wire.specs.FlightValues.{descriptor_values};
+ghost use Rattle.proto_wire.specs.FlightValues.{data_ref_values, descriptor_values};
 ghost use Rattle.table_types.specs.Served.{in_frame, data_text};
 ghost use Rattle.table_types.specs.Uploads.{Upload as Uploaded, upload_text};
 ghost use Rattle.table_types.specs.Valid.{IsUpload};
 ghost use Rattle.call_words.specs.declared.method.Method.TheVariants.{DoPut};
 ghost use Rattle.call_words.specs.Methods.{path_text};
-ghost use Rattle.call_words.specs.Names.{upload_descriptor};
 ghost use Rattle.call_words.specs.Texts.{messages_text};
 ghost use Rattle.client_calls.specs.Requests.{opening_message, further_message, put_messages, put_request};
 ghost use Rattle.client_calls.specs.Sending.{Sends, IsText};
 
 use crate::sending::{path_of, send_end, send_message};
-use call_words::{CallFault, Method};
-use proto_messages::{append_bytes, append_one};
-use proto_wire::{DescriptorType, FlightDescriptor};
+use call_words::{CallFault, Method, upload_descriptor};
+use proto_wire::{FlightDataRef, FlightDescriptor};
 use std::alloc::{AllocError, Global};
 use std::io::Write;
 use table_types::laws::uploads_have_one_encoding;
 use uploads::Upload;
 
-/// The number of the field with the descriptor.
-const DESCRIPTOR: u32 = 1;
-
-/// The number of the field with the header.
-const HEADER: u32 = 2;
-
-/// The number of the field with the body.
-const BODY: u32 = 1_000;
-
 /// The most bytes that the keys and lengths of a header and a body have.
 const MAX_KEY_BYTES: usize = 20;
 
+/// The message that holds this.
+fn message_of(alloc: Global, lent: FlightDataRef<'_>) -> Result<Vec<u8>, AllocError>
+    ensures { IfOk result (λ message. message.items ≡ canonical data_descriptor (data_ref_values lent.entry)) }
+{
+    let room = lent
+        .data_header
+        .len()
+        .saturating_add(lent.data_body.len())
+        .saturating_add(MAX_KEY_BYTES);
+    let mut message = Vec::with_capacity(alloc, room)?;
+    match lent.encode(&mut message) {
+        Ok(()) => Ok(message),
+        Err(_) => Err(AllocError),
+    }
+}
+
 /// The message with this descriptor and this header.
-#[tactic(auto, using(proto_messages::proofs::CallerLemmas::chains))]
-fn described_message(
+fn described_message<'a>(
     alloc: Global,
-    descriptor: &Option<FlightDescriptor>,
-    header: &[u8],
+    descriptor: &'a FlightDescriptor,
+    header: &'a [u8],
 ) -> Result<Vec<u8>, AllocError>
     ensures { IfOk result (λ message. message.items
-        ≡ canonical data_descriptor (option_map descriptor_values descriptor.now, (header.now, ([], ([], tt))))) }
+        ≡ canonical data_descriptor (Some (descriptor_values descriptor.now), (header.now, ([], ([], tt))))) }
 {
-    let mut message = Vec::new(alloc);
-    append_one(&mut message, DESCRIPTOR, descriptor)?;
-    append_bytes(&mut message, HEADER, header)?;
-    Ok(message)
+    let descriptor = Some(descriptor);
+    let lent = FlightDataRef {
+        flight_descriptor: descriptor,
+        data_header: header,
+        app_metadata: &[],
+        data_body: &[],
+    };
+    message_of(alloc, lent)
 }
 
 /// The message with this header and this body.
-#[tactic(auto, using(proto_messages::proofs::CallerLemmas::chains))]
-fn batch_message(alloc: Global, header: &[u8], body: &[u8]) -> Result<Vec<u8>, AllocError>
+fn batch_message<'a>(alloc: Global, header: &'a [u8], body: &'a [u8]) -> Result<Vec<u8>, AllocError>
     ensures { IfOk result (λ message. message.items ≡ data_text header.now [] body.now) }
 {
-    let room = header
-        .len()
-        .saturating_add(body.len())
-        .saturating_add(MAX_KEY_BYTES);
-    let mut message = Vec::with_capacity(alloc, room)?;
-    append_bytes(&mut message, HEADER, header)?;
-    append_bytes(&mut message, BODY, body)?;
-    Ok(message)
-}
-
-/// The descriptor of an upload.
-fn descriptor_of(alloc: Global, upload: &Upload) -> Result<FlightDescriptor, AllocError>
-    ensures { (u : Uploaded) → IsUpload u → upload_text u ≡ upload.now
-        → IfOk result (λ descriptor. descriptor_values descriptor ≡ upload_descriptor u.table u.id) }
-{
-    let table = String::from_str(alloc, upload.table())?;
-    let id = hex::encode(alloc, upload.id())?;
-    let mut path = Vec::new(alloc);
-    path.push(table)?;
-    path.push(id)?;
-    Ok(FlightDescriptor {
-        descriptor_type: DescriptorType::PATH,
-        cmd: Vec::new(alloc),
-        path,
-    })
+    let lent = FlightDataRef {
+        flight_descriptor: None,
+        data_header: header,
+        app_metadata: &[],
+        data_body: body,
+    };
+    message_of(alloc, lent)
 }
 
 /// The first message of an upload.
 fn opening_of(alloc: Global, upload: &Upload) -> Result<Vec<u8>, CallFault>
     ensures { (u : Uploaded) → IsUpload u → upload_text u ≡ upload.now → IsText (opening_message u) result }
 {
-    let descriptor = descriptor_of(alloc, upload)?;
-    let message = described_message(alloc, &Some(descriptor), upload.schema_bytes())?;
+    let descriptor = upload_descriptor(alloc, upload.table(), upload.id())?;
+    let message = described_message(alloc, &descriptor, upload.schema_bytes())?;
     Ok(message)
 }
 

@@ -19,7 +19,7 @@ use std::alloc::{AllocError, Global};
 /// The number of a result's field with its metadata.
 const METADATA: u32 = 1;
 
-/// The number of the metadata's field with the upload's name.
+/// The number of the metadata's field with the upload's id.
 const ID: u32 = 1;
 
 /// The number of the metadata's field with the version.
@@ -75,7 +75,7 @@ fn put_result(alloc: Global, id: &[u8], version: u64) -> Result<Vec<u8>, AllocEr
     }
 }
 
-/// The version in the result of an upload of this name.
+/// The version in the result of an upload of this id.
 pub(crate) fn version_in(alloc: Global, message: &[u8], id: &[u8]) -> Result<u64, ClientFault>
     ensures { FitsFrame message.now → MessageSays (GivesVersion id.now) (HasVersion id.now) message.now result }
 {

@@ -23,7 +23,7 @@ abbrev pub NamesTable : List ℕ → List ℕ → Result SocketAddrV4 CommandFau
 NamesTable named table (Ok address) = AddressBy named (Ok address) × IsTableName table
 NamesTable named table (Err fault) = AddressBy named (Err fault) ⊎ TableBy table (Err fault)
 
--- an upload's own name, in hexadecimal; where there is no word, the other one
+-- an upload's id, in hexadecimal; where there is no word, the other one
 abbrev pub IdBy : Option (List ℕ) → List ℕ → Result (List ℕ) CommandFault → Type 0
 IdBy (Some word) other (Ok id) = IsId id × (word ≡ id_text id)
 IdBy (Some word) other (Err fault) = (fault ≡ BadId) × ((id : List ℕ) → IsId id → word ≢ id_text id)

@@ -1,4 +1,4 @@
--- What is printed: lines, each with its line feed. Numbers are decimal, and an upload's own name is hexadecimal digits
+-- What is printed: lines, each with its line feed. Numbers are decimal, and an upload's id is hexadecimal digits
 -- (RFC 4648, section 8, in lower case).
 use Rattle.std.specs.Prelude.{◌≡◌, ℕ, List, ◌++◌, codes, decimal, Option, Result, Ok, Err}
 use Rattle.grpc_frames.specs.FrameFaults.{IsBeginning}
@@ -7,11 +7,11 @@ use Rattle.client_connections.specs.Events.{Event}
 use Rattle.client_command.specs.declared.fault.CommandFault.{CommandFault}
 use Rattle.client_command.specs.declared.fault.CommandFault.TheVariants as faults
 
--- of an upload that was taken: its own name, and the version that it made
+-- of an upload that was taken: its id, and the version that it made
 abbrev pub put_line : List ℕ → ℕ → List ℕ
 put_line id version = id_text id ++ (codes " " ++ (decimal version ++ codes "\n"))
 
--- by which name an upload is put again
+-- by which id an upload is put again
 abbrev pub repeat_line : List ℕ → List ℕ
 repeat_line id = codes "flightd: put it again with --id " ++ (id_text id ++ codes "\n")
 

@@ -19,7 +19,7 @@ pub enum CommandFault {
     /// The address is not HOST:PORT, with an IPv4 address or `localhost` as the host and a port from 1 to 65535.
     #[error("BadAddress")]
     BadAddress,
-    /// The upload's own name is not 32 lower-case hexadecimal digits.
+    /// The upload's id is not 32 lower-case hexadecimal digits.
     #[error("BadId")]
     BadId,
     /// The name is none of a table: 1 to 64 of A-Z, a-z, 0-9, `_`, `.` and `-`. It is told too of the version 0, which

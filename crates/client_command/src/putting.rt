@@ -18,8 +18,8 @@ use std::alloc::Global;
 use std::io::Write;
 use std::net::SocketAddrV4;
 
-/// Puts the rows that the lines of a text tell into this table at the server at this address, under this name of the
-/// upload's own, as `row_calls` does, and prints the line of the upload to `out`: its own name in 32 lower-case
+/// Puts the rows that the lines of a text tell into this table at the server at this address, under this id, as
+/// `row_calls` does, and prints the line of the upload to `out`: its id in 32 lower-case
 /// hexadecimal digits, a space, the version of the table that it made, and a line feed. The writer is flushed. The rows
 /// are of the schema, where one is given, else of that of [`json_rows::schema_of_rows`].
 ///
@@ -62,7 +62,7 @@ pub fn put_rows_at<C: Connect, O: Write>(
 /// The exit status is [`SUCCESS`] where the line was printed. Else a line, `flightd: ` and the fault's name, goes to
 /// `err`, and the status is that of the service, where the service refused the put, and else [`FAILURE`]. Where the upload
 /// may have been taken nonetheless, as where an answer was lost, a second line says how it is put again:
-/// `flightd: put it again with --id ` and the upload's own name. It makes the same version then, once.
+/// `flightd: put it again with --id ` and the upload's id. It makes the same version then, once.
 ///
 /// [`SUCCESS`]: crate::SUCCESS
 /// [`FAILURE`]: crate::FAILURE

@@ -38,7 +38,7 @@ fn is_open(done: &Result<(), CommandFault>) -> bool
     }
 }
 
-/// The exit status of a put of the upload of this name, whose fault is reported as [`report`] does. Where the upload may
+/// The exit status of a put of the upload of this id, whose fault is reported as [`report`] does. Where the upload may
 /// have been taken, a second line says by which name it is put again.
 pub(crate) fn report_put<E: Write>(
     alloc: Global,

@@ -19,13 +19,13 @@ pub struct PutWords<'a> {
     pub address: SocketAddrV4,
     /// The table's name.
     pub table: &'a str,
-    /// The upload's own name.
+    /// The upload's id.
     pub id: [u8; 16],
 }
 
 /// What the words of `flightd put HOST:PORT TABLE FILE --id ID` name, of which nothing is read or opened yet: the server
 /// at this address ([`client_connections::address_of`]), a table of this name ([`table_types::is_table_name`]), and the
-/// upload's own name, which is what `id` writes in 32 lower-case hexadecimal digits; where there is none, it is `random`,
+/// upload's id, which is what `id` writes in 32 lower-case hexadecimal digits; where there is none, it is `random`,
 /// which the caller has drawn.
 ///
 /// [`CommandFault::BadAddress`], [`CommandFault::BadTable`] and [`CommandFault::BadId`] tell of a word that names nothing,
@@ -86,7 +86,7 @@ pub(crate) fn address_by(word: &str) -> Result<SocketAddrV4, CommandFault>
     }
 }
 
-/// The upload's own name that the word writes; where there is no word, the one that is given.
+/// The upload's id that the word writes; where there is no word, the one that is given.
 fn id_by(word: Option<&str>, other: [u8; 16]) -> Result<[u8; 16], CommandFault>
     ensures { IdBy (option_map (λ text. text.now) word.entry) other result }
 {

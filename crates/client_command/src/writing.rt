@@ -32,7 +32,7 @@ fn put_line(alloc: Global, id: [u8; 16], version: u64) -> Result<String, AllocEr
     format!(in alloc; "{digits} {version}\n")
 }
 
-/// Prints the line of an upload that was taken: its own name and the version that it made.
+/// Prints the line of an upload that was taken: its id and the version that it made.
 pub(crate) fn tell_put<O: Write>(
     alloc: Global,
     out: &mut O,
@@ -46,7 +46,7 @@ pub(crate) fn tell_put<O: Write>(
     write_text(out, line.as_bytes())
 }
 
-/// The line that says by which name an upload is put again.
+/// The line that says by which id an upload is put again.
 fn repeat_line(alloc: Global, id: [u8; 16]) -> Result<String, AllocError>
     ensures { IfOk result (λ line. string_bytes line ≡ repeat_line id) }
 {
@@ -54,7 +54,7 @@ fn repeat_line(alloc: Global, id: [u8; 16]) -> Result<String, AllocError>
     format!(in alloc; "flightd: put it again with --id {digits}\n")
 }
 
-/// Writes the line that says by which name an upload is put again.
+/// Writes the line that says by which id an upload is put again.
 pub(crate) fn tell_repeat<E: Write>(
     alloc: Global,
     err: &mut E,

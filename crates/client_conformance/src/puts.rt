@@ -5,7 +5,7 @@ use client_command::{put_run, put_words};
 use std::alloc::Global;
 use std::test::Fail;
 
-/// The name of an upload.
+/// The id of an upload.
 const ID: &str = "000102030405060708090a0b0c0d0e0f";
 
 /// The answer that this upload made version 7.
@@ -65,7 +65,7 @@ fn ends(
     Ok(put(alloc, answers, address, id, rows)?.as_str() == wanted)
 }
 
-/// The line of an upload, by its own name and by one that was drawn.
+/// The line of an upload, by its id and by one that was drawn.
 #[test]
 fn prints_the_line_of_an_upload(rt: HostRuntime) -> Result<(), Fail> {
     let alloc = rt.alloc();
@@ -136,7 +136,7 @@ fn reports_words_that_name_nothing(rt: HostRuntime) -> Result<(), Fail> {
     Ok(())
 }
 
-/// Whether a put of a row of its own name ends so.
+/// Whether a put of a row under its id ends so.
 fn row_ends(alloc: Global, answers: &[&str], wanted: &str) -> Result<bool, Fail> {
     let at = "127.0.0.1:42000";
     ends(alloc, answers, at, None, "{\"a\":1}\n", wanted)
@@ -162,7 +162,7 @@ fn reports_what_was_not_sent(rt: HostRuntime) -> Result<(), Fail> {
     Ok(())
 }
 
-/// Calls without an answer, whose upload may have been taken: the name to put it again by is told.
+/// Calls without an answer, whose upload may have been taken: the id to put it again by is told.
 #[test]
 fn says_how_to_put_again(rt: HostRuntime) -> Result<(), Fail> {
     let alloc = rt.alloc();

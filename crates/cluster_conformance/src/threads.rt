@@ -161,7 +161,7 @@ fn downloaded<R: Wait, C: Nodes + Drop>(
     }
 }
 
-// The own name of the upload at this version.
+// The id of the upload at this version.
 fn id_at(download: &Download, version: u64) -> Option<[u8; 16]> {
     let place = usize::try_from(version.checked_sub(1)?).ok()?;
     Some(download.uploads.get(place)?.id)

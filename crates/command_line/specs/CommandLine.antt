@@ -117,7 +117,7 @@ command_line = fold with_command (local_commands (with_version (new_app (codes "
 -- ---- what is asked for
 
 -- the acceptor; the audit of a file, its audit with the explanation, or its replay; a cluster, with the number of its nodes,
--- its first port and its folder, as far as these are told; the script of a file; the records of a file; a put, with its address, table, file, upload's name and
+-- its first port and its folder, as far as these are told; the script of a file; the records of a file; a put, with its address, table, file, upload's id and
 -- schema; a get, with its address, table, version, and whether all locations are asked; the tables at an address; or what is
 -- told of one of them
 pub data Asked : Type 0 where

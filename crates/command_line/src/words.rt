@@ -43,7 +43,7 @@ pub enum Asked<'a> {
         table: &'a str,
         /// The file, where `-` is standard input.
         file: &'a str,
-        /// The upload's own name.
+        /// The upload's id.
         id: Option<&'a str>,
         /// The schema of the rows.
         schema: Option<&'a str>,

@@ -16,7 +16,7 @@ use Rattle.downloads.specs.declared.download.ServedUpload.{ServedUpload}
 use Rattle.downloads.specs.declared.download.Download.{Download}
 use Rattle.downloads.specs.declared.downloading.Downloading.{Downloading}
 use Rattle.downloads.specs.declared.downloading.Downloading.TheVariants as come
-use Rattle.downloads.specs.Downloads.{Downloaded, IsGrouped, NamesDiffer}
+use Rattle.downloads.specs.Downloads.{Downloaded, IsGrouped, IdsDiffer}
 use Rattle.downloads.specs.Taken.{served_in, downloaded_in, HasBatchesOf, HasDownload, HasTaken}
 use Rattle.downloads.specs.Added.{part_in, AreWith, IsAlone}
 use Rattle.downloads.proofs.Differing.{is_grouped}
@@ -40,7 +40,7 @@ schema_came message download is none fits = record {
           profile = is.profile;
           schema_fits = is.fits;
           each = tt;
-          names_change = tt;
+          ids_change = tt;
         });
     columns = subst (λ (l : List ServedUpload). AllByRecursion (HasBatchesOf (schema_of download.schema)) l) (sym none) tt;
   };
@@ -91,7 +91,7 @@ module _ (schemas : SchemaIsOne) (uploads : UploadIsOne) (download : Download) (
       taken = record {
         is =
             goes_further (schemas_are_one schemas) (parts_are_one uploads) messages (downloaded_in download) before.fit before.taken.is message (part_in said)
-            (map served_in next.items) told with_it.parts (with_it.names before.taken.is.names_change);
+            (map served_in next.items) told with_it.parts (with_it.names before.taken.is.ids_change);
         columns = with_it.columns (schema_of download.schema) before.taken.columns columns;
       };
     }
@@ -125,7 +125,7 @@ nothing_reached downloading messages (inr is) before = none_is_it messages (subs
 
 -- a name comes again: a download would be of these uploads
 pub name_again : (download : Download) (messages : List (List ℕ)) → HasTaken (come.Reached download) messages → SchemaIsOne → UploadIsOne
-    → (NamesDiffer (map served_in download.uploads.items) → ⊥) → ¬ HasDownload messages
+    → (IdsDiffer (map served_in download.uploads.items) → ⊥) → ¬ HasDownload messages
 name_again download messages before schemas uploads repeats has =
     let one = one_grouping schemas uploads messages has.0 (downloaded_in download) before.fit (is_grouped messages has.0 has.1) before.taken.is in
-    repeats (subst (λ (d : Downloaded). NamesDiffer d.uploads) one has.1.names_differ)
+    repeats (subst (λ (d : Downloaded). IdsDiffer d.uploads) one has.1.ids_differ)

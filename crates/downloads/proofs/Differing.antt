@@ -14,15 +14,15 @@ use Rattle.std.proofs.lemmas.Bool.{true≢false, not-true, not-false}
 use Rattle.std.proofs.lemmas.Cmp.{eq_by_cmp_equiv, nat_list_cmp_total}
 use Rattle.std.proofs.lemmas.Map.Lookups.{exact_bytes}
 use Rattle.downloads.specs.declared.download.ServedUpload.{ServedUpload}
-use Rattle.downloads.specs.Downloads.{ServedUpload as Served, NamesDiffer, NamesChange, IsDownload, IsGrouped, Downloaded}
+use Rattle.downloads.specs.Downloads.{ServedUpload as Served, IdsDiffer, IdsChange, IsDownload, IsGrouped, Downloaded}
 use Rattle.downloads.specs.Taken.{served_in}
 
 -- ---- a download is grouped
 
-names_change : (uploads : List Served) → NamesDiffer uploads → NamesChange uploads
-names_change [] differ = tt
-names_change (one ∷ []) differ = tt
-names_change (one ∷ next ∷ uploads) differ = (differ.0.0, names_change (next ∷ uploads) differ.1)
+ids_change : (uploads : List Served) → IdsDiffer uploads → IdsChange uploads
+ids_change [] differ = tt
+ids_change (one ∷ []) differ = tt
+ids_change (one ∷ next ∷ uploads) differ = (differ.0.0, ids_change (next ∷ uploads) differ.1)
 
 pub is_grouped : (messages : List (List ℕ)) (downloaded : Downloaded) → IsDownload messages downloaded → IsGrouped messages downloaded
 is_grouped messages downloaded is = record {
@@ -30,7 +30,7 @@ is_grouped messages downloaded is = record {
   profile = is.profile;
   schema_fits = is.schema_fits;
   each = is.each;
-  names_change = names_change downloaded.uploads is.names_differ;
+  ids_change = ids_change downloaded.uploads is.ids_differ;
 }
 
 -- ---- names
@@ -39,14 +39,14 @@ is_grouped messages downloaded is = record {
 abbrev pub is_same : List ℕ → List ℕ → Bool
 is_same id other = is_eq (slice_cmp nat_cmp id other)
 
--- whether this is the upload's name
+-- whether this is the upload's id
 abbrev pub is_name : List ℕ → Served → Bool
 is_name id upload = is_same id upload.id
 
 -- the names are those of the uploads, of which no two have one
-pub record AreNames (names : BTreeSet (List ℕ)) (uploads : List Served) : Type 0 where
+pub record AreIds (names : BTreeSet (List ℕ)) (uploads : List Served) : Type 0 where
   pub held : (id : List ℕ) → contains (slice_cmp nat_cmp) names id ≡ list_any (is_name id) uploads
-  pub differ : NamesDiffer uploads
+  pub differ : IdsDiffer uploads
 
 both_ways : (id other : List ℕ) → is_same id other ≡ is_same other id
 both_ways id other = (eq_by_cmp_equiv nat_list_cmp_total).symm id other
@@ -88,7 +88,7 @@ others_differ id (one ∷ uploads) none =
     (λ same. not_both (is_name id one) (found id one.id (sym same)) each.0, others_differ id uploads each.1)
 
 -- one of them has it
-repeated : (uploads rest : List Served) (next : Served) → list_any (is_name next.id) uploads ≡ true → NamesDiffer (uploads ++ next ∷ rest) → ⊥
+repeated : (uploads rest : List Served) (next : Served) → list_any (is_name next.id) uploads ≡ true → IdsDiffer (uploads ++ next ∷ rest) → ⊥
 repeated [] rest next held differ = not_both true refl (sym held)
 repeated (one ∷ uploads) rest next held differ =
     ⊎_elim (λ is. last_differs one next uploads rest differ.0 (sym (one_name next.id one.id is))) (λ further. repeated uploads rest next further differ.1)
@@ -101,7 +101,7 @@ differs_more : (one next : Served) (uploads : List Served) → AllByRecursion (�
 differs_more one next [] all apart = (apart, tt)
 differs_more one next (other ∷ uploads) all apart = (all.0, differs_more one next uploads all.1 apart)
 
-differ_more : (uploads : List Served) (next : Served) → AllByRecursion (λ (upload : Served). upload.id ≢ next.id) uploads → NamesDiffer uploads → NamesDiffer (uploads ++ next ∷ [])
+differ_more : (uploads : List Served) (next : Served) → AllByRecursion (λ (upload : Served). upload.id ≢ next.id) uploads → IdsDiffer uploads → IdsDiffer (uploads ++ next ∷ [])
 differ_more [] next others differ = (tt, tt)
 differ_more (one ∷ uploads) next others differ = (differs_more one next uploads differ.0 others.0, differ_more uploads next others.1 differ.1)
 
@@ -111,8 +111,8 @@ joined true false = refl
 joined false true = refl
 joined false false = refl
 
-module _ (names : BTreeSet (List ℕ)) (uploads : List Served) (upload : Served) (before : AreNames names uploads) where
-  with_name : (next : BTreeSet (List ℕ)) → contains (slice_cmp nat_cmp) names upload.id ≡ false → Updates (slice_cmp nat_cmp) names next upload.id true → AreNames next (uploads ++ upload ∷ [])
+module _ (names : BTreeSet (List ℕ)) (uploads : List Served) (upload : Served) (before : AreIds names uploads) where
+  with_name : (next : BTreeSet (List ℕ)) → contains (slice_cmp nat_cmp) names upload.id ≡ false → Updates (slice_cmp nat_cmp) names next upload.id true → AreIds next (uploads ++ upload ∷ [])
   with_name next new updates = record {
     held = λ id.
         updates.0 id ∙ ap (λ (d : Bool). cond (is_same upload.id id) true d) (before.held id) ∙ joined (is_same upload.id id) (list_any (is_name id) uploads)
@@ -120,13 +120,13 @@ module _ (names : BTreeSet (List ℕ)) (uploads : List Served) (upload : Served)
     differ = differ_more uploads upload (others_differ upload.id uploads (sym (before.held upload.id) ∙ new)) before.differ;
   }
 
-  comes_again : (rest : List Served) → contains (slice_cmp nat_cmp) names upload.id ≡ true → NamesDiffer (uploads ++ upload ∷ rest) → ⊥
+  comes_again : (rest : List Served) → contains (slice_cmp nat_cmp) names upload.id ≡ true → IdsDiffer (uploads ++ upload ∷ rest) → ⊥
   comes_again rest old differ = repeated uploads rest upload (sym (before.held upload.id) ∙ old) differ
 
 -- ---- one place further
 
 module _ (names : BTreeSet (List ℕ)) (uploads : List ServedUpload) (place : ℕ) (upload : ServedUpload) (is : upload ≡ get_or uploads place upload) (within : place < length uploads)
-    (before : AreNames names (map served_in (take place uploads))) where
+    (before : AreIds names (map served_in (take place uploads))) where
   next_are : map served_in (take (place + 1) uploads) ≡ map served_in (take place uploads) ++ served_in upload ∷ []
   next_are =
       ap (λ (l : List ServedUpload). map served_in l)
@@ -141,13 +141,13 @@ module _ (names : BTreeSet (List ℕ)) (uploads : List ServedUpload) (place : �
       ∙ append_assoc (map served_in (take place uploads)) (served_in upload ∷ []) (map served_in (drop (place + 1) uploads))
 
   pub one_more : (next : BTreeSet (List ℕ)) (added : Bool) → added ≡ not (contains (slice_cmp nat_cmp) names upload.id) → added ≡ true
-      → Updates (slice_cmp nat_cmp) names next upload.id true → AreNames next (map served_in (take (place + 1) uploads))
+      → Updates (slice_cmp nat_cmp) names next upload.id true → AreIds next (map served_in (take (place + 1) uploads))
   one_more next added told new updates =
-      subst (λ (l : List Served). AreNames next l) (sym next_are)
+      subst (λ (l : List Served). AreIds next l) (sym next_are)
       (with_name names (map served_in (take place uploads)) (served_in upload) before next
       (not-true (contains (slice_cmp nat_cmp) names upload.id) (sym told ∙ new)) updates)
 
-  pub again : (added : Bool) → added ≡ not (contains (slice_cmp nat_cmp) names upload.id) → added ≡ false → ¬ NamesDiffer (map served_in uploads)
+  pub again : (added : Bool) → added ≡ not (contains (slice_cmp nat_cmp) names upload.id) → added ≡ false → ¬ IdsDiffer (map served_in uploads)
   again added told old differ =
       comes_again names (map served_in (take place uploads)) (served_in upload) before (map served_in (drop (place + 1) uploads))
-      (not-false (contains (slice_cmp nat_cmp) names upload.id) (sym told ∙ old)) (subst (λ (l : List Served). NamesDiffer l) all_are differ)
+      (not-false (contains (slice_cmp nat_cmp) names upload.id) (sym told ∙ old)) (subst (λ (l : List Served). IdsDiffer l) all_are differ)

@@ -5,7 +5,7 @@ use Rattle.std.proofs.lemmas.List.{map-append}
 use Rattle.header_types.specs.Fields.{SchemaTree}
 use Rattle.batch_types.specs.Cells.{Rows}
 use Rattle.table_types.specs.Served.{batch_message, messages_of}
-use Rattle.downloads.specs.Downloads.{ServedUpload, as_upload, served_messages, NamesChange}
+use Rattle.downloads.specs.Downloads.{ServedUpload, as_upload, served_messages, IdsChange}
 use Rattle.downloads.specs.Parts.{Part, batch_part, parts_from, parts_of, part_text}
 
 -- ---- lists
@@ -83,11 +83,11 @@ other_begins : (id next : List ℕ) (xs : List Rows) (a : List Part) → id ≢ 
 other_begins id next [] a apart = apart
 other_begins id next (x ∷ xs) a apart = apart
 
-pub others_follow : (one : ServedUpload) (uploads : List ServedUpload) → NamesChange (one ∷ uploads) → IsOther one.id (all_parts uploads)
+pub others_follow : (one : ServedUpload) (uploads : List ServedUpload) → IdsChange (one ∷ uploads) → IsOther one.id (all_parts uploads)
 others_follow one [] change = tt
 others_follow one (next ∷ uploads) change = other_begins one.id next.id next.batches (all_parts uploads) change.0
 
-pub names_rest : (one : ServedUpload) (uploads : List ServedUpload) → NamesChange (one ∷ uploads) → NamesChange uploads
+pub names_rest : (one : ServedUpload) (uploads : List ServedUpload) → IdsChange (one ∷ uploads) → IdsChange uploads
 names_rest one [] change = tt
 names_rest one (next ∷ uploads) change = change.1
 
@@ -110,7 +110,7 @@ one_group id jd xs ys a b named other_a other_b same =
     ends id xs ys a b other_a (subst (λ (n : List ℕ). IsOther n b) (sym named) other_b)
     (subst (λ (n : List ℕ). parts_from id xs ++ a ≡ parts_from n ys ++ b) (sym named) same)
 
-pub grouped_once : (a b : List ServedUpload) → NamesChange a → NamesChange b → all_parts a ≡ all_parts b → a ≡ b
+pub grouped_once : (a b : List ServedUpload) → IdsChange a → IdsChange b → all_parts a ≡ all_parts b → a ≡ b
 grouped_once [] [] change_a change_b same = refl
 grouped_once [] (y ∷ b) change_a change_b same = absurd (some_part y.id y.batches (all_parts b) same)
 grouped_once (x ∷ a) [] change_a change_b same = absurd (some_part x.id x.batches (all_parts a) (sym same))

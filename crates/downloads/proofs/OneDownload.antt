@@ -89,7 +89,7 @@ module _ (schemas : SchemasAreOne) (parts : PartsAreOne) where
       let schema : x.schema ≡ y.schema = schemas x.schema y.schema h.profile h.schema_fits g.profile g.schema_fits short.0 (ap (λ (l : List (List ℕ)). get_or l 0 []) same) in
       let each = subst (λ (s : SchemaTree). AllByRecursion (IsServed s) y.uploads) (sym schema) g.each in
       let rest = subst (λ (s : SchemaTree). flat_map (served_messages x.schema) x.uploads ≡ flat_map (served_messages s) y.uploads) (sym schema) (ap (λ (l : List (List ℕ)). further l) same) in
-      let uploads = grouped_once x.uploads y.uploads h.names_change g.names_change (uploads_are_one x.schema h.profile h.schema_fits x.uploads y.uploads h.each each short.1 rest) in
+      let uploads = grouped_once x.uploads y.uploads h.ids_change g.ids_change (uploads_are_one x.schema h.profile h.schema_fits x.uploads y.uploads h.each each short.1 rest) in
       ap₂ (λ (s : SchemaTree) (us : List ServedUpload). downloaded s us) schema uploads
 
 -- ---- what one message says

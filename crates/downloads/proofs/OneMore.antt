@@ -11,7 +11,7 @@ use Rattle.batch_columns.specs.declared.batch.Batch.{Batch}
 use Rattle.batch_columns.specs.Batches.{rows_of, IsBatchOf}
 use Rattle.downloads.specs.declared.upload_message.UploadMessage.{UploadMessage}
 use Rattle.downloads.specs.declared.download.ServedUpload.{ServedUpload}
-use Rattle.downloads.specs.Downloads.{ServedUpload as Served, NamesChange}
+use Rattle.downloads.specs.Downloads.{ServedUpload as Served, IdsChange}
 use Rattle.downloads.specs.Parts.{Part, batch_part, parts_from, parts_of}
 use Rattle.downloads.specs.Taken.{served_in, HasBatchesOf}
 use Rattle.downloads.specs.Added.{part_in, IsBegun, Begins, IsLonger, Lengthens, parts_in, AreWith, IsAlone}
@@ -39,14 +39,14 @@ was_not_longer last batch told held is none long =
 -- ---- names
 
 -- one more of another name
-names_more : (uploads : List Served) (last next : Served) → last.id ≢ next.id → NamesChange (uploads ++ last ∷ [])
-    → NamesChange ((uploads ++ last ∷ []) ++ next ∷ [])
+names_more : (uploads : List Served) (last next : Served) → last.id ≢ next.id → IdsChange (uploads ++ last ∷ [])
+    → IdsChange ((uploads ++ last ∷ []) ++ next ∷ [])
 names_more [] last next apart change = (apart, tt)
 names_more (one ∷ []) last next apart change = (change.0, (apart, tt))
 names_more (one ∷ other ∷ uploads) last next apart change = (change.0, names_more (other ∷ uploads) last next apart change.1)
 
 -- another last one of the same name
-names_stay : (uploads : List Served) (last next : Served) → next.id ≡ last.id → NamesChange (uploads ++ last ∷ []) → NamesChange (uploads ++ next ∷ [])
+names_stay : (uploads : List Served) (last next : Served) → next.id ≡ last.id → IdsChange (uploads ++ last ∷ []) → IdsChange (uploads ++ next ∷ [])
 names_stay [] last next same change = tt
 names_stay (one ∷ []) last next same change = (subst (λ (id : List ℕ). one.id ≢ id) (sym same) change.0, tt)
 names_stay (one ∷ other ∷ uploads) last next same change = (change.0, names_stay (other ∷ uploads) last next same change.1)
@@ -113,7 +113,7 @@ module _ (uploads : List ServedUpload) (said : UploadMessage) (next : List Serve
   begins_alone none = record {
     parts = next_parts;
     names = λ change.
-        subst (λ (l : List Served). NamesChange l) (sym (next_are ∙ ap (λ (l : List ServedUpload). map served_in l ++ served_in begins.upload ∷ []) none)) tt;
+        subst (λ (l : List Served). IdsChange l) (sym (next_are ∙ ap (λ (l : List ServedUpload). map served_in l ++ served_in begins.upload ∷ []) none)) tt;
     columns = next_columns;
   }
 
@@ -125,9 +125,9 @@ module _ (uploads : List ServedUpload) (said : UploadMessage) (next : List Serve
       record {
         parts = next_parts;
         names = λ change.
-            subst (λ (l : List Served). NamesChange l) (sym (next_are ∙ ap (λ (l : List Served). l ++ served_in begins.upload ∷ []) old))
+            subst (λ (l : List Served). IdsChange l) (sym (next_are ∙ ap (λ (l : List Served). l ++ served_in begins.upload ∷ []) old))
             (names_more (map served_in front) (served_in last) (served_in begins.upload) (λ same. apart (same ∙ begins.begun.named))
-            (subst (λ (l : List Served). NamesChange l) old change));
+            (subst (λ (l : List Served). IdsChange l) old change));
         columns = next_columns;
       }
 
@@ -202,9 +202,9 @@ module _ (uploads front : List ServedUpload) (last longer : ServedUpload) (said 
         ∙ sym (append_assoc (parts_in front) (parts_of (served_in last)) (part_in said ∷ []))
         ∙ ap (λ (l : List Part). l ++ part_in said ∷ []) (sym (parts_push front last) ∙ ap (λ (l : List ServedUpload). parts_in l) (sym are));
     names = λ change.
-        subst (λ (l : List Served). NamesChange l) (sym (map_push served_in front longer))
+        subst (λ (l : List Served). IdsChange l) (sym (map_push served_in front longer))
         (names_stay (map served_in front) (served_in last) (served_in longer) long.named
-        (subst (λ (l : List Served). NamesChange l) (ap (λ (l : List ServedUpload). map served_in l) are ∙ map_push served_in front last) change));
+        (subst (λ (l : List Served). IdsChange l) (ap (λ (l : List ServedUpload). map served_in l) are ∙ map_push served_in front last) change));
     columns = λ schema all is.
         let split = columns_split schema front last (subst (λ (l : List ServedUpload). AllByRecursion (HasBatchesOf schema) l) are all) in
         columns_push schema front longer split.0

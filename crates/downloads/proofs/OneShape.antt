@@ -101,5 +101,5 @@ version_downloads version h = record {
   profile = h.profile;
   schema_fits = h.schema_fits;
   each = all_served version.schema version.uploads h.each;
-  names_differ = h.names_differ;
+  ids_differ = h.ids_differ;
 }

@@ -11,7 +11,7 @@ use Rattle.batch_types.specs.Written.{CanBeWritten}
 use Rattle.table_types.specs.Served.{schema_message}
 use Rattle.table_types.specs.Valid.{FitsFrame}
 use Rattle.downloads.specs.Messages.{IsUploadMessage}
-use Rattle.downloads.specs.Downloads.{ServedUpload as Served, Downloaded, IsServed, IsGrouped, NamesChange}
+use Rattle.downloads.specs.Downloads.{ServedUpload as Served, Downloaded, IsServed, IsGrouped, IdsChange}
 use Rattle.downloads.specs.Parts.{Part, batch_part, parts_from, parts_of, part_text}
 use Rattle.downloads.specs.Taken.{HasDownload}
 use Rattle.downloads.proofs.Differing.{is_grouped}
@@ -76,7 +76,7 @@ parts_before : (id : List ℕ) (batches : List Rows) (rest : List Part) → IsOt
 parts_before id [] rest other none = alone_before id rest other none
 parts_before id (rows ∷ batches) rest other none = batches_before id (rows ∷ batches) rest other none
 
-none_alone : (uploads : List Served) → NamesChange uploads → NoneAlone (flat_map parts_of uploads)
+none_alone : (uploads : List Served) → IdsChange uploads → NoneAlone (flat_map parts_of uploads)
 none_alone [] change = tt
 none_alone (one ∷ uploads) change =
     parts_before one.id one.batches (flat_map parts_of uploads) (others_follow one uploads change) (none_alone uploads (names_rest one uploads change))
@@ -155,7 +155,7 @@ module _ (schemas : SchemasAreOne) (parts : PartsAreOne) (messages : List (List 
 
   -- what the message says is put behind what is said
   pub goes_further : (message : List ℕ) (part : Part) (uploads : List Served) → IsUploadMessage d.schema message part.id part.batch
-      → flat_map parts_of uploads ≡ flat_map parts_of d.uploads ++ part ∷ [] → NamesChange uploads → IsGrouped (messages ++ message ∷ []) (downloaded d.schema uploads)
+      → flat_map parts_of uploads ≡ flat_map parts_of d.uploads ++ part ∷ [] → IdsChange uploads → IsGrouped (messages ++ message ∷ []) (downloaded d.schema uploads)
   goes_further message part uploads told are change = record {
     messages_are =
         ap₂ (λ (ms : List (List ℕ)) (m : List ℕ). ms ++ m ∷ []) texts_are told.is
@@ -167,7 +167,7 @@ module _ (schemas : SchemasAreOne) (parts : PartsAreOne) (messages : List (List 
         are_served d.schema uploads
         (subst (λ (l : List Part). AllByRecursion (IsPart d.schema) l) (sym are)
         (all_push d.schema (flat_map parts_of d.uploads) part (all_are_parts d.schema d.uploads is.each) (told.named, told.served)));
-    names_change = change;
+    ids_change = change;
   }
 
   -- what begins with these messages says what they say, and something more
@@ -211,5 +211,5 @@ module _ (schemas : SchemasAreOne) (parts : PartsAreOne) (messages : List (List 
       (subst (λ (l : List ℕ). FitsFrame l) told.is short) (sym told.is ∙ next.says) in
       let all : flat_map parts_of has.0.uploads ≡ front ++ last ∷ part ∷ next.others =
       next.are ∙ ap₂ (λ (l : List Part) (p : Part). l ++ p ∷ next.others) are (sym one) ∙ append_assoc front (last ∷ []) (part ∷ next.others) in
-      let each = beside front last part next.others (subst (λ (l : List Part). NoneAlone l) all (none_alone has.0.uploads (grouped_of message more has).names_change)) named in
+      let each = beside front last part next.others (subst (λ (l : List Part). NoneAlone l) all (none_alone has.0.uploads (grouped_of message more has).ids_change)) named in
       neither last part alone each.0 each.1

@@ -9,7 +9,7 @@ use Rattle.batch_columns.specs.declared.batch.Batch.{Batch}
 use Rattle.batch_columns.specs.Batches.{rows_of, IsBatchOf}
 use Rattle.downloads.specs.declared.upload_message.UploadMessage.{UploadMessage}
 use Rattle.downloads.specs.declared.download.ServedUpload.{ServedUpload}
-use Rattle.downloads.specs.Downloads.{NamesChange}
+use Rattle.downloads.specs.Downloads.{IdsChange}
 use Rattle.downloads.specs.Parts.{Part, parts_of}
 use Rattle.downloads.specs.Taken.{served_in, HasBatchesOf}
 
@@ -48,11 +48,11 @@ parts_in uploads = flat_map parts_of (map served_in uploads)
 -- what is said of the next uploads is what is said of these, and the message's at the end
 pub record AreWith (uploads : List ServedUpload) (said : UploadMessage) (next : List ServedUpload) : Type 0 where
   pub parts : parts_in next ≡ parts_in uploads ++ part_in said ∷ []
-  pub names : NamesChange (map served_in uploads) → NamesChange (map served_in next)
+  pub names : IdsChange (map served_in uploads) → IdsChange (map served_in next)
   pub columns : (schema : SchemaTree) → AllByRecursion (HasBatchesOf schema) uploads → IfSome said.batch (IsBatchOf schema)
       → AllByRecursion (HasBatchesOf schema) next
 
--- what is said last has the name that the message has, and one of the two is a name alone
+-- what is said last has the id that the message has, and one of the two is an id alone
 pub record IsAlone (uploads : List ServedUpload) (said : UploadMessage) : Type 0 where
   pub front : List Part
   pub last : Part
@@ -60,7 +60,7 @@ pub record IsAlone (uploads : List ServedUpload) (said : UploadMessage) : Type 0
   pub named : last.id ≡ said.id
   pub alone : (last.batch ≡ None) ⊎ (said.batch ≡ None)
 
--- the uploads with what the message says, or a name stands alone beside the same name
+-- the uploads with what the message says, or an id stands alone beside the same id
 abbrev pub Adds : List ServedUpload → UploadMessage → Result (Option (Vec ServedUpload Global)) AllocError → Type 0
 Adds uploads said (Ok (Some next)) = AreWith uploads said next.items
 Adds uploads said (Ok None) = IsAlone uploads said

@@ -48,7 +48,7 @@ abbrev pub AreOf : SchemaTree → List ℕ → List ℕ → Option Rows → Type
 AreOf schema header body None = (header ≡ []) × (body ≡ [])
 AreOf schema header body (Some rows) = AreRowsText schema (header, body) rows
 
--- what the header and the body say of an upload of this name; or nothing, if a frame has room for the body
+-- what the header and the body say of an upload of this id; or nothing, if a frame has room for the body
 abbrev pub TellsOfParts : SchemaTree → List ℕ → List ℕ → List ℕ → Result (Option UploadMessage) AllocError → Type 0
 TellsOfParts schema id header body (Ok (Some said)) =
     (said.id ≡ id) × AreOf schema header body (option_map rows_of said.batch) × IfSome said.batch (IsBatchOf schema)

@@ -1,5 +1,5 @@
 -- What one message of the answer to a ticket says: Apache Arrow, "Flight.proto", `FlightData`, and "Arrow Flight RPC",
--- "Downloading Data". Each has one encoding. That a message has the upload's own name is this service's own.
+-- "Downloading Data". Each has one encoding. That a message has the upload's id is this service's own.
 use Rattle.std.specs.Prelude.{◌≡◌, ℕ, List, [], Option, Some, None}
 use Rattle.header_types.specs.Fields.{SchemaTree}
 use Rattle.header_types.specs.Profile.{InProfile}
@@ -17,7 +17,7 @@ pub record IsSchemaMessage (message : List ℕ) (schema : SchemaTree) : Type 0 w
   pub profile : InProfile schema
   pub fits : FitsSchema schema
 
--- the message of an upload of this name: the name alone, or the name with the header and the body of one of its batches
+-- the message of an upload of this id: the id alone, or the id with the header and the body of one of its batches
 abbrev pub message_text : SchemaTree → List ℕ → Option Rows → List ℕ
 message_text schema id None = data_text [] id []
 message_text schema id (Some rows) = data_text (head_text schema rows) id (canonical_body schema rows)
@@ -27,7 +27,7 @@ abbrev pub CanBeServed : SchemaTree → Option Rows → Type 0
 CanBeServed schema None = Unit {0}
 CanBeServed schema (Some rows) = CanBeWritten schema rows
 
--- the message says this of an upload to a table of this schema: its name, and one of its batches or none
+-- the message says this of an upload to a table of this schema: its id, and one of its batches or none
 pub record IsUploadMessage (schema : SchemaTree) (message id : List ℕ) (rows : Option Rows) : Type 0 where
   pub is : message ≡ message_text schema id rows
   pub named : IsId id

@@ -14,7 +14,7 @@ use Rattle.downloads.specs.Downloads.{ServedUpload as Served, Downloaded, IsDown
 
 -- ---- a download
 
--- the upload: its name, and the rows of its batches
+-- the upload: its id, and the rows of its batches
 abbrev pub served_in : ServedUpload → Served
 served_in upload = record { id = upload.id; batches = map rows_of upload.batches.items }
 

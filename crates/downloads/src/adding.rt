@@ -46,7 +46,7 @@ fn begin(
     Ok(next)
 }
 
-/// The upload with one batch more. `None` says that the upload has no batch, or that there is none more: a name alone is of
+/// The upload with one batch more. `None` says that the upload has no batch, or that there is none more: an id alone is of
 /// an upload without batches.
 fn lengthen(upload: ServedUpload, batch: Option<Batch>) -> Result<Option<ServedUpload>, AllocError>
     ensures { Lengthens upload batch result }
@@ -62,8 +62,8 @@ fn lengthen(upload: ServedUpload, batch: Option<Batch>) -> Result<Option<ServedU
     Ok(Some(ServedUpload { id, batches }))
 }
 
-/// The uploads with what a message says, of the last of them or of a further one. `None` says that it is a name alone beside
-/// an upload of this name, or a batch beside that name alone.
+/// The uploads with what a message says, of the last of them or of a further one. `None` says that it is an id alone beside
+/// an upload of this id, or a batch beside that id alone.
 pub(crate) fn add(
     alloc: Global,
     uploads: Vec<ServedUpload>,

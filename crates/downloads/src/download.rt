@@ -6,7 +6,7 @@ use header_types::Schema;
 /// What was served of an upload.
 #[derive(Debug, Drop)]
 pub struct ServedUpload {
-    /// The upload's own name.
+    /// The upload's id.
     pub id: [u8; 16],
     /// Its batches, in order; there may be none.
     pub batches: Vec<Batch>,
@@ -17,6 +17,6 @@ pub struct ServedUpload {
 pub struct Download {
     /// The schema of the version.
     pub schema: Schema,
-    /// Its uploads, in order. No two have one name.
+    /// Its uploads, in order. No two have one id.
     pub uploads: Vec<ServedUpload>,
 }

@@ -9,8 +9,8 @@ ghost use Rattle.downloads.specs.Taken.{IsReady, HasTaken, TellsDownload};
 
 use crate::adding::add;
 use crate::download::Download;
+use crate::ids::ids_differ;
 use crate::laws::messages_are_one;
-use crate::names::names_differ;
 use crate::{schema_in, upload_in};
 use std::alloc::{AllocError, Global};
 
@@ -19,7 +19,7 @@ use std::alloc::{AllocError, Global};
 pub enum Downloading {
     /// None came.
     Begun,
-    /// They group into these uploads, of which no two that stand side by side have one name. Whether a name comes again
+    /// They group into these uploads, of which no two that stand side by side have one id. Whether an id comes again
     /// further on is not yet asked.
     Reached(Download),
     /// They are those of no download, whatever follows them.
@@ -27,8 +27,8 @@ pub enum Downloading {
 }
 
 impl Downloading {
-    /// With one message more, of no more than 4,194,304 bytes. A message of an upload says its name and one of its batches, or
-    /// its name alone: the batches of one name that follow one another are of one upload, and a name alone is of an upload
+    /// With one message more, of no more than 4,194,304 bytes. A message of an upload says its id and one of its batches, or
+    /// its id alone: the batches of one id that follow one another are of one upload, and an id alone is of an upload
     /// without batches.
     ///
     /// [`AllocError`]: memory was refused, and what came is let go.
@@ -46,7 +46,7 @@ impl Downloading {
         }
     }
 
-    /// The download whose messages came, and no others; `None` where they are those of none, as where a name comes again
+    /// The download whose messages came, and no others; `None` where they are those of none, as where an id comes again
     /// behind another upload.
     ///
     /// [`AllocError`]: memory was refused, and what came is let go.
@@ -96,12 +96,12 @@ fn go_on(alloc: Global, download: Download, message: &[u8]) -> Result<Downloadin
     }
 }
 
-/// What the messages of these uploads are at their end: a download, if no two of the uploads have one name.
+/// What the messages of these uploads are at their end: a download, if no two of the uploads have one id.
 fn without_repeats(alloc: Global, download: Download) -> Result<Option<Download>, AllocError>
     ensures { (messages : List (List ℕ)) → HasTaken (Reached download) messages → IfOk result (TellsDownload messages) }
 {
     messages_are_one();
-    if names_differ(alloc, download.uploads.as_slice())? {
+    if ids_differ(alloc, download.uploads.as_slice())? {
         Ok(Some(download))
     } else {
         Ok(None)

@@ -9,8 +9,8 @@ ghost use Rattle.table_types.specs.Valid.{FitsFrame};
 ghost use Rattle.downloads.specs.MessageParts.{AreParts, TellsParts};
 
 use proto_fields::bytes_at;
-use proto_messages::append_bytes;
 use proto_messages::laws::canonical_messages_are_messages;
+use proto_wire::FlightDataRef;
 use std::alloc::{AllocError, Global};
 
 /// The number of the field with the header.
@@ -58,16 +58,21 @@ fn found_parts(message: &[u8]) -> Option<Parts<'_>>
 }
 
 /// The message of these parts, which has so many bytes.
-#[tactic(auto, using(proto_messages::proofs::CallerLemmas::chains))]
 fn message_of(alloc: Global, parts: Parts<'_>, length: usize) -> Result<Vec<u8>, AllocError>
     ensures { IfOk result (λ message. message.items
         ≡ data_text parts.entry.header.now parts.entry.metadata.now parts.entry.body.now) }
 {
+    let lent = FlightDataRef {
+        flight_descriptor: None,
+        data_header: parts.header,
+        app_metadata: parts.metadata,
+        data_body: parts.body,
+    };
     let mut message = Vec::with_capacity(alloc, length)?;
-    append_bytes(&mut message, HEADER, parts.header)?;
-    append_bytes(&mut message, METADATA, parts.metadata)?;
-    append_bytes(&mut message, BODY, parts.body)?;
-    Ok(message)
+    match lent.encode(&mut message) {
+        Ok(()) => Ok(message),
+        Err(_) => Err(AllocError),
+    }
 }
 
 /// The parts of which the bytes are the message, or `None` where they are that of none.

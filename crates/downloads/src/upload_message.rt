@@ -14,16 +14,16 @@ use std::alloc::{AllocError, Global};
 use upload_parts::MAX_UPLOAD_BYTES;
 use upload_reading::{DecodeFault, read_rows};
 
-/// What a message says of an upload: its name, and one of its batches; or the name alone, of an upload without batches.
+/// What a message says of an upload: its id, and one of its batches; or the id alone, of an upload without batches.
 #[derive(Debug, Drop)]
 pub struct UploadMessage {
-    /// The upload's own name.
+    /// The upload's id.
     pub id: [u8; 16],
     /// The batch, if the message has one.
     pub batch: Option<Batch>,
 }
 
-/// The name that these bytes are: 16 of them.
+/// The id that these bytes are: 16 of them.
 fn id_in(bytes: &[u8]) -> Option<[u8; 16]>
     ensures some { IfSome result (λ id. (id ≡ bytes.now) × IsId id) }
     ensures none { IfNone result (¬ IsId bytes.now) }
@@ -52,7 +52,7 @@ fn batch_in(
     }
 }
 
-/// What the message of these parts says of an upload of this name.
+/// What the message of these parts says of an upload of this id.
 fn upload_of_parts(
     alloc: Global,
     schema: &Schema,
@@ -76,7 +76,7 @@ fn upload_of_parts(
 }
 
 /// What these bytes, no more than 4,194,304, say of an upload to a table of this schema: the one encoding of a `FlightData`
-/// that has the upload's own name, of 16 bytes, and the header and the body of a batch of the schema; or the name alone
+/// that has the upload's id, of 16 bytes, and the header and the body of a batch of the schema; or the id alone
 /// (Apache Arrow, "Flight.proto", `FlightData`). `None` says that they are that of none, and [`AllocError`] that memory was
 /// refused.
 pub fn upload_in(

@@ -1,6 +1,6 @@
 -- What a call is answered: Apache Arrow, "Flight.proto", `FlightInfo`, `SchemaResult`, `FlightData` and `PutResult`, and
 -- "Arrow Flight RPC", "Downloading Data" and "Uploading Data". How many locations there are, and that a PutResult has the
--- upload's name and the version that it made, is this service's own.
+-- upload's id and the version that it made, is this service's own.
 use Rattle.std.specs.Prelude.{◌≡◌, ◌⊎◌, ℕ, ℤ, pos, negsuc, nat_lt, if◌then◌else◌, true, List, [], ◌∷◌, map, Some}
 use Rattle.std.specs.List.{AllByRecursion}
 use Rattle.proto_messages.specs.Descriptor.{Values}

@@ -2,21 +2,20 @@
 
 ghost use Rattle.std.specs.Prelude.{◌≡◌, ◌∷◌, [], IfOk, map, string_bytes};
 ghost use Rattle.proto_messages.specs.Canonical.{canonical};
-ghost use Rattle.proto_wire.specs.FlightValues.{descriptor_values, endpoint_values, location_values, info_values};
+ghost use Rattle.proto_wire.specs.FlightValues.{endpoint_values, location_values, info_values};
 ghost use Rattle.header_writing.specs.Canonical.{encapsulated};
 ghost use Rattle.table_types.specs.Valid.{FitsFrame};
 ghost use Rattle.table_types.specs.Ticket.{IsTableVersion, ticket_text};
-ghost use Rattle.call_words.specs.Names.{table_descriptor};
 ghost use Rattle.flight_calls.specs.Replies.{total_of};
 ghost use Rattle.call_words.specs.Results.{applied_descriptor, put_result};
 ghost use Rattle.flight_calls.specs.Describing.{CanBeTold, version_in, locations_in, endpoint_told, values_told, message_of, schema_told};
 
 use crate::table_description::TableDescription;
+use call_words::table_descriptor;
 use header_writing::encapsulate;
 use proto_messages::{ProtoMessage, append_bytes, append_uint64};
 use proto_wire::{
-    DescriptorType, FlightDescriptor, FlightEndpoint, FlightInfo, Location, PutResult,
-    SchemaResult, Ticket as TicketMessage,
+    FlightEndpoint, FlightInfo, Location, PutResult, SchemaResult, Ticket as TicketMessage,
 };
 use std::alloc::{AllocError, Global};
 use table_types::Ticket;
@@ -33,20 +32,6 @@ fn total_of(number: u64) -> i64
     } else {
         -1
     }
-}
-
-/// The descriptor of a table.
-fn descriptor_of(alloc: Global, table: &str) -> Result<FlightDescriptor, AllocError>
-    ensures { IfOk result (λ descriptor. descriptor_values descriptor ≡ table_descriptor table.now) }
-{
-    let name = String::from_str(alloc, table)?;
-    let mut path = Vec::new(alloc);
-    path.push(name)?;
-    Ok(FlightDescriptor {
-        descriptor_type: DescriptorType::PATH,
-        cmd: Vec::new(alloc),
-        path,
-    })
 }
 
 /// The ticket of a version.
@@ -114,7 +99,7 @@ fn flight_info(alloc: Global, described: &TableDescription) -> Result<FlightInfo
         described.now.info.schema.items (locations_in described.now)) }
 {
     let schema = encapsulated_of(alloc, &described.info.schema)?;
-    let descriptor = descriptor_of(alloc, &described.info.table)?;
+    let descriptor = table_descriptor(alloc, &described.info.table)?;
     let endpoint = endpoints_of(alloc, described)?;
     Ok(FlightInfo {
         schema,
@@ -158,7 +143,7 @@ pub(crate) fn schema_message(alloc: Global, schema: &[u8]) -> Result<Vec<u8>, Al
     encoded(alloc, &SchemaResult { schema })
 }
 
-/// What tells of an upload that counts: its name, and the version that it made.
+/// What tells of an upload that counts: its id, and the version that it made.
 #[tactic(auto, using(proto_messages::proofs::CallerLemmas::chains))]
 fn applied(alloc: Global, id: &[u8], version: u64) -> Result<Vec<u8>, AllocError>
     ensures { IfOk result (λ bytes. bytes.items ≡ canonical applied_descriptor (id.now, (version, tt))) }

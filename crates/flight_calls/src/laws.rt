@@ -58,7 +58,7 @@ pub fn replies_are_one()
     refusals_are_told();
 }
 
-/// The answer to an upload that counts is read as its name and the version that it made.
+/// The answer to an upload that counts is read as its id and the version that it made.
 pub fn put_results_are_read()
     ensures { (id : List ℕ) (version : ℕ) → IsId id → version < 2 ^ 64
         → (text : List ℕ) × IsMessage put_result_descriptor (put_result id version) (text, tt)

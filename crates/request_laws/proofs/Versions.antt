@@ -16,10 +16,11 @@ use Rattle.table_types.proofs.Growing.{all_there}
 use Rattle.table_versions.specs.State.{values_limit}
 use Rattle.table_versions.proofs.BareSchemas.{ShapesApart, bare_writable}
 use Rattle.call_words.specs.Statuses.{ok_trailer}
-use Rattle.downloads.specs.Downloads.{ServedUpload, NamesDiffer, IsOfVersion, IsServedVersion, served_of}
+use Rattle.downloads.specs.Downloads.{ServedUpload, IdsDiffer, IsOfVersion, IsServedVersion, served_of}
 use Rattle.client_calls.specs.Answers.{IsAnswer}
 use Rattle.request_laws.specs.Versions.{IsMadeOf}
-use Rattle.request_laws.proofs.Counted.{all_counted, all_of_first, few_counted, few_of_first}
+use Rattle.table_types.proofs.Filtered.{all_effective, few_effective}
+use Rattle.request_laws.proofs.Counted.{all_of_first, few_of_first}
 
 -- ---- names
 
@@ -34,12 +35,12 @@ others_differ (suc n) one [] apart = tt
 others_differ (suc n) one (x ∷ xs) apart =
     (apart 0 (omega arith), others_differ n one xs (λ j within. apart (suc j) (omega (arith, within))))
 
-names_differ : (n : ℕ) (counted : List Upload) → NamesApart counted → NamesDiffer (map served_of (take n counted))
-names_differ zero counted apart = tt
-names_differ (suc n) [] apart = tt
-names_differ (suc n) (x ∷ xs) apart = (
+ids_differ : (n : ℕ) (counted : List Upload) → NamesApart counted → IdsDiffer (map served_of (take n counted))
+ids_differ zero counted apart = tt
+ids_differ (suc n) [] apart = tt
+ids_differ (suc n) (x ∷ xs) apart = (
   others_differ n x xs (λ j within. apart 0 (suc j) x (omega arith) (omega (arith, within))),
-  names_differ n xs (λ i j none below within. apart (suc i) (suc j) none (omega (arith, below)) (omega (arith, within))),
+  ids_differ n xs (λ i j none below within. apart (suc i) (suc j) none (omega (arith, below)) (omega (arith, within))),
 )
 
 -- ---- shapes
@@ -79,7 +80,7 @@ module _ (shapes : ShapesApart) where
       profile = taken.0.profile;
       schema_fits = taken.0.schema_fits;
       each = all_of_first (IsOfVersion first.schema) number (first ∷ rest) (all_of_version shapes first rest taken shape);
-      names_differ = names_differ number (first ∷ rest) apart;
+      ids_differ = ids_differ number (first ∷ rest) apart;
     };
     schema_fits = taken.0.schema_served;
     few = few_of_first number (first ∷ rest);
@@ -97,12 +98,12 @@ module _ (shapes : ShapesApart) where
     pub made_can : (version : Version) (uploads : List Upload) → IsMadeOf version uploads → CanBeServed version (length uploads)
     made_can version uploads made =
         let can : CanBeServed version (length (effective made.table uploads)) =
-        counted_can made.number (effective made.table uploads) version (all_counted IsUpload made.table uploads made.taken)
+        counted_can made.number (effective made.table uploads) version (all_effective IsUpload made.table uploads made.taken)
         (names made.table uploads) (one_shape made.table uploads) made.is in
         record {
           served = can.served;
           schema_fits = can.schema_fits;
-          few = omega (arith, can.few, few_counted made.table uploads);
+          few = omega (arith, can.few, few_effective made.table uploads);
         }
 
 -- ---- its answer

@@ -26,7 +26,7 @@ abbrev pub IsSchemaFor : Option SchemaTree → List Data → SchemaTree → Type
 IsSchemaFor (Some given) values schema = schema ≡ given
 IsSchemaFor None values schema = AllByRecursion (TellsSomeRow schema.fields) values
 
--- the upload is one to this table, under this name of its own, and its batches, one behind the other, are the rows that the
+-- the upload is one to this table, under this id, and its batches, one behind the other, are the rows that the
 -- lines of the text tell
 pub record IsUploadOfRows (table id : List ℕ) (given : Option SchemaTree) (text : List ℕ) (upload : Upload) : Type 0 where
   pub table_is : upload.table ≡ table
@@ -75,7 +75,7 @@ PutsRows table id given text (Err (faults.Rows fault)) old new = TellsNoRows giv
 PutsRows table id given text (Err (faults.Upload fault)) old new = AreRefusedRows table id given text fault × (new ≡ old)
 PutsRows table id given text (Err faults.Output) old new = ⊥
 
--- what came back is the answer to an upload of this name; of rows that make none nothing was read
+-- what came back is the answer to an upload of this id; of rows that make none nothing was read
 abbrev pub IsToldOfPut : List ℕ → Result ℕ RowCallFault → List ℕ → List ℕ → Type 0
 IsToldOfPut id (Ok version) text rest = Receives (GivesVersion id) (HasVersion id) (Ok version) text rest
 IsToldOfPut id (Err (faults.Call fault)) text rest = Receives (GivesVersion id) (HasVersion id) (Err fault) text rest

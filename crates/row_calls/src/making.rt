@@ -13,7 +13,7 @@ use json_rows::{read_rows, schema_of_rows};
 use std::alloc::Global;
 use uploads::Upload;
 
-/// The upload to this table, under this name of its own, of the rows that the lines of a text tell, of this schema.
+/// The upload to this table, under this id, of the rows that the lines of a text tell, of this schema.
 fn upload_of_schema(
     alloc: Global,
     table: &str,
@@ -35,7 +35,7 @@ fn upload_of_schema(
     }
 }
 
-/// The upload to this table, under this name of its own, of the rows that the lines of a text tell: of the schema, where one is
+/// The upload to this table, under this id, of the rows that the lines of a text tell: of the schema, where one is
 /// given, else of that of [`schema_of_rows`]. Its batches are those of [`read_rows`].
 ///
 /// - [`RowCallFault::Rows`]: the lines tell no rows of the schema, as `read_rows` and `schema_of_rows` tell it, with the number of

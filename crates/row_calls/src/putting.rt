@@ -12,7 +12,7 @@ use header_types::Schema;
 use std::alloc::Global;
 use std::io::{Read, Write};
 
-/// Uploads the rows that the lines of a text tell (RFC 8259; JSON Lines), to this table and under this name of the upload's own
+/// Uploads the rows that the lines of a text tell (RFC 8259; JSON Lines), to this table and under this id
 /// (Apache Arrow, "Flight.proto", `DoPut`), and gives which version of the table they made. The rows are of the schema, where one is
 /// given, else of that of [`json_rows::schema_of_rows`]; they are cut into batches of up to 65,536 rows and of up to 4,128,768 bytes.
 ///

@@ -135,7 +135,7 @@ rows_told d text vs ws same values_at m =
     subst (λ (l : List Value). AllZip TellsRows (map view l) m.upload.batches) (sym same)
     (parts_told d m.tells.digits m.tells.name (map view vs) m.upload m.tells.digits_at m.tells.named (sym values_at) m.tells).batches
 
--- ---- an upload's own name
+-- ---- an upload's id
 
 bound : (r : Result ℕ FromHexError) (s : Result (List ℕ) FromHexError) (bytes : List ℕ) → (r >>= (λ b. s >>= (λ bs. Ok (b ∷ bs)))) ≡ Ok bytes
     → (b : ℕ) × (bs : List ℕ) × (s ≡ Ok bs) × (bytes ≡ b ∷ bs)

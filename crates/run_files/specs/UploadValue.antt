@@ -1,4 +1,4 @@
--- What a value of JSON tells as an upload: one column of small numbers, batch by batch. Its own name is hexadecimal (RFC
+-- What a value of JSON tells as an upload: one column of small numbers, batch by batch. Its id is hexadecimal (RFC
 -- 4648, section 8).
 use Rattle.std.specs.Prelude.{◌≡◌, ◌⊎◌, ◌≤◌, ◌<◌, ℕ, ℤ, pos, ◌-ℤ◌, true, List, [], ◌∷◌, codes, length, map, Option, Some, None, option_and_then, Ok}
 use Rattle.std.specs.List.{AllZip}

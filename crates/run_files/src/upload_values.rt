@@ -173,7 +173,7 @@ fn batches_of(alloc: Global, values: &[Value]) -> Result<Vec<Batch>, ValueFault>
     Ok(batches)
 }
 
-/// The upload's own name, 32 hexadecimal digits of either case.
+/// The upload's id, 32 hexadecimal digits of either case.
 fn id_of(digits: &str) -> Option<[u8; 16]>
     ensures read { IfSome result (λ id. decode_of digits.now ≡ Ok id) }
     ensures only { (id : List ℕ) → IsId id → decode_of digits.now ≡ Ok id → IsSome result }
@@ -222,7 +222,7 @@ fn made(
     }
 }
 
-/// The upload that an object tells: its table, its own name, its values, a batch for each array of them, and, where it
+/// The upload that an object tells: its table, its id, its values, a batch for each array of them, and, where it
 /// has that member, the name of its column. What else the object has means nothing.
 pub(crate) fn upload_of(alloc: Global, value: &Value) -> Result<Upload, ValueFault>
     ensures read { IfOk result (MeansUpload (view value.now)) }

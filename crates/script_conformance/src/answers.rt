@@ -44,7 +44,7 @@ fn is_line(alloc: Global, call: &str, digits: &[&str], wanted: &str) -> Result<b
     Ok(line(alloc, call, digits)?.as_str() == wanted)
 }
 
-/// Results of the upload: version 1, version 2^64 - 1, of another name, and two messages.
+/// Results of the upload: version 1, version 2^64 - 1, of another id, and two messages.
 #[test]
 fn tells_the_version_of_an_upload(rt: HostRuntime) -> Result<(), Fail> {
     let alloc = rt.alloc();

@@ -13,7 +13,7 @@ use table_backend::TableBackend;
 const FIRST: &str =
     r#"{"table":"t","id":"000102030405060708090a0b0c0d0e0f","values":[[1,null,3]]}"#;
 
-/// The frames of version 1 of t: the message of its schema, of 152 bytes, and that of its batch with the upload's name, whose
+/// The frames of version 1 of t: the message of its schema, of 152 bytes, and that of its batch with the upload's id, whose
 /// header has 144 bytes and whose body has 16.
 const VERSION: &str = "\
     000000009b129801100000000c00180004000600080010000c00000004000100200000000000000000000000000000000000\
@@ -77,7 +77,7 @@ fn tells_what_the_call_was_told(rt: HostRuntime) -> Result<(), Fail> {
     Ok(())
 }
 
-/// Uploads that are taken, known already, of another schema, or of a name that another upload has.
+/// Uploads that are taken, known already, of another schema, or of an id that another upload has.
 const PUTS: &str = r#"
     ["put",0,{"table":"t","id":"00000000000000000000000000000001","values":[[1]]}],
     ["put",1,{"table":"t","id":"00000000000000000000000000000002","values":[[2],[3]]}],

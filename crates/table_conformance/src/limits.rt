@@ -128,7 +128,7 @@ fn uploads_of_16_mebibytes_are_read(rt: HostRuntime) -> Result<(), Fail> {
 }
 
 // A batch of one row, of a multiple of eight bytes, is served in a message of 195 bytes more: 160 for its header, 16 for
-// the upload's name, 8 for the two offsets, and 11 for keys and lengths. So no message has 4,194,304 bytes; one has five
+// the upload's id, 8 for the two offsets, and 11 for keys and lengths. So no message has 4,194,304 bytes; one has five
 // bytes less, and with its frame's first five just as many, and the next has three more.
 #[test]
 fn messages_that_are_served_have_4_mebibytes(rt: HostRuntime) -> Result<(), Fail> {

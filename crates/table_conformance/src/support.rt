@@ -43,7 +43,7 @@ pub(crate) fn batches(alloc: Global, lens: &[usize]) -> Result<Vec<Batch>, Alloc
     Ok(batches)
 }
 
-/// The name of an upload, of this number.
+/// The id of an upload, of this number.
 pub(crate) fn id(number: u64) -> [u8; 16] {
     u128::from(number).to_be_bytes()
 }

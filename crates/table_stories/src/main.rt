@@ -1,7 +1,7 @@
 //! Answers requests about uploads, tickets, and the tables that agreed values make. `story_requests` says what a request
 //! and an answer are; a table's name is given and told as bytes.
 //!
-//! `upload BYTES` tells the upload that the bytes are: its table, its own name, the length of its schema's header, the
+//! `upload BYTES` tells the upload that the bytes are: its table, its id, the length of its schema's header, the
 //! number of its batches, and the names of its columns; or `NotAnUpload`. `ticket VERSION TABLE` gives the bytes of a
 //! ticket, `none` where there is none such, and `read-ticket BYTES` the version and the table of one, or `BadTicket`.
 //!

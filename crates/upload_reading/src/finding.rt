@@ -79,7 +79,7 @@ fn take_batch(batch: &[u8]) -> Option<(&[u8], &[u8])>
     Some((header, body))
 }
 
-/// What follows the encoded batch at the front, which a frame has room for with the upload's name, or `None` where no
+/// What follows the encoded batch at the front, which a frame has room for with the upload's id, or `None` where no
 /// such batch stands there.
 fn take_next<'a>(rest: &'a [u8], id: &[u8]) -> Option<&'a [u8]>
     requires short { length rest.now ≤ upload_limit }

@@ -11,6 +11,6 @@ use Rattle.upload_parts.specs.Parts.{batch_parts, served_of}
 abbrev pub parts_held : SchemaTree → List Batch → List (List ℕ × List ℕ)
 parts_held schema batches = map (batch_parts schema) (map rows_of batches)
 
--- a frame has room for what is served of each, with the upload's own name
+-- a frame has room for what is served of each, with the upload's id
 abbrev pub AreServed : List ℕ → SchemaTree → List Batch → Type 0
 AreServed id schema batches = AllByRecursion (λ parts. FitsFrame (served_of id parts)) (parts_held schema batches)

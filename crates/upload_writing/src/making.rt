@@ -36,11 +36,11 @@ fn are_of_schema(schema: &Schema, batches: &[Batch]) -> bool
     schema.in_profile() && are_batches_of(schema, batches)
 }
 
-/// The one encoding of the upload to this table, under this name of its own, of this schema and these batches.
+/// The one encoding of the upload to this table, under this id, of this schema and these batches.
 ///
 /// [`UploadFault`] has what they may be refused for, and the first of these is told that holds. How long the encoding is,
 /// and each message that is served of it (`FlightData` of Apache Arrow, "Flight.proto", with the schema, or with a batch
-/// and the upload's own name), is counted of what is written here, whatever the batches came from, before memory is asked.
+/// and the upload's id), is counted of what is written here, whatever the batches came from, before memory is asked.
 pub fn encode_upload(
     alloc: Global,
     table: &str,

@@ -45,7 +45,7 @@ fn encoded_length(header: u64, body: u64) -> u64
 }
 
 /// How many bytes a batch has in the encoding of an upload of this schema: those of its field, with its header and its body
-/// as they are written. `None` exactly where no frame has room for what is served of it, with the upload's own name.
+/// as they are written. `None` exactly where no frame has room for what is served of it, with the upload's id.
 pub fn batch_size(schema: &Schema, id: &[u8], batch: &Batch) -> Option<u64>
     requires profile { InProfile (schema_of schema.now) }
     requires of_schema { IsBatchOf (schema_of schema.now) batch.now }

@@ -28,7 +28,7 @@ counts_none old new result [] gives none = refl
 counts_none old new None (parts ∷ rest) gives none = absurd gives
 counts_none old new (Some given) (parts ∷ rest) gives none = cc
 
--- ---- the upload's own name
+-- ---- the upload's id
 
 pub whole_id : (id : List ℕ) (u : Upload) → IsUpload u → id ≡ u.id → take 16 id ≡ u.id
 whole_id id u is same =

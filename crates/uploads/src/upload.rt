@@ -25,7 +25,7 @@ use upload_parts::{EncodedBatches, parts_of};
 use upload_reading::{DecodeFault, check_upload, written_batches, written_schema};
 use upload_writing::{UploadFault, encode_upload};
 
-/// What a client uploads: rows for a table, under a name of the client's own, in their one encoding. Contracts see the
+/// What a client uploads: rows for a table, under an id that the client chose, in their one encoding. Contracts see the
 /// bytes of the encoding. A clone shares them: it copies no byte, and takes no memory but what a further owner of a
 /// [`Bytes`] may take.
 #[derive(Debug, Drop)]
@@ -42,7 +42,7 @@ impl Model for Upload {
 }
 
 impl Upload {
-    /// The upload to this table, under this name of its own, of this schema and these batches, which are encoded in the one
+    /// The upload to this table, under this id, of this schema and these batches, which are encoded in the one
     /// way that there is, whatever they came from.
     ///
     /// The first of these faults is told that holds:
@@ -51,7 +51,7 @@ impl Upload {
     /// - [`UploadFault::ShapeDiffers`]: the schema is not one that can be written and read back ([`Schema::in_profile`]), or
     ///   a batch is not of it ([`Batch::is_of`]).
     /// - [`UploadFault::TooLarge`]: the encoding would have more than 16,777,216 bytes, or a message that is served of it
-    ///   (`FlightData` of Apache Arrow, "Flight.proto", with the schema, or with a batch and the upload's own name) more
+    ///   (`FlightData` of Apache Arrow, "Flight.proto", with the schema, or with a batch and the upload's id) more
     ///   than 4,194,304. It is counted before memory is asked.
     /// - [`UploadFault::OutOfMemory`]: memory was refused, and none of the others holds.
     pub fn new(
@@ -129,7 +129,7 @@ impl Upload {
         }
     }
 
-    /// Its own name, which its client chose.
+    /// Its id, which its client chose.
     pub fn id(&self) -> [u8; 16]
         ensures { (upload : Uploaded) → IsUpload upload → upload_text upload ≡ self.now → result ≡ upload.id }
     {

@@ -1,4 +1,4 @@
--- The keys by which uploads that wait are found: the name of each, and a hash of its encoding.
+-- The keys by which uploads that wait are found: the id of each, and a hash of its encoding.
 use Rattle.std.specs.Prelude.{◌≡◌, ℕ, ◌≤◌, Bool, if◌then◌else◌, List, [], ◌∷◌}
 use Rattle.std.specs.List.{AllByRecursion}
 use Rattle.std.specs.Hash.DefaultHasher.{write, finish}
@@ -9,7 +9,7 @@ use Rattle.table_types.specs.Texts.{IsTextOf, IsUploadText}
 use Rattle.table_versions.specs.State.{TablesState}
 use Rattle.waiting_uploads.specs.Waiting.{TellsUnknown}
 
--- the encoding of an upload stands under the upload's own name
+-- the encoding of an upload stands under the upload's id
 pub record StandsByName (entry : List ℕ × List ℕ) : Type 0 where
   pub is_upload : IsUploadText entry.1
   pub name : (upload : Upload) → IsTextOf entry.1 upload → entry.0 ≡ upload.id

@@ -1,4 +1,4 @@
-//! The keys by which uploads are found: their names, and hashes of their encodings.
+//! The keys by which uploads are found: their ids, and hashes of their encodings.
 
 ghost use Rattle.std.specs.Prelude.{◌≡◌, ◌↔◌, ◌+◌, ◌<◌, ◌≤◌, ◌∷◌, ◌++◌, [], IsTrue, IfSome, OnOk, OnErr, IfErr};
 ghost use Rattle.std.specs.List.{Contains, AllByRecursion};
@@ -9,7 +9,7 @@ use crate::keyed::{Keyed, has, put};
 use std::hash::{BuildHasher, Hasher, RandomState};
 use uploads::Upload;
 
-/// Uploads that stand under their names.
+/// Uploads that stand under their ids.
 pub(crate) type Named = Keyed<[u8; 16]>;
 
 /// Uploads that stand under hashes of their encodings.
@@ -24,7 +24,7 @@ fn hash_of(hashing: &RandomState, upload: &Upload) -> u64
     hasher.finish()
 }
 
-/// The name at the place where an upload's encoding has it, behind the field of its table (Protocol Buffers, "Encoding").
+/// The id at the place where an upload's encoding has it, behind the field of its table (Protocol Buffers, "Encoding").
 /// Of bytes that are no upload's it may be any: it serves to look for those that are.
 fn name_in(text: &[u8]) -> Option<[u8; 16]> {
     let table = usize::from(*text.get(1)?);
@@ -32,7 +32,7 @@ fn name_in(text: &[u8]) -> Option<[u8; 16]> {
     name.first_chunk::<16>().copied()
 }
 
-/// The upload of which these bytes are the encoding, where it stands under its name.
+/// The upload of which these bytes are the encoding, where it stands under its id.
 pub(crate) fn find_named<'a>(named: &'a Named, text: &[u8]) -> Option<&'a Upload>
     ensures { IfSome result (λ upload. upload.now ≡ text.now) }
 {
@@ -80,7 +80,7 @@ pub(crate) fn is_keyed(
     is_named(named, upload) || is_hashed(hashing, hashed, upload)
 }
 
-/// Puts the upload behind the others under its name, or hands it back where another has that name.
+/// Puts the upload behind the others under its id, or hands it back where another has that id.
 fn put_named(named: &mut Named, upload: Upload) -> Result<(), Upload>
     requires room { 0 < spare named.old }
     requires stand { AllByRecursion StandsByName named.old.entries }
@@ -110,7 +110,7 @@ fn put_hashed(hashing: &RandomState, hashed: &mut Hashed, upload: Upload) -> Res
     put(hashed, hash, upload)
 }
 
-/// Puts the upload behind those of both, under its name or under its hash, or hands it back where others have both.
+/// Puts the upload behind those of both, under its id or under its hash, or hands it back where others have both.
 pub(crate) fn put_keyed(
     hashing: &RandomState,
     named: &mut Named,

@@ -16,8 +16,8 @@
 //! ```
 //!
 //! However many wait, `contains`, `push` and `first` take the time of a look-up, and so does `make_room` but where a table
-//! has to grow. An upload is looked up by its name. Clients choose names, and may give one name to several uploads: from
-//! the first on whose name another has that waits, uploads are looked up by a hash of their encodings, so that `contains`
+//! has to grow. An upload is looked up by its id. Clients choose ids, and may give one id to several uploads: from
+//! the first on whose id another has that waits, uploads are looked up by a hash of their encodings, so that `contains`
 //! and `push` take time in proportion to the encoding. Names and encodings are hashed with random keys, which
 //! [`WaitingUploads::new`] is given. `keep_unknown` asks the tables of each that waits.
 #![tactic(auto)]

@@ -1,4 +1,4 @@
-//! Some thousands of uploads that wait, and two of each name.
+//! Some thousands of uploads that wait, and two of each id.
 
 use crate::WaitingUploads;
 use ballots::{UploadBytes, Value};
@@ -9,7 +9,7 @@ use std::test::Fail;
 use table_versions::Tables;
 use uploads::{Upload, UploadFault};
 
-// The upload without batches to this table, of this name.
+// The upload without batches to this table, of this id.
 fn upload(alloc: Global, table: &str, name: u128) -> Result<Upload, Fail> {
     let schema = Schema {
         fields: Vec::new(alloc),
@@ -34,7 +34,7 @@ fn put(waiting: &mut WaitingUploads, upload: Upload) -> Result<usize, Fail> {
     Ok(0)
 }
 
-// The same with the uploads of so many names to the table, from 0 on.
+// The same with the uploads of so many ids to the table, from 0 on.
 fn put_all(
     waiting: &mut WaitingUploads,
     alloc: Global,
@@ -71,7 +71,7 @@ fn thousands_wait_once(rt: HostRuntime) -> Result<(), Fail> {
     Ok(())
 }
 
-// Whether it is the upload to this table, of this name, that has waited longest.
+// Whether it is the upload to this table, of this id, that has waited longest.
 fn is_first(
     waiting: &WaitingUploads,
     alloc: Global,

@@ -24,9 +24,9 @@ use uploads::{HeldUploads, Upload};
 #[derive(Debug)]
 pub struct WaitingUploads {
     hashing: RandomState,
-    // The first to come, each under its name.
+    // The first to come, each under its id.
     named: Named,
-    // All behind them, from the first on whose name stood there already: each under a hash of its encoding.
+    // All behind them, from the first on whose id stood there already: each under a hash of its encoding.
     hashed: Hashed,
     // All behind these, from the first on whose hash stood there already, as that of an upload which waits twice.
     others: Vec<Upload>,
@@ -68,7 +68,7 @@ impl Drop for WaitingUploads {
 }
 
 impl WaitingUploads {
-    /// No uploads. Clients choose their names and their bytes: `hashing` has the random keys that keep look-ups fast
+    /// No uploads. Clients choose their ids and their bytes: `hashing` has the random keys that keep look-ups fast
     /// whatever they choose. Memory is taken from this allocator as more of them wait.
     pub fn new(alloc: Global, hashing: RandomState) -> WaitingUploads
         ensures { result.texts ≡ [] }
@@ -156,7 +156,7 @@ impl WaitingUploads {
     }
 }
 
-/// Each upload that waits and is found by its name: an agreed value that has its bytes is an upload, and need not be looked
+/// Each upload that waits and is found by its id: an agreed value that has its bytes is an upload, and need not be looked
 /// at again.
 impl HeldUploads for WaitingUploads {
     fn find(&self, text: &[u8]) -> Option<&Upload> {

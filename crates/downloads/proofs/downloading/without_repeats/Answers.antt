@@ -5,4 +5,4 @@ use Rattle.downloads.proofs.downloading.without_repeats.Goals as goal
 pub returns-else-branch : goal.returns-else-branch
 returns-else-branch c = λ messages before.
     name_again c.args.download messages before c.messages_are_one.ensures.schema c.messages_are_one.ensures.upload
-    (iff_false (rw c.as_slice.ensures.value at c.in_ok-names_differ.ensures) c.if-branch.false)
+    (iff_false (rw c.as_slice.ensures.value at c.in_ok-ids_differ.ensures) c.if-branch.false)
