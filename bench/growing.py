@@ -4,7 +4,7 @@
     bench/growing.py [--uploads COUNT] [PROGRAM]
 
 It starts `PROGRAM serve` (crates/flightd/out/flightd, which the gate builds) with three nodes for each number of callers. Callers are
-processes that make their request once and change its upload's name alone, and call the nodes in turn. For each tenth of the uploads it
+processes that make their request once and change its upload's id alone, and call the nodes in turn. For each tenth of the uploads it
 prints puts a second, how long a put took the server's processors, and what the server then holds in memory; and at the end what the last
 tenth cost to the first, and the middle one of the last three to that of the first three, which is to be within 1.2. Where a put is refused
 it says why, and ends with what came before: a journal has 1,000,000 entries, of which a put takes 28 where nodes don't compete for a slot.

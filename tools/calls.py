@@ -29,7 +29,7 @@ NOTATION = """\
 # `call PART ..` serves one call, put together of these parts: `/METHOD` is the frame with the path of a method, a name the
 # frame with the message of that name, `empty` one with no bytes, `3*NAME` three such frames, `end` the frame of the end, and
 # `+NAME` the bytes of that name in no frame. Under it stand the messages of the answer, the status and the text of its
-# trailer, how many bytes were left unread, and the name of an upload that was handed over. `cuts PART ..` tells the trailer
+# trailer, how many bytes were left unread, and the id of an upload that was handed over. `cuts PART ..` tells the trailer
 # of every beginning of such a call.""".splitlines()
 ELSEWHERE = "The notation is that of rows.txt. Made by tools/calls.py, and not by hand."
 
@@ -167,7 +167,7 @@ def rows():
     lines += ["", "# An upload is told the version that it made; the same one again is told the same, and counts once.",
               f"call {made['u'][1]}", "call /DoGet t1 end", "call /GetFlightInfo t end", "call /ListFlights all end",
               "call /GetSchema t end", f"call {made['u'][1]}", "call /DoGet t2 end", "call /GetFlightInfo none end"]
-    lines += ["", "# Another upload under its name, and one of another shape, do not count. A second version has both uploads.",
+    lines += ["", "# Another upload under its id, and one of another shape, do not count. A second version has both uploads.",
               f"call {made['c'][1]}", f"call {made['z'][1]}", f"call {made['x'][1]}", "call /DoGet t2 end", "call /DoGet t1 end",
               "call /GetFlightInfo t end"]
     lines += ["", "# A second table, and then no room for a further upload; what has come is still told.", f"call {made['w'][1]}",

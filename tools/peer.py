@@ -111,7 +111,7 @@ def put_otherwise(server, table, name, schema, batches):
 
 
 def downloaded(table):
-    """The schema of a version, and each upload's name with its batches."""
+    """The schema of a version, and each upload's id with its batches."""
     return table.schema, [(it.id, [batch.to_pylist() for batch in it.batches]) for it in table.uploads]
 
 

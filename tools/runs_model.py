@@ -75,7 +75,7 @@ def answer(uploads):
 
 
 def effective(uploads, table):
-    """Those to the table that come first of their names in the whole list, and have the shape of the first of them."""
+    """Those to the table that come first of their ids in the whole list, and have the shape of the first of them."""
     firsts = [it for place, it in enumerate(uploads) if it.id not in {earlier.id for earlier in uploads[:place]}]
     of_table = [it for it in firsts if it.table == table]
     return [it for it in of_table if it.name == of_table[0].name]

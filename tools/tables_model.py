@@ -220,14 +220,14 @@ def ticket_of(text):
 # ---- tables, by whole lists of uploads
 
 
-def first_named(uploads):
-    """Those that come first of their names."""
+def first_with_id(uploads):
+    """Those that come first of their ids."""
     return [it for place, it in enumerate(uploads) if it.id not in {earlier.id for earlier in uploads[:place]}]
 
 
 def effective(uploads, table):
-    """Those to the table that come first of their names in the whole list, and have the shape of the first of them."""
-    to_table = [it for it in first_named(uploads) if it.table == table]
+    """Those to the table that come first of their ids in the whole list, and have the shape of the first of them."""
+    to_table = [it for it in first_with_id(uploads) if it.table == table]
     return [it for it in to_table if it.shape == to_table[0].shape]
 
 

@@ -197,7 +197,7 @@ def upload_changed(draw, text):
 
 
 def upload_in(line):
-    """The name of an upload, and its bytes."""
+    """The id of an upload, and its bytes."""
     _, name, *digits = line.split(" ", 2)
     return name, bytes_of("".join(digits))
 
