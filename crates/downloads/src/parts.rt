@@ -10,17 +10,8 @@ ghost use Rattle.downloads.specs.MessageParts.{AreParts, TellsParts};
 
 use proto_fields::bytes_at;
 use proto_messages::laws::canonical_messages_are_messages;
-use proto_wire::FlightDataRef;
+use proto_wire::{FlightData, FlightDataRef};
 use std::alloc::{AllocError, Global};
-
-/// The number of the field with the header.
-const HEADER: u32 = 2;
-
-/// The number of the field with what the service adds.
-const METADATA: u32 = 3;
-
-/// The number of the field with the body.
-const BODY: u32 = 1_000;
 
 /// The parts of a message that has no descriptor.
 #[derive(Clone, Copy)]
@@ -47,9 +38,9 @@ fn found_parts(message: &[u8]) -> Option<Parts<'_>>
         → IsSomeAnd result (λ parts. (parts.header.now ≡ header) × (parts.metadata.now ≡ metadata) × (parts.body.now ≡ body)) }
 {
     canonical_messages_are_messages();
-    let header = bytes_in(message, HEADER)?;
-    let metadata = bytes_in(message, METADATA)?;
-    let body = bytes_in(message, BODY)?;
+    let header = bytes_in(message, FlightData::DATA_HEADER_FIELD)?;
+    let metadata = bytes_in(message, FlightData::APP_METADATA_FIELD)?;
+    let body = bytes_in(message, FlightData::DATA_BODY_FIELD)?;
     Some(Parts {
         header,
         metadata,

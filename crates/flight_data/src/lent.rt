@@ -72,10 +72,12 @@ impl<'a> LentFlightData<'a> {
             ⊎ FieldIsAtFault data_descriptor fault (field_at number content.entry)) }
     {
         match number {
-            1 => merge_one(alloc, &mut self.flight_descriptor, content)?,
-            2 => self.data_header = lent_bytes(content)?,
-            3 => self.app_metadata = lent_bytes(content)?,
-            1000 => self.data_body = lent_bytes(content)?,
+            FlightData::FLIGHT_DESCRIPTOR_FIELD => {
+                merge_one(alloc, &mut self.flight_descriptor, content)?
+            }
+            FlightData::DATA_HEADER_FIELD => self.data_header = lent_bytes(content)?,
+            FlightData::APP_METADATA_FIELD => self.app_metadata = lent_bytes(content)?,
+            FlightData::DATA_BODY_FIELD => self.data_body = lent_bytes(content)?,
             _ => {}
         }
         Ok(())

@@ -8,6 +8,7 @@ ghost use Rattle.table_types.specs.Served.{data_text};
 ghost use Rattle.table_types.specs.Valid.{FitsFrame};
 
 use grpc_frames::MAX_FRAME_PAYLOAD;
+use proto_wire::FlightData;
 
 /// The most bytes of a frame's payload.
 const FRAME_LIMIT: u64 = MAX_FRAME_PAYLOAD as u64;
@@ -55,7 +56,9 @@ pub fn message_length(header: u64, metadata: u64, body: u64) -> u64
     ensures { (h m b : List ℕ) → length h ≡ header → length m ≡ metadata → length b ≡ body
         → result ≡ length (data_text h m b) }
 {
-    field_length(2, header) + field_length(3, metadata) + field_length(1_000, body)
+    field_length(FlightData::DATA_HEADER_FIELD, header)
+        + field_length(FlightData::APP_METADATA_FIELD, metadata)
+        + field_length(FlightData::DATA_BODY_FIELD, body)
 }
 
 /// Whether a frame has room for the message that holds a header, what the service adds and a body of so many bytes.

@@ -59,8 +59,10 @@ impl ProtoMessage for FlightData {
 
     fn check_field(number: u32, content: ContentRef<'_>) -> Result<(), WireFault> {
         match number {
-            1 => check_embedded::<FlightDescriptor>(content),
-            2 | 3 | 1000 => check_bytes(content),
+            FlightData::FLIGHT_DESCRIPTOR_FIELD => check_embedded::<FlightDescriptor>(content),
+            FlightData::DATA_HEADER_FIELD
+            | FlightData::APP_METADATA_FIELD
+            | FlightData::DATA_BODY_FIELD => check_bytes(content),
             _ => Ok(()),
         }
     }
@@ -72,10 +74,12 @@ impl ProtoMessage for FlightData {
         content: ContentRef<'_>,
     ) -> Result<(), WireFault> {
         match number {
-            1 => merge_one(alloc, &mut self.flight_descriptor, content)?,
-            2 => self.data_header = bytes_of(alloc, content)?,
-            3 => self.app_metadata = bytes_of(alloc, content)?,
-            1000 => self.data_body = bytes_of(alloc, content)?,
+            FlightData::FLIGHT_DESCRIPTOR_FIELD => {
+                merge_one(alloc, &mut self.flight_descriptor, content)?
+            }
+            FlightData::DATA_HEADER_FIELD => self.data_header = bytes_of(alloc, content)?,
+            FlightData::APP_METADATA_FIELD => self.app_metadata = bytes_of(alloc, content)?,
+            FlightData::DATA_BODY_FIELD => self.data_body = bytes_of(alloc, content)?,
             _ => {}
         }
         Ok(())
@@ -91,6 +95,18 @@ impl ProtoMessage for FlightData {
 impl FlightData {
     ghost use Rattle.std.specs.Prelude.{◌≡◌};
     ghost use Rattle.proto_wire.specs.FlightValues.{data_values, data_ref_values};
+
+    /// The number of the field `flight_descriptor`.
+    pub const FLIGHT_DESCRIPTOR_FIELD: u32 = 1;
+
+    /// The number of the field `data_header`.
+    pub const DATA_HEADER_FIELD: u32 = 2;
+
+    /// The number of the field `app_metadata`.
+    pub const APP_METADATA_FIELD: u32 = 3;
+
+    /// The number of the field `data_body`.
+    pub const DATA_BODY_FIELD: u32 = 1_000;
 
     /// The same message with its bytes lent.
     pub fn lent(&self) -> FlightDataRef<'_>
@@ -143,10 +159,14 @@ impl FlightDataRef<'_> {
         ensures err { OnErr result (Grows out.old.items out.new.items) }
         ensures fits { OnOk result (Fits data_descriptor (data_ref_values self.now)) }
     {
-        append_lent(out, 1, self.flight_descriptor)?;
-        append_bytes(out, 2, self.data_header)?;
-        append_bytes(out, 3, self.app_metadata)?;
-        append_bytes(out, 1000, self.data_body)?;
+        append_lent(
+            out,
+            FlightData::FLIGHT_DESCRIPTOR_FIELD,
+            self.flight_descriptor,
+        )?;
+        append_bytes(out, FlightData::DATA_HEADER_FIELD, self.data_header)?;
+        append_bytes(out, FlightData::APP_METADATA_FIELD, self.app_metadata)?;
+        append_bytes(out, FlightData::DATA_BODY_FIELD, self.data_body)?;
         Ok(())
     }
 }
