@@ -15,4 +15,6 @@ mod compared;
 #[cfg(test)]
 mod made_cells;
 #[cfg(test)]
+mod refused_memory;
+#[cfg(test)]
 mod writing;

@@ -1,5 +1,5 @@
 -- Parts put one behind the other.
-use Rattle.std.proofs.Common.{◌≡◌, refl, sym, ap, ap₂, subst, ◌∙◌, ℕ, zero, suc, ◌+◌, ◌-◌, ◌^◌, ◌<◌, ◌≤◌, ℤ, pos, List, [], ◌∷◌, ◌++◌, map, length, take, replicate, slice_index_or, drop, arith, append_assoc, length-append, Result, Ok, Err, OnOk}
+use Rattle.std.proofs.Common.{◌≡◌, refl, sym, ap, ap₂, subst, ◌∙◌, ℕ, zero, suc, ◌+◌, ◌-◌, ◌^◌, ◌<◌, ◌≤◌, ℤ, pos, List, [], ◌∷◌, ◌++◌, map, length, take, replicate, slice_index_or, drop, arith, append_assoc, length-append, Result, Ok, Err, OnOk, OnErr}
 use Rattle.std.proofs.lemmas.List.{append-nil, at_drop_more, take-replicate}
 use Rattle.std.proofs.Math.ListN.{drop_of_length-le}
 use Rattle.std.proofs.lemmas.Grind.{flat_map-append}
@@ -9,17 +9,26 @@ use Rattle.std.specs.Result.{is_ok}
 use Rattle.batch_types.specs.Laid.{Range}
 use Rattle.batch_types.specs.Canonical.{Parts, no_parts, both_parts, padded, body_with, ranges_from}
 use Rattle.record_batches.specs.Parts.{buffers_alone}
-use Rattle.record_batches.specs.Adds.{Adds}
+use Rattle.record_batches.specs.Adds.{Adds, Grows}
 use Rattle.record_batches.specs.declared.head.HeadWriter.{HeadWriter}
 
 pub on_ok : {E P Q : Type 0} (r : Result (Unit {0}) E) → OnOk r P → (P → Q) → OnOk r Q
 on_ok (Ok done) p to = to p
 on_ok (Err e) p to = tt
 
+pub at_error : {E P : Type 0} (r : Result (Unit {0}) E) → P → OnErr r P
+at_error (Ok done) p = tt
+at_error (Err e) p = p
+
 -- what is put where the result is right
 pub on_put : {E P : Type 0} (r : Result (Unit {0}) E) (z x y : List ℕ) → z ≡ (if is_ok r then x else y) → (z ≡ x → P) → OnOk r P
 on_put (Ok done) z x y put to = to put
 on_put (Err e) z x y put to = tt
+
+-- what is there where it is wrong
+pub on_refused : {E P : Type 0} (r : Result (Unit {0}) E) (z x y : List ℕ) → z ≡ (if is_ok r then x else y) → (z ≡ y → P) → OnErr r P
+on_refused (Ok done) z x y put to = tt
+on_refused (Err e) z x y put to = to put
 
 -- ---- one buffer
 
@@ -84,6 +93,11 @@ module _ (buffers : List (Bor (List ℕ))) (i : ℕ) where
   pub appended_end : (x whole : List ℕ) → length buffers ≤ i → x ++ body_with (lent_buffers (drop i buffers)) ≡ whole → x ≡ whole
   appended_end x whole over still =
       sym (append-nil x) ∙ ap (λ l. x ++ body_with (lent_buffers l)) (sym (drop_of_length-le buffers over)) ∙ still
+
+-- ---- what a text held stands at its front
+
+pub grows_on : (x y z : List ℕ) → Grows x y → Grows y z → Grows x z
+grows_on x y z (p, first) (q, second) = (p ++ q, second ∙ ap (λ l. l ++ q) first ∙ append_assoc x p q)
 
 -- ---- the writer of a header
 

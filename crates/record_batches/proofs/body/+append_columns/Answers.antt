@@ -1,5 +1,6 @@
 use Rattle.std.proofs.Common.{◌<◌, subst}
 use Rattle.batch_columns.specs.Held.{shapes_held, heights}
+use Rattle.record_batches.proofs.Adding.{at_error, grows_on}
 use Rattle.record_batches.proofs.Inside.{falls}
 use Rattle.record_batches.proofs.Lengths.{columns_appended, columns_end}
 use Rattle.record_batches.proofs.Rooms.{sound_column, sound_next, sound_end}
@@ -24,6 +25,11 @@ loop-column-preserved t c = record {
       (sound_next c.args.columns.now c.loop-column.column-index c.column-item.result c.loop-column-test.true c.column-item.is
       (sound_column c.column-item.result c.inside.result.now c.inside.ensures.shapes c.inside.ensures.held
       c.in_ok-append_own.ensures.fit c.in_ok-append_own.ensures.room c.in_ok-append_columns.ensures.sound) rest);
+  grows =
+      grows_on c.args.text.now.items c.append_own.new.text.items c.append_columns.new.text.items
+      (grows_on c.args.text.now.items c.loop-column.text.items c.append_own.new.text.items c.loop-column.invariant.grows
+      (_, c.in_ok-append_own.ensures.appended))
+      (_, c.in_ok-append_columns.ensures.appended);
 }
 
 pub returns-clause-appended : goal.returns-clause-appended
@@ -33,3 +39,17 @@ returns-clause-appended t c =
 pub returns-clause-sound : goal.returns-clause-sound
 returns-clause-sound t c =
     c.loop-column.invariant.sound (sound_end c.args.columns.now c.loop-column.column-index c.loop-column-test.false)
+
+pub returns-in_err-append_own-clause-err : goal.returns-in_err-append_own-clause-err
+returns-in_err-append_own-clause-err t c =
+    at_error c.from_residual.result
+    (grows_on c.args.text.now.items c.loop-column.text.items c.append_own.new.text.items c.loop-column.invariant.grows
+    c.in_err-append_own.ensures.err)
+
+pub returns-in_err-append_columns-clause-err : goal.returns-in_err-append_columns-clause-err
+returns-in_err-append_columns-clause-err t c =
+    at_error c.from_residual-in_err-append_columns.result
+    (grows_on c.args.text.now.items c.append_own.new.text.items c.append_columns.new.text.items
+    (grows_on c.args.text.now.items c.loop-column.text.items c.append_own.new.text.items c.loop-column.invariant.grows
+    (_, c.in_ok-append_own.ensures.appended))
+    c.in_err-append_columns.ensures.err)
