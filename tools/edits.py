@@ -8,10 +8,11 @@
 
 The edits of a crate are those of its folders `must-fail/`, which the gate tries too, and `more-edits/`. With --since those
 of each crate are tried, as the gate would try them, whose sources, definitions or edits changed since that commit, and with
---all those of the crates that are named. An edit of a definition that a crate above refuses, and not its own, has a line
-`law: CRATE`, and is tried there. Where all edits of a crate were refused, its line in `edits-refused.txt` says for which
-sources, definitions and edits that was, by their checksum. With --old nothing is tried: the crates are counted whose lines
-are of other files, and the status is 1 where an edit names a text that does not stand once in its file, or changes nothing.
+--all those of the crates that are named; of these all that were not refused before as they stand. An edit of a definition that
+a crate above refuses, and not its own, has a line `law: CRATE`, and is tried there. Of each edit that was refused a line of
+`edits-refused.txt` says by a checksum with which sources and definitions that was, comments aside, and with which words of its
+own. With --old nothing is tried: the edits are counted whose lines are of something else, and the status is 1 where an edit
+names a text that does not stand once in its file, or changes nothing.
 
 Without these words the edits of one crate are tried one after the other over one copy of it. Of each is said how many
 processor seconds it took and which goals refused it; an edit that the prover takes is shown as TAKEN, and the status is then
@@ -29,7 +30,7 @@ from pathlib import Path
 
 TOP = Path(__file__).resolve().parent.parent
 REFUSED = TOP / "edits-refused.txt"
-HEAD = "# Of each crate the checksum of what all of its edits were refused for: its sources, definitions and edits.\n"
+HEAD = "# Of each edit the checksum of what it was refused for: its crate's sources and definitions, comments aside, and itself.\n"
 OPEN = re.compile(r"^note: \S+: it is not proved .*\(`([^`]+)`\)")
 FUNCTION = re.compile(r"^fn (\S+): (?:not proved|no proof: expected answers)")
 ANSWER = re.compile(r"^note: `([^`]+)` of proofs/(\S+)/Answers\.antt must prove")
@@ -191,32 +192,53 @@ def crates_with_edits():
     return [folder.name for folder in sorted((TOP / "crates").iterdir()) if edits_of(folder.name)]
 
 
-def checksum(crate):
-    """The checksum of a crate's sources, definitions and edits, wherever these stand and whatever they are called."""
+def name_of(edit):
+    """The edit's crate and its own name."""
+    return f"{edit.parent.parent.name}/{edit.stem}"
+
+
+def without_comments(file, mark):
+    """The lines of a file that are more than a comment."""
+    lines = file.read_text(encoding="utf-8").splitlines()
+    return "\n".join(line for line in lines if line.strip() and not line.lstrip().startswith(mark))
+
+
+def code_of(crate):
+    """The crate's sources and definitions, without their comments."""
     folder = TOP / "crates" / crate
-    files = [*sorted((folder / "src").rglob("*.rt")), *sorted((folder / "specs").rglob("*.antt"))]
-    texts = [f"{file.relative_to(folder)}\n{file.read_text(encoding='utf-8')}" for file in files]
-    texts += sorted(edit.read_text(encoding="utf-8") for edit in edits_of(crate))
-    return hashlib.sha256("\0".join(texts).encode()).hexdigest()[:32]
+    files = [(file, "//") for file in sorted((folder / "src").rglob("*.rt"))]
+    files += [(file, "--") for file in sorted((folder / "specs").rglob("*.antt"))]
+    return "\0".join(f"{file.relative_to(folder)}\n{without_comments(file, mark)}" for file, mark in files)
+
+
+def checksums(crates):
+    """The checksum of each edit of these crates, with what it is tried on, by its name."""
+    found = {}
+    for crate in crates:
+        code = code_of(crate)
+        for edit in edits_of(crate):
+            text = f"{code}\0{edit.read_text(encoding='utf-8')}"
+            found[name_of(edit)] = hashlib.sha256(text.encode()).hexdigest()[:16]
+    return found
 
 
 def refused_lines():
-    """The checksum that each crate's line has."""
+    """The checksum that each edit's line has."""
     lines = REFUSED.read_text(encoding="utf-8").splitlines() if REFUSED.exists() else []
     return dict(line.split() for line in lines if line and not line.startswith("#"))
 
 
-def keep_line(crate, value):
-    """Puts the crate's line in the place of its old one. Crates that have no edits any more lose theirs."""
-    kept = {**refused_lines(), crate: value}
-    lines = [f"{name} {kept[name]}\n" for name in crates_with_edits() if name in kept]
-    REFUSED.write_text(HEAD + "".join(lines), encoding="utf-8")
+def keep_lines(sums):
+    """Puts these lines in the place of the edits' old ones. Edits that are there no more lose theirs."""
+    kept = {**refused_lines(), **sums}
+    names = [name_of(edit) for crate in crates_with_edits() for edit in edits_of(crate)]
+    REFUSED.write_text(HEAD + "".join(f"{name} {kept[name]}\n" for name in sorted(names) if name in kept), encoding="utf-8")
 
 
-def old_lines_of(crates):
-    """Those of the crates of which no line says that all edits were refused for the files that stand here."""
-    kept = refused_lines()
-    return [crate for crate in crates if kept.get(crate) != checksum(crate)]
+def old_edits(crates):
+    """The edits of these crates of which no line says that they were refused as they stand."""
+    kept, sums = refused_lines(), checksums(crates)
+    return [edit for crate in crates for edit in edits_of(crate) if kept.get(name_of(edit)) != sums[name_of(edit)]]
 
 
 def lost_edits():
@@ -261,34 +283,37 @@ def show(edit, folder, taken, proved, printed):
 
 
 def try_edits(crate, edits, answers):
-    """Tries these edits of the crate. Gives whether all were refused."""
+    """Tries these edits of the crate, and keeps which were refused. Gives whether all were."""
+    sums = checksums([crate])
     with tempfile.TemporaryDirectory() as scratch:
         folder = copy_of(crate, Path(scratch))
         proved, taken, printed = check(folder)
         if not proved:
             sys.exit(f"{printed}\n{crate} is not proved as it stands")
         print(f"{taken:6.1f} s  the crate as it stands", flush=True)
-        are_refused, total, unbound = True, 0.0, set()
+        refused, total, unbound = {}, 0.0, set()
         for edit in edits:
             proved, taken, printed = try_edit(folder, edit)
             unbound |= show(edit, folder, taken, proved, printed)
-            are_refused, total = are_refused and is_refused(proved, printed), total + taken
+            total += taken
+            if is_refused(proved, printed):
+                refused[name_of(edit)] = sums[name_of(edit)]
+                keep_lines(refused)
         print(f"{total:6.1f} s  in all", flush=True)
         if answers:
             write_answers(crate, folder, unbound)
-    return are_refused
+    return len(refused) == len(edits)
 
 
-def put_together(folder, crates):
-    """Copies all sources, with the edits of these crates as the only ones that the gate tries."""
+def put_together(folder, edits):
+    """Copies all sources, with these edits as the only ones that the gate tries."""
     for file in ("crates.txt", "HANDLES"):
         shutil.copy(TOP / file, folder)
     shutil.copytree(TOP / "crates", folder / "crates", ignore=shutil.ignore_patterns("out", "must-fail", "more-edits"))
-    for crate in crates:
-        (folder / "crates" / crate / "must-fail").mkdir()
-        for edit in edits_of(crate):
-            if law_of(edit) is None:
-                shutil.copy(edit, folder / "crates" / crate / "must-fail")
+    for edit in edits:
+        place = folder / "crates" / edit.parent.parent.name / "must-fail"
+        place.mkdir(exist_ok=True)
+        shutil.copy(edit, place)
 
 
 def lines_of_gate(folder, crates):
@@ -313,29 +338,28 @@ def is_refused_above(edit):
 
 
 def try_all(crates):
-    """Tries all edits of these crates as the gate would, and keeps whose were all refused. Gives whether all were."""
-    sums, refused = {crate: checksum(crate) for crate in crates}, set()
+    """Tries all edits of these crates that were not refused as they stand, and keeps which were. Gives whether all were."""
+    edits, sums = old_edits(crates), checksums(crates)
     with tempfile.TemporaryDirectory() as scratch:
-        put_together(Path(scratch), crates)
+        put_together(Path(scratch), [edit for edit in edits if law_of(edit) is None])
         for line in lines_of_gate(Path(scratch), crates):
-            if found := re.match(r"rt: must-fail (\S+)/(\S+)\.edit: refused", line):
-                refused.add(found.groups())
-    for crate in crates:
-        left = [edit for edit in edits_of(crate) if (crate, edit.stem) not in refused]
-        left = [edit.stem for edit in left if law_of(edit) is None or not is_refused_above(edit)]
-        if left:
-            print(f"{crate}: not refused: {' '.join(left)}")
-        elif sums[crate] == checksum(crate):
-            keep_line(crate, sums[crate])
-    return not old_lines_of(crates)
+            if found := re.match(r"rt: must-fail (\S+)\.edit: refused", line):
+                keep_lines({found[1]: sums[found[1]]})
+    for edit in edits:
+        if law_of(edit) is not None and is_refused_above(edit):
+            keep_lines({name_of(edit): sums[name_of(edit)]})
+    left = old_edits(crates)
+    print(f"not refused: {' '.join(map(name_of, left)) or 'none'}")
+    return not left
 
 
 def main():
     words = sys.argv[1:]
     names = [word for word in words if not word.startswith("--")]
     if words == ["--old"]:
-        old, total = old_lines_of(crates_with_edits()), len(crates_with_edits())
-        print(f"edits: of {len(old)} of {total} crates not all edits were tried as they stand: {' '.join(old) or 'none'}")
+        old, total = old_edits(crates_with_edits()), len(checksums(crates_with_edits()))
+        of = sorted({edit.parent.parent.name for edit in old})
+        print(f"edits: {len(old)} of {total} were not tried as they stand, of {len(of)} crates: {' '.join(of) or 'none'}")
         lost = list(lost_edits())
         for fault in lost:
             print(f"edits: {fault}")
