@@ -8,6 +8,7 @@ pub mod laws;
 mod method;
 mod names;
 mod refusal;
+mod results;
 mod status;
 
 pub use back_fault::BackFault;
@@ -15,4 +16,5 @@ pub use call_fault::CallFault;
 pub use method::{Method, SERVICE};
 pub use names::{id_digits, id_in, table_descriptor, table_in, upload_descriptor, upload_in};
 pub use refusal::Refusal;
+pub use results::result_message;
 pub use status::Status;

@@ -1,4 +1,4 @@
-//! The messages that tell of tables (Apache Arrow, "Flight.proto", `FlightInfo`, `SchemaResult` and `PutResult`).
+//! The messages that tell of tables (Apache Arrow, "Flight.proto", `FlightInfo` and `SchemaResult`).
 
 ghost use Rattle.std.specs.Prelude.{◌≡◌, ◌∷◌, [], IfOk, map, string_bytes};
 ghost use Rattle.proto_messages.specs.Canonical.{canonical};
@@ -7,16 +7,13 @@ ghost use Rattle.header_writing.specs.Canonical.{encapsulated};
 ghost use Rattle.table_types.specs.Valid.{FitsFrame};
 ghost use Rattle.table_types.specs.Ticket.{IsTableVersion, ticket_text};
 ghost use Rattle.flight_calls.specs.Replies.{total_of};
-ghost use Rattle.call_words.specs.Results.{applied_descriptor, put_result};
 ghost use Rattle.flight_calls.specs.Describing.{CanBeTold, version_in, locations_in, endpoint_told, values_told, message_of, schema_told};
 
 use crate::table_description::TableDescription;
 use call_words::table_descriptor;
 use header_writing::encapsulate;
-use proto_messages::{ProtoMessage, append_bytes, append_uint64};
-use proto_wire::{
-    FlightEndpoint, FlightInfo, Location, PutResult, SchemaResult, Ticket as TicketMessage,
-};
+use proto_messages::ProtoMessage;
+use proto_wire::{FlightEndpoint, FlightInfo, Location, SchemaResult, Ticket as TicketMessage};
 use std::alloc::{AllocError, Global};
 use table_types::Ticket;
 
@@ -141,23 +138,4 @@ pub(crate) fn schema_message(alloc: Global, schema: &[u8]) -> Result<Vec<u8>, Al
 {
     let schema = encapsulated_of(alloc, schema)?;
     encoded(alloc, &SchemaResult { schema })
-}
-
-/// What tells of an upload that counts: its id, and the version that it made.
-#[tactic(auto, using(proto_messages::proofs::CallerLemmas::chains))]
-fn applied(alloc: Global, id: &[u8], version: u64) -> Result<Vec<u8>, AllocError>
-    ensures { IfOk result (λ bytes. bytes.items ≡ canonical applied_descriptor (id.now, (version, tt))) }
-{
-    let mut bytes = Vec::new(alloc);
-    append_bytes(&mut bytes, 1, id)?;
-    append_uint64(&mut bytes, 2, version)?;
-    Ok(bytes)
-}
-
-/// The answer to an upload that counts.
-pub(crate) fn put_message(alloc: Global, id: [u8; 16], version: u64) -> Result<Vec<u8>, AllocError>
-    ensures { IfOk result (λ bytes. bytes.items ≡ put_result id version) }
-{
-    let app_metadata = applied(alloc, &id, version)?;
-    encoded(alloc, &PutResult { app_metadata })
 }

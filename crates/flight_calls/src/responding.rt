@@ -12,11 +12,10 @@ ghost use Rattle.flight_calls.specs.Framing.{Frames};
 ghost use Rattle.flight_calls.specs.Responding.{TellsOutcome, DecidesBy, RespondsBy};
 
 use crate::backend::Backend;
-use crate::describing::put_message;
 use crate::framing::{frame_of, info_frame, info_frames, schema_frame};
 use crate::outgoing::Outgoing;
 use call_reading::FlightRequest;
-use call_words::Refusal;
+use call_words::{Refusal, result_message};
 use std::alloc::Global;
 use table_types::Ticket;
 use table_versions::Outcome;
@@ -69,7 +68,7 @@ fn applied_frame(alloc: Global, upload: &Upload, version: u64) -> Result<Outgoin
         → Frames (put_result u.id version ∷ []) result }
 {
     let _text = upload.as_slice();
-    let message = put_message(alloc, upload.id(), version)?;
+    let message = result_message(alloc, &upload.id(), version)?;
     frame_of(alloc, &message)
 }
 
