@@ -4,7 +4,7 @@
     tools/edits.py --since COMMIT
     tools/edits.py --all CRATE ..
     tools/edits.py --old
-    tools/edits.py [--answer] CRATE [EDIT ..]
+    tools/edits.py [--answer] [--together] CRATE [EDIT ..]
 
 The edits of a crate are those of its folders `must-fail/`, which the gate tries too, and `more-edits/`. With --since those
 of each crate are tried, as the gate would try them, whose sources, definitions or edits changed since that commit, and with
@@ -17,7 +17,12 @@ names a text that does not stand once in its file, or changes nothing.
 Without these words the edits of one crate are tried one after the other over one copy of it. Of each is said how many
 processor seconds it took and which goals refused it; an edit that the prover takes is shown as TAKEN, and the status is then
 1. A goal that has no answer in `proofs/` is marked with a star: there an answer with a bound makes such an edit cheaper. With
---answer such an answer is written for each goal with a star, where the crate is proved with it; the others are named."""
+--answer such an answer is written for each goal with a star, where the crate is proved with it; the others are named.
+
+With --together only those are tried that were not refused before as they stand, and one check tries edits of several bodies.
+A function is proved by its own body and by no more of the others than their contracts, so the goals of each function say
+whether its edit is refused; a function that only calls one that is not proved says nothing of its own. None of these
+functions has the name of another or names it, and an edit that is not refused so is tried alone."""
 import hashlib
 import itertools
 import re
@@ -31,8 +36,10 @@ from pathlib import Path
 TOP = Path(__file__).resolve().parent.parent
 REFUSED = TOP / "edits-refused.txt"
 HEAD = "# Of each edit the checksum of what it was refused for: its crate's sources and definitions, comments aside, and itself.\n"
+HEAD_OF_FUNCTION = re.compile(r"( *)(?:pub(?:\([a-z ]+\))? )?(?:const )?(?:unsafe )?fn (\w+)")
 OPEN = re.compile(r"^note: \S+: it is not proved .*\(`([^`]+)`\)")
 FUNCTION = re.compile(r"^fn (\S+): (?:not proved|no proof: expected answers)")
+UNPROVED = re.compile(r"^fn (?:\S+::)?(\S+): (?:not proved$|no proof: expected answers)", re.M)
 ANSWER = re.compile(r"^note: `([^`]+)` of proofs/(\S+)/Answers\.antt must prove")
 FORMS = ("search rules steps 300000", "grind (arith, common_steps) steps 600000")
 
@@ -75,10 +82,10 @@ def changes(edit):
     return found
 
 
-def edited(folder, edit):
-    """The files of a crate that an edit changes, with their texts behind it. Each old text stands once in its file."""
+def edited(folder, *edits):
+    """The files of a crate that edits change, with their texts behind them. Each old text stands once in its file."""
     texts = {}
-    for file, old, new in changes(edit):
+    for edit, (file, old, new) in ((edit, change) for edit in edits for change in changes(edit)):
         path = folder / file
         text = texts.get(path) or path.read_text(encoding="utf-8")
         if text.count(old) != 1:
@@ -87,6 +94,47 @@ def edited(folder, edit):
         if old == new:
             raise ValueError(f"{edit.parent.parent.name}/{edit.name}: it changes nothing in {file}")
     return texts
+
+
+def bodies(text):
+    """The functions of a source file: the name of each, with the numbers of its body's lines."""
+    lines = text.splitlines()
+    for number, line in enumerate(lines):
+        if head := HEAD_OF_FUNCTION.match(line):
+            opening = re.compile(rf"{head[1]}(\{{|\).* \{{)")
+            whole = itertools.takewhile(lambda at: lines[at], range(number, len(lines)))
+            begin = next((at for at in whole if opening.fullmatch(lines[at]) or at == number and line.endswith(" {")), None)
+            if begin is not None:
+                yield head[2], range(begin + 1, lines.index(f"{head[1]}}}", begin))
+
+
+def body_of(folder, edit):
+    """The name and the text of the one function whose body an edit changes, or None where it changes anything else."""
+    found = set()
+    for file, old, _ in changes(edit):
+        text = (folder / file).read_text(encoding="utf-8")
+        number = text.partition(old)[0].count("\n")
+        holds = [(name, body) for name, body in (bodies(text) if file.startswith("src/") else ()) if number in body]
+        found.add((holds[-1][0], "\n".join(text.splitlines()[at] for at in holds[-1][1])) if holds else None)
+    return found.pop() if len(found) == 1 else None
+
+
+def are_apart(one, other):
+    """Whether two functions have two names, and neither names the other."""
+    names = lambda body, name: re.search(rf"\b{name}\b", body) is not None
+    return one[0] != other[0] and not names(one[1], other[0]) and not names(other[1], one[0])
+
+
+def groups_of(folder, edits):
+    """The edits in groups that one check tries: each edit with the name of its function, or alone."""
+    groups = []
+    for edit in edits:
+        body = body_of(folder, edit)
+        group = next((it for it in groups if body and all(of and are_apart(body, of) for _, of in it)), None)
+        if group is None:
+            groups.append(group := [])
+        group.append((edit, body))
+    return [[(edit, body and body[0]) for edit, body in group] for group in groups]
 
 
 def check(folder):
@@ -113,9 +161,9 @@ def refusals(printed):
     return goals
 
 
-def try_edit(folder, edit):
-    """Checks the crate with the edit, and takes the edit back."""
-    whole = edited(folder, edit)
+def try_together(folder, edits):
+    """Checks the crate with the edits, and takes them back."""
+    whole = edited(folder, *edits)
     before = {path: path.read_text(encoding="utf-8") for path in whole}
     for path, text in whole.items():
         path.write_text(text, encoding="utf-8")
@@ -282,7 +330,24 @@ def show(edit, folder, taken, proved, printed):
     return loose
 
 
-def try_edits(crate, edits, answers):
+def refused_of(group, folder):
+    """Tries the edits of a group, and gives those that were refused, the processor seconds, and the goals without an answer.
+    Of several edits each is refused where a goal of its own function is not proved, and the others are tried alone."""
+    proved, taken, printed = try_together(folder, [edit for edit, _ in group])
+    if len(group) == 1:
+        loose = show(group[0][0], folder, taken, proved, printed)
+        return [group[0][0]] if is_refused(proved, printed) else [], taken, loose
+    unproved = UNPROVED.findall(printed) if is_refused(proved, printed) else []
+    refused = [edit for edit, function in group if function in unproved]
+    print(f"{taken:6.1f} s  together: {', '.join(edit.stem for edit in refused) or 'none'}", flush=True)
+    loose = set()
+    for pair in (it for it in group if it[0] not in refused):
+        more, seconds, goals = refused_of([pair], folder)
+        refused, taken, loose = refused + more, taken + seconds, loose | goals
+    return refused, taken, loose
+
+
+def try_edits(crate, edits, is_together, answers):
     """Tries these edits of the crate, and keeps which were refused. Gives whether all were."""
     sums = checksums([crate])
     with tempfile.TemporaryDirectory() as scratch:
@@ -291,14 +356,11 @@ def try_edits(crate, edits, answers):
         if not proved:
             sys.exit(f"{printed}\n{crate} is not proved as it stands")
         print(f"{taken:6.1f} s  the crate as it stands", flush=True)
-        refused, total, unbound = {}, 0.0, set()
-        for edit in edits:
-            proved, taken, printed = try_edit(folder, edit)
-            unbound |= show(edit, folder, taken, proved, printed)
-            total += taken
-            if is_refused(proved, printed):
-                refused[name_of(edit)] = sums[name_of(edit)]
-                keep_lines(refused)
+        refused, total, unbound = [], 0.0, set()
+        for group in groups_of(folder, edits) if is_together else [[(edit, None)] for edit in edits]:
+            more, taken, loose = refused_of(group, folder)
+            refused, total, unbound = refused + more, total + taken, unbound | loose
+            keep_lines({name_of(edit): sums[name_of(edit)] for edit in more})
         print(f"{total:6.1f} s  in all", flush=True)
         if answers:
             write_answers(crate, folder, unbound)
@@ -371,7 +433,10 @@ def main():
     if not names:
         sys.exit(__doc__)
     try:
-        return 0 if try_edits(names[0], edits_of(names[0], names[1:]), "--answer" in words) else 1
+        edits, is_together = edits_of(names[0], names[1:]), "--together" in words
+        if is_together:
+            edits = [edit for edit in old_edits(names[:1]) if edit in edits and law_of(edit) is None]
+        return 0 if try_edits(names[0], edits, is_together, "--answer" in words) else 1
     except ValueError as fault:
         sys.exit(str(fault))
 
