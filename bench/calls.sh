@@ -1,10 +1,11 @@
 #!/usr/bin/env bash
 # Times Flight calls that `call_server` serves over two pipes, beside the same calls in plain Rust (bench/plain_calls.rs,
 # rustc -O): DoGet of a version of 64 uploads of one batch of 1 MiB, beside a raw copy of the answer's bytes too; DoPut of
-# 15 batches of 1 MiB; and GetFlightInfo of one table. First it shows that both programs answer with the same bytes. Then
-# it times `flightd replay` of 500 uploads that a leader of three members has decided, 10,000 events, beside `run` itself
-# of the same events by `flight_bench`. Each line gives the processor time of one call, the least of five runs of each
-# program in turn, less that of a run without these calls; and how many bytes the server held at most.
+# 15 batches of 1 MiB; GetFlightInfo of one table; and DoGet of versions of 1,000 to 100,000 uploads of three numbers, each of
+# which is to take as long as any other. First it shows that both programs answer with the same bytes. Then it times
+# `flightd replay` of 500 uploads that a leader of three members has decided, 10,000 events, beside `run` itself of the same
+# events by `flight_bench`. Each line gives the processor time of one call, the least of five runs of each program in turn,
+# less that of a run without these calls; and how many bytes the server held at most.
 #
 # Seen on four processors that several other tasks shared:
 #
@@ -46,7 +47,7 @@ import sys
 
 crates, work = sys.argv[1:]
 SERVER, PLAIN, MIB = f"{crates}/call_server/out/call_server", f"{work}/calls", 2**20
-UPLOADS, EVENTS = 500, 20
+UPLOADS, EVENTS, GETS = 500, 20, 20
 
 
 def generated(path, *calls):
@@ -97,7 +98,10 @@ files = {
     "large": generated(f"{work}/large", *[("put", name, 15, MIB) for name in range(1, 9)]),
     "info": generated(f"{work}/info", ("put", 1, 1, 3), ("info", 10_000)),
 }
-for path in (*files.values(), small):
+many = {}
+for count in (1_000, 10_000, 100_000):
+    many[count] = [generated(f"{work}/{gets}-{count}", ("puts", count), *[("get", count)] * gets) for gets in (GETS, 0)]
+for path in (*files.values(), small, many[1_000][0]):
     served([SERVER], path, f"{work}/ours"), served([PLAIN], path, f"{work}/theirs")
     if subprocess.run(["cmp", f"{work}/ours", f"{work}/theirs"]).returncode:
         sys.exit(f"calls.sh: the programs answer {path} otherwise")
@@ -116,6 +120,8 @@ copied = min(served([PLAIN, "copy", "8", f"{work}/one"], os.devnull)[0] for _ in
 print(f"a raw copy of that answer: {copied * 1e6:,.1f} us ({size / MIB / copied:,.0f} MiB/s), DoGet at {copied / got:.2f} of its speed")
 timed("DoPut of 15 MiB", 8, files["large"], files["nothing"], 15 * MIB)
 timed("GetFlightInfo", 10_000, files["info"], small)
+for count, (gets, puts) in many.items():
+    timed(f"DoGet of {count:,} small uploads, each", GETS * count, gets, puts)
 
 everyone, events, prepare = range(3), [], 0
 for upload in range(UPLOADS):

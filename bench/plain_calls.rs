@@ -1,5 +1,5 @@
 //! Flight calls in plain Rust, over the maps of std, with nothing proved: what `call_server` is timed against.
-//! `generate put NAME BATCHES ROWS`, `generate get VERSION` and `generate info COUNT` write calls; `copy COUNT FILE` writes a
+//! `generate put NAME BATCHES ROWS`, `generate puts COUNT`, `generate get VERSION` and `generate info COUNT` write calls; `copy COUNT FILE` writes a
 //! file so often; without a word it serves the calls of standard input, as `call_server` does those that are not refused.
 use plain_tables::plain_batches::plain_headers::{self, Header, Schema};
 use plain_tables::plain_batches::{read_batch, write_body};
@@ -273,6 +273,7 @@ fn generate(words: &[&str]) -> io::Result<()> {
     let number = |word: &str| word.parse::<u64>().map_err(|_| wrong());
     match words {
         ["put", name, batches, rows] => generate_put(number(name)?, number(batches)?, number(rows)?),
+        ["puts", count] => (1..=number(count)?).try_for_each(|name| generate_put(name, 1, 3)),
         ["get", version] => {
             let mut message = Vec::new();
             put_bytes(&mut message, 1, &ticket_of("table", number(version)?));
