@@ -15,10 +15,7 @@ use std::alloc::{AllocError, Global};
 use std::hash::RandomState;
 use std::io::{self, BufRead, BufReader, BufWriter, Write};
 use std::process::ExitCode;
-use table_backend::TableBackend;
-
-/// The most uploads that are taken.
-const SLOTS: u64 = 1_000_000;
+use table_backend::{MAX_VALUES, TableBackend};
 
 /// The most calls that are served.
 const MAX_CALLS: u32 = 1_000_000;
@@ -61,7 +58,10 @@ fn start(rt: &HostRuntime) -> io::Result<bool> {
 // Tables of no upload.
 fn empty_tables(alloc: Global, hashing: RandomState) -> Result<Box<TableBackend>, AllocError> {
     let locations = locations(alloc)?;
-    let boxed = Box::new(alloc, TableBackend::new(alloc, hashing, SLOTS, locations))?;
+    let boxed = Box::new(
+        alloc,
+        TableBackend::new(alloc, hashing, MAX_VALUES, locations),
+    )?;
     Ok(boxed)
 }
 

@@ -4,7 +4,6 @@ ghost use Rattle.std.specs.Prelude.{◌≡◌, true, false, [], map, string_byte
 ghost use Rattle.call_words.specs.declared.back_fault.BackFault.TheVariants.{OutOfMemory};
 ghost use Rattle.cluster_backend.specs.Backing.{MayAnswer, StaysAt};
 
-use crate::describing::{described, schema_in};
 use crate::fault::back_fault;
 use crate::nodes::Nodes;
 use crate::receipts::Receipts;
@@ -137,7 +136,7 @@ impl<'a, R: Wait, C: Nodes, K: Receipts> Backend for ClusterBackend<'a, R, C, K>
             Ok(None) => return Err(BackFault::NoTable),
             Err(fault) => return Err(back_fault(fault)),
         };
-        Ok(described(alloc, info, self.locations)?)
+        Ok(TableDescription::of(alloc, info, self.locations)?)
     }
 
     fn schema(&mut self, _alloc: Global, table: &str) -> Result<Vec<u8>, BackFault> {
@@ -147,7 +146,7 @@ impl<'a, R: Wait, C: Nodes, K: Receipts> Backend for ClusterBackend<'a, R, C, K>
             Ok(None) => return Err(BackFault::NoTable),
             Err(fault) => return Err(back_fault(fault)),
         };
-        Ok(schema_in(info))
+        Ok(info.into_schema())
     }
 
     fn list(&mut self, alloc: Global) -> Result<Vec<TableDescription>, BackFault> {

@@ -9,7 +9,6 @@
 #![tactic(auto)]
 
 mod backend;
-mod describing;
 mod fault;
 mod nodes;
 mod receipts;

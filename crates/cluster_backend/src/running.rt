@@ -8,7 +8,6 @@ ghost use Rattle.table_versions.specs.Info.{IsLatest};
 ghost use Rattle.table_backend.specs.Backing.{TellsLatest};
 ghost use Rattle.cluster_backend.specs.Backing.{AreAgreed, HasTables, IsAnswered};
 
-use crate::describing::described;
 use crate::nodes::Nodes;
 use flight_calls::TableDescription;
 use growing_log::Naming;
@@ -127,7 +126,7 @@ fn told(
         → TellsLatest (map string_bytes locations.now) table.now (effective table.now uploads) found) }
 {
     match node.info(table) {
-        Ok(Some(info)) => described(alloc, info, locations),
+        Ok(Some(info)) => TableDescription::of(alloc, info, locations),
         Ok(None) => unreachable!(),
         Err(_) => Err(AllocError),
     }

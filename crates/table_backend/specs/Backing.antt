@@ -50,7 +50,7 @@ TableFault counted fault =
 
 -- as many values were taken as may be
 abbrev pub IsFull : BackendState → Type 0
-IsFull shelf = (shelf.slots ≤ shelf.tables.taken) ⊎ (values_limit ≤ shelf.tables.taken)
+IsFull state = (state.slots ≤ state.tables.taken) ⊎ (values_limit ≤ state.tables.taken)
 
 -- nothing is known of the upload of this encoding
 abbrev pub IsUnknown : List Upload → List ℕ → Type 0
@@ -58,36 +58,36 @@ IsUnknown uploads text = (upload : Upload) → IsUpload upload → upload_text u
 
 -- nothing is known of an upload, and as many were taken as may be; or memory was refused
 abbrev pub PutFault : BackendState → List Upload → List ℕ → BackFault → Type 0
-PutFault shelf uploads text fault =
-    (IsFull shelf × IsUnknown uploads text × (fault ≡ faults.SlotsSpent)) ⊎ (fault ≡ faults.OutOfMemory)
+PutFault state uploads text fault =
+    (IsFull state × IsUnknown uploads text × (fault ≡ faults.SlotsSpent)) ⊎ (fault ≡ faults.OutOfMemory)
 
 -- By these uploads, this is an answer to the request.
 abbrev pub Answers : BackendState → List Upload → Request → BackAnswer → Type 0
-Answers shelf uploads (describes table) (described d) = DescribesTable shelf.locations table (effective table uploads) d
-Answers shelf uploads (describes table) (failed fault) = TableFault (effective table uploads) fault
-Answers shelf uploads (shows table) (shown schema) =
+Answers state uploads (describes table) (described d) = DescribesTable state.locations table (effective table uploads) d
+Answers state uploads (describes table) (failed fault) = TableFault (effective table uploads) fault
+Answers state uploads (shows table) (shown schema) =
     (first : Upload) × (rest : List Upload) × (effective table uploads ≡ first ∷ rest) × (schema ≡ first.schema)
-Answers shelf uploads (shows table) (failed fault) = TableFault (effective table uploads) fault
-Answers shelf uploads lists (listed all) =
-    AllZip (λ name d. DescribesTable shelf.locations name (effective name uploads) d) (table_names uploads) all
-Answers shelf uploads lists (failed fault) = fault ≡ faults.OutOfMemory
-Answers shelf uploads (serves asked) (served version) = version_of asked.table asked.version uploads ≡ Some version
-Answers shelf uploads (serves asked) (failed fault) =
+Answers state uploads (shows table) (failed fault) = TableFault (effective table uploads) fault
+Answers state uploads lists (listed all) =
+    AllZip (λ name d. DescribesTable state.locations name (effective name uploads) d) (table_names uploads) all
+Answers state uploads lists (failed fault) = fault ≡ faults.OutOfMemory
+Answers state uploads (serves asked) (served version) = version_of asked.table asked.version uploads ≡ Some version
+Answers state uploads (serves asked) (failed fault) =
     ((version_of asked.table asked.version uploads ≡ None) × (fault ≡ faults.Unavailable)) ⊎ (fault ≡ faults.OutOfMemory)
-Answers shelf uploads (puts text) (decided outcome) =
+Answers state uploads (puts text) (decided outcome) =
     (upload : Upload) → IsUpload upload → upload_text upload ≡ text → outcome ≡ outcome_of uploads upload
-Answers shelf uploads (puts text) (failed fault) = PutFault shelf uploads text fault
-Answers shelf uploads request other = ⊥
+Answers state uploads (puts text) (failed fault) = PutFault state uploads text fault
+Answers state uploads request other = ⊥
 
 -- the tables have taken values of uploads of which this holds
 abbrev pub Stands : BackendState → (List Upload → Type 0) → Type 0
-Stands shelf P =
-    (values : List Value) × (uploads : List Upload) × HasTaken shelf.tables values × AreUploadsIn values uploads × P uploads
+Stands state P =
+    (values : List Value) × (uploads : List Upload) × HasTaken state.tables values × AreUploadsIn values uploads × P uploads
 
 -- an answer by uploads that the tables have taken
 abbrev pub MayAnswer : BackendState → Request → BackAnswer → Type 0
-MayAnswer shelf request answer =
-    Stands shelf (λ uploads. Answers shelf uploads request answer)
+MayAnswer state request answer =
+    Stands state (λ uploads. Answers state uploads request answer)
 
 -- the same is held, at the same locations, and as many uploads are taken
 pub record HoldsTheSame (old new : BackendState) : Type 0 where

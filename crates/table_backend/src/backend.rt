@@ -7,7 +7,7 @@ ghost use Rattle.table_versions.specs.State.{HasTaken, IsSame};
 ghost use Rattle.call_words.specs.declared.back_fault.BackFault.TheVariants.{SlotsSpent, OutOfMemory};
 ghost use Rattle.table_backend.specs.Backing.{MayAnswer, Leaves, HoldsTheSame, IsFull};
 
-use crate::parts::{all_described, described, schema_in, value_of};
+use crate::parts::{all_described, value_of};
 use call_words::BackFault;
 use flight_calls::{Backend, TableDescription};
 use std::alloc::Global;
@@ -16,11 +16,8 @@ use std::marker::Model;
 use table_types::Ticket;
 use table_types::laws::tables_have_one_shape;
 use table_versions::laws::{same_tables_hold_the_same, values_hold_one_list_of_uploads};
-use table_versions::{Answer, Outcome, Tables};
+use table_versions::{Answer, MAX_VALUES, Outcome, Tables};
 use uploads::Upload;
-
-/// The most values that tables take.
-const MAX_VALUES: u64 = 1_000_000;
 
 /// Tables of the uploads that were put, and where they are served.
 #[derive(Debug, Drop)]
@@ -56,7 +53,7 @@ impl Model for TableBackend {
 }
 
 impl TableBackend {
-    /// A backend that has taken no upload, and takes so many, but no more than 1,000,000: a further one is refused as
+    /// A backend that has taken no upload, and takes so many, but no more than [`MAX_VALUES`]: a further one is refused as
     /// [`BackFault::SlotsSpent`]. It is served at these locations, of which clients are told in this order. Clients choose
     /// the names of tables and of uploads: `hashing` has the random keys that keep look-ups fast whatever they choose.
     pub fn new(
@@ -175,7 +172,7 @@ impl Backend for TableBackend {
             Ok(None) => return Err(BackFault::NoTable),
             Err(_) => return Err(BackFault::OutOfMemory),
         };
-        described(alloc, info, &self.locations)
+        Ok(TableDescription::of(alloc, info, &self.locations)?)
     }
 
     fn schema(&mut self, _alloc: Global, table: &str) -> Result<Vec<u8>, BackFault> {
@@ -185,7 +182,7 @@ impl Backend for TableBackend {
             Ok(None) => return Err(BackFault::NoTable),
             Err(_) => return Err(BackFault::OutOfMemory),
         };
-        Ok(schema_in(info))
+        Ok(info.into_schema())
     }
 
     fn list(&mut self, alloc: Global) -> Result<Vec<TableDescription>, BackFault> {

@@ -8,3 +8,4 @@ mod backend;
 mod parts;
 
 pub use backend::TableBackend;
+pub use table_versions::MAX_VALUES;

@@ -15,8 +15,8 @@ use ballots::{UploadBytes, Value};
 use call_words::BackFault;
 use flight_calls::TableDescription;
 use std::alloc::{AllocError, Global};
+use table_versions::Tables;
 use table_versions::laws::tables_have_effective_uploads;
-use table_versions::{TableInfo, Tables};
 use uploads::Upload;
 
 /// The value of an upload, which shares its bytes.
@@ -28,39 +28,6 @@ pub(crate) fn value_of(upload: &Upload) -> Result<Value, AllocError>
         Some(bytes) => Ok(Value::Upload(bytes)),
         None => unreachable!(),
     }
-}
-
-/// The same texts.
-fn copies(alloc: Global, texts: &[String]) -> Result<Vec<String>, AllocError>
-    ensures { IfOk result (λ made. map string_bytes made.items ≡ map string_bytes texts.now) }
-{
-    let mut copies = Vec::new(alloc);
-    for text in texts {
-        let copy = text.clone()?;
-        copies.push(copy)?;
-    }
-    Ok(copies)
-}
-
-/// What is told of a table, with these locations.
-pub(crate) fn described(
-    alloc: Global,
-    info: TableInfo,
-    locations: &[String],
-) -> Result<TableDescription, BackFault>
-    ensures described { IfOk result (λ found. (found.info ≡ info)
-        × (map string_bytes found.locations.items ≡ map string_bytes locations.now)) }
-    ensures fault { IfErr result (λ fault. fault ≡ OutOfMemory) }
-{
-    let locations = copies(alloc, locations)?;
-    Ok(TableDescription { info, locations })
-}
-
-/// The message with the schema of a table of which this is told.
-pub(crate) fn schema_in(info: TableInfo) -> Vec<u8>
-    ensures { result.items ≡ info.schema.items }
-{
-    info.schema
 }
 
 /// What is told of a table that there is, with these locations.
@@ -78,7 +45,7 @@ fn told(
     ensures fault { IfErr result (λ fault. fault ≡ OutOfMemory) }
 {
     match tables.latest(table) {
-        Ok(Some(info)) => described(alloc, info, locations),
+        Ok(Some(info)) => Ok(TableDescription::of(alloc, info, locations)?),
         Ok(None) => unreachable!(),
         Err(_) => Err(BackFault::OutOfMemory),
     }

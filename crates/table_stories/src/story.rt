@@ -8,10 +8,7 @@ use std::io;
 use std::random::RandomSource;
 use story_requests::{Answer, Answers, RequestFault, Words};
 use table_types::{Ticket, TicketFault};
-use table_versions::Tables;
-
-/// The most values that tables take.
-const MAX_VALUES: u64 = 1_000_000;
+use table_versions::{MAX_VALUES, Tables};
 
 /// Who has tables.
 #[derive(Drop)]

@@ -1,5 +1,7 @@
 //! What is told of a table.
 
+ghost use Rattle.std.specs.Prelude.{◌≡◌};
+
 /// The latest version of a table.
 #[derive(Debug, Drop)]
 pub struct TableInfo {
@@ -13,4 +15,13 @@ pub struct TableInfo {
     pub total_bytes: u64,
     /// The message with the schema of its first upload (Apache Arrow, "Schema.fbs").
     pub schema: Vec<u8>,
+}
+
+impl TableInfo {
+    /// The message with the schema.
+    pub fn into_schema(self) -> Vec<u8>
+        ensures { result.items ≡ self.schema.items }
+    {
+        self.schema
+    }
 }

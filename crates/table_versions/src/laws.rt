@@ -8,7 +8,8 @@ ghost use Rattle.table_types.specs.Uploads.{Upload};
 ghost use Rattle.table_types.specs.Valid.{IsUpload};
 ghost use Rattle.table_types.specs.Tables.{effective, table_names};
 ghost use Rattle.table_versions.specs.Values.{AreUploadsIn};
-ghost use Rattle.table_versions.specs.State.{TablesState, HasTaken, IsSame};
+ghost use Rattle.table_versions.specs.State.{TablesState, HasTaken, IsSame, values_limit};
+ghost use Rattle.table_versions.specs.declared.tables.TheConstants.{MAX_VALUES};
 ghost use Rattle.table_versions.specs.Info.{IsLatest, SaySame};
 ghost use Rattle.table_versions.specs.declared.info.TableInfo.{TableInfo};
 
@@ -42,4 +43,9 @@ pub fn latest_versions_are_one()
 /// Tables that are the same hold what the same values make, whatever room they have.
 pub fn same_tables_hold_the_same()
     ensures { (x y : TablesState) (values : List Value) → IsSame x y → HasTaken x values → HasTaken y values }
+{}
+
+/// The limit of the code is that of the definitions.
+pub fn limit_is_that_of_tables()
+    ensures { MAX_VALUES ≡ values_limit }
 {}

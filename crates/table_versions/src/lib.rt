@@ -47,4 +47,4 @@ pub use info::TableInfo;
 pub use outcome::Outcome;
 pub use ready::Ready;
 pub use table_types::Ticket;
-pub use tables::Tables;
+pub use tables::{MAX_VALUES, Tables};

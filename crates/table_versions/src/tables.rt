@@ -29,6 +29,9 @@ use table_types::Ticket;
 use table_types::laws::texts_hold_one_list_of_uploads;
 use uploads::{HeldUploads, NoUploads, Upload};
 
+/// The most values that tables take.
+pub const MAX_VALUES: u64 = 1_000_000;
+
 /// The tables that the agreed values make, the first so many of them.
 #[derive(Debug)]
 pub struct Tables {
@@ -165,7 +168,7 @@ impl Tables {
 
     /// Makes these values, the next of the list, ready to be taken: all memory that [`Tables::apply`] needs. What the
     /// tables hold stays, whatever the answer, and no room is lost. With these values the tables have taken at most
-    /// 1,000,000.
+    /// [`MAX_VALUES`].
     pub fn ready(&mut self, values: &[Value]) -> Result<Ready, OutOfMemory>
         requires { self.old.taken + length values.now ≤ values_limit }
         ensures ready { IfOk result (λ ready. IsReadyFor ready values.now) }

@@ -9,10 +9,7 @@ use part_tasks::{TaskFault, push, weight_of};
 use std::alloc::{AllocError, Global};
 use std::hash::RandomState;
 use table_types::Ticket;
-use table_versions::{TableInfo, Tables};
-
-/// The most values that tables take.
-const MAX_VALUES: u64 = 1_000_000;
+use table_versions::{MAX_VALUES, TableInfo, Tables};
 
 /// The tables take one more value.
 fn take(tables: &mut Tables, value: &Value) -> Result<(), TaskFault> {

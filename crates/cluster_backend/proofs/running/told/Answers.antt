@@ -14,7 +14,7 @@ unreachable-requires c =
 pub returns-in-Ok-Some : goal.returns-in-Ok-Some
 returns-in-Ok-Some c =
     let table = c.args.table.now in
-    IfOk-weaker c.described.result _ _
+    IfOk-weaker c.of.result _ _
     (λ found made uploads has. tells_latest (map string_bytes c.args.locations.now) table (effective table uploads) c.in-Ok-Some.field-0 c.in-Ok-Some.info found
     (c.in-Ok-Some.ensures.latest has.0 uploads has.1 has.2) c.in-Ok-Some.field-0-is made.0 made.1)
-    c.described.ensures
+    c.of.ensures

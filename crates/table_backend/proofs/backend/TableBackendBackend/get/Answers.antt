@@ -12,7 +12,7 @@ use Rattle.table_backend.proofs.backend.TableBackendBackend.get.Goals.{in-Ok-Som
 
 -- it is the answer of a version that is one
 abbrev IsServed : BackendState → TableVersion → Result (List ℕ) BackFault → Type 0
-IsServed shelf asked result = IfOk result (λ answer. (x : Version) × MayAnswer shelf (serves asked) (served x) × (answer ≡ answer_of x))
+IsServed state asked result = IfOk result (λ answer. (x : Version) × MayAnswer state (serves asked) (served x) × (answer ≡ answer_of x))
 
 pub returns-clause-served : goal.returns-clause-served
 returns-clause-served c =

@@ -6,7 +6,7 @@ use Rattle.table_versions.specs.Outcomes.{told}
 use Rattle.call_reading.specs.Requests.{puts}
 use Rattle.flight_calls.specs.Replies.{failed}
 use Rattle.table_backend.specs.Backing.{MayAnswer}
-use Rattle.table_backend.proofs.Shelves.{unknown_is_taken, known_is_kept, on_ok_both, put_fault}
+use Rattle.table_backend.proofs.States.{unknown_is_taken, known_is_kept, on_ok_both, put_fault}
 use Rattle.table_backend.proofs.backend.TableBackendBackend.put.Goals as goal
 
 pub returns-in-Unknown-clause-leaves : goal.returns-in-Unknown-clause-leaves

@@ -15,7 +15,7 @@ returns-clause-shown c =
     let table = c.args.table.now in
     let valid = c.values_hold_one_list_of_uploads.ensures.valid values uploads taken.are in
     let s = schema_of_latest table uploads valid c.in-Ok-Some.field-0 c.in-Ok-Some.info (c.in-Ok-Some.ensures.latest values uploads taken taken.are) c.in-Ok-Some.field-0-is in
-    let is = c.schema_in.ensures ∙ s.3 in (
+    let is = c.into_schema.ensures ∙ s.3 in (
       s.0.schema,
       subst (λ b. MayAnswer b (shows table) (shown s.0.schema)) c.self.view_is (values, uploads, taken, taken.are, (s.0, s.1, s.2, refl)),
       is,

@@ -12,7 +12,7 @@ use Rattle.call_words.specs.declared.back_fault.BackFault.{BackFault}
 use Rattle.call_words.specs.declared.back_fault.BackFault.TheVariants as faults
 use Rattle.table_backend.specs.Backing.{BackendState, Takes, IsFull, IsUnknown, PutFault}
 
--- an upload of whose name nothing had come is taken
+-- an upload of whose id nothing had come is taken
 pub unknown_is_taken : (outcome : Outcome) (text : List ℕ) (slots : ℕ) (x y : TablesState) → outcome ≡ unknown → x.taken < slots
     → ((values : List Value) → HasTaken x values → HasTaken y (values ++ agreed.Upload text ∷ [])) → Takes outcome text slots x y
 unknown_is_taken unknown text slots x y is room takes = (room, takes)
@@ -53,7 +53,7 @@ pub on_ok_both : {T E : Type 0} {P Q R : Type 0} (r : Result T E) → (P → Q �
 on_ok_both (Ok x) f p q = f p q
 on_ok_both (Err e) f p q = tt
 
--- it is refused where the tables are full, which are those that the shelf held, or memory was refused
+-- it is refused where the tables are full, which are those that the state held, or memory was refused
 pub put_fault : (old mid : BackendState) (uploads : List Upload) (text : List ℕ) (fault : BackFault) → mid.tables ≡ old.tables → mid.slots ≡ old.slots → IsUnknown uploads text
     → (IsFull mid × (fault ≡ faults.SlotsSpent)) ⊎ (fault ≡ faults.OutOfMemory) → PutFault old uploads text fault
 put_fault old mid uploads text fault tables slots new (inl full) =
