@@ -7,20 +7,20 @@
 # that both programs read the same and write the same bytes. Then it times one reading of hostile bodies of 4 MiB,
 # beside that of a plain one of that size: numbers with every tenth null.
 #
-# Seen on four processors that twenty other tasks shared, in milliseconds (a page of memory asked for anew counts):
+# Seen on four processors beside three other tasks, in milliseconds (a page of memory asked for anew counts):
 #
 #                  read: ours  plain Rust  ratio  a copy  instructions, ratio   write: ours  plain Rust  ratio
-#   int64                2.5         2.5   1.01     2.5          0.9 M  1.00           3.8         3.9   0.97
-#   int64-nulls          4.5         8.0   0.56     2.6         21.1 M  0.40           3.6         4.0   0.89
-#   utf8                 9.3        19.4   0.48     5.0         33.6 M  0.25           4.3         5.8   0.74
-#   utf8-nulls          22.3        25.7   0.87     4.3        130.1 M  0.70           5.7         5.7   0.99
-#   bool-nulls           0.2         3.7   0.06     0.0          1.9 M  0.05          0.01        0.01   0.98
-#   list                 7.7         7.6   1.00     6.8         12.8 M  1.31           7.0         7.8   0.90
-#   struct-nulls        34.0        68.8   0.49    17.7         79.1 M  0.38          16.3        15.6   1.05
-#   wide                0.20        0.13   1.54    0.01          1.0 M  1.72          0.02        0.02   1.34
+#   int64                0.62        0.61   1.01    0.60          0.9 M  1.00           0.61        0.60   1.02
+#   int64-nulls           2.1         4.7   0.44    0.61         21.2 M  0.40           0.61        0.62   0.97
+#   utf8                  5.2        12.6   0.41    0.98         35.6 M  0.26            1.0        1.00   1.03
+#   utf8-nulls           18.5        16.4   1.12    0.94        126.1 M  0.68            1.0        0.99   1.01
+#   bool-nulls           0.17         2.8   0.06    0.01          1.9 M  0.05           0.01        0.01   0.98
+#   list                  3.5         2.6   1.37     1.3         13.8 M  1.41            1.3         1.4   0.98
+#   struct-nulls         18.6        23.6   0.79     4.9         79.5 M  0.38            5.4         5.6   0.98
+#   wide                 0.11        0.09   1.24    0.01          0.8 M  1.32           0.02        0.01   1.53
 #
-# Of bodies of 4 MiB, plain numbers took 3.9 ms, deep lists 2.5 times as long, deep structs 2.2 times, all ones 0.7,
-# offsets that fall at the end 0.2, a text that ends badly 0.2, and hidden texts 14 times.
+# Of bodies of 4 MiB, plain numbers took 2.7 ms, deep lists 2.2 times as long, deep structs 2.6 times, all ones 0.6,
+# offsets that fall at the end 0.4, a text that ends badly 0.3, and hidden texts 2.3 times.
 cd "$(dirname "${BASH_SOURCE[0]}")/.."
 source bench/programs.sh plain_batches
 

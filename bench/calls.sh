@@ -7,13 +7,16 @@
 # events by `flight_bench`. Each line gives the processor time of one call, the least of five runs of each program in turn,
 # less that of a run without these calls; and how many bytes the server held at most.
 #
-# Seen on four processors that several other tasks shared:
+# Seen on four processors, three runs, two of them beside other tasks:
 #
-#                              ours   plain Rust  ratio
-#   DoGet of 64 MiB         14.5 ms      20.8 ms   0.70   4,414 MiB/s, 1.09 of a raw copy's speed (15.9 ms); 131 MiB held, 134 MiB
-#   DoPut of 15 MiB         36.4 ms      35.2 ms   1.03   412 MiB/s; 249 MiB held for 120 MiB, and 256 MiB in plain Rust
-#   GetFlightInfo            2.5 us       2.8 us   0.87
-#   replay of 10,000 events 20.3 ms, and 11.5 ms `run` itself: 1.76
+#                                      ours         plain Rust       ratio
+#   DoGet of 64 MiB            13.7 to 17.9 ms    11.9 to 15.3 ms  0.96 to 1.18   1.08 to 1.33 of a raw copy's speed; 131 MiB held, 134 MiB
+#   DoPut of 15 MiB            26.8 to 33.6 ms    23.7 to 26.7 ms  1.12 to 1.30   249 MiB held for 120 MiB, and 256 MiB in plain Rust
+#   GetFlightInfo                1.5 to 1.9 us      1.9 to 2.4 us  0.67 to 0.94
+#   a small upload of 1,000             0.1 us             0.1 us  1.9 to 2.3
+#   of 10,000                           0.1 us             0.1 us  1.5 to 1.8
+#   of 100,000                   0.3 to 0.4 us             0.1 us  2.1 to 2.6    8 MiB more held, while the answer is written
+#   replay of 10,000 events    15.7 to 19.4 ms, and 9.5 to 10.9 ms `run` itself: 1.66 to 1.78
 #
 # An answer shares the frames that the tables keep, and each is written where it stands. Before that an answer was made whole, one
 # copy of all its frames, and a DoGet took three times as long as in plain Rust. A body is copied three times on its way into the
@@ -47,7 +50,7 @@ import sys
 
 crates, work = sys.argv[1:]
 SERVER, PLAIN, MIB = f"{crates}/call_server/out/call_server", f"{work}/calls", 2**20
-UPLOADS, EVENTS, GETS = 500, 20, 20
+UPLOADS, EVENTS, ANSWERED = 500, 20, 2_000_000
 
 
 def generated(path, *calls):
@@ -100,7 +103,7 @@ files = {
 }
 many = {}
 for count in (1_000, 10_000, 100_000):
-    many[count] = [generated(f"{work}/{gets}-{count}", ("puts", count), *[("get", count)] * gets) for gets in (GETS, 0)]
+    many[count] = [generated(f"{work}/{gets}-{count}", ("puts", count), *[("get", count)] * gets) for gets in (ANSWERED // count, 0)]
 for path in (*files.values(), small, many[1_000][0]):
     served([SERVER], path, f"{work}/ours"), served([PLAIN], path, f"{work}/theirs")
     if subprocess.run(["cmp", f"{work}/ours", f"{work}/theirs"]).returncode:
@@ -121,7 +124,7 @@ print(f"a raw copy of that answer: {copied * 1e6:,.1f} us ({size / MIB / copied:
 timed("DoPut of 15 MiB", 8, files["large"], files["nothing"], 15 * MIB)
 timed("GetFlightInfo", 10_000, files["info"], small)
 for count, (gets, puts) in many.items():
-    timed(f"DoGet of {count:,} small uploads, each", GETS * count, gets, puts)
+    timed(f"DoGet of {count:,} small uploads, each", ANSWERED, gets, puts)
 
 everyone, events, prepare = range(3), [], 0
 for upload in range(UPLOADS):

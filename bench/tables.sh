@@ -8,24 +8,27 @@
 # holds and shares: the peak resident size of a run that keeps tables, less that of one that makes none. First it shows
 # that both programs add up to the same sums.
 #
-# Seen on four processors that twenty other tasks shared, in microseconds (a page of memory asked for anew counts):
+# Seen on four processors, in microseconds (a page of memory asked for anew counts):
 #
 #                                    ours  plain Rust  ratio  instructions, ratio
-#   taken, 1,000 over 1 table         4.0         2.3   1.74        27,239   1.68
-#   taken, 10,000                     4.1         2.7   1.52        27,277   1.65
-#   taken, 100,000                    5.4         3.0   1.83        26,676   1.56
-#   taken, 1,000 over 100 tables      3.7         2.5   1.50        27,613   1.55
-#   taken, 10,000                     6.8         4.2   1.63        27,328   1.53
-#   taken, 100,000                    4.8         3.2   1.51        26,681   1.53
-#   1 MiB read, one batch             371         267   1.39         3.2 M   1.42
-#   1 MiB read, sixteen batches       281         148   1.90         3.3 M   1.41
-#   1 MiB answered                     65          65   1.01         1.1 M   1.00
+#   taken, 1,000 over 1 table         3.4         1.5   2.26        40,373   2.48
+#   taken, 10,000                     3.4         1.7   2.02        40,484   2.45
+#   taken, 100,000                    3.7         1.8   2.02        39,868   2.33
+#   taken, 1,000 over 100 tables      4.1         1.9   2.14        40,709   2.28
+#   taken, 10,000                     4.4         2.1   2.14        40,525   2.27
+#   taken, 100,000                    4.3         2.2   1.94        39,869   2.29
+#   1 MiB read, one batch             266         204   1.30         3.2 M   1.42
+#   1 MiB read, sixteen batches       156          76   2.04         3.5 M   1.47
+#   1 MiB answered                   0.08          37   0.00         1,239   0.00
 #
-# From 1,000 to 100,000 held an upload took 1.3 times as long in both, for memory. What is more than in plain Rust: an
-# upload's schema and each header are read once to be checked and once more to be kept, its parts are looked up again by
-# each call, and each part is compared with itself when its one encoding is checked. Beside the uploads tables held 1.00
-# bytes for each byte of uploads of 1 MiB, as plain Rust does; of uploads of 344 bytes, of which 189 are served, 1.2 over
-# one table and 1.5 over a hundred (plain Rust 1.2 and 1.6).
+# From 1,000 to 100,000 held an upload took 1.05 to 1.10 times as long, for memory (plain Rust 1.16 to 1.23). What is more than in
+# plain Rust: the frames that are served of an upload are made once, when it is made ready, and answers share them, where plain
+# Rust makes them anew for each answer; an upload's schema and each header are read once to be checked and once more to be kept;
+# each part is compared with itself when its one encoding is checked; and before a batch is built its canonical length is counted
+# in a table of 8 KiB, which has to be zeros first (8,200 of the instructions: callgrind counts each byte). While an answer made
+# the frames, an upload took 27,000 instructions, 1.5 to 1.8 times as long as in plain Rust, and an answer of 1 MiB 65
+# microseconds. Beside the uploads tables held 1.01 bytes for each byte of uploads of 1 MiB, as plain Rust does; of uploads of 344
+# bytes, of which 189 are served, 1.7 over one table and 1.9 over a hundred (plain Rust 1.2 and 1.6).
 cd "$(dirname "${BASH_SOURCE[0]}")/.."
 source bench/programs.sh plain_tables
 
