@@ -18,7 +18,8 @@
 #   of 100,000                   0.3 to 0.4 us             0.1 us  2.1 to 2.6    8 MiB more held, while the answer is written
 #   replay of 10,000 events    15.7 to 19.4 ms, and 9.5 to 10.9 ms `run` itself: 1.66 to 1.78
 #
-# An answer shares the frames that the tables keep, and each is written where it stands. Before that an answer was made whole, one
+# An answer shares the frames that the tables keep, and each is written where it stands: a server that answered eight such gets
+# held 56 KiB more than one that answered none. Before that an answer was made whole, one
 # copy of all its frames, and a DoGet took three times as long as in plain Rust. A body is copied three times on its way into the
 # tables: out of its frame into a column, into the upload's encoding, and into the frame that is served of it (47.3 MB for the
 # 15.7 MB of a DoPut, by valgrind --tool=dhat --mode=copy). It was five times while a message was read with copies of its bytes and
