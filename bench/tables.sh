@@ -25,10 +25,12 @@
 # plain Rust: the frames that are served of an upload are made once, when it is made ready, and answers share them, where plain
 # Rust makes them anew for each answer; an upload's schema and each header are read once to be checked and once more to be kept;
 # each part is compared with itself when its one encoding is checked; and before a batch is built its canonical length is counted
-# in a table of 8 KiB, which has to be zeros first (8,200 of the instructions: callgrind counts each byte). While an answer made
-# the frames, an upload took 27,000 instructions, 1.5 to 1.8 times as long as in plain Rust, and an answer of 1 MiB 65
-# microseconds. Beside the uploads tables held 1.01 bytes for each byte of uploads of 1 MiB, as plain Rust does; of uploads of 344
-# bytes, of which 189 are served, 1.7 over one table and 1.9 over a hundred (plain Rust 1.2 and 1.6).
+# in a table of 8 KiB, which has to be zeros first (8,200 of the instructions, since callgrind counts each byte, and 0.04
+# microseconds). While an answer made the frames, an upload took 27,000 instructions, 1.5 to 1.8 times as long as in plain Rust,
+# and an answer of 1 MiB 65 microseconds.
+#
+# Beside the uploads tables held 1.01 bytes for each byte of uploads of 1 MiB, as plain Rust does; of uploads of 344 bytes, of which
+# 189 are served, 1.7 over one table and 1.9 over a hundred (plain Rust 1.2 and 1.6).
 cd "$(dirname "${BASH_SOURCE[0]}")/.."
 source bench/programs.sh plain_tables
 
