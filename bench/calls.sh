@@ -1,11 +1,12 @@
 #!/usr/bin/env bash
 # Times Flight calls that `call_server` serves over two pipes, beside the same calls in plain Rust (bench/plain_calls.rs,
 # rustc -O): DoGet of a version of 64 uploads of one batch of 1 MiB, beside a raw copy of the answer's bytes too; DoPut of
-# 15 batches of 1 MiB; GetFlightInfo of one table; and DoGet of versions of 1,000 to 100,000 uploads of three numbers, each of
-# which is to take as long as any other. First it shows that both programs answer with the same bytes. Then it times
-# `flightd replay` of 500 uploads that a leader of three members has decided, 10,000 events, beside `run` itself of the same
-# events by `flight_bench`. Each line gives the processor time of one call, the least of five runs of each program in turn,
-# less that of a run without these calls; and how many bytes the server held at most.
+# 15 batches of 1 MiB; GetFlightInfo of one table; and DoGet of versions of 1,000, 10,000 and 100,000 uploads of three numbers,
+# to see whether an upload takes longer in a long answer. First it shows that both programs answer with the same bytes. Then it
+# times `flightd replay` of 500 uploads that a leader of three members has decided, 10,000 events, beside `run` itself of the
+# same events by `flight_bench`. Each line gives the processor time of one call, the least of five runs of each program in turn,
+# less that of a run without these calls; and how many bytes the server held at most, or, where that is less, what this script
+# held when it started the server.
 #
 # Seen on four processors, three runs, two of them beside other tasks:
 #
@@ -15,17 +16,17 @@
 #   GetFlightInfo                1.5 to 1.9 us      1.9 to 2.4 us  0.67 to 0.94
 #   a small upload of 1,000             0.1 us             0.1 us  1.9 to 2.3
 #   of 10,000                           0.1 us             0.1 us  1.5 to 1.8
-#   of 100,000                   0.3 to 0.4 us             0.1 us  2.1 to 2.6    8 MiB more held, while the answer is written
+#   of 100,000                   0.3 to 0.4 us             0.1 us  2.1 to 2.6    105 MiB held
 #   replay of 10,000 events    15.7 to 19.4 ms, and 9.5 to 10.9 ms `run` itself: 1.66 to 1.78
 #
 # An answer shares the frames that the tables keep, and each is written where it stands: a server that answered eight such gets
-# held 56 KiB more than one that answered none. Before that an answer was made whole, one
-# copy of all its frames, and a DoGet took three times as long as in plain Rust. A body is copied three times on its way into the
-# tables: out of its frame into a column, into the upload's encoding, and into the frame that is served of it (47.3 MB for the
-# 15.7 MB of a DoPut, by valgrind --tool=dhat --mode=copy). It was five times while a message was read with copies of its bytes and
-# a body written apart, and nine times while an upload was decoded again when it was taken. Of the 110 million instructions of the
-# replay (valgrind, an earlier run) 64 are those of `run`; 16 read the file as one value of JSON and 5 let go of it, which alone
-# makes 1.33; some 10 make the 500 uploads, and the others the events, and a line for each.
+# held 56 KiB more than one that answered none. Before that an answer was made whole, one copy of all its frames, and a DoGet
+# took three times as long as in plain Rust. A body is copied three times on its way into the tables: out of its frame into a
+# column, into the upload's encoding, and into the frame that is served of it (47.3 MB for the 15.7 MB of a DoPut, by valgrind
+# --tool=dhat --mode=copy). It was five times while a message was read with copies of its bytes and a body written apart, and
+# nine times while an upload was decoded again when it was taken. Of the 110 million instructions of the replay (valgrind, an
+# earlier run) 64 are those of `run`; 16 read the file as one value of JSON and 5 let go of it, which alone makes 1.33; some 10
+# make the 500 uploads, and the others the events, and a line for each.
 set -euo pipefail
 cd "$(dirname "${BASH_SOURCE[0]}")/.."
 work=$(mktemp -d)
