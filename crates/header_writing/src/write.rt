@@ -34,6 +34,9 @@ const SCHEMA: u8 = 1;
 /// The number of a batch of rows in the union `MessageHeader` (Message.fbs).
 const BATCH: u8 = 3;
 
+/// How many bytes there is room for before a text is written, so that those of few fields or columns are never moved.
+const ROOM: usize = 256;
+
 /// Writes an entry of metadata, the table `KeyValue`.
 fn put_entry(text: &mut Vec<u8>, from: usize, entry: &(String, String)) -> Result<(), AllocError>
     requires within { from + 4 ≤ length text.old.items }
@@ -189,7 +192,7 @@ fn schema_text(alloc: Global, schema: &Schema) -> Result<Vec<u8>, AllocError>
     ensures written { IfOk result (λ text. text.items ≡ header_text (schema_header (schema_of schema.now))) }
     ensures fits { OnOk result (FitsSchema (schema_of schema.now)) }
 {
-    let mut text = Vec::new(alloc);
+    let mut text = Vec::with_capacity(alloc, ROOM)?;
     let header = put_message(&mut text, SCHEMA, 0)?;
     put_schema(&mut text, header, schema)?;
     pad(&mut text, 0, 8)?;
@@ -201,7 +204,7 @@ fn batch_text(alloc: Global, head: &BatchHead) -> Result<Vec<u8>, AllocError>
     ensures written { IfOk result (λ text. text.items ≡ header_text (batch_header (head_of head.now))) }
     ensures fits { OnOk result (FitsHead (head_of head.now)) }
 {
-    let mut text = Vec::new(alloc);
+    let mut text = Vec::with_capacity(alloc, ROOM)?;
     let header = put_message(&mut text, BATCH, head.body_length)?;
     put_batch(&mut text, header, head)?;
     pad(&mut text, 0, 8)?;
