@@ -73,7 +73,7 @@ fn part_of(alloc: Global, upload: &Upload) -> Result<Part, OutOfMemory>
         → IfOk result (λ part. IsPartOf part uploaded) }
 {
     let schema = Bytes::copy_from_slice(alloc, upload.schema_bytes())?;
-    let shape = shape_of(alloc, upload.schema(alloc)?)?;
+    let shape = shape_of(alloc, upload.schema(alloc)?, &schema)?;
     let schema_frame = data_frame(alloc, upload.schema_bytes(), &[], &[])?;
     let served = served(alloc, upload)?;
     let bytes = bytes_in(served.frames.as_slice()) as u64;

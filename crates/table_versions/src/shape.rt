@@ -1,6 +1,6 @@
 //! The shape of a schema: its message without any metadata.
 
-ghost use Rattle.std.specs.Prelude.{◌≡◌, map, IfOk};
+ghost use Rattle.std.specs.Prelude.{◌≡◌, true, map, IfOk};
 ghost use Rattle.header_types.specs.Profile.{InProfile};
 ghost use Rattle.header_types.specs.SameShape.{bare_tree};
 ghost use Rattle.header_types.specs.Views.{tree_of, schema_of};
@@ -12,6 +12,18 @@ use bytes::Bytes;
 use header_types::{Field, Schema};
 use header_writing::write_schema;
 use std::alloc::Global;
+
+/// Whether these fields have no metadata at any level.
+fn are_bare(fields: &[Field]) -> bool
+    ensures { result ≡ true → map bare_tree (map tree_of fields.now) ≡ map tree_of fields.now }
+{
+    for field in fields {
+        if !field.metadata.is_empty() || !are_bare(&field.children) {
+            return false;
+        }
+    }
+    true
+}
 
 /// These fields, without metadata at any level.
 fn bare_fields(alloc: Global, fields: Vec<Field>) -> Result<Vec<Field>, OutOfMemory>
@@ -49,11 +61,16 @@ pub(crate) fn message_of(alloc: Global, schema: &Schema) -> Result<Bytes, OutOfM
     Ok(Bytes::from_vec(message)?)
 }
 
-/// The message of a schema without its metadata: of one shape are the schemas of which this is one text.
-pub(crate) fn shape_of(alloc: Global, schema: Schema) -> Result<Bytes, OutOfMemory>
-    requires { InProfile (schema_of schema) }
+/// The message of a schema without its metadata: of one shape are the schemas of which this is one text. It shares the bytes
+/// of the schema's own message where the schema has no metadata.
+pub(crate) fn shape_of(alloc: Global, schema: Schema, message: &Bytes) -> Result<Bytes, OutOfMemory>
+    requires profile { InProfile (schema_of schema) }
+    requires message { message.now ≡ schema_text (schema_of schema) }
     ensures { IfOk result (λ shape. shape ≡ schema_text (bare_schema (schema_of schema))) }
 {
+    if schema.metadata.is_empty() && are_bare(&schema.fields) {
+        return message.clone();
+    }
     let fields = bare_fields(alloc, schema.fields)?;
     let metadata = Vec::new(alloc);
     message_of(alloc, &Schema { fields, metadata })

@@ -7,10 +7,15 @@ use Rattle.table_types.specs.Valid.{FitsFrame}
 use Rattle.table_versions.proofs.Frames.{served_few, served_long}
 use Rattle.table_versions.proofs.preparing.part_of.Goals as goal
 
-pub shape_of-requires : goal.shape_of-requires
-shape_of-requires c =
+pub shape_of-requires-clause-profile : goal.shape_of-requires-clause-profile
+shape_of-requires-clause-profile c =
     let is = c.requires in
     subst InProfile (sym (c.in_ok-schema-2.ensures is.0 is.1.0 is.1.1)) is.1.0.profile
+
+pub shape_of-requires-clause-message : goal.shape_of-requires-clause-message
+shape_of-requires-clause-message c =
+    let is = c.requires in
+    c.in_ok-schema.ensures ∙ c.schema_bytes.ensures is.0 is.1.0 is.1.1 ∙ ap schema_text (sym (c.in_ok-schema-2.ensures is.0 is.1.0 is.1.1))
 
 pub data_frame-requires : goal.data_frame-requires
 data_frame-requires c =
