@@ -36,10 +36,7 @@ pub fn read_batch(
     ensures fault { IfErr result (λ fault. IsToldOf (schema_of schema.now) (head_of head.now) body.now fault) }
 {
     check_batch(schema, head, body)?;
-    match build_batch(alloc, schema, head, body) {
-        Ok(batch) => Ok(batch),
-        Err(_) => Err(BatchFault::OutOfMemory),
-    }
+    Ok(build_batch(alloc, schema, head, body)?)
 }
 
 /// The batch that a header and a body lay out, as [`read_batch`] gives it, where the body that is written of it
@@ -71,8 +68,6 @@ pub fn read_batch_within(
     if canonical_length(schema, head, body, most).is_none() {
         return Ok(None);
     }
-    match build_batch(alloc, schema, head, body) {
-        Ok(batch) => Ok(Some(batch)),
-        Err(_) => Err(BatchFault::OutOfMemory),
-    }
+    let batch = build_batch(alloc, schema, head, body)?;
+    Ok(Some(batch))
 }

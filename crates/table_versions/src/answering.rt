@@ -105,10 +105,8 @@ pub(crate) fn answer_by(
             if version > table.version {
                 return Ok(None);
             }
-            match with_frames(alloc, &table.schema_frame, frames, table.number, version) {
-                Ok(shared) => Ok(Some(Answer::of(shared))),
-                Err(refused) => Err(refused),
-            }
+            let shared = with_frames(alloc, &table.schema_frame, frames, table.number, version)?;
+            Ok(Some(Answer::of(shared)))
         }
         None => Ok(None),
     }

@@ -43,10 +43,7 @@ pub(crate) fn latest_by(
         → IsLedger firsts tables.now.entries frames uploads → effective name.now uploads ≢ []) }
 {
     match tables.get(name) {
-        Some(table) => match info_of(alloc, name, table) {
-            Ok(info) => Ok(Some(info)),
-            Err(refused) => Err(refused),
-        },
+        Some(table) => Ok(Some(info_of(alloc, name, table)?)),
         None => Ok(None),
     }
 }

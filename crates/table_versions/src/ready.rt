@@ -98,10 +98,7 @@ fn prepared_of<H: HeldUploads>(
     ensures { IfOk result (PreparesBytes bytes.now) }
 {
     match upload_of(alloc, bytes, held)? {
-        Some(upload) => match prepare(alloc, upload) {
-            Ok(prepared) => Ok(Some(prepared)),
-            Err(refused) => Err(refused),
-        },
+        Some(upload) => Ok(Some(prepare(alloc, upload)?)),
         None => Ok(None),
     }
 }

@@ -23,8 +23,6 @@ pub fn check_upload(alloc: Global, text: &[u8]) -> Result<(), DecodeFault>
     let Some(parts) = find_parts(text) else {
         return Err(DecodeFault::NotAnUpload);
     };
-    match read_schema(alloc, parts.schema) {
-        Ok(schema) => check_batches(alloc, &schema, parts.batches),
-        Err(fault) => Err(fault),
-    }
+    let schema = read_schema(alloc, parts.schema)?;
+    check_batches(alloc, &schema, parts.batches)
 }

@@ -97,14 +97,11 @@ pub fn read_schema(alloc: Global, bytes: &[u8]) -> Result<Schema, DecodeFault>
 {
     shown_schemas_are_in_profile();
     written_headers_are_shown();
-    let schema = match shown_schema(alloc, bytes) {
-        Ok(schema) => schema,
-        Err(fault) => return Err(fault),
-    };
-    match is_schema_text(alloc, &schema, bytes) {
-        Ok(true) => Ok(schema),
-        Ok(false) => Err(DecodeFault::NotAnUpload),
-        Err(_) => Err(DecodeFault::OutOfMemory),
+    let schema = shown_schema(alloc, bytes)?;
+    if is_schema_text(alloc, &schema, bytes)? {
+        Ok(schema)
+    } else {
+        Err(DecodeFault::NotAnUpload)
     }
 }
 
@@ -200,18 +197,12 @@ pub fn read_rows(
     written_rows_are_laid_out();
     written_headers_are_shown();
     batches_have_headers();
-    let head = match shown_head(alloc, header) {
-        Ok(head) => head,
-        Err(fault) => return Err(fault),
-    };
-    let batch = match laid_batch(alloc, schema, &head, body) {
-        Ok(batch) => batch,
-        Err(fault) => return Err(fault),
-    };
-    match is_written_so(alloc, schema, &batch, header, body) {
-        Ok(true) => Ok(batch),
-        Ok(false) => Err(DecodeFault::NotAnUpload),
-        Err(_) => Err(DecodeFault::OutOfMemory),
+    let head = shown_head(alloc, header)?;
+    let batch = laid_batch(alloc, schema, &head, body)?;
+    if is_written_so(alloc, schema, &batch, header, body)? {
+        Ok(batch)
+    } else {
+        Err(DecodeFault::NotAnUpload)
     }
 }
 
@@ -232,10 +223,7 @@ pub(crate) fn check_batches(
 {
     let mut left = EncodedBatches::new(batches);
     while let Some((header, body)) = left.next() {
-        match read_rows(alloc, schema, header, body) {
-            Ok(_) => {}
-            Err(fault) => return Err(fault),
-        }
+        read_rows(alloc, schema, header, body)?;
     }
     Ok(())
 }

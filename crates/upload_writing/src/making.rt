@@ -67,8 +67,6 @@ pub fn encode_upload(
     let Some(size) = upload_size(name, id, schema, batches) else {
         return Err(UploadFault::TooLarge);
     };
-    match written_upload(alloc, size as usize, name, id, schema, batches) {
-        Ok(text) => Ok(text),
-        Err(_) => Err(UploadFault::OutOfMemory),
-    }
+    let text = written_upload(alloc, size as usize, name, id, schema, batches)?;
+    Ok(text)
 }

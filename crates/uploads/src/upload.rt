@@ -67,10 +67,7 @@ impl Upload {
         ensures made { OnOk result (AreMade table.now id (schema_of schema.now) batches.now) }
         ensures fault { IfErr result (AreRefused table.now id (schema_of schema.now) batches.now) }
     {
-        let text = match encode_upload(alloc, table, &id, schema, batches) {
-            Ok(text) => text,
-            Err(fault) => return Err(fault),
-        };
+        let text = encode_upload(alloc, table, &id, schema, batches)?;
         match Bytes::from_vec(text) {
             Ok(text) => Ok(Upload { text }),
             Err(_) => Err(UploadFault::OutOfMemory),
@@ -88,10 +85,8 @@ impl Upload {
         ensures fault { result ≡ Err NotAnUpload → ¬ IsUploadText text }
         ensures memory { result ≡ Err OutOfMemory → HasUploadFields text }
     {
-        match check_upload(alloc, text.as_slice()) {
-            Ok(()) => Ok(Upload { text }),
-            Err(fault) => Err(fault),
-        }
+        check_upload(alloc, text.as_slice())?;
+        Ok(Upload { text })
     }
 
     /// Its encoding, which shares these bytes: no byte is copied. [`AllocError`] says that a further owner was refused.
