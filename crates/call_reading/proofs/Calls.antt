@@ -1,7 +1,7 @@
 -- Whole calls: a path, messages, an end.
 use Rattle.std.specs.Prelude.{String}
 use Rattle.std.specs.declared.alloc.Global.{Global}
-use Rattle.std.proofs.Common.{string_bytes, Option, Some, None, Ok, Err, ◌≡◌, ℕ, ◌⊎◌, List, [], ◌∷◌, ◌++◌, refl, sym, ap, subst, ◌∙◌, append-nil, append_assoc, arith, inl, inr}
+use Rattle.std.proofs.Common.{string_bytes, Option, Some, None, Result, Ok, Err, ◌≡◌, ℕ, ◌⊎◌, List, [], ◌∷◌, ◌++◌, refl, sym, ap, subst, ◌∙◌, append-nil, append_assoc, arith, inl, inr}
 use Rattle.grpc_frames.specs.FrameFaults.{WhereKnown}
 use Rattle.proto_wire.specs.Flight.{flight_descriptor_descriptor, ticket_descriptor, criteria_descriptor}
 use Rattle.table_types.specs.Ticket.{TableVersion}
@@ -164,7 +164,7 @@ put_fails refusal None after reads = tt
 put_fails refusal (Some a) None reads = absurd reads
 put_fails refusal (Some a) (Some b) reads = reads
 
-pub call_known : (method : Method) (asked : FlightRequest) (text here after : Option (List ℕ)) → WhereKnown text here (ReadsMethod (Ok method)) → WhereKnown here after (ReadsMessages method (Ok asked))
+call_known : (method : Method) (asked : FlightRequest) (text here after : Option (List ℕ)) → WhereKnown text here (ReadsMethod (Ok method)) → WhereKnown here after (ReadsMessages method (Ok asked))
     → WhereKnown text after (ReadsCall (Ok asked))
 call_known method asked None here after path messages = tt
 call_known method asked (Some x) None after path messages = absurd path
@@ -172,9 +172,14 @@ call_known method asked (Some x) (Some y) None path messages = absurd messages
 call_known method asked (Some x) (Some y) (Some z) path messages =
     call_of (request_of asked) x y z (subst (λ m. x ≡ in_frame (path_text m) ++ y) messages.0 path) messages.1
 
-pub call_fails : (method : Method) (refusal : Refusal) (text here after : Option (List ℕ)) → WhereKnown text here (ReadsMethod (Ok method)) → WhereKnown here after (ReadsMessages method (Err refusal))
+call_fails : (method : Method) (refusal : Refusal) (text here after : Option (List ℕ)) → WhereKnown text here (ReadsMethod (Ok method)) → WhereKnown here after (ReadsMessages method (Err refusal))
     → WhereKnown text after (ReadsCall (Err refusal))
 call_fails method refusal None here after path messages = tt
 call_fails method refusal (Some x) None after path messages = absurd path
 call_fails method refusal (Some x) (Some y) None path messages = absurd messages
 call_fails method refusal (Some x) (Some y) (Some z) path messages = call_faults method x y z refusal path messages
+
+pub call_read : (method : Method) (result : Result FlightRequest Refusal) (text here after : Option (List ℕ)) → WhereKnown text here (ReadsMethod (Ok method))
+    → WhereKnown here after (ReadsMessages method result) → WhereKnown text after (ReadsCall result)
+call_read method (Ok asked) text here after path messages = call_known method asked text here after path messages
+call_read method (Err refusal) text here after path messages = call_fails method refusal text here after path messages

@@ -39,10 +39,7 @@ fn table_asked(alloc: Global, message: &[u8]) -> Result<String, Refusal>
         ⊎ (((table : List ℕ) × AsksForTable message.now table) × (refusal ≡ OutOfMemory))) }
 {
     let descriptor = decoded::<FlightDescriptor>(alloc, message)?;
-    let table = match table_in(&descriptor) {
-        Ok(table) => table,
-        Err(refusal) => return Err(refusal),
-    };
+    let table = table_in(&descriptor)?;
     Ok(String::from_str(alloc, table)?)
 }
 
@@ -81,10 +78,8 @@ pub(crate) fn read_table<R: Read>(alloc: Global, r: &mut R) -> Result<String, Re
 {
     let message = first_message(alloc, r)?;
     let table = table_asked(alloc, &message)?;
-    match read_end(alloc, r) {
-        Ok(()) => Ok(table),
-        Err(refusal) => Err(refusal),
-    }
+    read_end(alloc, r)?;
+    Ok(table)
 }
 
 /// Reads a call that asks for all tables.
@@ -94,10 +89,7 @@ pub(crate) fn read_criteria<R: Read>(alloc: Global, r: &mut R) -> Result<(), Ref
 {
     let message = first_message(alloc, r)?;
     check_criteria(alloc, &message)?;
-    match read_end(alloc, r) {
-        Ok(()) => Ok(()),
-        Err(refusal) => Err(refusal),
-    }
+    read_end(alloc, r)
 }
 
 /// The version of a call that asks for one.
@@ -107,8 +99,6 @@ pub(crate) fn read_ticket<R: Read>(alloc: Global, r: &mut R) -> Result<Ticket, R
 {
     let message = first_message(alloc, r)?;
     let ticket = version_asked(alloc, &message)?;
-    match read_end(alloc, r) {
-        Ok(()) => Ok(ticket),
-        Err(refusal) => Err(refusal),
-    }
+    read_end(alloc, r)?;
+    Ok(ticket)
 }

@@ -18,10 +18,7 @@ fn read_method<R: Read>(alloc: Global, r: &mut R) -> Result<Method, Refusal>
     ensures { WhereKnown (R.remaining r.old) (R.remaining r.new) (ReadsMethod result) }
 {
     match next_part(alloc, r)? {
-        CallPart::Message(path) => match Method::of_path(&path) {
-            Ok(method) => Ok(method),
-            Err(refusal) => Err(refusal),
-        },
+        CallPart::Message(path) => Method::of_path(&path),
         CallPart::End => Err(Refusal::BadPath),
     }
 }
@@ -30,50 +27,40 @@ fn read_method<R: Read>(alloc: Global, r: &mut R) -> Result<Method, Refusal>
 fn info_asked<R: Read>(alloc: Global, r: &mut R) -> Result<FlightRequest, Refusal>
     ensures { WhereKnown (R.remaining r.old) (R.remaining r.new) (ReadsMessages GetFlightInfo result) }
 {
-    match read_table(alloc, r) {
-        Ok(table) => Ok(FlightRequest::GetFlightInfo(table)),
-        Err(refusal) => Err(refusal),
-    }
+    let table = read_table(alloc, r)?;
+    Ok(FlightRequest::GetFlightInfo(table))
 }
 
 /// Reads the messages of a call of `GetSchema`.
 fn schema_asked<R: Read>(alloc: Global, r: &mut R) -> Result<FlightRequest, Refusal>
     ensures { WhereKnown (R.remaining r.old) (R.remaining r.new) (ReadsMessages GetSchema result) }
 {
-    match read_table(alloc, r) {
-        Ok(table) => Ok(FlightRequest::GetSchema(table)),
-        Err(refusal) => Err(refusal),
-    }
+    let table = read_table(alloc, r)?;
+    Ok(FlightRequest::GetSchema(table))
 }
 
 /// Reads the messages of a call of `ListFlights`.
 fn list_asked<R: Read>(alloc: Global, r: &mut R) -> Result<FlightRequest, Refusal>
     ensures { WhereKnown (R.remaining r.old) (R.remaining r.new) (ReadsMessages ListFlights result) }
 {
-    match read_criteria(alloc, r) {
-        Ok(()) => Ok(FlightRequest::ListFlights),
-        Err(refusal) => Err(refusal),
-    }
+    read_criteria(alloc, r)?;
+    Ok(FlightRequest::ListFlights)
 }
 
 /// Reads the messages of a call of `DoGet`.
 fn get_asked<R: Read>(alloc: Global, r: &mut R) -> Result<FlightRequest, Refusal>
     ensures { WhereKnown (R.remaining r.old) (R.remaining r.new) (ReadsMessages DoGet result) }
 {
-    match read_ticket(alloc, r) {
-        Ok(ticket) => Ok(FlightRequest::DoGet(ticket)),
-        Err(refusal) => Err(refusal),
-    }
+    let ticket = read_ticket(alloc, r)?;
+    Ok(FlightRequest::DoGet(ticket))
 }
 
 /// Reads the messages of a call of `DoPut`.
 fn put_asked<R: Read>(alloc: Global, r: &mut R) -> Result<FlightRequest, Refusal>
     ensures { WhereKnown (R.remaining r.old) (R.remaining r.new) (ReadsMessages DoPut result) }
 {
-    match read_upload(alloc, r) {
-        Ok(upload) => Ok(FlightRequest::DoPut(upload)),
-        Err(refusal) => Err(refusal),
-    }
+    let upload = read_upload(alloc, r)?;
+    Ok(FlightRequest::DoPut(upload))
 }
 
 /// Reads the messages of a call of this method, and the end behind them.
@@ -98,8 +85,5 @@ pub fn read_call<R: Read>(alloc: Global, r: &mut R) -> Result<FlightRequest, Ref
     ensures { WhereKnown (R.remaining r.old) (R.remaining r.new) (ReadsCall result) }
 {
     let method = read_method(alloc, r)?;
-    match read_messages(alloc, r, method) {
-        Ok(asked) => Ok(asked),
-        Err(refusal) => Err(refusal),
-    }
+    read_messages(alloc, r, method)
 }

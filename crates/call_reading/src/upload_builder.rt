@@ -129,10 +129,8 @@ fn wanted_batch(
     if wanted {
         return read_batch_within(alloc, schema, head, body, MAX_FRAME_PAYLOAD as u64);
     }
-    match check_batch(schema, head, body) {
-        Ok(()) => Ok(None),
-        Err(fault) => Err(fault),
-    }
+    check_batch(schema, head, body)?;
+    Ok(None)
 }
 
 /// The batch that a header of one and a body lay out, where so many came before: built where it is wanted.
@@ -178,14 +176,10 @@ fn batch_in(
     ensures fault { IfErr result (λ refusal. HeadFault header.now refusal
         ⊎ BatchFaultIn (schema_of schema.now) count header.now body.now refusal) }
 {
-    let head = match head_in(alloc, header) {
-        Ok(head) => head,
-        Err(refusal) => return Err(refusal),
-    };
-    match laid_batch(alloc, schema, count, wanted, &head, body) {
-        Ok(Some(batch)) => Ok(Addition::Built(batch)),
-        Ok(None) => Ok(Addition::LeftOut),
-        Err(refusal) => Err(refusal),
+    let head = head_in(alloc, header)?;
+    match laid_batch(alloc, schema, count, wanted, &head, body)? {
+        Some(batch) => Ok(Addition::Built(batch)),
+        None => Ok(Addition::LeftOut),
     }
 }
 
@@ -233,14 +227,8 @@ impl UploadBuilder {
         let Some(descriptor) = &data.flight_descriptor else {
             return Err(Refusal::BadDescriptor);
         };
-        let (table, id) = match upload_in(descriptor) {
-            Ok(names) => names,
-            Err(refusal) => return Err(refusal),
-        };
-        let schema = match schema_in(alloc, data.data_header) {
-            Ok(schema) => schema,
-            Err(refusal) => return Err(refusal),
-        };
+        let (table, id) = upload_in(descriptor)?;
+        let schema = schema_in(alloc, data.data_header)?;
         let table = String::from_str(alloc, table)?;
         Ok(UploadBuilder {
             table,
@@ -262,14 +250,13 @@ impl UploadBuilder {
             ⊎ (AddsWithin (schema_of self.old.schema) self.old.count message.now × (refusal ≡ OutOfMemory))) }
     {
         let wanted = self.is_within_limit();
-        match addition_of(alloc, &self.schema, self.count, wanted, message) {
-            Ok(Addition::Nothing) => Ok(()),
-            Ok(Addition::Built(batch)) => self.add(batch),
-            Ok(Addition::LeftOut) => {
+        match addition_of(alloc, &self.schema, self.count, wanted, message)? {
+            Addition::Nothing => Ok(()),
+            Addition::Built(batch) => self.add(batch),
+            Addition::LeftOut => {
                 self.give_up(u64::MAX);
                 Ok(())
             }
-            Err(refusal) => Err(refusal),
         }
     }
 

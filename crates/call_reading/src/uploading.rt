@@ -45,10 +45,8 @@ fn take_next<R: Read>(
             if left == 0 {
                 return Err(Refusal::MessageCount);
             }
-            match incoming.take(alloc, &message) {
-                Ok(()) => Ok(true),
-                Err(refusal) => Err(refusal),
-            }
+            incoming.take(alloc, &message)?;
+            Ok(true)
         }
         CallPart::End => Ok(false),
     }
@@ -58,15 +56,10 @@ fn take_next<R: Read>(
 pub(crate) fn read_upload<R: Read>(alloc: Global, r: &mut R) -> Result<Upload, Refusal>
     ensures { WhereKnown (R.remaining r.old) (R.remaining r.new) (ReadsUpload result) }
 {
-    let mut incoming = match open(alloc, r) {
-        Ok(incoming) => incoming,
-        Err(refusal) => return Err(refusal),
-    };
+    let mut incoming = open(alloc, r)?;
     for further in 0..MAX_MESSAGES {
-        match take_next(alloc, r, &mut incoming, MAX_MESSAGES - 1 - further) {
-            Ok(true) => {}
-            Ok(false) => return incoming.finish(alloc),
-            Err(refusal) => return Err(refusal),
+        if !take_next(alloc, r, &mut incoming, MAX_MESSAGES - 1 - further)? {
+            return incoming.finish(alloc);
         }
     }
     unreachable!()

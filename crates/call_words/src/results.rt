@@ -26,7 +26,7 @@ fn applied(alloc: Global, id: &[u8], version: u64) -> Result<Vec<u8>, AllocError
 }
 
 /// The bytes of the `PutResult` that answers the upload of this id, which made this version. Its metadata are a message of
-/// two fields: 1 is the id, 2 the version.
+/// two fields: 1 is the id, 2 the version. [`AllocError`] says that memory was refused.
 pub fn result_message(alloc: Global, id: &[u8], version: u64) -> Result<Vec<u8>, AllocError>
     ensures { IfOk result (λ bytes. bytes.items ≡ put_result id.now version) }
 {

@@ -27,6 +27,13 @@ answered may handed leaves stays old new asked r (Some x) None call responds = a
 answered may handed leaves stays old new asked r (Some x) (Some y) call responds =
     (responds.0, inr (request_of asked, call, responds.1), responds.2)
 
+-- a refusal stands in what was read, and the backend was not asked
+pub refused : {B : Type 0} (may : MayAnswer B) (handed : Handed B) (leaves : Leaves B) (stays : Stays B) (b : B) (refusal : Refusal) (text rest : Option (List ℕ))
+    → WhereKnown text rest (ReadsCall (Err refusal)) → WhereKnown text rest (AnswersText may handed leaves stays b b (Err refusal))
+refused may handed leaves stays b refusal None rest stands = tt
+refused may handed leaves stays b refusal (Some x) None stands = absurd stands
+refused may handed leaves stays b refusal (Some x) (Some y) stands = (refuses refusal, inl (refusal, stands, refl, refl), refl)
+
 -- ---- and what has gone out of it
 
 serves_by : {B : Type 0} (may : MayAnswer B) (handed : Handed B) (leaves : Leaves B) (stays : Stays B) (old new : B) (reply : Reply) (r : Result (Unit {0}) CallFault) (text rest before after : List ℕ)

@@ -47,10 +47,8 @@ pub(crate) fn frame_of(alloc: Global, message: &[u8]) -> Result<Outgoing, Refusa
     ensures { Frames (message.now ∷ []) result }
 {
     let mut frames = Vec::new(alloc);
-    match append_frame(&mut frames, message) {
-        Ok(()) => Ok(Outgoing::Made(frames)),
-        Err(refusal) => Err(refusal),
-    }
+    append_frame(&mut frames, message)?;
+    Ok(Outgoing::Made(frames))
 }
 
 /// The frame of the message with a schema, whose own message this is.
@@ -94,10 +92,7 @@ pub(crate) fn info_frames(alloc: Global, all: &[TableDescription]) -> Result<Out
 {
     let mut frames = Vec::new(alloc);
     for described in all {
-        match append_info(alloc, &mut frames, described) {
-            Ok(()) => {}
-            Err(refusal) => return Err(refusal),
-        }
+        append_info(alloc, &mut frames, described)?;
     }
     Ok(Outgoing::Made(frames))
 }

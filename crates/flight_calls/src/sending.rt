@@ -54,10 +54,7 @@ fn put_frames<W: Write>(w: &mut W, frames: &[Bytes]) -> Result<(), FrameFault>
     ensures { WhereKnown (W.contents w.old) (W.contents w.new) (Writes result (concat frames.now)) }
 {
     for frame in frames {
-        match put(w, frame.as_slice()) {
-            Ok(()) => {}
-            Err(fault) => return Err(fault),
-        }
+        put(w, frame.as_slice())?;
     }
     Ok(())
 }
@@ -117,10 +114,8 @@ fn told_to_caller(refusal: Refusal) -> Result<(), CallFault>
 fn send_refusal<W: Write>(w: &mut W, refusal: Refusal) -> Result<(), CallFault>
     ensures { WhereKnown (W.contents w.old) (W.contents w.new) (SendsReply result (refuses refusal)) }
 {
-    match send_trailer_of(w, refusal) {
-        Ok(()) => told_to_caller(refusal),
-        Err(fault) => Err(fault),
-    }
+    send_trailer_of(w, refusal)?;
+    told_to_caller(refusal)
 }
 
 /// Writes an answer's frames and the trailer behind them, or the trailer that tells why there is none.

@@ -20,10 +20,8 @@ fn answer<R: Read, B: Backend>(alloc: Global, r: &mut R, b: &mut B) -> Result<Ou
         (AnswersText B.may_answer B.handed B.leaves B.stays b.old b.new result) }
     ensures once { HandsOneAtMost B.handed b.old b.new }
 {
-    match read_call(alloc, r) {
-        Ok(asked) => respond(alloc, b, &asked),
-        Err(refusal) => Err(refusal),
-    }
+    let asked = read_call(alloc, r)?;
+    respond(alloc, b, &asked)
 }
 
 /// Serves one call: reads it to its end, or to the first fault that stands in it, asks the backend once the end was

@@ -15,7 +15,7 @@ pub struct TableDescription {
 }
 
 impl TableDescription {
-    /// What is told of a table that these locations serve.
+    /// What is told of a table that these locations serve. [`AllocError`] says that memory was refused.
     pub fn of(
         alloc: Global,
         info: TableInfo,

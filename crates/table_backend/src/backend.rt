@@ -157,30 +157,25 @@ impl Backend for TableBackend {
     }
 
     fn get(&mut self, _alloc: Global, ticket: &Ticket) -> Result<Answer, BackFault> {
-        match self.tables.answer(ticket) {
-            Ok(Some(answer)) => Ok(answer),
-            Ok(None) => Err(BackFault::Unavailable),
-            Err(_) => Err(BackFault::OutOfMemory),
+        match self.tables.answer(ticket)? {
+            Some(answer) => Ok(answer),
+            None => Err(BackFault::Unavailable),
         }
     }
 
     fn info(&mut self, alloc: Global, table: &str) -> Result<TableDescription, BackFault> {
         tables_have_one_shape();
         values_hold_one_list_of_uploads();
-        let info = match self.tables.latest(table) {
-            Ok(Some(info)) => info,
-            Ok(None) => return Err(BackFault::NoTable),
-            Err(_) => return Err(BackFault::OutOfMemory),
+        let Some(info) = self.tables.latest(table)? else {
+            return Err(BackFault::NoTable);
         };
         Ok(TableDescription::of(alloc, info, &self.locations)?)
     }
 
     fn schema(&mut self, _alloc: Global, table: &str) -> Result<Vec<u8>, BackFault> {
         values_hold_one_list_of_uploads();
-        let info = match self.tables.latest(table) {
-            Ok(Some(info)) => info,
-            Ok(None) => return Err(BackFault::NoTable),
-            Err(_) => return Err(BackFault::OutOfMemory),
+        let Some(info) = self.tables.latest(table)? else {
+            return Err(BackFault::NoTable);
         };
         Ok(info.into_schema())
     }
@@ -188,10 +183,7 @@ impl Backend for TableBackend {
     fn list(&mut self, alloc: Global) -> Result<Vec<TableDescription>, BackFault> {
         tables_have_one_shape();
         values_hold_one_list_of_uploads();
-        let names = match self.tables.tables() {
-            Ok(names) => names,
-            Err(_) => return Err(BackFault::OutOfMemory),
-        };
+        let names = self.tables.tables()?;
         all_described(alloc, &self.tables, &names, &self.locations)
     }
 }

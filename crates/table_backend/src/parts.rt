@@ -44,10 +44,9 @@ fn told(
         → TellsLatest (map string_bytes locations.now) table.now (effective table.now uploads) found) }
     ensures fault { IfErr result (λ fault. fault ≡ OutOfMemory) }
 {
-    match tables.latest(table) {
-        Ok(Some(info)) => Ok(TableDescription::of(alloc, info, locations)?),
-        Ok(None) => unreachable!(),
-        Err(_) => Err(BackFault::OutOfMemory),
+    match tables.latest(table)? {
+        Some(info) => Ok(TableDescription::of(alloc, info, locations)?),
+        None => unreachable!(),
     }
 }
 

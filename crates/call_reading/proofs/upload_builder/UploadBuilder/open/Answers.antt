@@ -4,18 +4,20 @@ use Rattle.header_types.specs.Views.{schema_of}
 use Rattle.call_reading.proofs.Batches.{opening_schema, opens_some, way_opened}
 use Rattle.call_reading.proofs.upload_builder.UploadBuilder.open.Goals as goal
 
-pub returns-in-Err-schema_in-clause-fault : goal.returns-in-Err-schema_in-clause-fault
-returns-in-Err-schema_in-clause-fault c =
-    inl (opening_schema c.args.message.now _ _ c.in-Err-schema_in.refusal c.in_ok-data.ensures.read refl c.in-Err-schema_in.ensures.fault)
+pub returns-in_err-schema-clause-fault : goal.returns-in_err-schema-clause-fault
+returns-in_err-schema-clause-fault c =
+    let p = err_from_is_err_and c.from_residual-in_err-schema.result c.from_residual-in_err-schema.ensures.1 in
+    rw (p.1, p.2)
+    (inl (opening_schema c.args.message.now _ _ c.in_err-schema.field-0.0 c.in_ok-data.ensures.read refl c.in_err-schema.ensures.fault))
 
 pub returns-clause-on_its_way : goal.returns-clause-on_its_way
 returns-clause-on_its_way c =
-    way_opened _ _ c.in-Ok.names.0.now c.in-Ok.ensures.named c.in_ok-table.ensures.ok
-    (c.shown_schemas_are_in_profile.ensures _ (schema_of c.in-Ok-schema_in.schema) c.in-Ok-schema_in.ensures.shown) c.new.ensures.items refl refl
+    way_opened _ _ c.in_ok-table.table.now c.in_ok-table.ensures.named c.in_ok-table-2.ensures.ok
+    (c.shown_schemas_are_in_profile.ensures _ (schema_of c.in_ok-schema.schema) c.in_ok-schema.ensures.shown) c.new.ensures.items refl refl
 
-pub returns-in_err-table-clause-fault : goal.returns-in_err-table-clause-fault
-returns-in_err-table-clause-fault c =
-    let p = err_from_is_err_and c.from_residual-in_err-table.result c.from_residual-in_err-table.ensures.1 in
-    let opens = opens_some c.args.message.now _ _ _ _ _ (schema_of c.in-Ok-schema_in.schema) c.in_ok-data.ensures.read
-    (search rules steps 300000) c.in-Ok.ensures.named refl c.in-Ok-schema_in.ensures.shown in
+pub returns-in_err-table-2-clause-fault : goal.returns-in_err-table-2-clause-fault
+returns-in_err-table-2-clause-fault c =
+    let p = err_from_is_err_and c.from_residual-in_err-table-2.result c.from_residual-in_err-table-2.ensures.1 in
+    let opens = opens_some c.args.message.now _ _ _ _ _ (schema_of c.in_ok-schema.schema) c.in_ok-data.ensures.read
+    (search rules steps 300000) c.in_ok-table.ensures.named refl c.in_ok-schema.ensures.shown in
     rw p.1 (inr (opens, p.2))

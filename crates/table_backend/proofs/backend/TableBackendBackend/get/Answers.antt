@@ -8,7 +8,7 @@ use Rattle.flight_calls.specs.Replies.{served}
 use Rattle.table_backend.specs.Backing.{BackendState, MayAnswer}
 use Rattle.table_backend.proofs.Tables.{answered_version}
 use Rattle.table_backend.proofs.backend.TableBackendBackend.get.Goals as goal
-use Rattle.table_backend.proofs.backend.TableBackendBackend.get.Goals.{in-Ok-Some, in-Ok-None, in-Err}
+use Rattle.table_backend.proofs.backend.TableBackendBackend.get.Goals.{in-Some, in-None}
 
 -- it is the answer of a version that is one
 abbrev IsServed : BackendState → TableVersion → Result (List ℕ) BackFault → Type 0
@@ -19,15 +19,14 @@ returns-clause-served c =
     let values = c.self.invariant.0 in
     let taken = c.self.invariant.1 in
     let asked = c.args.ticket.now in
-    elim c.match-answer.branch as (λ _. IsServed c.args.self.now asked c.match-answer.result) [
-      | in-Ok-Some w ↦
-          let found = answered_version (version_of asked.table asked.version taken.uploads) w.in-Ok-Some.answer
-          (sym w.in-Ok-Some.field-0-is ∙ w.in-Ok-Some.ensures.answer values taken.uploads taken taken.are) in
+    elim c.match-branch-2.branch as (λ _. IsServed c.args.self.now asked c.match-branch-2.result) [
+      | in-Some w ↦
+          let found = answered_version (version_of asked.table asked.version taken.uploads) w.in-Some.answer
+          (sym w.in-Some.is ∙ c.in_ok-answer.ensures.answer values taken.uploads taken taken.are) in
           subst (IsServed c.args.self.now asked) (sym w.result-is) (
             found.0,
             subst (λ b. MayAnswer b (serves asked) (served found.0)) c.self.view_is (values, taken.uploads, taken, taken.are, found.1),
             found.2,
           )
-      | in-Ok-None w ↦ subst (IsServed c.args.self.now asked) (sym w.result-is) tt
-      | in-Err w ↦ subst (IsServed c.args.self.now asked) (sym w.result-is) tt
+      | in-None w ↦ subst (IsServed c.args.self.now asked) (sym w.result-is) tt
     ]

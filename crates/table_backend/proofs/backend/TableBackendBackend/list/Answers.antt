@@ -16,7 +16,7 @@ all_described-requires c =
       taken.uploads,
       taken,
       taken.are,
-      ap (λ l. map string_bytes l) c.deref.ensures.value ∙ c.in-Ok.ensures.names values taken.uploads taken taken.are,
+      ap (λ l. map string_bytes l) c.deref.ensures.value ∙ c.in_ok-names.ensures.names values taken.uploads taken taken.are,
     )
 
 pub returns-clause-listed : goal.returns-clause-listed
@@ -27,7 +27,7 @@ returns-clause-listed c =
     let locations = map string_bytes c.self.inside.locations.items in
     let valid = c.values_hold_one_list_of_uploads.ensures.valid values uploads taken.are in
     let few = c.values_hold_one_list_of_uploads.ensures.few values uploads taken.are in
-    let names = ap (λ l. map string_bytes l) c.deref.ensures.value ∙ c.in-Ok.ensures.names values uploads taken taken.are in
+    let names = ap (λ l. map string_bytes l) c.deref.ensures.value ∙ c.in_ok-names.ensures.names values uploads taken taken.are in
     IfOk-weaker c.all_described.result _ _
     (λ all told.
     let at = subst (λ l. AllZip (λ name found. TellsLatest l name (effective name uploads) found) (map string_bytes c.deref.result.now) all.items) (ap (λ l. map string_bytes l) c.deref-2.ensures.value) (told values uploads taken taken.are) in
