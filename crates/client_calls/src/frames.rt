@@ -38,14 +38,9 @@ fn read_frames<R: Read>(alloc: Global, r: &mut R) -> Result<Vec<u8>, ClientFault
     no_frame_begins_another();
     let mut frames = Vec::new(alloc);
     for _count in 0..MAX_ANSWER_FRAMES {
-        match next_part(alloc, r) {
-            Ok(AnswerPart::Message(message)) => {
-                if let Err(fault) = push_frame(&mut frames, &message) {
-                    return Err(fault);
-                }
-            }
-            Ok(AnswerPart::End) => return Ok(frames),
-            Err(fault) => return Err(fault),
+        match next_part(alloc, r)? {
+            AnswerPart::Message(message) => push_frame(&mut frames, &message)?,
+            AnswerPart::End => return Ok(frames),
         }
     }
     Err(ClientFault::BadAnswer)

@@ -31,10 +31,7 @@ fn with_message(
         → IfOk result (λ next. HasTaken next (messages ++ message.now ∷ [])) }
     ensures fault { IfErr result (λ fault. fault ≡ Call OutOfMemory) }
 {
-    match downloading.take(alloc, message) {
-        Ok(next) => Ok(next),
-        Err(_) => Err(ClientFault::Call(CallFault::OutOfMemory)),
-    }
+    Ok(downloading.take(alloc, message)?)
 }
 
 /// Reads the answer to a ticket, as [`call_get`] does behind its request.
@@ -44,21 +41,16 @@ pub fn read_download<R: Read>(alloc: Global, r: &mut R) -> Result<Download, Clie
     no_frame_begins_another();
     let mut downloading = Downloading::Begun;
     for _count in 0..MAX_ANSWER_FRAMES {
-        match next_part(alloc, r) {
-            Ok(AnswerPart::Message(message)) => {
-                match with_message(alloc, downloading, &message) {
-                    Ok(next) => downloading = next,
-                    Err(fault) => return Err(fault),
-                }
+        match next_part(alloc, r)? {
+            AnswerPart::Message(message) => {
+                downloading = with_message(alloc, downloading, &message)?;
             }
-            Ok(AnswerPart::End) => {
-                return match downloading.finish(alloc) {
-                    Ok(Some(download)) => Ok(download),
-                    Ok(None) => Err(ClientFault::BadAnswer),
-                    Err(_) => Err(ClientFault::Call(CallFault::OutOfMemory)),
+            AnswerPart::End => {
+                return match downloading.finish(alloc)? {
+                    Some(download) => Ok(download),
+                    None => Err(ClientFault::BadAnswer),
                 };
             }
-            Err(fault) => return Err(fault),
         }
     }
     Err(ClientFault::BadAnswer)

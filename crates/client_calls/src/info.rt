@@ -31,10 +31,8 @@ fn read_info<R: Read>(alloc: Global, r: &mut R) -> Result<FlightInfo, ClientFaul
     ensures { WhereKnown (R.remaining r.old) (R.remaining r.new) (Receives GivesInfo HasInfo result) }
 {
     no_frame_begins_another();
-    match read_one(alloc, r) {
-        Ok(message) => info_in(alloc, &message),
-        Err(fault) => Err(fault),
-    }
+    let message = read_one(alloc, r)?;
+    info_in(alloc, &message)
 }
 
 /// Asks what the service tells of the latest version of a table (Apache Arrow, "Flight.proto", `GetFlightInfo`): writes the

@@ -104,13 +104,9 @@ fn read_infos<R: Read>(alloc: Global, r: &mut R) -> Result<Vec<FlightInfo>, Clie
     no_frame_begins_another();
     let mut listing = Listing::Told(Vec::new(alloc));
     for _count in 0..MAX_ANSWER_FRAMES {
-        match next_part(alloc, r) {
-            Ok(AnswerPart::Message(message)) => match listing.take(alloc, &message) {
-                Ok(next) => listing = next,
-                Err(fault) => return Err(fault),
-            },
-            Ok(AnswerPart::End) => return listing.all(),
-            Err(fault) => return Err(fault),
+        match next_part(alloc, r)? {
+            AnswerPart::Message(message) => listing = listing.take(alloc, &message)?,
+            AnswerPart::End => return listing.all(),
         }
     }
     Err(ClientFault::BadAnswer)

@@ -52,10 +52,9 @@ pub(crate) fn read_one<R: Read>(alloc: Global, r: &mut R) -> Result<Vec<u8>, Cli
     no_frame_begins_another();
     let mut kept = Kept::Nothing;
     for _count in 0..MAX_ANSWER_FRAMES {
-        match next_part(alloc, r) {
-            Ok(AnswerPart::Message(message)) => kept = kept.with(message),
-            Ok(AnswerPart::End) => return kept.one(),
-            Err(fault) => return Err(fault),
+        match next_part(alloc, r)? {
+            AnswerPart::Message(message) => kept = kept.with(message),
+            AnswerPart::End => return kept.one(),
         }
     }
     Err(ClientFault::BadAnswer)

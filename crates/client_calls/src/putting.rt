@@ -22,10 +22,8 @@ fn read_version<R: Read>(alloc: Global, r: &mut R, id: &[u8]) -> Result<u64, Cli
     ensures { WhereKnown (R.remaining r.old) (R.remaining r.new) (Receives (GivesVersion id.now) (HasVersion id.now) result) }
 {
     no_frame_begins_another();
-    match read_one(alloc, r) {
-        Ok(message) => version_in(alloc, &message, id),
-        Err(fault) => Err(fault),
-    }
+    let message = read_one(alloc, r)?;
+    version_in(alloc, &message, id)
 }
 
 /// Uploads (Apache Arrow, "Flight.proto", `DoPut`): writes the request with the upload, and reads which version of its table

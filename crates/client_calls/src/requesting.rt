@@ -20,12 +20,8 @@ fn send_one<W: Write>(w: &mut W, path: &[u8], message: &[u8]) -> Result<(), Call
     ensures { WhereKnown (W.contents w.old) (W.contents w.new)
         (Sends result (call_text path.now (message.now ∷ []))) }
 {
-    if let Err(fault) = send_message(w, path) {
-        return Err(fault);
-    }
-    if let Err(fault) = send_message(w, message) {
-        return Err(fault);
-    }
+    send_message(w, path)?;
+    send_message(w, message)?;
     send_end(w)
 }
 
@@ -51,10 +47,7 @@ fn send_request<W: Write>(
     ensures { WhereKnown (W.contents w.old) (W.contents w.new)
         (Sends result (call_text (path_text method) (message.now ∷ []))) }
 {
-    let path = match path_of(alloc, method) {
-        Ok(path) => path,
-        Err(fault) => return Err(fault),
-    };
+    let path = path_of(alloc, method)?;
     send_one(w, &path, message)
 }
 
@@ -66,10 +59,7 @@ pub(crate) fn send_info_request<W: Write>(
 ) -> Result<(), CallFault>
     ensures { WhereKnown (W.contents w.old) (W.contents w.new) (Sends result (info_request table.now)) }
 {
-    let message = match table_message(alloc, table) {
-        Ok(message) => message,
-        Err(fault) => return Err(fault),
-    };
+    let message = table_message(alloc, table)?;
     send_request(alloc, w, Method::GetFlightInfo, &message)
 }
 
@@ -91,10 +81,7 @@ fn criteria_message(alloc: Global) -> Result<Vec<u8>, CallFault>
 pub(crate) fn send_list_request<W: Write>(alloc: Global, w: &mut W) -> Result<(), CallFault>
     ensures { WhereKnown (W.contents w.old) (W.contents w.new) (Sends result list_request) }
 {
-    let message = match criteria_message(alloc) {
-        Ok(message) => message,
-        Err(fault) => return Err(fault),
-    };
+    let message = criteria_message(alloc)?;
     send_request(alloc, w, Method::ListFlights, &message)
 }
 
@@ -118,9 +105,6 @@ pub(crate) fn send_get_request<W: Write>(
 ) -> Result<(), CallFault>
     ensures { WhereKnown (W.contents w.old) (W.contents w.new) (Sends result (get_request ticket.now)) }
 {
-    let message = match ticket_message(alloc, ticket) {
-        Ok(message) => message,
-        Err(fault) => return Err(fault),
-    };
+    let message = ticket_message(alloc, ticket)?;
     send_request(alloc, w, Method::DoGet, &message)
 }

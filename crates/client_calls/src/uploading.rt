@@ -87,10 +87,7 @@ fn send_opening<W: Write>(alloc: Global, w: &mut W, upload: &Upload) -> Result<(
     ensures { (u : Uploaded) → IsUpload u → upload_text u ≡ upload.now
         → WhereKnown (W.contents w.old) (W.contents w.new) (Sends result (in_frame (opening_message u))) }
 {
-    let message = match opening_of(alloc, upload) {
-        Ok(message) => message,
-        Err(fault) => return Err(fault),
-    };
+    let message = opening_of(alloc, upload)?;
     send_message(w, &message)
 }
 
@@ -119,9 +116,7 @@ fn send_batches<W: Write>(alloc: Global, w: &mut W, upload: &Upload) -> Result<(
     uploads_have_one_encoding();
     let mut batches = upload.encoded_batches();
     while let Some((header, body)) = batches.next() {
-        if let Err(fault) = send_batch(alloc, w, header, body) {
-            return Err(fault);
-        }
+        send_batch(alloc, w, header, body)?;
     }
     Ok(())
 }
@@ -131,9 +126,7 @@ fn send_upload<W: Write>(alloc: Global, w: &mut W, upload: &Upload) -> Result<()
     ensures { (u : Uploaded) → IsUpload u → upload_text u ≡ upload.now
         → WhereKnown (W.contents w.old) (W.contents w.new) (Sends result (messages_text (put_messages u))) }
 {
-    if let Err(fault) = send_opening(alloc, w, upload) {
-        return Err(fault);
-    }
+    send_opening(alloc, w, upload)?;
     send_batches(alloc, w, upload)
 }
 
@@ -141,10 +134,7 @@ fn send_upload<W: Write>(alloc: Global, w: &mut W, upload: &Upload) -> Result<()
 fn send_path<W: Write>(alloc: Global, w: &mut W) -> Result<(), CallFault>
     ensures { WhereKnown (W.contents w.old) (W.contents w.new) (Sends result (in_frame (path_text DoPut))) }
 {
-    let path = match path_of(alloc, Method::DoPut) {
-        Ok(path) => path,
-        Err(fault) => return Err(fault),
-    };
+    let path = path_of(alloc, Method::DoPut)?;
     send_message(w, &path)
 }
 
@@ -157,11 +147,7 @@ pub(crate) fn send_put_request<W: Write>(
     ensures { (u : Uploaded) → IsUpload u → upload_text u ≡ upload.now
         → WhereKnown (W.contents w.old) (W.contents w.new) (Sends result (put_request u)) }
 {
-    if let Err(fault) = send_path(alloc, w) {
-        return Err(fault);
-    }
-    if let Err(fault) = send_upload(alloc, w, upload) {
-        return Err(fault);
-    }
+    send_path(alloc, w)?;
+    send_upload(alloc, w, upload)?;
     send_end(w)
 }

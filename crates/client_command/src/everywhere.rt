@@ -45,10 +45,7 @@ fn ticket_for(
 ) -> Result<Ticket, CommandFault>
     ensures { TicketFor table.now version (info_values info.now) result }
 {
-    let latest = match latest_in(alloc, info, table) {
-        Ok(latest) => latest,
-        Err(fault) => return Err(fault),
-    };
+    let latest = latest_in(alloc, info, table)?;
     match version {
         Some(version) => ticket_by(alloc, table, version),
         None => Ok(latest),
@@ -67,14 +64,11 @@ fn redeem_at<C: Connect, E: Write>(
     ensures { RedeemsEverywhere address ticket.now (map location_values locations.now) result
         (C.log connect.old) (C.log connect.new) (E.contents err.old) (E.contents err.new) }
 {
-    let frames = match frames_at(alloc, connect, address, ticket) {
-        Ok(frames) => frames,
-        Err(fault) => return Err(fault),
-    };
-    match visit_all(alloc, connect, locations, ticket, &frames, err) {
-        Ok(true) => Ok(frames),
-        Ok(false) => Err(CommandFault::Differs),
-        Err(fault) => Err(fault),
+    let frames = frames_at(alloc, connect, address, ticket)?;
+    if visit_all(alloc, connect, locations, ticket, &frames, err)? {
+        Ok(frames)
+    } else {
+        Err(CommandFault::Differs)
     }
 }
 
@@ -90,14 +84,9 @@ fn frames_everywhere_at<C: Connect, E: Write>(
     ensures { GetsFramesEverywhere address table.now version result
         (C.log connect.old) (C.log connect.new) (E.contents err.old) (E.contents err.new) }
 {
-    let info = match info_at(alloc, connect, address, table) {
-        Ok(info) => info,
-        Err(fault) => return Err(fault),
-    };
-    match ticket_for(alloc, &info, table, version) {
-        Ok(ticket) => redeem_at(alloc, connect, address, &ticket, locations_in(&info), err),
-        Err(fault) => Err(fault),
-    }
+    let info = info_at(alloc, connect, address, table)?;
+    let ticket = ticket_for(alloc, &info, table, version)?;
+    redeem_at(alloc, connect, address, &ticket, locations_in(&info), err)
 }
 
 /// The download of these frames.
@@ -116,10 +105,8 @@ fn download_of(alloc: Global, mut frames: Vec<u8>) -> Result<Download, CommandFa
 fn print_frames<O: Write>(alloc: Global, frames: Vec<u8>, out: &mut O) -> Result<(), CommandFault>
     ensures { PrintsFrames frames.items result (O.contents out.old) (O.contents out.new) }
 {
-    match download_of(alloc, frames) {
-        Ok(download) => tell_rows(alloc, out, &download),
-        Err(fault) => Err(fault),
-    }
+    let download = download_of(alloc, frames)?;
+    tell_rows(alloc, out, &download)
 }
 
 /// Asks the server at this address what it tells of a table and for a version of it, the latest one where no other is
@@ -148,10 +135,8 @@ pub fn get_everywhere_at<C: Connect, O: Write, E: Write>(
     ensures { GetsRowsEverywhere address table.now version result (C.log connect.old) (C.log connect.new)
         (O.contents out.old) (O.contents out.new) (E.contents err.old) (E.contents err.new) }
 {
-    match frames_everywhere_at(alloc, connect, address, table, version, err) {
-        Ok(frames) => print_frames(alloc, frames, out),
-        Err(fault) => Err(fault),
-    }
+    let frames = frames_everywhere_at(alloc, connect, address, table, version, err)?;
+    print_frames(alloc, frames, out)
 }
 
 /// Gets rows as [`get_everywhere_run`] does, and gives the fault itself.
@@ -167,10 +152,8 @@ fn get_everywhere_asked<C: Connect, O: Write, E: Write>(
     ensures { GetsEverywhereAsked address.now table.now version result (C.log connect.old) (C.log connect.new)
         (O.contents out.old) (O.contents out.new) (E.contents err.old) (E.contents err.new) }
 {
-    match table_at(address, table) {
-        Ok(address) => get_everywhere_at(alloc, connect, address, table, version, out, err),
-        Err(fault) => Err(fault),
-    }
+    let address = table_at(address, table)?;
+    get_everywhere_at(alloc, connect, address, table, version, out, err)
 }
 
 /// `flightd get HOST:PORT TABLE [VERSION] --all-locations`: compares what the locations of this table give with what

@@ -32,10 +32,8 @@ pub fn get_rows_at<C: Connect, O: Write>(
 ) -> Result<(), CommandFault>
     ensures { GetsAt address ticket.now result (C.log connect.old) (C.log connect.new) (O.contents out.old) (O.contents out.new) }
 {
-    match get_at(alloc, connect, address, ticket) {
-        Ok(download) => tell_rows(alloc, out, &download),
-        Err(fault) => Err(fault),
-    }
+    let download = get_at(alloc, connect, address, ticket)?;
+    tell_rows(alloc, out, &download)
 }
 
 /// Gets the rows of this version of this table, as [`get_rows_at`] does.
@@ -50,10 +48,8 @@ fn get_version_at<C: Connect, O: Write>(
     ensures { GetsVersionAt address table.now version result
         (C.log connect.old) (C.log connect.new) (O.contents out.old) (O.contents out.new) }
 {
-    match ticket_by(alloc, table, version) {
-        Ok(ticket) => get_rows_at(alloc, connect, address, &ticket, out),
-        Err(fault) => Err(fault),
-    }
+    let ticket = ticket_by(alloc, table, version)?;
+    get_rows_at(alloc, connect, address, &ticket, out)
 }
 
 /// Asks the server at this address what it tells of a table, over one connection, and gets the rows of the latest
@@ -73,14 +69,9 @@ pub fn get_latest_at<C: Connect, O: Write>(
     ensures { GetsLatestAt address table.now result
         (C.log connect.old) (C.log connect.new) (O.contents out.old) (O.contents out.new) }
 {
-    let info = match info_at(alloc, connect, address, table) {
-        Ok(info) => info,
-        Err(fault) => return Err(fault),
-    };
-    match latest_in(alloc, &info, table) {
-        Ok(ticket) => get_rows_at(alloc, connect, address, &ticket, out),
-        Err(fault) => Err(fault),
-    }
+    let info = info_at(alloc, connect, address, table)?;
+    let ticket = latest_in(alloc, &info, table)?;
+    get_rows_at(alloc, connect, address, &ticket, out)
 }
 
 /// Gets the rows of this version of this table; where there is none, of the latest.
@@ -113,10 +104,8 @@ fn get_asked<C: Connect, O: Write>(
     ensures { GetsAsked address.now table.now version result
         (C.log connect.old) (C.log connect.new) (O.contents out.old) (O.contents out.new) }
 {
-    match table_at(address, table) {
-        Ok(address) => get_table_at(alloc, connect, address, table, version, out),
-        Err(fault) => Err(fault),
-    }
+    let address = table_at(address, table)?;
+    get_table_at(alloc, connect, address, table, version, out)
 }
 
 /// `flightd get HOST:PORT TABLE [VERSION]`: prints the rows of this version of this table at the server at this address

@@ -26,14 +26,9 @@ fn print_info_at<C: Connect, O: Write>(
 ) -> Result<(), CommandFault>
     ensures { InformsAt table.now address result (C.log connect.old) (C.log connect.new) (O.contents out.old) (O.contents out.new) }
 {
-    let info = match info_at(alloc, connect, address, table) {
-        Ok(info) => info,
-        Err(fault) => return Err(fault),
-    };
-    match info_text(alloc, &info, table) {
-        Ok(text) => write_text(out, text.as_bytes()),
-        Err(fault) => Err(fault),
-    }
+    let info = info_at(alloc, connect, address, table)?;
+    let text = info_text(alloc, &info, table)?;
+    write_text(out, text.as_bytes())
 }
 
 /// Tells of a table as [`info_run`] does, and gives the fault itself.
@@ -47,10 +42,8 @@ fn info_asked<C: Connect, O: Write>(
     ensures { TellsAsked (InformsAt table.now) (NamesTable address.now table.now) result
         (C.log connect.old) (C.log connect.new) (O.contents out.old) (O.contents out.new) }
 {
-    match table_at(address, table) {
-        Ok(address) => print_info_at(alloc, connect, address, table, out),
-        Err(fault) => Err(fault),
-    }
+    let address = table_at(address, table)?;
+    print_info_at(alloc, connect, address, table, out)
 }
 
 /// `flightd info HOST:PORT TABLE`: asks the server at this address ([`client_connections::address_of`]) what it tells

@@ -25,14 +25,9 @@ fn print_tables_at<C: Connect, O: Write>(
 ) -> Result<(), CommandFault>
     ensures { ListsAt address result (C.log connect.old) (C.log connect.new) (O.contents out.old) (O.contents out.new) }
 {
-    let infos = match list_at(alloc, connect, address) {
-        Ok(infos) => infos,
-        Err(fault) => return Err(fault),
-    };
-    match tables_text(alloc, &infos) {
-        Ok(text) => write_text(out, text.as_bytes()),
-        Err(fault) => Err(fault),
-    }
+    let infos = list_at(alloc, connect, address)?;
+    let text = tables_text(alloc, &infos)?;
+    write_text(out, text.as_bytes())
 }
 
 /// Lists tables as [`list_run`] does, and gives the fault itself.
@@ -45,10 +40,8 @@ fn list_asked<C: Connect, O: Write>(
     ensures { TellsAsked ListsAt (AddressBy address.now) result
         (C.log connect.old) (C.log connect.new) (O.contents out.old) (O.contents out.new) }
 {
-    match address_by(address) {
-        Ok(address) => print_tables_at(alloc, connect, address, out),
-        Err(fault) => Err(fault),
-    }
+    let address = address_by(address)?;
+    print_tables_at(alloc, connect, address, out)
 }
 
 /// `flightd list HOST:PORT`: asks the server at this address ([`client_connections::address_of`]) for its tables, as

@@ -49,10 +49,8 @@ pub fn put_rows_at<C: Connect, O: Write>(
         Ok(upload) => upload,
         Err(fault) => return Err(CommandFault::of_rows(fault)),
     };
-    match put_at(alloc, connect, address, &upload) {
-        Ok(version) => tell_put(alloc, out, id, version),
-        Err(fault) => Err(fault),
-    }
+    let version = put_at(alloc, connect, address, &upload)?;
+    tell_put(alloc, out, id, version)
 }
 
 /// `flightd put HOST:PORT TABLE FILE`: puts the rows that the lines of a file's text tell into the table that the words name

@@ -36,14 +36,8 @@ fn table_line(alloc: Global, info: &FlightInfo) -> Result<String, CommandFault>
     let Ok(table) = table_in(descriptor) else {
         return Err(CommandFault::Call(ClientFault::BadAnswer));
     };
-    let latest = match latest_in(alloc, info, table) {
-        Ok(latest) => latest,
-        Err(fault) => return Err(fault),
-    };
-    match version_line(alloc, &latest, info.total_records, info.total_bytes) {
-        Ok(line) => Ok(line),
-        Err(_) => Err(CommandFault::OutOfMemory),
-    }
+    let latest = latest_in(alloc, info, table)?;
+    Ok(version_line(alloc, &latest, info.total_records, info.total_bytes)?)
 }
 
 /// The text with this line behind it.
@@ -61,14 +55,8 @@ pub(crate) fn tables_text(alloc: Global, infos: &[FlightInfo]) -> Result<String,
 {
     let mut text = String::new(alloc);
     for info in infos {
-        let line = match table_line(alloc, info) {
-            Ok(line) => line,
-            Err(fault) => return Err(fault),
-        };
-        match with_line(text, line.as_str()) {
-            Ok(more) => text = more,
-            Err(fault) => return Err(fault),
-        }
+        let line = table_line(alloc, info)?;
+        text = with_line(text, line.as_str())?;
     }
     Ok(text)
 }
@@ -127,16 +115,7 @@ pub(crate) fn info_text(
 ) -> Result<String, CommandFault>
     ensures { TextSays (TellsInfo table.now) (info_values info.now) result }
 {
-    let latest = match latest_in(alloc, info, table) {
-        Ok(latest) => latest,
-        Err(fault) => return Err(fault),
-    };
-    let schema = match schema_in(alloc, &info.schema) {
-        Ok(schema) => schema,
-        Err(fault) => return Err(fault),
-    };
-    match version_text(alloc, latest.version(), info, &schema) {
-        Ok(text) => Ok(text),
-        Err(_) => Err(CommandFault::OutOfMemory),
-    }
+    let latest = latest_in(alloc, info, table)?;
+    let schema = schema_in(alloc, &info.schema)?;
+    Ok(version_text(alloc, latest.version(), info, &schema)?)
 }

@@ -41,10 +41,8 @@ fn compare_at<C: Connect>(
     let Some(address) = location_of(uri) else {
         return Err(CommandFault::BadLocation);
     };
-    match frames_at(alloc, connect, address, ticket) {
-        Ok(others) => compare(&others, frames),
-        Err(fault) => Err(fault),
-    }
+    let others = frames_at(alloc, connect, address, ticket)?;
+    compare(&others, frames)
 }
 
 /// The line of a location.
@@ -89,10 +87,8 @@ fn visit<C: Connect, E: Write>(
         (C.log connect.old) (C.log connect.new) (E.contents err.old) (E.contents err.new) }
 {
     let compared = compare_at(alloc, connect, uri, ticket, frames);
-    match tell_location(alloc, err, uri, &compared) {
-        Ok(()) => Ok(compared.is_ok()),
-        Err(fault) => Err(fault),
-    }
+    tell_location(alloc, err, uri, &compared)?;
+    Ok(compared.is_ok())
 }
 
 /// Asks the server at each of these locations, one after the other, for the version of this ticket, writes a line for
@@ -110,10 +106,8 @@ pub(crate) fn visit_all<C: Connect, E: Write>(
 {
     let mut same = true;
     for location in locations {
-        match visit(alloc, connect, location.uri.as_str(), ticket, frames, err) {
-            Ok(is_same) => same = same && is_same,
-            Err(fault) => return Err(fault),
-        }
+        let is_same = visit(alloc, connect, location.uri.as_str(), ticket, frames, err)?;
+        same = same && is_same;
     }
     Ok(same)
 }

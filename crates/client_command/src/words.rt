@@ -41,28 +41,18 @@ pub fn put_words<'a>(
     ensures named { IfOk result (λ words. IdBy (option_map (λ text. text.now) id.entry) random (Ok words.id)) }
     ensures none { IfErr result (NamesNoPut address.now table.now (option_map (λ text. text.now) id.entry) random) }
 {
-    let address = match table_at(address, table) {
-        Ok(address) => address,
-        Err(fault) => return Err(fault),
-    };
-    match id_by(id, random) {
-        Ok(id) => Ok(PutWords { address, table, id }),
-        Err(fault) => Err(fault),
-    }
+    let address = table_at(address, table)?;
+    let id = id_by(id, random)?;
+    Ok(PutWords { address, table, id })
 }
 
 /// The address of the server at which a table of this name is to be looked for.
 pub(crate) fn table_at(address: &str, table: &str) -> Result<SocketAddrV4, CommandFault>
     ensures { NamesTable address.now table.now result }
 {
-    let address = match address_by(address) {
-        Ok(address) => address,
-        Err(fault) => return Err(fault),
-    };
-    match table_by(table) {
-        Ok(()) => Ok(address),
-        Err(fault) => Err(fault),
-    }
+    let address = address_by(address)?;
+    table_by(table)?;
+    Ok(address)
 }
 
 /// Whether the word is a table's name.

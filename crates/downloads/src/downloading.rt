@@ -65,13 +65,12 @@ fn begin(alloc: Global, message: &[u8]) -> Result<Downloading, AllocError>
     ensures ready { IfOk result IsReady }
     ensures taken { FitsFrame message.now → IfOk result (λ next. HasTaken next (message.now ∷ [])) }
 {
-    match schema_in(alloc, message) {
-        Ok(Some(schema)) => Ok(Downloading::Reached(Download {
+    match schema_in(alloc, message)? {
+        Some(schema) => Ok(Downloading::Reached(Download {
             schema,
             uploads: Vec::new(alloc),
         })),
-        Ok(None) => Ok(Downloading::Spoiled),
-        Err(refused) => Err(refused),
+        None => Ok(Downloading::Spoiled),
     }
 }
 
@@ -83,16 +82,13 @@ fn go_on(alloc: Global, download: Download, message: &[u8]) -> Result<Downloadin
         → IfOk result (λ next. HasTaken next (messages ++ message.now ∷ [])) }
 {
     messages_are_one();
-    let said = match upload_in(alloc, &download.schema, message) {
-        Ok(Some(said)) => said,
-        Ok(None) => return Ok(Downloading::Spoiled),
-        Err(refused) => return Err(refused),
+    let Some(said) = upload_in(alloc, &download.schema, message)? else {
+        return Ok(Downloading::Spoiled);
     };
     let Download { schema, uploads } = download;
-    match add(alloc, uploads, said) {
-        Ok(Some(uploads)) => Ok(Downloading::Reached(Download { schema, uploads })),
-        Ok(None) => Ok(Downloading::Spoiled),
-        Err(refused) => Err(refused),
+    match add(alloc, uploads, said)? {
+        Some(uploads) => Ok(Downloading::Reached(Download { schema, uploads })),
+        None => Ok(Downloading::Spoiled),
     }
 }
 

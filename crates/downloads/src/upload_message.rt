@@ -65,13 +65,12 @@ fn upload_of_parts(
     if parts.header.is_empty() && parts.body.is_empty() {
         return Ok(Some(UploadMessage { id, batch: None }));
     }
-    match batch_in(alloc, schema, parts.header, parts.body) {
-        Ok(Some(batch)) => Ok(Some(UploadMessage {
+    match batch_in(alloc, schema, parts.header, parts.body)? {
+        Some(batch) => Ok(Some(UploadMessage {
             id,
             batch: Some(batch),
         })),
-        Ok(None) => Ok(None),
-        Err(refused) => Err(refused),
+        None => Ok(None),
     }
 }
 

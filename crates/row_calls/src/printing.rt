@@ -51,9 +51,7 @@ fn write_batches<O: Write>(
     ensures kind { IfErr result IsOfPrinting }
 {
     for batch in batches {
-        if let Err(fault) = write_batch(alloc, out, schema, batch) {
-            return Err(fault);
-        }
+        write_batch(alloc, out, schema, batch)?;
     }
     Ok(())
 }
@@ -71,9 +69,7 @@ fn write_uploads<O: Write>(
     ensures kind { IfErr result IsOfPrinting }
 {
     for upload in uploads {
-        if let Err(fault) = write_batches(alloc, out, schema, &upload.batches) {
-            return Err(fault);
-        }
+        write_batches(alloc, out, schema, &upload.batches)?;
     }
     Ok(())
 }

@@ -34,10 +34,7 @@ pub fn put_rows<R: Read, W: Write>(
     // What was told, and what is left of the input behind it.
     ensures told { WhereKnown (R.remaining r.old) (R.remaining r.new) (IsToldOfPut id result) }
 {
-    let upload = match upload_of_rows(alloc, table, id, text, schema) {
-        Ok(upload) => upload,
-        Err(fault) => return Err(fault),
-    };
+    let upload = upload_of_rows(alloc, table, id, text, schema)?;
     match call_put(alloc, r, w, &upload) {
         Ok(version) => Ok(version),
         Err(fault) => Err(RowCallFault::Call(fault)),

@@ -35,10 +35,8 @@ fn ask_put<R: Read, W: Write>(
     ensures told { (u : Uploaded) → IsUpload u → upload_text u ≡ upload.now
         → WhereKnown (R.remaining r.old) (R.remaining r.new) (Receives (Tells (puts u)) (CanTell (puts u)) result) }
 {
-    match call_put(alloc, r, w, upload) {
-        Ok(version) => Ok(Told::Put(version)),
-        Err(fault) => Err(fault),
-    }
+    let version = call_put(alloc, r, w, upload)?;
+    Ok(Told::Put(version))
 }
 
 /// Asks for a version.
@@ -52,10 +50,8 @@ fn ask_get<R: Read, W: Write>(
     ensures told { WhereKnown (R.remaining r.old) (R.remaining r.new)
         (Receives (Tells (gets ticket.now)) (CanTell (gets ticket.now)) result) }
 {
-    match call_get_frames(alloc, r, w, ticket) {
-        Ok(frames) => Ok(Told::Get(frames)),
-        Err(fault) => Err(fault),
-    }
+    let frames = call_get_frames(alloc, r, w, ticket)?;
+    Ok(Told::Get(frames))
 }
 
 /// The version and the number of locations of an endpoint of this table.
@@ -99,10 +95,8 @@ fn ask_info<R: Read, W: Write>(
 {
     answers_are_one();
     messages_are_one();
-    match call_info(alloc, r, w, table) {
-        Ok(info) => info_told(alloc, &info, table),
-        Err(fault) => Err(fault),
-    }
+    let info = call_info(alloc, r, w, table)?;
+    info_told(alloc, &info, table)
 }
 
 /// Makes the call, with a refusal as a fault.
