@@ -8,16 +8,16 @@
 # less that of a run without these calls; and how many bytes the server held at most, or, where that is less, what this script
 # held when it started the server.
 #
-# Seen on four processors, three runs, two of them beside other tasks:
+# Seen on four processors, four runs on two machines, two of them beside other tasks:
 #
 #                                      ours         plain Rust       ratio
-#   DoGet of 64 MiB            13.7 to 17.9 ms    11.9 to 15.3 ms  0.96 to 1.18   1.08 to 1.33 of a raw copy's speed; 131 MiB held, 134 MiB
-#   DoPut of 15 MiB            26.8 to 33.6 ms    23.7 to 26.7 ms  1.12 to 1.30   249 MiB held for 120 MiB, and 256 MiB in plain Rust
-#   GetFlightInfo                1.5 to 1.9 us      1.9 to 2.4 us  0.67 to 0.94
-#   a small upload of 1,000             0.1 us             0.1 us  1.9 to 2.3
-#   of 10,000                           0.1 us             0.1 us  1.5 to 1.8
-#   of 100,000                   0.3 to 0.4 us             0.1 us  2.1 to 2.6    105 MiB held
-#   replay of 10,000 events    15.7 to 19.4 ms, and 9.5 to 10.9 ms `run` itself: 1.66 to 1.78
+#   DoGet of 64 MiB            13.7 to 26.6 ms    11.9 to 26.1 ms  0.96 to 1.18   1.03 to 1.33 of a raw copy's speed; 131 MiB held, 134 MiB
+#   DoPut of 15 MiB            26.8 to 35.6 ms    23.7 to 33.2 ms  1.07 to 1.30   249 MiB held for 120 MiB, and 256 MiB in plain Rust
+#   GetFlightInfo                1.5 to 2.4 us      1.9 to 2.7 us  0.67 to 0.94
+#   a small upload of 1,000             0.1 us             0.1 us  1.6 to 2.3
+#   of 10,000                    0.1 to 0.2 us             0.1 us  1.5 to 2.1
+#   of 100,000                   0.3 to 0.4 us             0.1 us  2.1 to 2.9    105 MiB held
+#   replay of 10,000 events    15.7 to 19.5 ms, and 9.5 to 11.3 ms `run` itself: 1.66 to 1.78
 #
 # An answer shares the frames that the tables keep, and each is written where it stands: a server that answered eight such gets
 # held 56 KiB more than one that answered none. Before that an answer was made whole, one copy of all its frames, and a DoGet

@@ -8,29 +8,27 @@
 # holds and shares: the peak resident size of a run that keeps tables, less that of one that makes none. First it shows
 # that both programs add up to the same sums.
 #
-# Seen on four processors, in microseconds (a page of memory asked for anew counts):
+# Seen on four processors beside six other tasks, in microseconds (a page of memory asked for anew counts); the last three lines on
+# a processor that did nothing else:
 #
 #                                    ours  plain Rust  ratio  instructions, ratio
-#   taken, 1,000 over 1 table         3.4         1.5   2.26        40,373   2.48
-#   taken, 10,000                     3.4         1.7   2.02        40,484   2.45
-#   taken, 100,000                    3.7         1.8   2.02        39,868   2.33
-#   taken, 1,000 over 100 tables      4.1         1.9   2.14        40,709   2.28
-#   taken, 10,000                     4.4         2.1   2.14        40,525   2.27
-#   taken, 100,000                    4.3         2.2   1.94        39,869   2.29
+#   taken, 1,000 over 1 table         3.4         2.4   1.45        25,621   1.58
+#   taken, 10,000                     4.1         2.5   1.61        25,675   1.55
+#   taken, 100,000                    4.4         2.8   1.57        25,424   1.48
+#   taken, 1,000 over 100 tables      3.3         2.4   1.39        25,879   1.45
+#   taken, 10,000                     3.8         2.7   1.43        25,701   1.44
+#   taken, 100,000                    4.2         2.9   1.45        25,426   1.46
 #   1 MiB read, one batch             266         204   1.30         3.2 M   1.42
-#   1 MiB read, sixteen batches       156          76   2.04         3.5 M   1.47
-#   1 MiB answered                   0.08          37   0.00         1,239   0.00
+#   1 MiB read, sixteen batches       156          76   2.04         3.3 M   1.41
+#   1 MiB answered                   0.08          37   0.00         1,234   0.00
 #
-# From 1,000 to 100,000 held an upload took 1.05 to 1.10 times as long, for memory (plain Rust 1.16 to 1.23). What is more than in
-# plain Rust: the frames that are served of an upload are made once, when it is made ready, and answers share them, where plain
-# Rust makes them anew for each answer; an upload's schema and each header are read once to be checked and once more to be kept;
-# each part is compared with itself when its one encoding is checked; and before a batch is built its canonical length is counted
-# in a table of 8 KiB, which has to be zeros first (8,200 of the instructions, since callgrind counts each byte, and 0.04
-# microseconds). While an answer made the frames, an upload took 27,000 instructions, 1.5 to 1.8 times as long as in plain Rust,
-# and an answer of 1 MiB 65 microseconds.
+# From 1,000 to 100,000 held an upload took 1.27 to 1.31 times as long, for memory (plain Rust 1.21). What is more than in plain
+# Rust: the frames that are served of an upload are made once, when it is made ready, and answers share them, where plain Rust makes
+# them anew for each answer; an upload's schema and each header are read once to be checked and once more to be kept; and each part
+# is compared with itself when its one encoding is checked.
 #
-# Beside the uploads tables held 1.01 bytes for each byte of uploads of 1 MiB, as plain Rust does; of uploads of 344 bytes, of which
-# 189 are served, 1.7 over one table and 1.9 over a hundred (plain Rust 1.2 and 1.6).
+# Beside the uploads tables held as many bytes as uploads of 1 MiB have, as plain Rust does; of uploads of 344 bytes, of which
+# 189 are served, 1.6 over one table and 1.9 over a hundred (plain Rust 1.2 and 1.6).
 cd "$(dirname "${BASH_SOURCE[0]}")/.."
 source bench/programs.sh plain_tables
 
