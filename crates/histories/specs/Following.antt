@@ -206,14 +206,18 @@ StepsReach config sent seats next (step ∷ steps) (recovered ∷ more) last =
     (after : ℕ → Seat) × StepFollows config sent next seats step recovered after × IsAsked step.event recovered
     × StepsReach config sent after (next + count_of step.result) steps more last
 
+-- These steps follow one another from where the nodes start so, send these messages and no others, and leave the nodes so. For
+-- each restart `recovered` says whether the record that was due where its node went down was recovered.
+abbrev pub ReachesFrom : Config → (ℕ → Seat) → List Message → List Step → List Bool → (ℕ → Seat) → Type 0
+ReachesFrom config start sent steps recovered seats = StepsReach config sent start 0 steps recovered seats
+
 -- at first every node is up and has nothing
 abbrev pub at_first : ℕ → Seat
 at_first node = IsUp (started_with [])
 
--- These steps follow one another from the first on, send these messages and no others, and leave the nodes so. For each
--- restart `recovered` says whether the record that was due where its node went down was recovered.
+-- likewise from the first on
 abbrev pub Reaches : Config → List Message → List Step → List Bool → (ℕ → Seat) → Type 0
-Reaches config sent steps recovered seats = StepsReach config sent at_first 0 steps recovered seats
+Reaches config sent steps recovered seats = ReachesFrom config at_first sent steps recovered seats
 
 -- For each restart somebody says whether the record that was due was recovered, and every step follows.
 pub record Follows (history : History) : Type 0 where

@@ -12,7 +12,7 @@ ghost use Rattle.histories.specs.EventResult.{count_of};
 ghost use Rattle.agreement_rules.specs.Views.{Config, Views, started_with};
 ghost use Rattle.agreement_rules.specs.Due.{Due};
 ghost use Rattle.histories.specs.Due.{Input, IsDue, IsWellFormed};
-ghost use Rattle.histories.specs.Following.{Seat, IsUp, SeatGives, IsAsked, StepFollows, at_first, Reaches, with_seat, Follows};
+ghost use Rattle.histories.specs.Following.{Seat, IsUp, SeatGives, IsAsked, StepFollows, ReachesFrom, Reaches, with_seat, Follows};
 ghost use Rattle.histories.specs.Owning.{entries_of, own, OwnReaches};
 ghost use Rattle.histories.specs.Keeping.{AreKept, records_in};
 
@@ -87,27 +87,28 @@ pub fn a_member_steps_alone()
         → StepFollows config sent next seats step recovered (with_seat seats (node_of step.event) seat) }
 {}
 
-/// Where nothing has happened, every node is as at first.
+/// Where nothing has happened, every node is as it started.
 pub fn nothing_reaches_the_start()
-    ensures { (config : Config) → Reaches config [] [] [] at_first }
+    ensures { (config : Config) (start : ℕ → Seat) → ReachesFrom config start [] [] [] start }
 {}
 
 /// One step more goes on from where the steps before have come to: it follows them, behind all messages that were sent
 /// before, and sends the rest. With this a run of nodes keeps what it has come to while events come.
 pub fn one_step_more_reaches()
-    ensures { (config : Config) (sent more : List Message) (steps : List Step) (recovered : List Bool)
-        (seats new : ℕ → Seat) (step : Step) (was : Bool) → Reaches config sent steps recovered seats
+    ensures { (config : Config) (start : ℕ → Seat) (sent more : List Message) (steps : List Step)
+        (recovered : List Bool) (seats new : ℕ → Seat) (step : Step) (was : Bool)
+        → ReachesFrom config start sent steps recovered seats
         → StepFollows config (sent ++ more) (length sent) seats step was new → IsAsked step.event was
         → length more ≡ count_of step.result
-        → Reaches config (sent ++ more) (steps ++ step ∷ []) (recovered ++ was ∷ []) new }
+        → ReachesFrom config start (sent ++ more) (steps ++ step ∷ []) (recovered ++ was ∷ []) new }
 {}
 
 /// With a step more a node's own entries are those of before, and behind them the step's, if it concerns the node: what is
 /// sent later changes none of them. So a node can hold its entries by itself, and compare them with the history's.
 pub fn own_entries_grow()
-    ensures { (config : Config) (sent more : List Message) (steps : List Step) (recovered : List Bool)
-        (seats : ℕ → Seat) (step : Step) (was : Bool) (node : ℕ) → node < config.members
-        → Reaches config sent steps recovered seats
+    ensures { (config : Config) (start : ℕ → Seat) (sent more : List Message) (steps : List Step)
+        (recovered : List Bool) (seats : ℕ → Seat) (step : Step) (was : Bool) (node : ℕ) → node < config.members
+        → ReachesFrom config start sent steps recovered seats
         → own node (sent ++ more) (steps ++ step ∷ []) (recovered ++ was ∷ [])
         ≡ own node sent steps recovered ++ entries_of node (sent ++ more) step was }
 {}
@@ -115,19 +116,20 @@ pub fn own_entries_grow()
 /// Where a history leaves a member, its own entries leave it too: what it does is by what it was given, and by nothing
 /// that the history has besides.
 pub fn own_entries_leave_the_node()
-    ensures { (config : Config) (sent : List Message) (steps : List Step) (recovered : List Bool) (seats : ℕ → Seat)
-        (node : ℕ) → node < config.members → Reaches config sent steps recovered seats
-        → OwnReaches config (IsUp (started_with [])) (own node sent steps recovered) (seats node) }
+    ensures { (config : Config) (start : ℕ → Seat) (sent : List Message) (steps : List Step) (recovered : List Bool)
+        (seats : ℕ → Seat) (node : ℕ) → node < config.members → ReachesFrom config start sent steps recovered seats
+        → OwnReaches config (start node) (own node sent steps recovered) (seats node) }
 {}
 
 /// A history that leaves a member in one way may as well leave it in each way that the member's own entries do, with all
 /// other nodes as they are. So a node that holds its own entries goes on with what they left it, whatever a history that
 /// has the same entries would have left it.
 pub fn own_entries_decide_the_node()
-    ensures { (config : Config) (sent : List Message) (steps : List Step) (recovered : List Bool) (seats : ℕ → Seat)
-        (node : ℕ) (seat : Seat) → node < config.members → Reaches config sent steps recovered seats
-        → OwnReaches config (IsUp (started_with [])) (own node sent steps recovered) seat
-        → Reaches config sent steps recovered (with_seat seats node seat) }
+    ensures { (config : Config) (start : ℕ → Seat) (sent : List Message) (steps : List Step) (recovered : List Bool)
+        (seats : ℕ → Seat) (node : ℕ) (seat : Seat) → node < config.members
+        → ReachesFrom config start sent steps recovered seats
+        → OwnReaches config (start node) (own node sent steps recovered) seat
+        → ReachesFrom config start sent steps recovered (with_seat seats node seat) }
 {}
 
 /// Where a history leaves a node up, its learner was called for slots below the limit alone, and what waits there are

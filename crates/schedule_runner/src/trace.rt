@@ -3,7 +3,7 @@
 ghost use Rattle.std.specs.Prelude.{◌≡◌, ◌↔◌, ℕ, ◌+◌, ◌<◌, ◌≤◌, Bool, IsTrue, List, [], ◌∷◌, ◌++◌, OnOk, OnErr, vec_len, vec_capacity};
 ghost use Rattle.lawful_histories.specs.Lawful.{IsLawful};
 ghost use Rattle.histories.specs.Following.{Seat};
-ghost use Rattle.schedule_runner.specs.Traced.{Tells, TellsAsBefore, TellsMore, HasRoomFor, TraceReaches, StepFollowsBehind};
+ghost use Rattle.schedule_runner.specs.Traced.{Tells, TellsAsBefore, TellsMore, HasRoomFor, TraceReachesFrom, StepFollowsBehind};
 
 use crate::config::Config;
 use crate::step::Step;
@@ -103,9 +103,10 @@ impl Trace {
     pub fn push(&mut self, step: Step, more: Vec<Message>)
         requires { HasRoomFor self.old (vec_len more) }
         ensures more { TellsMore self.old step more.items self.new }
-        ensures reaches { (recovered : List Bool) (seats new : ℕ → Seat) (was : Bool)
-            → TraceReaches self.old recovered seats → StepFollowsBehind self.old seats step more.items was new
-            → TraceReaches self.new (recovered ++ was ∷ []) new }
+        ensures reaches { (start : ℕ → Seat) (recovered : List Bool) (seats new : ℕ → Seat) (was : Bool)
+            → TraceReachesFrom start self.old recovered seats
+            → StepFollowsBehind self.old seats step more.items was new
+            → TraceReachesFrom start self.new (recovered ++ was ∷ []) new }
     {
         one_step_more_reaches();
         put_messages(&mut self.sent, more);

@@ -1,7 +1,6 @@
-use Rattle.histories.specs.Following.{at_first}
 use Rattle.histories.proofs.Own.{own_grows}
 use Rattle.histories.proofs.laws.own_entries_grow.Goals as goal
 
 pub returns : goal.returns
-returns c = λ config sent more steps found seats step was node member reaches.
-    own_grows config sent more node member step was steps found at_first seats 0 reaches
+returns c = λ config start sent more steps found seats step was node member reaches.
+    own_grows config sent more node member step was steps found start seats 0 reaches

@@ -1,5 +1,6 @@
 use Rattle.std.proofs.Common.{List, [], ◌∷◌, ◌++◌, take, sym, ap, subst, ◌∙◌}
 use Rattle.std.proofs.lemmas.List.{take_more, take_all}
+use Rattle.histories.specs.Following.{at_first}
 use Rattle.node_events.specs.declared.event.Event.{Event}
 use Rattle.schedule_runner.specs.declared.config.Config.{Config}
 use Rattle.schedule_runner.specs.Told.{config_of}
@@ -12,7 +13,7 @@ pub loop-event-init : goal.loop-event-init
 loop-event-init g c =
     let Have = g.N.Nodes.have c.args.nodes.now (config_of c.args.config) in (
       c.new-trace.ensures.config_is,
-      at_start c.nothing_reaches_the_start.ensures Have c.args.config c.new-trace.result c.new-trace.ensures c.requires,
+      at_start (λ config. c.nothing_reaches_the_start.ensures config at_first) Have c.args.config c.new-trace.result c.new-trace.ensures c.requires,
     )
 
 pub loop-event-preserved : goal.loop-event-preserved

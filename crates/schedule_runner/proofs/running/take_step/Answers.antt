@@ -1,5 +1,6 @@
 use Rattle.std.proofs.Common.{List, [], ◌∷◌, ◌++◌, refl, ap, subst, ◌∙◌}
 use Rattle.ballots.specs.declared.message.Message.{Message}
+use Rattle.histories.specs.Following.{at_first}
 use Rattle.node_events.specs.declared.event.Event.{Event}
 use Rattle.schedule_runner.specs.declared.step.Step.{Step}
 use Rattle.schedule_runner.specs.Told.{config_of}
@@ -19,7 +20,7 @@ returns-in-Ok-clause-come g c =
     (λ events come.
     let New = g.N.Nodes.have c.apply.new.self (config_of old.config) in
     subst (λ (e : Event). HasCome New next (events ++ e ∷ [])) c.in_ok-event.ensures
-    (come_more c.one_step_more_reaches.ensures (g.N.Nodes.have c.args.nodes.now (config_of old.config)) New old next c.apply.new.sent.items events step
+    (come_more (λ config. c.one_step_more_reaches.ensures config at_first) (g.N.Nodes.have c.args.nodes.now (config_of old.config)) New old next c.apply.new.sent.items events step
     (c.in-Ok.ensures (config_of old.config)) come
     (record { config_is = refl; sent_is = refl; steps_are = c.put_step.ensures ∙ ap (λ (l : List Step). l ++ step ∷ []) c.in_ok-reserve.ensures.items })))
 
