@@ -1,0 +1,4 @@
+pub mod Places
+pub mod Moving
+pub mod Joining
+pub mod Fresh
