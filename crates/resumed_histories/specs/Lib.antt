@@ -1,0 +1,2 @@
+pub mod StartingOver
+pub mod Finding
