@@ -2,3 +2,4 @@ pub mod Kept
 pub mod State
 pub mod Steps
 pub mod Parts
+pub mod Reopening

@@ -46,6 +46,20 @@ fn recovered_in(kept: &[Record], doubted: &Option<Record>, recalled: &[Record]) 
 }
 
 impl<S: Stable + Drop> KeptRecords<S> {
+    /// The store with all records that it has, none of them in doubt. The fault is the store's.
+    pub(crate) fn recall(alloc: Global, mut store: S) -> Result<KeptRecords<S>, StoreFault>
+        ensures found { IfOk result (λ kept. IsTrue S.tells → S.finds store (Some kept.records.items)) }
+        ensures certain { IfOk result (λ kept. kept.doubted ≡ None) }
+        ensures fault { IfErr result (λ fault. (left : S) × RaisesCount fault (S.faults store) (S.faults left)) }
+    {
+        let records = store.recall(alloc)?;
+        Ok(KeptRecords {
+            store,
+            records,
+            doubted: None,
+        })
+    }
+
     /// The store, `None` where it has a record already. The fault is the store's.
     pub(crate) fn open(alloc: Global, mut store: S) -> Result<Option<KeptRecords<S>>, StoreFault>
         ensures empty { IfOk result (λ opened. IfSome opened

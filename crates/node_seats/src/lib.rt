@@ -8,6 +8,7 @@
 //! let store = MemoryStable::new(alloc);
 //! let seat = Seat::open(alloc, hashing, me, config, store)?;  // up, with nothing; none where the store has a record
 //! let result = seat.apply(&mut sent, &event)?;  // what the event gives; its messages go behind those in `sent`
+//! let again = Seat::reopen(alloc, hashing, me, config, store)?;  // up, with the records that the store has
 //! ```
 //!
 //! The parts of an event are calls of their own: [`Seat::plan`] tells what is due to an input, [`Seat::take`] keeps the
@@ -24,6 +25,7 @@ mod events;
 mod fault;
 mod handing;
 mod kept;
+mod opening;
 mod questions;
 mod reasons;
 mod seat;

@@ -9,4 +9,6 @@ mod forgetful;
 #[cfg(test)]
 mod long;
 #[cfg(test)]
+mod reopening;
+#[cfg(test)]
 mod support;
