@@ -3,8 +3,7 @@
 ghost use Rattle.std.specs.Prelude.{◌↔◌, All, IsTrue};
 ghost use Rattle.journal.specs.Receipts.{IsReceiptOf};
 
-use growing_log::Naming;
-use seats::{Journal, Receipt};
+use seats::{Beginning, Journal, Receipt};
 use std::alloc::Global;
 use std::sync::{Mutex, Wait};
 
@@ -50,7 +49,7 @@ impl AllReceipts {
     }
 
     /// Whether the journal confirms each receipt that was kept, and none was lost for want of memory.
-    pub fn are_confirmed<R: Wait, J: Naming>(&self, rt: &R, journal: &Journal<J>) -> bool {
+    pub fn are_confirmed<R: Wait, J: Beginning>(&self, rt: &R, journal: &Journal<J>) -> bool {
         let kept = self.kept.lock(rt);
         !kept.is_short && all_confirm(journal, &kept.receipts)
     }
@@ -66,7 +65,7 @@ impl Receipts for AllReceipts {
 }
 
 /// Whether the journal confirms all of these receipts: each is of one of its entries.
-pub fn all_confirm<J: Naming>(journal: &Journal<J>, receipts: &[Receipt]) -> bool
+pub fn all_confirm<J: Beginning>(journal: &Journal<J>, receipts: &[Receipt]) -> bool
     ensures { IsTrue result ↔ All (λ receipt. IsReceiptOf journal.now.trace receipt) receipts.now }
 {
     receipts.iter().all(|receipt| journal.confirm(receipt))

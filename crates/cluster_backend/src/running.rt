@@ -10,9 +10,8 @@ ghost use Rattle.cluster_backend.specs.Backing.{AreAgreed, HasTables, IsAnswered
 
 use crate::nodes::Nodes;
 use flight_calls::TableDescription;
-use growing_log::Naming;
 use node_core::{Node, Refusal};
-use node_threads::{Gate, Pending, Query, Receipt, Running, Seat, SeatFault};
+use node_threads::{Beginning, Gate, Pending, Query, Receipt, Running, Seat, SeatFault};
 use stable_records::Stable;
 use std::alloc::{AllocError, Global};
 use std::sync::Wait;
@@ -20,7 +19,7 @@ use table_versions::TableInfo;
 use table_versions::laws::tables_have_effective_uploads;
 use uploads::Upload;
 
-impl<const N: usize, S: Stable + Drop, J: Naming, G: Gate + Drop> Nodes for Running<N, S, J, G> {
+impl<const N: usize, S: Stable + Drop, J: Beginning, G: Gate + Drop> Nodes for Running<N, S, J, G> {
     ghost entered = { λ node query answer. IsAnswered query answer };
 
     ghost holds = { λ node uploads. AreAgreed uploads };
@@ -81,7 +80,7 @@ impl<const N: usize, S: Stable + Drop, J: Naming, G: Gate + Drop> Nodes for Runn
 }
 
 // The latest version of a table at this seat.
-fn latest_at<S: Stable + Drop, J: Naming>(
+fn latest_at<S: Stable + Drop, J: Beginning>(
     seat: &Seat<S, J>,
     table: &str,
 ) -> Result<Option<TableInfo>, SeatFault>
@@ -95,7 +94,7 @@ fn latest_at<S: Stable + Drop, J: Naming>(
 }
 
 // The latest version of each table at this seat.
-fn tables_at<S: Stable + Drop, J: Naming>(
+fn tables_at<S: Stable + Drop, J: Beginning>(
     alloc: Global,
     seat: &Seat<S, J>,
     locations: &[String],

@@ -1,6 +1,6 @@
 //! Connections to three nodes, one step after the other.
 
-ghost use Rattle.std.specs.Prelude.{◌≡◌};
+ghost use Rattle.std.specs.Prelude.{◌≡◌, []};
 
 use crate::support::{Nodes, Why, check, had, three, ticket, told, upload};
 use call_words::BackFault;
@@ -8,8 +8,8 @@ use client_calls::call_info;
 use cluster_backend::{AllReceipts, ClusterBackend};
 use flight_calls::Backend;
 use flight_service::serve_connection;
-use growing_log::{Naming, Opened};
-use node_threads::{OpenGate, OwnEntry, SeatFault, SeatInput};
+use growing_log::Opened;
+use node_threads::{Beginning, OpenGate, OwnEntry, SeatFault, SeatInput};
 use std::alloc::Global;
 use std::hash::RandomState;
 use std::marker::Brand;
@@ -21,7 +21,7 @@ use table_versions::{Answer, Outcome};
 const MANY: u64 = 100;
 
 // Gives the node a tick, and hands each message on to each node, until no more are sent.
-fn decide<R: Wait, J: Naming>(rt: &R, nodes: &Nodes<J, OpenGate>) -> Result<(), Why> {
+fn decide<R: Wait, J: Beginning>(rt: &R, nodes: &Nodes<J, OpenGate>) -> Result<(), Why> {
     match nodes.take_input(rt, 0, SeatInput::Tick(0)) {
         Ok(taken) => drop(taken),
         Err(_) => return Err("a tick is not taken"),
@@ -39,7 +39,7 @@ fn decide<R: Wait, J: Naming>(rt: &R, nodes: &Nodes<J, OpenGate>) -> Result<(), 
 }
 
 // What a connection to this node is answered to the ticket for this version.
-fn got<R: Wait, J: Naming>(
+fn got<R: Wait, J: Beginning>(
     rt: &R,
     alloc: Global,
     nodes: &Nodes<J, OpenGate>,
@@ -52,7 +52,7 @@ fn got<R: Wait, J: Naming>(
 }
 
 // An upload is put and decided, and each node is asked for it.
-fn puts_and_gets<R: Wait, J: Naming>(
+fn puts_and_gets<R: Wait, J: Beginning>(
     rt: &R,
     alloc: Global,
     nodes: &Nodes<J, OpenGate>,
@@ -89,7 +89,7 @@ fn puts_and_gets<R: Wait, J: Naming>(
 }
 
 // What is told of the table, and of all tables.
-fn describes<R: Wait, J: Naming>(
+fn describes<R: Wait, J: Beginning>(
     rt: &R,
     alloc: Global,
     nodes: &Nodes<J, OpenGate>,
@@ -120,7 +120,7 @@ fn describes<R: Wait, J: Naming>(
 }
 
 // A client's request over bytes, and the answer.
-fn answers<R: Wait, J: Naming>(
+fn answers<R: Wait, J: Beginning>(
     rt: &R,
     alloc: Global,
     nodes: &Nodes<J, OpenGate>,
@@ -141,13 +141,14 @@ fn answers<R: Wait, J: Naming>(
     }
 }
 
-fn plays<R: Wait, J: Naming>(
+fn plays<R: Wait, J: Beginning>(
     rt: &R,
     alloc: Global,
     hashing: RandomState,
     log: Opened<OwnEntry>,
 ) -> Result<(), Why>
-    requires { log ≡ J.book }
+    requires named { log ≡ J.book }
+    requires start { J.start ≡ [] }
 {
     let (nodes, notes) = three::<R, J, OpenGate>(rt, alloc, hashing, log, OpenGate)?;
     drop(notes);

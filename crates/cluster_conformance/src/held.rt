@@ -1,6 +1,6 @@
 //! A call that waits for the seat of one node, while another node answers.
 
-ghost use Rattle.std.specs.Prelude.{◌≡◌};
+ghost use Rattle.std.specs.Prelude.{◌≡◌, []};
 
 use crate::flag::Flag;
 use crate::support::{Why, check, had, three, ticket, told};
@@ -8,8 +8,8 @@ use crate::tested::Tested;
 use call_words::BackFault;
 use cluster_backend::{ClusterBackend, NoReceipts, Nodes};
 use flight_calls::Backend;
-use growing_log::{Naming, Opened};
-use node_threads::{OpenGate, OwnEntry};
+use growing_log::Opened;
+use node_threads::{Beginning, OpenGate, OwnEntry};
 use std::alloc::Global;
 use std::hash::RandomState;
 use std::marker::Brand;
@@ -62,13 +62,14 @@ fn answer_beside<R: Threads + Wait + Copy + Send + 'static, C: Tested + Drop + '
     check(waited, "the call that waited has another answer")
 }
 
-fn plays<R: Threads + Wait + Copy + Send + 'static, J: Naming + Send + Sync + 'static>(
+fn plays<R: Threads + Wait + Copy + Send + 'static, J: Beginning + Send + Sync + 'static>(
     rt: R,
     alloc: Global,
     hashing: RandomState,
     log: Opened<OwnEntry>,
 ) -> Result<(), Why>
-    requires { log ≡ J.book }
+    requires named { log ≡ J.book }
+    requires start { J.start ≡ [] }
 {
     let (nodes, notes) = three::<R, J, OpenGate>(&rt, alloc, hashing, log, OpenGate)?;
     drop(notes);

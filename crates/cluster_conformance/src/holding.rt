@@ -1,12 +1,12 @@
 //! Two calls at once at two nodes: a gate holds the first back until the second is answered.
 
-ghost use Rattle.std.specs.Prelude.{◌≡◌};
+ghost use Rattle.std.specs.Prelude.{◌≡◌, []};
 
 use crate::held::answers;
 use crate::support::{Nodes, Why, check, had, three, told};
 use flight_service::Works;
-use growing_log::{Naming, Opened};
-use node_threads::{Gate, OwnEntry, Running};
+use growing_log::Opened;
+use node_threads::{Beginning, Gate, OwnEntry, Running};
 use std::alloc::Global;
 use std::hash::RandomState;
 use std::marker::Brand;
@@ -67,7 +67,7 @@ pub(crate) trait Held: Works {
     fn gate(&self) -> &HoldingGate;
 }
 
-impl<J: Naming + Send + Sync> Held for Nodes<J, HoldingGate> {
+impl<J: Beginning + Send + Sync> Held for Nodes<J, HoldingGate> {
     fn gate(&self) -> &HoldingGate {
         Running::gate(self)
     }
@@ -104,13 +104,14 @@ fn answer_meanwhile<R: Threads + Wait + Copy + Send + 'static, C: Held + Drop + 
     check(waited, "the call that was held has another answer")
 }
 
-fn plays<R: Threads + Wait + Copy + Send + 'static, J: Naming + Send + Sync + 'static>(
+fn plays<R: Threads + Wait + Copy + Send + 'static, J: Beginning + Send + Sync + 'static>(
     rt: R,
     alloc: Global,
     hashing: RandomState,
     log: Opened<OwnEntry>,
 ) -> Result<(), Why>
-    requires { log ≡ J.book }
+    requires named { log ≡ J.book }
+    requires start { J.start ≡ [] }
 {
     let gate = HoldingGate::new();
     let (nodes, notes) = three::<R, J, HoldingGate>(&rt, alloc, hashing, log, gate)?;

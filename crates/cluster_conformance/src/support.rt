@@ -1,13 +1,13 @@
 //! Three nodes, and what is asked of them.
 
-ghost use Rattle.std.specs.Prelude.{◌≡◌};
+ghost use Rattle.std.specs.Prelude.{◌≡◌, []};
 
 use ballots::{Members, NodeId};
 use crossbeam_channel::Receiver;
 use disk_records::{DiskStable, MemoryDisk};
-use growing_log::{Naming, Opened};
+use growing_log::Opened;
 use header_types::Schema;
-use node_threads::{Cluster, Gate, Journal, Note, OpenGate, OwnEntry, Running, Seat};
+use node_threads::{Beginning, Cluster, Gate, Journal, Note, OpenGate, OwnEntry, Running, Seat};
 use schedule_runner::Config;
 use stable_records::{MemoryStable, Stable};
 use std::alloc::Global;
@@ -37,13 +37,15 @@ fn config() -> Result<Config, Why> {
     })
 }
 
-fn seat<S: Stable + Drop, J: Naming>(
+fn seat<S: Stable + Drop, J: Beginning>(
     alloc: Global,
     hashing: RandomState,
     number: u8,
     config: Config,
     store: S,
-) -> Result<Mutex<Seat<S, J>>, Why> {
+) -> Result<Mutex<Seat<S, J>>, Why>
+    requires { J.start ≡ [] }
+{
     let me = NodeId::new(number).ok_or("no node")?;
     if !config.is_within_limits() || !config.members.have(me) {
         return Err("no member of a configuration");
@@ -55,14 +57,15 @@ fn seat<S: Stable + Drop, J: Naming>(
 }
 
 /// Three nodes with this gate, and what their workers would read.
-pub(crate) fn three<R: Wait, J: Naming, G: Gate + Drop>(
+pub(crate) fn three<R: Wait, J: Beginning, G: Gate + Drop>(
     rt: &R,
     alloc: Global,
     hashing: RandomState,
     log: Opened<OwnEntry>,
     gate: G,
 ) -> Result<(Nodes<J, G>, Vec<Receiver<Note>>), Why>
-    requires { log ≡ J.book }
+    requires named { log ≡ J.book }
+    requires start { J.start ≡ [] }
 {
     let config = config()?;
     if !config.is_within_limits() {
@@ -86,14 +89,15 @@ fn disk(alloc: Global, calls_left: Option<u64>) -> DiskStable<MemoryDisk> {
 }
 
 /// Three nodes, and what their workers would read. One call of the disk of node 2 fails, behind so many.
-pub(crate) fn three_on_disks<R: Wait, J: Naming>(
+pub(crate) fn three_on_disks<R: Wait, J: Beginning>(
     rt: &R,
     alloc: Global,
     hashing: RandomState,
     log: Opened<OwnEntry>,
     calls_left: u64,
 ) -> Result<(DiskNodes<J>, Vec<Receiver<Note>>), Why>
-    requires { log ≡ J.book }
+    requires named { log ≡ J.book }
+    requires start { J.start ≡ [] }
 {
     let config = config()?;
     if !config.is_within_limits() {

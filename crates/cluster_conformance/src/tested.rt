@@ -2,8 +2,7 @@
 
 use crate::flag::Flag;
 use flight_service::Works;
-use growing_log::Naming;
-use node_threads::{OpenGate, Running};
+use node_threads::{Beginning, OpenGate, Running};
 use schedule_runner::audit;
 use stable_records::Stable;
 use std::sync::Wait;
@@ -21,7 +20,7 @@ pub(crate) trait Tested: Works {
     fn answers_beside<R: Wait>(&self, rt: &R, held: &Flag, ticket: Ticket) -> bool;
 }
 
-impl<S: Stable + Drop + Send, J: Naming + Send + Sync> Tested for Running<3, S, J, OpenGate> {
+impl<S: Stable + Drop + Send, J: Beginning + Send + Sync> Tested for Running<3, S, J, OpenGate> {
     fn start_again<R: Wait>(&self, rt: &R, node: usize) -> bool {
         self.restart(rt, node).is_ok()
     }

@@ -1,6 +1,6 @@
 //! Workers in threads: two callers put uploads at two nodes, while a third is started again and again.
 
-ghost use Rattle.std.specs.Prelude.{◌≡◌};
+ghost use Rattle.std.specs.Prelude.{◌≡◌, []};
 
 use crate::support::{Why, check, had, three, three_on_disks, ticket, told, upload};
 use crate::tested::Tested;
@@ -10,8 +10,8 @@ use cluster_backend::{AllReceipts, ClusterBackend, Nodes};
 use crossbeam_channel::Receiver;
 use flight_calls::Backend;
 use flight_service::{Service, join_all, serve_connection, start_workers};
-use growing_log::{Naming, Opened};
-use node_threads::{Note, OpenGate, OwnEntry};
+use growing_log::Opened;
+use node_threads::{Beginning, Note, OpenGate, OwnEntry};
 use std::alloc::Global;
 use std::hash::RandomState;
 use std::marker::Brand;
@@ -292,13 +292,14 @@ fn work<R: Threads + Wait + Clock + Copy + Send + 'static, C: Tested + Drop + 's
     )
 }
 
-fn plays<R: Threads + Wait + Clock + Copy + Send + 'static, J: Naming + Send + Sync + 'static>(
+fn plays<R: Threads + Wait + Clock + Copy + Send + 'static, J: Beginning + Send + Sync + 'static>(
     rt: R,
     alloc: Global,
     hashing: RandomState,
     log: Opened<OwnEntry>,
 ) -> Result<(), Why>
-    requires { log ≡ J.book }
+    requires named { log ≡ J.book }
+    requires start { J.start ≡ [] }
 {
     let (nodes, notes) = three::<R, J, OpenGate>(&rt, alloc, hashing, log, OpenGate)?;
     work(rt, alloc, nodes, notes, false)
@@ -306,7 +307,7 @@ fn plays<R: Threads + Wait + Clock + Copy + Send + 'static, J: Naming + Send + S
 
 fn plays_on_disks<
     R: Threads + Wait + Clock + Copy + Send + 'static,
-    J: Naming + Send + Sync + 'static,
+    J: Beginning + Send + Sync + 'static,
 >(
     rt: R,
     alloc: Global,
@@ -314,7 +315,8 @@ fn plays_on_disks<
     log: Opened<OwnEntry>,
     calls_left: u64,
 ) -> Result<(), Why>
-    requires { log ≡ J.book }
+    requires named { log ≡ J.book }
+    requires start { J.start ≡ [] }
 {
     let (nodes, notes) = three_on_disks::<R, J>(&rt, alloc, hashing, log, calls_left)?;
     work(rt, alloc, nodes, notes, true)

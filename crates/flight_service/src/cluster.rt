@@ -2,13 +2,13 @@
 //!
 //! What makes the seats of a cluster is written for one kind of store each time, since the size of an array of seats has to be known.
 
-ghost use Rattle.std.specs.Prelude.{◌≡◌};
+ghost use Rattle.std.specs.Prelude.{◌≡◌, []};
 
 use crate::fault::{ServiceFault, store_fault};
 use ballots::{Members, NodeId};
 use crossbeam_channel::Receiver;
-use growing_log::{Naming, Opened};
-use node_threads::{Cluster, Journal, Note, OpenGate, OwnEntry, Running, Seat};
+use growing_log::Opened;
+use node_threads::{Beginning, Cluster, Journal, Note, OpenGate, OwnEntry, Running, Seat};
 use schedule_runner::{Config, MAX_JOURNAL_ENTRIES, MAX_SLOTS};
 use stable_records::{MemoryStable, Stable};
 use std::alloc::Global;
@@ -37,13 +37,15 @@ pub fn config_of(count: u8) -> Result<Config, ServiceFault> {
 /// [`ServiceFault::OldRecords`] says that the store has records; [`ServiceFault::Damaged`] that what stands in it means none, and
 /// [`ServiceFault::Device`] that it could not be read or written; [`ServiceFault::OutOfMemory`] that memory was refused; and
 /// [`ServiceFault::Members`] that the node is none of the configuration.
-pub fn open_seat<S: Stable + Drop, J: Naming>(
+pub fn open_seat<S: Stable + Drop, J: Beginning>(
     alloc: Global,
     hashing: RandomState,
     number: u8,
     config: Config,
     store: S,
-) -> Result<Mutex<Seat<S, J>>, ServiceFault> {
+) -> Result<Mutex<Seat<S, J>>, ServiceFault>
+    requires { J.start ≡ [] }
+{
     let Some(me) = NodeId::new(number) else {
         return Err(ServiceFault::Members);
     };
@@ -58,7 +60,7 @@ pub fn open_seat<S: Stable + Drop, J: Naming>(
 }
 
 /// The cluster of these nodes, and what the worker of each reads. [`ServiceFault::Members`] says that they are none.
-pub fn start_nodes<R: Wait, S: Stable + Drop, J: Naming, const N: usize>(
+pub fn start_nodes<R: Wait, S: Stable + Drop, J: Beginning, const N: usize>(
     rt: &R,
     alloc: Global,
     seats: [Mutex<Seat<S, J>>; N],
@@ -71,23 +73,26 @@ pub fn start_nodes<R: Wait, S: Stable + Drop, J: Naming, const N: usize>(
 }
 
 // The node of this number, over a store in memory.
-fn in_memory<J: Naming>(
+fn in_memory<J: Beginning>(
     alloc: Global,
     hashing: RandomState,
     number: u8,
     config: Config,
-) -> Result<Mutex<Seat<MemoryStable, J>>, ServiceFault> {
+) -> Result<Mutex<Seat<MemoryStable, J>>, ServiceFault>
+    requires { J.start ≡ [] }
+{
     open_seat(alloc, hashing, number, config, MemoryStable::new(alloc))
 }
 
 /// Three nodes whose records are in memory. [`ServiceFault::OutOfMemory`] says that memory was refused.
-pub fn three_nodes<R: Wait, J: Naming>(
+pub fn three_nodes<R: Wait, J: Beginning>(
     rt: &R,
     alloc: Global,
     hashing: RandomState,
     log: Opened<OwnEntry>,
 ) -> Result<Started<3, MemoryStable, J>, ServiceFault>
-    requires { log ≡ J.book }
+    requires named { log ≡ J.book }
+    requires start { J.start ≡ [] }
 {
     let config = config_of(3)?;
     let seats = [
@@ -102,13 +107,14 @@ pub fn three_nodes<R: Wait, J: Naming>(
 }
 
 /// Five nodes whose records are in memory. [`ServiceFault::OutOfMemory`] says that memory was refused.
-pub fn five_nodes<R: Wait, J: Naming>(
+pub fn five_nodes<R: Wait, J: Beginning>(
     rt: &R,
     alloc: Global,
     hashing: RandomState,
     log: Opened<OwnEntry>,
 ) -> Result<Started<5, MemoryStable, J>, ServiceFault>
-    requires { log ≡ J.book }
+    requires named { log ≡ J.book }
+    requires start { J.start ≡ [] }
 {
     let config = config_of(5)?;
     let seats = [

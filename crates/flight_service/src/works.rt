@@ -5,8 +5,7 @@ use crate::service::Service;
 use ballots::NodeId;
 use cluster_backend::{AllReceipts, Nodes, Receipts};
 use crossbeam_channel::Receiver;
-use growing_log::Naming;
-use node_threads::{Gate, Note, Pace, Running};
+use node_threads::{Beginning, Gate, Note, Pace, Running};
 use stable_records::Stable;
 use std::alloc::{AllocError, Global};
 use std::sync::{Arc, Wait};
@@ -29,7 +28,7 @@ pub trait Works: Nodes + Send + Sync {
 impl<
     const N: usize,
     S: Stable + Drop + Send,
-    J: Naming + Send + Sync,
+    J: Beginning + Send + Sync,
     G: Gate + Drop + Send + Sync,
 > Works for Running<N, S, J, G> {
     fn work<R: Wait + Clock>(&self, rt: &R, node: usize, notes: &Receiver<Note>) {

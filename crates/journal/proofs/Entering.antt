@@ -6,18 +6,18 @@ use Rattle.ballots.specs.declared.message.Message.{Message}
 use Rattle.agreement_rules.specs.Views.{Config}
 use Rattle.histories.specs.Event.{node_of}
 use Rattle.histories.specs.History.{Step as HistoryStep}
-use Rattle.histories.specs.Following.{Seat, SeatGives, StepFollows, Reaches, with_seat, at_first}
+use Rattle.histories.specs.Following.{Seat, SeatGives, StepFollows, ReachesFrom, with_seat}
 use Rattle.histories.specs.Owning.{own, entries_of, OwnReaches}
 use Rattle.schedule_runner.specs.declared.step.Step.{Step}
 use Rattle.schedule_runner.specs.declared.config.Config.{Config as RunConfig}
 use Rattle.schedule_runner.specs.Told.{config_of, event_of, result_of, step_of, steps_of}
-use Rattle.schedule_runner.specs.Traced.{TraceReaches, StepFollowsBehind}
-use Rattle.journal.specs.Journaled.{Journaled, HasFollowed, HasEntry, IsNext, own_in}
+use Rattle.schedule_runner.specs.Traced.{TraceReachesFrom, StepFollowsBehind}
+use Rattle.journal.specs.Journaled.{seats_in, Journaled, HasFollowed, HasEntry, IsNext, own_in}
 
 -- ---- the laws that are cited
 
 abbrev pub StartsNowhere : Type 0
-StartsNowhere = (config : Config) → Reaches config [] [] [] at_first
+StartsNowhere = (config : Config) (start : ℕ → Seat) → ReachesFrom config start [] [] [] start
 
 abbrev pub StepsAlone : Type 0
 StepsAlone = (config : Config) (sent : List Message) (next : ℕ) (seats : ℕ → Seat) (step : HistoryStep) (recovered : Bool) (seat : Seat) → node_of step.event < config.members
@@ -25,17 +25,17 @@ StepsAlone = (config : Config) (sent : List Message) (next : ℕ) (seats : ℕ �
     → StepFollows config sent next seats step recovered (with_seat seats (node_of step.event) seat)
 
 abbrev pub OwnDecides : Type 0
-OwnDecides = (config : Config) (sent : List Message) (steps : List HistoryStep) (recovered : List Bool) (seats : ℕ → Seat) (node : ℕ) (seat : Seat) → node < config.members
-    → Reaches config sent steps recovered seats → OwnReaches config (at_first node) (own node sent steps recovered) seat
-    → Reaches config sent steps recovered (with_seat seats node seat)
+OwnDecides = (config : Config) (start : ℕ → Seat) (sent : List Message) (steps : List HistoryStep) (recovered : List Bool) (seats : ℕ → Seat) (node : ℕ) (seat : Seat) → node < config.members
+    → ReachesFrom config start sent steps recovered seats → OwnReaches config (start node) (own node sent steps recovered) seat
+    → ReachesFrom config start sent steps recovered (with_seat seats node seat)
 
 abbrev pub OwnLeaves : Type 0
-OwnLeaves = (config : Config) (sent : List Message) (steps : List HistoryStep) (recovered : List Bool) (seats : ℕ → Seat) (node : ℕ) → node < config.members
-    → Reaches config sent steps recovered seats → OwnReaches config (at_first node) (own node sent steps recovered) (seats node)
+OwnLeaves = (config : Config) (start : ℕ → Seat) (sent : List Message) (steps : List HistoryStep) (recovered : List Bool) (seats : ℕ → Seat) (node : ℕ) → node < config.members
+    → ReachesFrom config start sent steps recovered seats → OwnReaches config (start node) (own node sent steps recovered) (seats node)
 
 abbrev pub OwnGrows : Type 0
-OwnGrows = (config : Config) (sent more : List Message) (steps : List HistoryStep) (recovered : List Bool) (seats : ℕ → Seat) (step : HistoryStep) (was : Bool) (node : ℕ)
-    → node < config.members → Reaches config sent steps recovered seats
+OwnGrows = (config : Config) (start : ℕ → Seat) (sent more : List Message) (steps : List HistoryStep) (recovered : List Bool) (seats : ℕ → Seat) (step : HistoryStep) (was : Bool) (node : ℕ)
+    → node < config.members → ReachesFrom config start sent steps recovered seats
     → own node (sent ++ more) (steps ++ step ∷ []) (recovered ++ was ∷ []) ≡ own node sent steps recovered ++ entries_of node (sent ++ more) step was
 
 -- ---- the start
@@ -43,11 +43,11 @@ OwnGrows = (config : Config) (sent more : List Message) (steps : List HistorySte
 pub starts : StartsNowhere → (config : RunConfig) (journal : Journaled) → journal.trace.config ≡ config → journal.trace.sent ≡ [] → journal.trace.steps ≡ [] → journal.recovered ≡ []
     → HasFollowed journal
 starts nowhere config journal config_is sent_is steps_are recovered_is = (
-  at_first,
-  subst (λ (c : RunConfig). Reaches (config_of c) journal.trace.sent (steps_of journal.trace.steps) journal.recovered at_first) (sym config_is)
-      (subst (λ (ms : List Message). Reaches (config_of config) ms (steps_of journal.trace.steps) journal.recovered at_first) (sym sent_is)
-      (subst (λ (ss : List Step). Reaches (config_of config) [] (steps_of ss) journal.recovered at_first) (sym steps_are)
-      (subst (λ (rs : List Bool). Reaches (config_of config) [] [] rs at_first) (sym recovered_is) (nowhere (config_of config))))),
+  seats_in journal.start,
+  subst (λ (c : RunConfig). ReachesFrom (config_of c) (seats_in journal.start) journal.trace.sent (steps_of journal.trace.steps) journal.recovered (seats_in journal.start)) (sym config_is)
+      (subst (λ (ms : List Message). ReachesFrom (config_of config) (seats_in journal.start) ms (steps_of journal.trace.steps) journal.recovered (seats_in journal.start)) (sym sent_is)
+      (subst (λ (ss : List Step). ReachesFrom (config_of config) (seats_in journal.start) [] (steps_of ss) journal.recovered (seats_in journal.start)) (sym steps_are)
+      (subst (λ (rs : List Bool). ReachesFrom (config_of config) (seats_in journal.start) [] [] rs (seats_in journal.start)) (sym recovered_is) (nowhere (config_of config) (seats_in journal.start))))),
 )
 
 -- ---- a step more
@@ -59,7 +59,7 @@ own_seat seats node seat = ap (λ (b : Bool). if b then seat else seats node) (e
 pub record Enters (journal : Journaled) (step : Step) (more : List Message) (recovered : Bool) (new : Seat) : Type 0 where
   pub before : ℕ → Seat
   pub behind : ℕ → Seat
-  pub reached : TraceReaches journal.trace journal.recovered before
+  pub reached : TraceReachesFrom (seats_in journal.start) journal.trace journal.recovered before
   pub follows : StepFollowsBehind journal.trace before step more recovered behind
   pub leaves : behind (node_of (event_of step.event)) ≡ new
 
@@ -72,7 +72,7 @@ enters alone decides journal step more recovered old new followed next =
     record {
       before = seated;
       behind = with_seat seated node new;
-      reached = decides config journal.trace.sent (steps_of journal.trace.steps) journal.recovered followed.0 node old next.member followed.1 next.led;
+      reached = decides config (seats_in journal.start) journal.trace.sent (steps_of journal.trace.steps) journal.recovered followed.0 node old next.member followed.1 next.led;
       follows = record {
         follows = alone config (journal.trace.sent ++ more) (length journal.trace.sent) seated (step_of step) recovered new next.member
             (subst (λ (s : Seat). SeatGives config (journal.trace.sent ++ more) (length journal.trace.sent) recovered s (event_of step.event) (result_of step.result) new)
@@ -97,14 +97,14 @@ own_grows grows old next step more recovered node followed entry member =
     (sym (told_more old step next.trace.steps entry.trace.steps_are))
     (subst (λ (rs : List Bool). own node (old.trace.sent ++ more) (steps_of old.trace.steps ++ step_of step ∷ []) rs ≡ own_in node old ++ entries_of node (old.trace.sent ++ more) (step_of step) recovered)
     (sym entry.recovered_is)
-    (grows config old.trace.sent more (steps_of old.trace.steps) old.recovered followed.0 (step_of step) recovered node member followed.1)))
+    (grows config (seats_in old.start) old.trace.sent more (steps_of old.trace.steps) old.recovered followed.0 (step_of step) recovered node member followed.1)))
 
 -- and they leave it as the step does
 pub own_leaves : OwnLeaves → (old next : Journaled) (step : Step) (more : List Message) (recovered : Bool) (new : Seat) (enters : Enters old step more recovered new)
-    → next.trace.config ≡ old.trace.config → TraceReaches next.trace next.recovered enters.behind → node_of (event_of step.event) < old.trace.config.members
-    → OwnReaches (config_of old.trace.config) (at_first (node_of (event_of step.event))) (own_in (node_of (event_of step.event)) next) new
+    → next.trace.config ≡ old.trace.config → TraceReachesFrom (seats_in old.start) next.trace next.recovered enters.behind → node_of (event_of step.event) < old.trace.config.members
+    → OwnReaches (config_of old.trace.config) (seats_in old.start (node_of (event_of step.event))) (own_in (node_of (event_of step.event)) next) new
 own_leaves leaves old next step more recovered new enters config_is reached member =
     let node = node_of (event_of step.event) in
-    subst (λ (s : Seat). OwnReaches (config_of old.trace.config) (at_first node) (own_in node next) s) enters.leaves
-    (leaves (config_of old.trace.config) next.trace.sent (steps_of next.trace.steps) next.recovered enters.behind node member
-    (subst (λ (c : RunConfig). Reaches (config_of c) next.trace.sent (steps_of next.trace.steps) next.recovered enters.behind) config_is reached))
+    subst (λ (s : Seat). OwnReaches (config_of old.trace.config) (seats_in old.start node) (own_in node next) s) enters.leaves
+    (leaves (config_of old.trace.config) (seats_in old.start) next.trace.sent (steps_of next.trace.steps) next.recovered enters.behind node member
+    (subst (λ (c : RunConfig). ReachesFrom (config_of c) (seats_in old.start) next.trace.sent (steps_of next.trace.steps) next.recovered enters.behind) config_is reached))

@@ -1,5 +1,5 @@
 -- What two receipts of one journal are worth, from what its history is worth.
-use Rattle.std.proofs.Common.{◌≡◌, ◌⊎◌, ℕ, ◌<◌, ◌≤◌, inl, inr, refl, false, List, Option, None, Some, slice_get, sym, ap, subst, ◌∙◌}
+use Rattle.std.proofs.Common.{◌≡◌, ◌⊎◌, ℕ, ◌<◌, ◌≤◌, inl, inr, refl, Bool, false, List, [], Option, None, Some, slice_get, sym, ap, subst, ◌∙◌}
 use Rattle.std.proofs.lemmas.Option.{slice_get-map}
 use Rattle.std.specs.Option.{option_map}
 use Rattle.table_types.specs.Uploads.{Upload}
@@ -10,9 +10,11 @@ use Rattle.histories.specs.Event as events
 use Rattle.histories.specs.EventResult as results
 use Rattle.histories.specs.EventResult.{EventResult as HistoryResult}
 use Rattle.histories.specs.History.{Step as HistoryStep, History}
-use Rattle.histories.specs.Following.{Follows}
+use Rattle.histories.specs.Following.{Seat, Follows, ReachesFrom}
 use Rattle.safe_histories.specs.Learning.{brings_up, brings_down}
-use Rattle.safe_histories.specs.Safe.{IsStep, IsSafe}
+use Rattle.agreement_rules.specs.Views.{Config}
+use Rattle.safe_histories.specs.Safe.{IsStep, SameTicketSameBytes, AcknowledgedStandsOnce}
+use Rattle.joined_histories.specs.Joined.{Precedes}
 use Rattle.node_events.specs.declared.event.Event.{Event}
 use Rattle.node_events.specs.declared.event.Event.TheVariants.{Get, Outcome as AsksOutcome}
 use Rattle.node_events.specs.declared.event_result.EventResult.{EventResult}
@@ -20,19 +22,26 @@ use Rattle.node_events.specs.declared.event_result.EventResult.TheVariants.{Answ
 use Rattle.node_events.specs.declared.event_result.Reason.TheVariants.{OutOfMemory}
 use Rattle.node_events.specs.Told.{event_of, result_of}
 use Rattle.schedule_runner.specs.declared.step.Step.{Step}
-use Rattle.schedule_runner.specs.Told.{step_of, steps_of}
-use Rattle.schedule_runner.specs.Traced.{Traced, history_of}
+use Rattle.schedule_runner.specs.Told.{config_of, step_of, steps_of}
+use Rattle.schedule_runner.specs.Traced.{Traced, history_of, TraceReachesFrom}
 use Rattle.journal.specs.declared.receipt.Receipt.{Receipt}
-use Rattle.journal.specs.Journaled.{Journaled, HasFollowed}
+use Rattle.journal.specs.Journaled.{seats_in, Journaled, HasFollowed}
 use Rattle.journal.specs.Receipts.{step_told, IsReceiptOf, SameBytes, StandsOnce, AreWorth, IsFresh}
 
 -- ---- the law that is cited, and what it is asked of
 
-abbrev pub Safe : Type 0
-Safe = (history : History) → Follows history → IsSafe history
+-- what the steps of a trace are worth to clients
+pub record KeepsPromises (steps : List HistoryStep) : Type 0 where
+  pub tickets : SameTicketSameBytes steps
+  pub acknowledged : AcknowledgedStandsOnce steps
 
-pub follows : (journal : Journaled) → HasFollowed journal → Follows (history_of journal.trace)
-follows journal followed = record { recovered = journal.recovered; seats = followed.0; reached = followed.1 }
+-- where its nodes started with nothing
+pub follows : (journal : Journaled) → journal.start ≡ [] → HasFollowed journal → Follows (history_of journal.trace)
+follows journal nothing followed = record {
+  recovered = journal.recovered;
+  seats = followed.0;
+  reached = subst (λ (start : List Seat). TraceReachesFrom (seats_in start) journal.trace journal.recovered followed.0) nothing followed.1;
+}
 
 -- ---- a receipt as a step of the history
 
@@ -48,21 +57,21 @@ told_as trace receipt e g is event_is answer_is =
 
 -- ---- what two are worth
 
-same_bytes : (trace : Traced) (one other : Receipt) → IsSafe (history_of trace) → IsReceiptOf trace one → IsReceiptOf trace other → SameBytes one other
+same_bytes : (trace : Traced) (one other : Receipt) → KeepsPromises (steps_of trace.steps) → IsReceiptOf trace one → IsReceiptOf trace other → SameBytes one other
 same_bytes trace one other safe is too ticket x y answers answers_too =
-    safe.same_ticket_same_bytes one.number other.number answers.node answers_too.node ticket.version ticket.table x y
+    safe.tickets one.number other.number answers.node answers_too.node ticket.version ticket.table x y
     (told_as trace one (Get answers.node ticket) (Answer x) is answers.event_is answers.answer_is)
     (told_as trace other (Get answers_too.node ticket) (Answer y) too answers_too.event_is answers_too.answer_is)
 
-stands_once : (trace : Traced) (one other : Receipt) → IsSafe (history_of trace) → IsReceiptOf trace one → IsReceiptOf trace other → StandsOnce one other
+stands_once : (trace : Traced) (one other : Receipt) → KeepsPromises (steps_of trace.steps) → IsReceiptOf trace one → IsReceiptOf trace other → StandsOnce one other
 stands_once trace one other safe is too upload number ticket bytes told of_table late answers =
     let asked : IsStep (steps_of trace.steps) other.number (events.Get answers.node upload.table ticket.version) (results.Answer bytes) =
     subst (λ (t : List ℕ). IsStep (steps_of trace.steps) other.number (events.Get answers.node t ticket.version) (results.Answer bytes)) of_table
     (told_as trace other (Get answers.node ticket) (Answer bytes) too answers.event_is answers.answer_is) in
-    safe.acknowledged_stands_once one.number other.number told.node answers.node number ticket.version told.text bytes upload told.is_text
+    safe.acknowledged one.number other.number told.node answers.node number ticket.version told.text bytes upload told.is_text
     (told_as trace one (AsksOutcome told.node told.text) (TellsOutcome (Applied number)) is told.event_is told.answer_is) late asked
 
-pub are_worth : (trace : Traced) (one other : Receipt) → IsSafe (history_of trace) → IsReceiptOf trace one → IsReceiptOf trace other → AreWorth one other
+pub are_worth : (trace : Traced) (one other : Receipt) → KeepsPromises (steps_of trace.steps) → IsReceiptOf trace one → IsReceiptOf trace other → AreWorth one other
 are_worth trace one other safe is too = record {
   same_bytes = same_bytes trace one other safe is too;
   stands_once = stands_once trace one other safe is too;
@@ -72,12 +81,13 @@ are_worth trace one other safe is too = record {
 -- ---- a node that goes on answers
 
 abbrev pub Fresh : Type 0
-Fresh = (history : History) (i j node number version : ℕ) (text : List ℕ) (upload : Upload) (given : HistoryResult)
-    → Follows history → IsTextOf text upload
-    → IsStep history.steps i (events.Outcome node text) (results.Outcome (applied number)) → i < j
-    → ((k : ℕ) (step : HistoryStep) → i < k → k < j → slice_get history.steps k ≡ Some step
+Fresh = (config : Config) (start seats : ℕ → Seat) (before tail : History) (recovered : List Bool)
+    (i j node number version : ℕ) (text : List ℕ) (upload : Upload) (given : HistoryResult)
+    → Precedes config start before → ReachesFrom config start tail.sent tail.steps recovered seats → IsTextOf text upload
+    → IsStep tail.steps i (events.Outcome node text) (results.Outcome (applied number)) → i < j
+    → ((k : ℕ) (step : HistoryStep) → i < k → k < j → slice_get tail.steps k ≡ Some step
     → (brings_up node step ≡ false) × (brings_down node step ≡ false)) → version ≤ number
-    → IsStep history.steps j (events.Get node upload.table version) given
+    → IsStep tail.steps j (events.Get node upload.table version) given
     → ((bytes : List ℕ) × (given ≡ results.Answer bytes)) ⊎ (given ≡ results.Refused results.OutOfMemory)
 
 abbrev pub LosesNothing : Type 0
@@ -111,13 +121,14 @@ given_back : LosesNothing → (given : EventResult) → ((bytes : List ℕ) × (
 given_back loses given (inl (bytes, is)) = inl (bytes, loses given (Answer bytes) is)
 given_back loses given (inr is) = inr (loses given (Refused OutOfMemory) is)
 
-pub is_fresh : Fresh → LosesNothing → (journal : Journaled) (one other : Receipt) → HasFollowed journal → IsReceiptOf journal.trace one → IsReceiptOf journal.trace other → IsFresh journal.trace one other
-is_fresh fresh loses journal one other followed is too node text upload number ticket is_text event_is answer_is asks of_table early before still =
+pub is_fresh : Fresh → LosesNothing → (journal : Journaled) (before : History) (one other : Receipt) → HasFollowed journal → Precedes (config_of journal.trace.config) (seats_in journal.start) before → IsReceiptOf journal.trace one → IsReceiptOf journal.trace other → IsFresh journal.trace one other
+is_fresh fresh loses journal before one other followed precedes is too node text upload number ticket is_text event_is answer_is asks of_table early earlier still =
     let steps = steps_of journal.trace.steps in
     let asked : IsStep steps other.number (events.Get node upload.table ticket.version) (result_of other.answer) =
     subst (λ (t : List ℕ). IsStep steps other.number (events.Get node t ticket.version) (result_of other.answer)) of_table
     (told_as journal.trace other (Get node ticket) other.answer too asks refl) in
     given_back loses other.answer
-    (fresh (history_of journal.trace) one.number other.number node number ticket.version text upload (result_of other.answer) (follows journal followed) is_text
-    (told_as journal.trace one (AsksOutcome node text) (TellsOutcome (Applied number)) is event_is answer_is) before
+    (fresh (config_of journal.trace.config) (seats_in journal.start) followed.0 before (history_of journal.trace) journal.recovered one.number other.number node number ticket.version text upload
+    (result_of other.answer) precedes followed.1 is_text
+    (told_as journal.trace one (AsksOutcome node text) (TellsOutcome (Applied number)) is event_is answer_is) earlier
     (unmoved journal.trace node one.number other.number still) early asked)

@@ -1,6 +1,7 @@
--- What contracts see of a journal of running nodes: a trace, and of each restart whether the node had back the record that
--- was due where it went down (Lamport, "Paxos Made Simple", section 2.5). That nodes share a journal is this service's own.
-use Rattle.std.specs.Prelude.{◌≡◌, ℕ, ◌<◌, Bool, List, [], ◌∷◌, ◌++◌, length}
+-- What contracts see of a journal of running nodes: where its nodes start, a trace from there on, and of each restart whether
+-- the node had back the record that was due where it went down (Lamport, "Paxos Made Simple", section 2.5). That nodes share a
+-- journal is this service's own.
+use Rattle.std.specs.Prelude.{◌≡◌, ℕ, ◌<◌, Bool, List, [], ◌∷◌, ◌++◌, length, slice_index_or}
 use Rattle.ballots.specs.declared.message.Message.{Message}
 use Rattle.histories.specs.Event.{node_of}
 use Rattle.histories.specs.EventResult.{count_of}
@@ -8,21 +9,28 @@ use Rattle.histories.specs.Following.{Seat, SeatGives, IsAsked, at_first}
 use Rattle.histories.specs.Owning.{Entry, own, entries_of, OwnReaches}
 use Rattle.schedule_runner.specs.declared.step.Step.{Step}
 use Rattle.schedule_runner.specs.Told.{config_of, event_of, result_of, step_of, steps_of}
-use Rattle.schedule_runner.specs.Traced.{Traced, TellsAsBefore, TellsMore, HasRoomFor, TraceReaches}
+use Rattle.schedule_runner.specs.Traced.{Traced, TellsAsBefore, TellsMore, HasRoomFor, TraceReachesFrom}
+
+-- how a node starts: as the list has it, or with nothing where the list ends
+abbrev pub seats_in : List Seat → ℕ → Seat
+seats_in start node = slice_index_or start node (at_first node)
 
 pub record Journaled : Type 0 where
+  -- how each node is where its steps begin
+  pub start : List Seat
   pub trace : Traced
   -- of each step, whether it restarted a node that had back the record that was due where it went down
   pub recovered : List Bool
   -- how many more of these it takes without memory
   pub room : ℕ
 
--- each step followed by the nodes' rules from those before, and they left the nodes so or so
+-- each step followed by the nodes' rules from the start and those before, and they left the nodes so or so
 abbrev pub HasFollowed : Journaled → Type 0
-HasFollowed journal = (seats : ℕ → Seat) × TraceReaches journal.trace journal.recovered seats
+HasFollowed journal = (seats : ℕ → Seat) × TraceReachesFrom (seats_in journal.start) journal.trace journal.recovered seats
 
 -- it tells what it told before
 pub record TellsSame (old new : Journaled) : Type 0 where
+  pub start_is : new.start ≡ old.start
   pub trace : TellsAsBefore old.trace new.trace
   pub recovered_is : new.recovered ≡ old.recovered
 
@@ -32,6 +40,7 @@ HasRoom journal count = HasRoomFor journal.trace count × (0 < journal.room)
 
 -- one step more, and behind the messages that were sent those that it sent
 pub record HasEntry (old : Journaled) (step : Step) (more : List Message) (recovered : Bool) (new : Journaled) : Type 0 where
+  pub start_is : new.start ≡ old.start
   pub trace : TellsMore old.trace step more new.trace
   pub recovered_is : new.recovered ≡ old.recovered ++ recovered ∷ []
 
@@ -43,7 +52,7 @@ own_in node journal = own node journal.trace.sent (steps_of journal.trace.steps)
 -- it tells.
 pub record IsNext (journal : Journaled) (step : Step) (more : List Message) (recovered : Bool) (old new : Seat) : Type 0 where
   pub member : node_of (event_of step.event) < journal.trace.config.members
-  pub led : OwnReaches (config_of journal.trace.config) (at_first (node_of (event_of step.event)))
+  pub led : OwnReaches (config_of journal.trace.config) (seats_in journal.start (node_of (event_of step.event)))
       (own_in (node_of (event_of step.event)) journal) old
   pub gives : SeatGives (config_of journal.trace.config) (journal.trace.sent ++ more) (length journal.trace.sent) recovered old
       (event_of step.event) (result_of step.result) new
@@ -59,5 +68,5 @@ pub record EntersOwn (old : Journaled) (step : Step) (more : List Message) (reco
   pub grows : (node : ℕ) → node < old.trace.config.members
       → own_in node new ≡ own_in node old ++ entries_of node new.trace.sent (step_of step) recovered
   pub leaves : (was left : Seat) → IsNext old step more recovered was left
-      → OwnReaches (config_of old.trace.config) (at_first (node_of (event_of step.event)))
+      → OwnReaches (config_of old.trace.config) (seats_in old.start (node_of (event_of step.event)))
       (own_in (node_of (event_of step.event)) new) left

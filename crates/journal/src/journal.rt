@@ -3,14 +3,17 @@
 ghost use Rattle.std.specs.Prelude.{◌≡◌, ◌↔◌, ℕ, ◌+◌, ◌<◌, ◌≤◌, IsTrue, List, [], ◌∷◌, ◌++◌, length, slice_get, OnOk, vec_len, vec_capacity};
 ghost use Rattle.std.specs.Option.{IfSome, option_map};
 ghost use Rattle.lawful_histories.specs.Lawful.{IsLawful};
-ghost use Rattle.histories.specs.Following.{Follows};
+ghost use Rattle.histories.specs.History.{History};
 ghost use Rattle.safe_histories.specs.Safe.{IsSafe};
+ghost use Rattle.joined_histories.specs.Joined.{joined, Precedes};
 ghost use Rattle.schedule_runner.specs.Limits.{IsWithinLimits};
+ghost use Rattle.schedule_runner.specs.Told.{config_of};
 ghost use Rattle.schedule_runner.specs.Traced.{Tells, history_of};
-ghost use Rattle.journal.specs.Journaled.{own_in, HasFollowed, HasRoom, TellsSame, HasEntry, MayEnter, EntersOwn};
+ghost use Rattle.journal.specs.Journaled.{seats_in, own_in, HasFollowed, HasRoom, TellsSame, HasEntry, MayEnter, EntersOwn};
 ghost use Rattle.journal.specs.Logged.{HasLogged, IsLonger, own_entry};
 ghost use Rattle.journal.specs.Receipts.{IsReceiptOf, AreWorth};
 
+use crate::beginning::Beginning;
 use crate::own::OwnEntry;
 use crate::progress::Progress;
 use crate::receipt::{Receipt, tells_step};
@@ -20,25 +23,28 @@ use histories::laws::{
     a_member_steps_alone, nothing_reaches_the_start, own_entries_decide_the_node, own_entries_grow,
     own_entries_leave_the_node,
 };
-use safe_histories::laws::replicas_agree;
+use joined_histories::laws::{joined_replicas_agree, tails_are_safe};
 use schedule_runner::{Config, Step, Trace};
 use std::alloc::{AllocError, Global};
 use std::marker::{Brand, Model};
 
 /// All steps that the nodes of one configuration took, each behind those before, with the messages that they sent.
-/// Contracts see its trace, and of each step whether it restarted a node that had back the record that was due where it
-/// went down. The type keeps that each step followed by the rules of the nodes.
+/// Contracts see where its nodes started, its trace, and of each step whether it restarted a node that had back the record
+/// that was due where it went down. The type keeps that each step followed by the rules of the nodes.
+///
+/// Its name says where the nodes started ([`Beginning`]): with nothing, or as a history left them that went before. What is
+/// promised holds of both together, whatever that history was.
 ///
 /// A journal that was made with a log ([`Journal::with_log`]) knows how far it has come, under the log's name: a node that
 /// knows it too can tell by a count alone that the journal has just its own entries.
 #[derive(Drop)]
-pub struct Journal<J: Naming = Brand> {
+pub struct Journal<J: Beginning = Brand> {
     trace: Trace,
     recovered: Vec<bool>,
     progress: Option<Progress<J>>,
 }
 
-impl<J: Naming> Model for Journal<J> {
+impl<J: Beginning> Model for Journal<J> {
     ghost use Rattle.std.specs.Prelude.{◌-◌, vec_len, vec_capacity};
     ghost use Rattle.std.specs.Option.{IfSome};
     ghost use Rattle.journal.specs.Journaled.{Journaled, HasFollowed};
@@ -47,27 +53,31 @@ impl<J: Naming> Model for Journal<J> {
     ghost Value = { Journaled };
 
     ghost view = { λ j. record {
+      start = J.start;
       trace = j.trace;
       recovered = j.recovered.items;
       room = vec_capacity j.recovered - vec_len j.recovered;
     } };
 
     ghost invariant = { λ j. HasFollowed (record {
+      start = J.start;
       trace = j.trace;
       recovered = j.recovered.items;
       room = vec_capacity j.recovered - vec_len j.recovered;
     }) × IfSome j.progress (λ log. HasLogged log (record {
+      start = J.start;
       trace = j.trace;
       recovered = j.recovered.items;
       room = vec_capacity j.recovered - vec_len j.recovered;
     })) };
 }
 
-impl<J: Naming> Journal<J> {
+impl<J: Beginning> Journal<J> {
     /// A journal without a step, of nodes of this configuration, which is within its limits. It takes memory from this
     /// allocator as it grows.
     pub fn new(alloc: Global, config: Config) -> Journal<J>
         requires { IsWithinLimits config }
+        ensures start { result.start ≡ J.start }
         ensures trace { Tells result.trace config [] [] }
         ensures recovered { result.recovered ≡ [] }
     {
@@ -83,6 +93,7 @@ impl<J: Naming> Journal<J> {
     pub fn with_log(alloc: Global, config: Config, log: Opened<OwnEntry>) -> Journal<J>
         requires within { IsWithinLimits config }
         requires named { log ≡ J.book }
+        ensures start { result.start ≡ J.start }
         ensures trace { Tells result.trace config [] [] }
         ensures recovered { result.recovered ≡ [] }
     {
@@ -115,6 +126,13 @@ impl<J: Naming> Journal<J> {
         }
     }
 
+    /// That its nodes started as its name has it. It does nothing.
+    pub fn starts_as_named(&self)
+        ensures { self.now.start ≡ J.start }
+    {
+        let _ = &self.trace;
+    }
+
     /// What the nodes have in common.
     pub fn config(&self) -> Config
         ensures { result ≡ self.now.trace.config }
@@ -122,16 +140,17 @@ impl<J: Naming> Journal<J> {
         self.trace.config()
     }
 
-    /// Its steps with what each gave, and all messages that were sent. What was sent is lawful, and clients may rely on
-    /// what was answered.
+    /// Its steps with what each gave, and all messages that were sent. Behind any history that left the nodes as they
+    /// started here, what was sent in both is lawful, and clients may rely on what was answered in both.
     pub fn trace(&self) -> &Trace
         ensures trace { result.now ≡ self.now.trace }
         ensures followed { HasFollowed self.now }
-        ensures follows { Follows (history_of self.now.trace) }
-        ensures lawful { IsLawful self.now.trace.config.members self.now.trace.sent }
-        ensures safe { IsSafe (history_of self.now.trace) }
+        ensures lawful { (before : History) → Precedes (config_of self.now.trace.config) (seats_in self.now.start) before
+            → IsLawful self.now.trace.config.members (before.sent ++ self.now.trace.sent) }
+        ensures safe { (before : History) → Precedes (config_of self.now.trace.config) (seats_in self.now.start) before
+            → IsSafe (joined before (history_of self.now.trace)) }
     {
-        replicas_agree();
+        joined_replicas_agree();
         &self.trace
     }
 
@@ -194,14 +213,16 @@ impl<J: Naming> Journal<J> {
         is_told(&self.trace, receipt)
     }
 
-    /// Whether both receipts are of steps of this journal. Then, whoever got them: two answers to one ticket have equal
-    /// bytes; and an upload that one tells to be applied as a version stands once, at that version's place, in the
-    /// other's answer to a ticket of its table for that version or a later one.
+    /// Whether both receipts are of steps of this journal. Then, whoever got them, and if a history left the nodes as they
+    /// started here: two answers to one ticket have equal bytes; and an upload that one tells to be applied as a version
+    /// stands once, at that version's place, in the other's answer to a ticket of its table for that version or a later one.
     pub fn meet(&self, one: &Receipt, other: &Receipt) -> bool
         ensures confirmed { IsTrue result
             ↔ (IsReceiptOf self.now.trace one.now × IsReceiptOf self.now.trace other.now) }
-        ensures worth { IsTrue result → AreWorth one.now other.now }
+        ensures worth { IsTrue result → (before : History)
+            → Precedes (config_of self.now.trace.config) (seats_in self.now.start) before → AreWorth one.now other.now }
     {
+        tails_are_safe();
         let trace = self.trace();
         is_told(trace, one) && is_told(trace, other)
     }

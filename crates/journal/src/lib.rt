@@ -19,12 +19,14 @@
 //! node that knows the same log has just the journal's own entries of it where it has as many.
 #![tactic(auto)]
 
+mod beginning;
 mod journal;
 pub mod laws;
 mod own;
 mod progress;
 mod receipt;
 
+pub use beginning::Beginning;
 pub use journal::Journal;
 pub use own::OwnEntry;
 pub use receipt::Receipt;

@@ -1,14 +1,14 @@
 //! A hundred thousand entries of three nodes that know the log of their journal: each finds at once that it agrees.
 
-ghost use Rattle.std.specs.Prelude.{◌≡◌};
+ghost use Rattle.std.specs.Prelude.{◌≡◌, []};
 
 use crate::support::{
     Gave, check, config, deliver, journal_with, seat, serve_in, take, ticket, upload,
 };
-use growing_log::{Naming, Opened};
+use growing_log::Opened;
 use node_events::EventResult;
 use schedule_runner::Config;
-use seats::{Journal, OwnEntry, Query, Seat, SeatInput};
+use seats::{Beginning, Journal, OwnEntry, Query, Seat, SeatInput};
 use stable_records::MemoryStable;
 use std::alloc::Global;
 use std::hash::RandomState;
@@ -59,11 +59,13 @@ fn long_config() -> Result<Config, Fail> {
 }
 
 // Three members of this configuration.
-fn members_of<J: Naming>(
+fn members_of<J: Beginning>(
     alloc: Global,
     hashing: RandomState,
     config: Config,
-) -> Result<Members<J>, Fail> {
+) -> Result<Members<J>, Fail>
+    requires { J.start ≡ [] }
+{
     let mut members = Vec::new(alloc);
     for number in 0..3 {
         members.push(seat(alloc, hashing, number, config, MemoryStable::new(alloc))?)?;
@@ -72,7 +74,7 @@ fn members_of<J: Naming>(
 }
 
 // The member of this number.
-fn at<J: Naming>(
+fn at<J: Beginning>(
     members: &mut [Box<Seat<MemoryStable, J>>],
     number: usize,
 ) -> Result<&mut Box<Seat<MemoryStable, J>>, Fail> {
@@ -83,7 +85,7 @@ fn at<J: Naming>(
 }
 
 // An upload is put and decided: twenty entries.
-fn decide<J: Naming>(
+fn decide<J: Beginning>(
     alloc: Global,
     members: &mut [Box<Seat<MemoryStable, J>>],
     journal: &mut Journal<J>,
@@ -107,7 +109,7 @@ fn decide<J: Naming>(
 }
 
 // All uploads, one after the other.
-fn decide_all<J: Naming>(
+fn decide_all<J: Beginning>(
     alloc: Global,
     members: &mut [Box<Seat<MemoryStable, J>>],
     journal: &mut Journal<J>,
@@ -119,7 +121,7 @@ fn decide_all<J: Naming>(
 }
 
 // Each member agrees to the end, and has an answer for the last version.
-fn all_answer<J: Naming>(
+fn all_answer<J: Beginning>(
     alloc: Global,
     members: &mut [Box<Seat<MemoryStable, J>>],
     journal: &mut Journal<J>,
@@ -138,12 +140,13 @@ fn all_answer<J: Naming>(
     Ok(())
 }
 
-fn long_run<J: Naming>(
+fn long_run<J: Beginning>(
     alloc: Global,
     hashing: RandomState,
     log: Opened<OwnEntry>,
 ) -> Result<(), Fail>
-    requires { log ≡ J.book }
+    requires named { log ≡ J.book }
+    requires start { J.start ≡ [] }
 {
     let config = long_config()?;
     let mut journal = journal_with::<J>(alloc, config, log)?;

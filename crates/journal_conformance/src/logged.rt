@@ -1,14 +1,14 @@
 //! Nodes that know the log of their journal: they find at once whether they agree with it, however long it is.
 
-ghost use Rattle.std.specs.Prelude.{◌≡◌};
+ghost use Rattle.std.specs.Prelude.{◌≡◌, []};
 
 use crate::support::{
     Gave, check, config, deliver, journal_with, restart, seat, serve, take, ticket, upload,
 };
 use ballots::NodeId;
-use growing_log::{Naming, Opened};
+use growing_log::Opened;
 use schedule_runner::Config;
-use seats::{Journal, OwnEntry, Query, Seat, SeatFault, SeatInput};
+use seats::{Beginning, Journal, OwnEntry, Query, Seat, SeatFault, SeatInput};
 use stable_records::MemoryStable;
 use std::alloc::Global;
 use std::hash::RandomState;
@@ -18,7 +18,7 @@ use std::test::Fail;
 const STRANGE: Gave = Gave::Failed(SeatFault::Strange);
 
 // A journal without a log, of a configuration within its limits.
-fn journal_without<J: Naming>(alloc: Global, config: Config) -> Result<Box<Journal<J>>, Fail> {
+fn journal_without<J: Beginning>(alloc: Global, config: Config) -> Result<Box<Journal<J>>, Fail> {
     if !config.is_within_limits() {
         return Err(Fail::from("no configuration"));
     }
@@ -26,7 +26,7 @@ fn journal_without<J: Naming>(alloc: Global, config: Config) -> Result<Box<Journ
 }
 
 // A put, a tick, and the delivery of each message that comes of it to the only member.
-fn decide<J: Naming>(
+fn decide<J: Beginning>(
     alloc: Global,
     seat: &mut Seat<MemoryStable, J>,
     journal: &mut Journal<J>,
@@ -45,12 +45,13 @@ fn decide<J: Naming>(
 }
 
 // Two seats of one node at one journal: the second agrees until the first has an entry, and a question is none.
-fn two_of_one_node<J: Naming>(
+fn two_of_one_node<J: Beginning>(
     alloc: Global,
     hashing: RandomState,
     log: Opened<OwnEntry>,
 ) -> Result<(), Fail>
-    requires { log ≡ J.book }
+    requires named { log ≡ J.book }
+    requires start { J.start ≡ [] }
 {
     let config = config(2, 100)?;
     let mut journal = journal_with::<J>(alloc, config, log)?;
@@ -87,7 +88,7 @@ fn two_of_one_node<J: Naming>(
 }
 
 // The two members have two entries of their own, and one; whoever is no member has no count.
-fn counts<J: Naming>(journal: &Journal<J>) -> Result<(), Fail> {
+fn counts<J: Beginning>(journal: &Journal<J>) -> Result<(), Fail> {
     let first = NodeId::new(0).ok_or("no node")?;
     let second = NodeId::new(1).ok_or("no node")?;
     let third = NodeId::new(2).ok_or("no node")?;
@@ -108,12 +109,13 @@ fn a_second_seat_of_a_node_is_strange(rt: HostRuntime) -> Result<(), Fail> {
 }
 
 // A seat that knows a log, and a journal that has none: entries are compared one by one.
-fn another_journal<J: Naming>(
+fn another_journal<J: Beginning>(
     alloc: Global,
     hashing: RandomState,
     log: Opened<OwnEntry>,
 ) -> Result<(), Fail>
-    requires { log ≡ J.book }
+    requires named { log ≡ J.book }
+    requires start { J.start ≡ [] }
 {
     let config = config(1, 100)?;
     let mut journal = journal_with::<J>(alloc, config, log)?;

@@ -1,12 +1,12 @@
 //! Seats with their journal, and what is asked of them.
 
-ghost use Rattle.std.specs.Prelude.{◌≡◌};
+ghost use Rattle.std.specs.Prelude.{◌≡◌, []};
 
 use ballots::{Members, NodeId};
-use growing_log::{Naming, Opened};
+use growing_log::Opened;
 use header_types::Schema;
 use schedule_runner::Config;
-use seats::{Journal, OwnEntry, Query, Receipt, Seat, SeatFault, SeatInput};
+use seats::{Beginning, Journal, OwnEntry, Query, Receipt, Seat, SeatFault, SeatInput};
 use stable_records::{MemoryStable, Stable};
 use std::alloc::Global;
 use std::hash::RandomState;
@@ -44,13 +44,15 @@ pub(crate) fn ticket(alloc: Global, version: u64) -> Result<Ticket, Fail> {
 }
 
 /// The member of this number, with this store.
-pub(crate) fn seat<S: Stable + Drop, J: Naming>(
+pub(crate) fn seat<S: Stable + Drop, J: Beginning>(
     alloc: Global,
     hashing: RandomState,
     number: u8,
     config: Config,
     store: S,
-) -> Result<Box<Seat<S, J>>, Fail> {
+) -> Result<Box<Seat<S, J>>, Fail>
+    requires { J.start ≡ [] }
+{
     let me = NodeId::new(number).ok_or("no node")?;
     if !config.is_within_limits() || number >= config.members.count() {
         return Err(Fail::from("no member of a configuration"));
@@ -70,12 +72,13 @@ pub(crate) fn journal(alloc: Global, config: Config) -> Result<Box<Journal>, Fai
 }
 
 /// A journal without an entry, with this log.
-pub(crate) fn journal_with<J: Naming>(
+pub(crate) fn journal_with<J: Beginning>(
     alloc: Global,
     config: Config,
     log: Opened<OwnEntry>,
 ) -> Result<Box<Journal<J>>, Fail>
-    requires { log ≡ J.book }
+    requires named { log ≡ J.book }
+    requires start { J.start ≡ [] }
 {
     if !config.is_within_limits() {
         return Err(Fail::from("no configuration"));
@@ -99,7 +102,7 @@ fn told(given: Result<Receipt, SeatFault>) -> Gave {
 }
 
 /// Prepares an input, and takes it.
-pub(crate) fn take_in<S: Stable + Drop, J: Naming>(
+pub(crate) fn take_in<S: Stable + Drop, J: Beginning>(
     seat: &mut Seat<S, J>,
     journal: &mut Journal<J>,
     input: SeatInput,
@@ -109,7 +112,7 @@ pub(crate) fn take_in<S: Stable + Drop, J: Naming>(
 }
 
 /// Reads an answer, and serves it.
-pub(crate) fn serve_in<S: Stable + Drop, J: Naming>(
+pub(crate) fn serve_in<S: Stable + Drop, J: Beginning>(
     seat: &mut Seat<S, J>,
     journal: &mut Journal<J>,
     query: Query,
@@ -119,7 +122,7 @@ pub(crate) fn serve_in<S: Stable + Drop, J: Naming>(
 }
 
 /// Takes an input.
-pub(crate) fn take<S: Stable + Drop, J: Naming>(
+pub(crate) fn take<S: Stable + Drop, J: Beginning>(
     seat: &mut Seat<S, J>,
     journal: &mut Journal<J>,
     input: SeatInput,
@@ -128,7 +131,7 @@ pub(crate) fn take<S: Stable + Drop, J: Naming>(
 }
 
 /// Takes the message of this number.
-pub(crate) fn deliver<S: Stable + Drop, J: Naming>(
+pub(crate) fn deliver<S: Stable + Drop, J: Beginning>(
     seat: &mut Seat<S, J>,
     journal: &mut Journal<J>,
     number: u64,
@@ -138,7 +141,7 @@ pub(crate) fn deliver<S: Stable + Drop, J: Naming>(
 }
 
 /// Serves an answer.
-pub(crate) fn serve<S: Stable + Drop, J: Naming>(
+pub(crate) fn serve<S: Stable + Drop, J: Beginning>(
     seat: &mut Seat<S, J>,
     journal: &mut Journal<J>,
     query: Query,
@@ -147,7 +150,7 @@ pub(crate) fn serve<S: Stable + Drop, J: Naming>(
 }
 
 /// Starts a node again.
-pub(crate) fn restart<S: Stable + Drop, J: Naming>(
+pub(crate) fn restart<S: Stable + Drop, J: Beginning>(
     seat: &mut Seat<S, J>,
     journal: &mut Journal<J>,
 ) -> Gave {

@@ -1,20 +1,19 @@
 //! A cluster.
 
 use crate::locks::Locks;
-use growing_log::Naming;
-use seats::{Journal, Seat};
+use seats::{Beginning, Journal, Seat};
 use stable_records::Stable;
 use std::marker::Brand;
 use std::sync::{Mutex, Wait};
 
 /// The seats of the nodes of one configuration, and their journal, each behind a lock.
 #[derive(Drop)]
-pub struct Cluster<const N: usize, S: Stable + Drop, J: Naming = Brand> {
+pub struct Cluster<const N: usize, S: Stable + Drop, J: Beginning = Brand> {
     seats: [Mutex<Seat<S, J>>; N],
     journal: Mutex<Journal<J>>,
 }
 
-impl<const N: usize, S: Stable + Drop, J: Naming> Cluster<N, S, J> {
+impl<const N: usize, S: Stable + Drop, J: Beginning> Cluster<N, S, J> {
     /// The cluster of these nodes, each at the place of its number and behind its lock, which nobody holds; `None` where one
     /// stands elsewhere, is down, or does not agree with the journal, or where the configuration has another number of members
     /// than there are seats.
@@ -51,7 +50,7 @@ impl<const N: usize, S: Stable + Drop, J: Naming> Cluster<N, S, J> {
 }
 
 // Whether each seat is that of the node of its place, is up, and agrees with the journal.
-fn are_placed<R: Wait, S: Stable + Drop, J: Naming>(
+fn are_placed<R: Wait, S: Stable + Drop, J: Beginning>(
     rt: &R,
     seats: &[Mutex<Seat<S, J>>],
     journal: &Journal<J>,

@@ -30,5 +30,7 @@ pub use desk::Ending;
 pub use gate::{Gate, OpenGate};
 pub use node_work::{LONGEST_WAIT_MILLISECONDS, LOOK_MILLISECONDS, Note, Pace};
 pub use running::{Pending, Running};
-pub use seats::{Found, Journal, OwnEntry, Prepared, Query, Receipt, Seat, SeatFault, SeatInput};
+pub use seats::{
+    Beginning, Found, Journal, OwnEntry, Prepared, Query, Receipt, Seat, SeatFault, SeatInput,
+};
 pub use steps::{Settled, Taken};

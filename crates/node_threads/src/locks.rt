@@ -10,10 +10,9 @@ ghost use Rattle.node_threads.specs.Told.{IsTold};
 use crate::gate::Gate;
 use crate::steps::{Settled, Taken};
 use ballots::Message;
-use growing_log::Naming;
 use node_core::Refusal;
 use node_events::EventResult;
-use seats::{Journal, Prepared, Query, Receipt, Seat, SeatFault, SeatInput};
+use seats::{Beginning, Journal, Prepared, Query, Receipt, Seat, SeatFault, SeatInput};
 use stable_records::Stable;
 use std::alloc::AllocError;
 use std::sync::{Mutex, Wait};
@@ -23,13 +22,13 @@ use uploads::Upload;
 /// The locks that the calls of one node take: always its seat's first, and then the journal's. Between the two each call
 /// passes its gate.
 #[derive(Drop)]
-pub(crate) struct Locks<'a, S: Stable + Drop, J: Naming> {
+pub(crate) struct Locks<'a, S: Stable + Drop, J: Beginning> {
     node: usize,
     seat: &'a Mutex<Seat<S, J>>,
     journal: &'a Mutex<Journal<J>>,
 }
 
-impl<'a, S: Stable + Drop, J: Naming> Locks<'a, S, J> {
+impl<'a, S: Stable + Drop, J: Beginning> Locks<'a, S, J> {
     /// The locks of the node of this number.
     pub(crate) fn new(
         node: usize,
@@ -136,7 +135,7 @@ impl<'a, S: Stable + Drop, J: Naming> Locks<'a, S, J> {
 }
 
 /// A copy of the journal's message of this number; [`SeatFault::NotSent`] where none was sent.
-pub(crate) fn message_in<R: Wait, J: Naming>(
+pub(crate) fn message_in<R: Wait, J: Beginning>(
     rt: &R,
     journal: &Mutex<Journal<J>>,
     number: u64,
@@ -153,7 +152,7 @@ pub(crate) fn message_in<R: Wait, J: Naming>(
 }
 
 // Does what was prepared, and tells the numbers of the messages that went out.
-fn take_prepared<S: Stable + Drop, J: Naming>(
+fn take_prepared<S: Stable + Drop, J: Beginning>(
     seat: &mut Seat<S, J>,
     journal: &mut Journal<J>,
     prepared: Prepared,

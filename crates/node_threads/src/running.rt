@@ -12,10 +12,9 @@ use crate::gate::Gate;
 use crate::steps::Taken;
 use crate::workplace::NodeWorkplace;
 use crossbeam_channel::{Receiver, bounded, unbounded};
-use growing_log::Naming;
 use node_core::Refusal;
 use node_work::{Note, PutId, end_each, end_of, look_at_each};
-use seats::{Receipt, SeatFault, SeatInput};
+use seats::{Beginning, Receipt, SeatFault, SeatInput};
 use stable_records::Stable;
 use std::alloc::{AllocError, Global};
 use std::ops::Range;
@@ -45,7 +44,7 @@ impl Pending {
 
 /// A cluster whose nodes have a worker each.
 #[derive(Drop)]
-pub struct Running<const N: usize, S: Stable + Drop, J: Naming, G: Gate + Drop> {
+pub struct Running<const N: usize, S: Stable + Drop, J: Beginning, G: Gate + Drop> {
     alloc: Global,
     cluster: Cluster<N, S, J>,
     gate: G,
@@ -53,7 +52,7 @@ pub struct Running<const N: usize, S: Stable + Drop, J: Naming, G: Gate + Drop> 
     is_stopping: AtomicBool,
 }
 
-impl<const N: usize, S: Stable + Drop, J: Naming, G: Gate + Drop> Running<N, S, J, G> {
+impl<const N: usize, S: Stable + Drop, J: Beginning, G: Gate + Drop> Running<N, S, J, G> {
     /// The cluster with nothing waiting, and what the worker of each node reads. [`AllocError`] says that memory was refused.
     pub fn new(
         alloc: Global,

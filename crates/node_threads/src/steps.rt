@@ -15,10 +15,9 @@ use crate::cluster::Cluster;
 use crate::gate::Gate;
 use crate::locks::message_in;
 use ballots::Message;
-use growing_log::Naming;
 use node_core::Refusal;
 use node_events::EventResult;
-use seats::{Query, Receipt, SeatFault, SeatInput};
+use seats::{Beginning, Query, Receipt, SeatFault, SeatInput};
 use stable_records::Stable;
 use std::alloc::AllocError;
 use std::ops::Range;
@@ -45,7 +44,7 @@ pub struct Settled {
     pub receipt: Receipt,
 }
 
-impl<const N: usize, S: Stable + Drop, J: Naming> Cluster<N, S, J> {
+impl<const N: usize, S: Stable + Drop, J: Beginning> Cluster<N, S, J> {
     /// Hands an input to the node: its record is kept, the node does what is due, and that is entered.
     ///
     /// The faults are those of `Seat::prepare` and `Seat::take`; [`SeatFault::Down`] also where there is no such node.

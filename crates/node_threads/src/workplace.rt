@@ -10,9 +10,8 @@ use crate::gate::Gate;
 use crate::locks::Locks;
 use crate::steps::{Settled, Taken};
 use ballots::Message;
-use growing_log::Naming;
 use node_work::{End, Fault, Input, Note, PutId, Sent, Workplace};
-use seats::{SeatFault, SeatInput};
+use seats::{Beginning, SeatFault, SeatInput};
 use stable_records::Stable;
 use std::sync::Wait;
 
@@ -22,7 +21,14 @@ use std::sync::Wait;
 /// entered. That a message is the one of its number, that a note comes to a worker, and that a put is answered its own upload's
 /// outcome, is claimed by no contract: that lies behind locks and channels.
 #[derive(Drop)]
-pub(crate) struct NodeWorkplace<'a, const N: usize, R: Wait, S: Stable + Drop, J: Naming, G: Gate> {
+pub(crate) struct NodeWorkplace<
+    'a,
+    const N: usize,
+    R: Wait,
+    S: Stable + Drop,
+    J: Beginning,
+    G: Gate,
+> {
     rt: &'a R,
     gate: &'a G,
     locks: Locks<'a, S, J>,
@@ -30,7 +36,7 @@ pub(crate) struct NodeWorkplace<'a, const N: usize, R: Wait, S: Stable + Drop, J
     desks: &'a [Desk],
 }
 
-impl<'a, const N: usize, R: Wait, S: Stable + Drop, J: Naming, G: Gate> NodeWorkplace<
+impl<'a, const N: usize, R: Wait, S: Stable + Drop, J: Beginning, G: Gate> NodeWorkplace<
     'a,
     N,
     R,
@@ -56,7 +62,7 @@ impl<'a, const N: usize, R: Wait, S: Stable + Drop, J: Naming, G: Gate> NodeWork
     }
 }
 
-impl<'a, const N: usize, R: Wait, S: Stable + Drop, J: Naming, G: Gate> Workplace
+impl<'a, const N: usize, R: Wait, S: Stable + Drop, J: Beginning, G: Gate> Workplace
     for NodeWorkplace<'a, N, R, S, J, G> {
     type Settled = Settled;
 

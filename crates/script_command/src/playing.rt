@@ -1,6 +1,6 @@
 //! `flightd script FILE`, over any writers.
 
-ghost use Rattle.std.specs.Prelude.{◌≡◌, ◌⊎◌, ℕ, List, OnOk, IfOk, IsErrOf, length, if◌then◌else◌};
+ghost use Rattle.std.specs.Prelude.{◌≡◌, ◌⊎◌, ℕ, List, OnOk, IfOk, IsErrOf, length, if◌then◌else◌, []};
 ghost use Rattle.std.specs.Io.KnownBytes.{Appends, Keeps};
 ghost use Rattle.run_files.specs.declared.script.NodeCount.{NodeCount as Counted};
 ghost use Rattle.run_files.specs.declared.script.Call.{Call as Calling};
@@ -13,9 +13,9 @@ use crate::status::{FAILURE, SUCCESS};
 use cluster_backend::AllReceipts;
 use crossbeam_channel::Receiver;
 use flight_service::{Works, five_nodes, join_all, open_service, three_nodes};
-use growing_log::{Naming, Opened};
+use growing_log::Opened;
 use grpc_frames::transfer::put;
-use node_threads::{Note, OwnEntry};
+use node_threads::{Beginning, Note, OwnEntry};
 use run_files::{Call, NodeCount, ScriptFault, read_script, script_flaw};
 use std::alloc::Global;
 use std::hash::RandomState;
@@ -121,7 +121,7 @@ fn play_at_three<
         + Send
         + 'static,
     W: Write,
-    J: Naming + Send + Sync + 'static,
+    J: Beginning + Send + Sync + 'static,
 >(
     rt: R,
     alloc: Global,
@@ -130,7 +130,8 @@ fn play_at_three<
     w: &mut W,
     log: Opened<OwnEntry>,
 ) -> Result<bool, Unplayed>
-    requires { log ≡ J.book }
+    requires named { log ≡ J.book }
+    requires start { J.start ≡ [] }
     ensures { IfOk result (λ ok. WritesAll (W.contents w.old) (length calls.now)
         (if ok then confirmed_line else unconfirmed_line) (W.contents w.new)) }
 {
@@ -150,7 +151,7 @@ fn play_at_five<
         + Send
         + 'static,
     W: Write,
-    J: Naming + Send + Sync + 'static,
+    J: Beginning + Send + Sync + 'static,
 >(
     rt: R,
     alloc: Global,
@@ -159,7 +160,8 @@ fn play_at_five<
     w: &mut W,
     log: Opened<OwnEntry>,
 ) -> Result<bool, Unplayed>
-    requires { log ≡ J.book }
+    requires named { log ≡ J.book }
+    requires start { J.start ≡ [] }
     ensures { IfOk result (λ ok. WritesAll (W.contents w.old) (length calls.now)
         (if ok then confirmed_line else unconfirmed_line) (W.contents w.new)) }
 {

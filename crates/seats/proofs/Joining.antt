@@ -12,14 +12,14 @@ use Rattle.histories.specs.Event.{node_of}
 use Rattle.histories.specs.EventResult.{count_of}
 use Rattle.histories.specs.Due.{IsDue, InputKeeps}
 use Rattle.histories.specs.Due as owed
-use Rattle.histories.specs.Following.{Seat, IsUp, IsDown, SeatGives, IsAsked, at_first, recovered_in}
+use Rattle.histories.specs.Following.{Seat, IsUp, IsDown, SeatGives, IsAsked, recovered_in}
 use Rattle.histories.specs.Owning.{Entry, concerns, is_question, entry_of, entries_of, OwnReaches}
 use Rattle.node_events.specs.declared.event.Event.{Event}
 use Rattle.node_events.specs.declared.event.Event.TheVariants as event
 use Rattle.node_events.specs.Told.{event_of, result_of}
 use Rattle.schedule_runner.specs.declared.step.Step.{Step}
 use Rattle.schedule_runner.specs.Told.{config_of, step_of}
-use Rattle.journal.specs.Journaled.{Journaled, IsNext, EntersOwn, own_in}
+use Rattle.journal.specs.Journaled.{seats_in, Journaled, IsNext, EntersOwn, own_in}
 use Rattle.seats.specs.declared.input.SeatInput.{SeatInput}
 use Rattle.seats.specs.declared.input.SeatInput.TheVariants.{Put, Tick, Deliver}
 use Rattle.seats.specs.Inputs.{input_of, event_at, IsCutAt, IsSentIn}
@@ -29,12 +29,12 @@ use Rattle.seats.specs.Entries.{done_step, done_entry, cut_step, cut_entry, rest
 
 -- what the node gives, as a step that is next
 pub next_at : (journal : Journaled) (me : ℕ) (step : Step) (more : List Message) (was : Bool) (old new : Seat) → node_of (event_of step.event) ≡ me → me < journal.trace.config.members
-    → OwnReaches (config_of journal.trace.config) (at_first me) (own_in me journal) old
+    → OwnReaches (config_of journal.trace.config) (seats_in journal.start me) (own_in me journal) old
     → SeatGives (config_of journal.trace.config) (journal.trace.sent ++ more) (length journal.trace.sent) was old (event_of step.event) (result_of step.result) new
     → IsAsked (event_of step.event) was → length more ≡ count_of (result_of step.result) → IsNext journal step more was old new
 next_at journal me step more was old new is member led gives asked counted = record {
   member = subst (λ (m : ℕ). m < journal.trace.config.members) (sym is) member;
-  led = subst (λ (m : ℕ). OwnReaches (config_of journal.trace.config) (at_first m) (own_in m journal) old) (sym is) led;
+  led = subst (λ (m : ℕ). OwnReaches (config_of journal.trace.config) (seats_in journal.start m) (own_in m journal) old) (sym is) led;
   gives = gives;
   asked = asked;
   counted = counted;
@@ -103,7 +103,7 @@ still_sent (first ∷ sent) more (suc number) message is = still_sent sent more 
 
 -- the step that an input makes, of a node whose own entries leave it up with these views
 pub next_done : (journal : Journaled) (me : ℕ) (input : SeatInput) (views : Views) (plan : Plan) → me < journal.trace.config.members
-    → OwnReaches (config_of journal.trace.config) (at_first me) (own_in me journal) (IsUp views)
+    → OwnReaches (config_of journal.trace.config) (seats_in journal.start me) (own_in me journal) (IsUp views)
     → IsDue (config_of journal.trace.config) me views (input_of input) (Plans plan) → IsSentIn journal.trace.sent input
     → IsNext journal (done_step me input (length journal.trace.sent) (length plan.sends)) plan.sends false (IsUp views) (IsUp plan.after)
 next_done journal me (Put upload) views plan member led due sent =
@@ -155,7 +155,7 @@ cut_there config me views (Tick left) last keeps = (event.TickCut me left, refl)
 cut_there config me views (Deliver number message) last keeps = (event.DeliverCut me number, refl)
 
 pub next_cut : (journal : Journaled) (me : ℕ) (input : SeatInput) (cut : Event) (views : Views) (last : Record) → IsCutAt me input cut → me < journal.trace.config.members
-    → OwnReaches (config_of journal.trace.config) (at_first me) (own_in me journal) (IsUp views)
+    → OwnReaches (config_of journal.trace.config) (seats_in journal.start me) (own_in me journal) (IsUp views)
     → InputKeeps (config_of journal.trace.config) me views (input_of input) (Some last) → IsSentIn journal.trace.sent input
     → IsNext journal (cut_step cut) [] false (IsUp views) (IsDown views.records (Some last))
 next_cut journal me (Put upload) cut views last is member led keeps sent = absurd is
@@ -188,7 +188,7 @@ pub concerns_restart : (me : ℕ) → concerns me (event_of (event.Restart me)) 
 concerns_restart me = ap (λ (b : Bool). b && true) (eq-eqb me me refl)
 
 pub next_restart : (journal : Journaled) (me : ℕ) (stood : Seat) (was : Bool) → me < journal.trace.config.members
-    → OwnReaches (config_of journal.trace.config) (at_first me) (own_in me journal) stood
+    → OwnReaches (config_of journal.trace.config) (seats_in journal.start me) (own_in me journal) stood
     → IsNext journal (restart_step me) [] was stood (IsUp (started_with (recovered_in was stood)))
 next_restart journal me (IsUp views) was member led =
     next_at journal me (restart_step me) [] was (IsUp views) (IsUp (started_with (recovered_in was (IsUp views)))) refl member led (inl (refl, refl)) tt refl

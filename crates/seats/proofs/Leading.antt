@@ -6,7 +6,7 @@ use Rattle.agreement_rules.specs.Views.{Config, Views, started_with}
 use Rattle.agreement_rules.specs.Due.{Plan, Plans}
 use Rattle.histories.specs.Event.{node_of}
 use Rattle.histories.specs.Due.{IsDue, InputKeeps}
-use Rattle.histories.specs.Following.{Seat, IsUp, at_first, with_due, recovered_in}
+use Rattle.histories.specs.Following.{Seat, IsUp, with_due, recovered_in}
 use Rattle.histories.specs.Following as following
 use Rattle.histories.specs.Owning.{Entry, concerns, entry_of, own, OwnReaches}
 use Rattle.node_core.specs.declared.plan.Planned.{Planned}
@@ -18,7 +18,7 @@ use Rattle.node_seats.specs.Parts.{IsDoneFor, IsBrokenOff}
 use Rattle.schedule_runner.specs.declared.step.Step.{Step}
 use Rattle.schedule_runner.specs.declared.config.Config.{Config as RunConfig}
 use Rattle.schedule_runner.specs.Told.{config_of, step_of, steps_of}
-use Rattle.journal.specs.Journaled.{Journaled, HasEntry, TellsSame, IsNext, EntersOwn, own_in}
+use Rattle.journal.specs.Journaled.{seats_in, Journaled, HasEntry, TellsSame, IsNext, EntersOwn, own_in}
 use Rattle.seats.specs.declared.input.SeatInput.{SeatInput}
 use Rattle.seats.specs.declared.input.SeatInput.TheVariants.{Put}
 use Rattle.seats.specs.Inputs.{input_of, IsCutAt, IsSentIn}
@@ -37,10 +37,11 @@ pub config_in : {S : Type 0} (seat : RunningSeat S) (journal : Journaled) (stood
 config_in seat journal stood led agrees = led.config_is ∙ ap config_of (sym agrees.0)
 
 pub led_in : {S : Type 0} (seat : RunningSeat S) (journal : Journaled) (stood : Seat) → IsLedTo seat stood → Agrees seat journal
-    → OwnReaches (config_of journal.trace.config) (at_first seat.node.me) (own_in seat.node.me journal) stood
+    → OwnReaches (config_of journal.trace.config) (seats_in journal.start seat.node.me) (own_in seat.node.me journal) stood
 led_in seat journal stood led agrees =
-    subst (λ (c : RunConfig). OwnReaches (config_of c) (at_first seat.node.me) (own_in seat.node.me journal) stood) (sym agrees.0)
-    (subst (λ (mine : List Entry). OwnReaches (config_of seat.config) (at_first seat.node.me) mine stood) (sym agrees.1) led.led)
+    subst (λ (c : RunConfig). OwnReaches (config_of c) (seats_in journal.start seat.node.me) (own_in seat.node.me journal) stood) (sym agrees.0)
+    (subst (λ (mine : List Entry). OwnReaches (config_of seat.config) (seats_in journal.start seat.node.me) mine stood) (sym agrees.1)
+    (subst (λ (begun : Seat). OwnReaches (config_of seat.config) begun seat.own stood) (sym agrees.2) led.led))
 
 -- a journal that tells the same has the same own entries
 pub same_own : (before after : Journaled) (node : ℕ) → TellsSame before after → own_in node after ≡ own_in node before
@@ -49,15 +50,18 @@ same_own before after node same =
     (subst (λ (ss : List Step). own node before.trace.sent (steps_of ss) after.recovered ≡ own_in node before) (sym same.trace.steps_are)
     (subst (λ (rs : List Bool). own node before.trace.sent (steps_of before.trace.steps) rs ≡ own_in node before) (sym same.recovered_is) refl))
 
-pub still_agrees : (config : RunConfig) (node : ℕ) (mine : List Entry) (before after : Journaled) → TellsSame before after → HasOwn config node mine before → HasOwn config node mine after
-still_agrees config node mine before after same has = (same.trace.config_is ∙ has.0, same_own before after node same ∙ has.1)
+pub still_agrees : (config : RunConfig) (node : ℕ) (start : Seat) (mine : List Entry) (before after : Journaled) → TellsSame before after → HasOwn config node start mine before
+    → HasOwn config node start mine after
+still_agrees config node start mine before after same has =
+    (same.trace.config_is ∙ has.0, same_own before after node same ∙ has.1, ap (λ (begun : List Seat). seats_in begun node) same.start_is ∙ has.2)
 
 -- others keep what they agree on, where a step of this node is entered
 pub others_agree : (before after : Journaled) (me : ℕ) (step : Step) (more : List Message) (was : Bool) → node_of (event_of step.event) ≡ me → EntersOwn before step more was after
     → HasEntry before step more was after → OthersAgree me before after
-others_agree before after me step more was of enters entry config other mine differs member has = (
+others_agree before after me step more was of enters entry config other start mine differs member has = (
   entry.trace.config_is ∙ has.0,
   others_stay before after me other step more was mine enters of differs (subst (λ (c : RunConfig). other < c.members) (sym has.0) member) has.1,
+  ap (λ (begun : List Seat). seats_in begun other) entry.start_is ∙ has.2,
 )
 
 -- ---- a node that is up
@@ -75,6 +79,7 @@ was_up old (following.IsDown records due, led) up = absurd (up led.stands.down)
 -- the seat behind it: its node is this, and it has one entry more
 pub record HasMore {S : Type 0} (old new : RunningSeat S) (node : SeatState S) (entry : Entry) : Type 0 where
   pub config_is : new.config ≡ old.config
+  pub start_is : new.start ≡ old.start
   pub node_is : new.node ≡ node
   pub own_is : new.own ≡ old.own ++ entry ∷ []
 
@@ -93,19 +98,23 @@ leaves {S = S} old new node before after step more was entry stood left has agre
     let grown : own_in me after ≡ new.own = mine_grow before after me step more was old.own entry enters (member_in old before stood led agrees) agrees.1 mine one ∙ sym has.own_is in
     let config : after.trace.config ≡ new.config = entered.trace.config_is ∙ (agrees.0 ∙ sym has.config_is) in
     let new_me : new.node.me ≡ me = ap (λ (s : SeatState S). s.me) has.node_is ∙ me_is in
-    let reaches : OwnReaches (config_of before.trace.config) (at_first me) (own_in me after) left =
-    subst (λ (m : ℕ). OwnReaches (config_of before.trace.config) (at_first m) (own_in m after) left) of (enters.leaves stood left next) in
+    let reaches : OwnReaches (config_of before.trace.config) (seats_in before.start me) (own_in me after) left =
+    subst (λ (m : ℕ). OwnReaches (config_of before.trace.config) (seats_in before.start m) (own_in m after) left) of (enters.leaves stood left next) in
     record {
       led = record {
         config_is = ap (λ (s : SeatState S). s.config) has.node_is ∙ (config_is ∙ (led.config_is ∙ ap config_of (sym has.config_is)));
         placed = subst (λ (s : SeatState S). IsPlaced s) (sym has.node_is) placed;
         led =
-            subst (λ (m : ℕ). OwnReaches (config_of new.config) (at_first m) new.own left) (sym new_me)
-            (subst (λ (es : List Entry). OwnReaches (config_of new.config) (at_first me) es left) grown
-            (subst (λ (c : RunConfig). OwnReaches (config_of c) (at_first me) (own_in me after) left) (agrees.0 ∙ sym has.config_is) reaches));
+            subst (λ (begun : Seat). OwnReaches (config_of new.config) begun new.own left) (agrees.2 ∙ sym has.start_is)
+            (subst (λ (es : List Entry). OwnReaches (config_of new.config) (seats_in before.start me) es left) grown
+            (subst (λ (c : RunConfig). OwnReaches (config_of c) (seats_in before.start me) (own_in me after) left) (agrees.0 ∙ sym has.config_is) reaches));
         stands = subst (λ (s : SeatState S). StandsSo s left) (sym has.node_is) stands;
       };
-      agrees = (config, subst (λ (m : ℕ). own_in m after ≡ new.own) (sym new_me) grown);
+      agrees = (
+        config,
+        subst (λ (m : ℕ). own_in m after ≡ new.own) (sym new_me) grown,
+        ap (seats_in after.start) new_me ∙ (ap (λ (begun : List Seat). seats_in begun me) entered.start_is ∙ (agrees.2 ∙ sym has.start_is)),
+      );
     }
 
 -- ---- an input that is done

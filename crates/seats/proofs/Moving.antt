@@ -24,11 +24,11 @@ use Rattle.seats.proofs.Leading.{still_agrees}
 -- ---- a journal that tells the same
 
 pub same_journal : (journal : Journaled) → TellsSame journal journal
-same_journal journal = record { trace = record { config_is = refl; sent_is = refl; steps_are = refl }; recovered_is = refl }
+same_journal journal = record { start_is = refl; trace = record { config_is = refl; sent_is = refl; steps_are = refl }; recovered_is = refl }
 
 pub open_as : {S : Type 0} (seat : RunningSeat S) (before mid : Journaled) → TellsSame before mid → IsOpen seat before → IsOpen seat mid
 open_as seat before mid same may = (
-  still_agrees seat.config seat.node.me seat.own before mid same may.0,
+  still_agrees seat.config seat.node.me seat.start seat.own before mid same may.0,
   λ full.
       may.1
       (subst (λ (c : Config). c.journal_limit ≤ length before.trace.steps) same.trace.config_is
@@ -40,6 +40,7 @@ sent_as before mid input same is = subst (λ (ms : List Message). IsSentIn ms in
 
 entry_before : (before mid after : Journaled) (step : Step) (more : List Message) (was : Bool) → TellsSame before mid → HasEntry mid step more was after → HasEntry before step more was after
 entry_before before mid after step more was same entry = record {
+  start_is = entry.start_is ∙ same.start_is;
   trace = record {
     config_is = entry.trace.config_is ∙ same.trace.config_is;
     sent_is = entry.trace.sent_is ∙ ap (λ (ms : List Message). ms ++ more) same.trace.sent_is;
@@ -93,15 +94,16 @@ restarted_before old new before mid after receipt same restarted = record {
 }
 
 pub others_before : (before mid after : Journaled) (me : ℕ) → TellsSame before mid → OthersAgree me mid after → OthersAgree me before after
-others_before before mid after me same agree config other own differs member has = agree config other own differs member (still_agrees config other own before mid same has)
+others_before before mid after me same agree config other start own differs member has =
+    agree config other start own differs member (still_agrees config other start own before mid same has)
 
 pub others_same : (before after : Journaled) (me : ℕ) → TellsSame before after → OthersAgree me before after
-others_same before after me same config other own differs member has = still_agrees config other own before after same has
+others_same before after me same config other start own differs member has = still_agrees config other start own before after same has
 
 -- ---- calls that change nothing
 
 pub same_seat : {S : Type 0} (seat : RunningSeat S) → StandsSame seat seat
-same_seat seat = record { config_is = refl; me_is = refl; own_is = refl; records_are = refl; doubted_is = refl; stands = λ stood is. is }
+same_seat seat = record { config_is = refl; start_is = refl; me_is = refl; own_is = refl; records_are = refl; doubted_is = refl; stands = λ stood is. is }
 
 pub refused_take : {S : Type 0} (seat : RunningSeat S) (journal : Journaled) (prepared : Prepared) (why : SeatFault) → Admits {T = Unit {0}} seat journal prepared.input (Err why)
     → TakeGives seat seat journal journal prepared (Err why)

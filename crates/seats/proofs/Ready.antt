@@ -7,7 +7,7 @@ use Rattle.table_types.specs.Uploads.{Upload}
 use Rattle.histories.specs.Texts.{HasUploads}
 use Rattle.histories.specs.Due.{Input}
 use Rattle.histories.specs.EventResult.{EventResult as HistoryResult, count_of}
-use Rattle.histories.specs.Following.{Seat, IsUp, GetGives, at_first}
+use Rattle.histories.specs.Following.{Seat, IsUp, GetGives}
 use Rattle.histories.specs.Following as following
 use Rattle.histories.specs.Owning.{Entry, OwnReaches}
 use Rattle.node_core.specs.State.{NodeState}
@@ -102,11 +102,11 @@ EnteredRestart before after was receipt old new me =
 
 -- what it was led to, it is led to
 pub led_still : {S : Type 0} (old : RunningSeat S) (node : SeatState S) (stood : Seat) → node.me ≡ old.node.me → node.config ≡ old.node.config → IsPlaced node → StandsSo node stood
-    → IsLedTo old stood → IsLedTo (record { config = old.config; node = node; own = old.own }) stood
+    → IsLedTo old stood → IsLedTo (record { config = old.config; start = old.start; node = node; own = old.own }) stood
 led_still old node stood me config placed stands led = record {
   config_is = config ∙ led.config_is;
   placed = placed;
-  led = subst (λ (m : ℕ). OwnReaches (config_of old.config) (at_first m) old.own stood) (sym me) led.led;
+  led = led.led;
   stands = stands;
 }
 

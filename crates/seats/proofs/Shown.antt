@@ -5,13 +5,15 @@ use Rattle.ballots.specs.declared.message.Message.{Message}
 use Rattle.ballots.specs.declared.value.Value.{Value}
 use Rattle.ballots.specs.declared.record.Record.{Record}
 use Rattle.agreement_rules.specs.Views.{Config, Views, HasPrefix}
-use Rattle.histories.specs.History.{Step}
-use Rattle.histories.specs.Following.{Seat, IsUp, Reaches, with_seat, at_first}
+use Rattle.histories.specs.History.{Step, History}
+use Rattle.histories.specs.Following.{Seat, IsUp, ReachesFrom, with_seat}
 use Rattle.histories.specs.Following as following
 use Rattle.histories.specs.Owning.{own, OwnReaches}
 use Rattle.safe_histories.specs.Learning.{Runs, HasLearnedPrefix}
+use Rattle.joined_histories.specs.Joined.{joined, Precedes}
 use Rattle.schedule_runner.specs.Told.{config_of, steps_of}
-use Rattle.journal.specs.Journaled.{Journaled, HasFollowed}
+use Rattle.schedule_runner.specs.Traced.{history_of}
+use Rattle.journal.specs.Journaled.{seats_in, Journaled, HasFollowed}
 use Rattle.seats.specs.State.{RunningSeat, IsLedTo, IsLed, Agrees}
 use Rattle.seats.specs.Steps.{IsDown}
 use Rattle.seats.proofs.Leading.{member_in, config_in, led_in}
@@ -19,17 +21,18 @@ use Rattle.seats.proofs.Leading.{member_in, config_in, led_in}
 -- ---- the laws that are cited
 
 abbrev pub OwnDecides : Type 0
-OwnDecides = (config : Config) (sent : List Message) (steps : List Step) (recovered : List Bool) (seats : ℕ → Seat) (node : ℕ) (seat : Seat) → node < config.members
-    → Reaches config sent steps recovered seats → OwnReaches config (at_first node) (own node sent steps recovered) seat
-    → Reaches config sent steps recovered (with_seat seats node seat)
+OwnDecides = (config : Config) (start : ℕ → Seat) (sent : List Message) (steps : List Step) (recovered : List Bool) (seats : ℕ → Seat) (node : ℕ) (seat : Seat) → node < config.members
+    → ReachesFrom config start sent steps recovered seats → OwnReaches config (start node) (own node sent steps recovered) seat
+    → ReachesFrom config start sent steps recovered (with_seat seats node seat)
 
 abbrev pub UpIsShown : Type 0
-UpIsShown = (config : Config) (sent : List Message) (steps : List Step) (recovered : List Bool) (seats : ℕ → Seat) (node : ℕ) → node < config.members
-    → Reaches config sent steps recovered seats → ((views : Views) × (seats node ≡ IsUp views)) ↔ Runs node steps
+UpIsShown = (config : Config) (start seats : ℕ → Seat) (before tail : History) (recovered : List Bool) (node : ℕ) → Precedes config start before
+    → ReachesFrom config start tail.sent tail.steps recovered seats → node < config.members → ((views : Views) × (seats node ≡ IsUp views)) ↔ Runs node (joined before tail).steps
 
 abbrev pub PrefixIsShown : Type 0
-PrefixIsShown = (config : Config) (sent : List Message) (steps : List Step) (recovered : List Bool) (seats : ℕ → Seat) (node : ℕ) (views : Views) (values : List Value) → node < config.members
-    → Reaches config sent steps recovered seats → seats node ≡ IsUp views → HasPrefix config.members views.learner_calls values ↔ HasLearnedPrefix config.members sent steps node values
+PrefixIsShown = (config : Config) (start seats : ℕ → Seat) (before tail : History) (recovered : List Bool) (node : ℕ) (views : Views) (values : List Value) → Precedes config start before
+    → ReachesFrom config start tail.sent tail.steps recovered seats → node < config.members → seats node ≡ IsUp views
+    → HasPrefix config.members views.learner_calls values ↔ HasLearnedPrefix config.members (joined before tail).sent (joined before tail).steps node values
 
 -- ---- the node in the history
 
@@ -38,9 +41,9 @@ own_seat seats node seat = ap (λ (b : Bool). if b then seat else seats node) (e
 
 -- the journal may as well have left it so
 reached : {S : Type 0} → OwnDecides → (seat : RunningSeat S) (journal : Journaled) (stood : Seat) → (followed : HasFollowed journal) → IsLedTo seat stood → Agrees seat journal
-    → Reaches (config_of journal.trace.config) journal.trace.sent (steps_of journal.trace.steps) journal.recovered (with_seat followed.0 seat.node.me stood)
+    → ReachesFrom (config_of journal.trace.config) (seats_in journal.start) journal.trace.sent (steps_of journal.trace.steps) journal.recovered (with_seat followed.0 seat.node.me stood)
 reached decides seat journal stood followed led agrees =
-    decides (config_of journal.trace.config) journal.trace.sent (steps_of journal.trace.steps) journal.recovered followed.0 seat.node.me stood
+    decides (config_of journal.trace.config) (seats_in journal.start) journal.trace.sent (steps_of journal.trace.steps) journal.recovered followed.0 seat.node.me stood
     (member_in seat journal stood led agrees) followed.1 (led_in seat journal stood led agrees)
 
 none_is_some : {X : Type 0} (x : X) → None ≡ Some x → ⊥
@@ -50,33 +53,36 @@ down_is_up : (views : Views) (records : List Record) (due : Option Record) → f
 down_is_up views records due is = cc
 
 up_shown : {S : Type 0} → OwnDecides → UpIsShown → (seat : RunningSeat S) (journal : Journaled) (stood : Seat) → HasFollowed journal → IsLedTo seat stood → Agrees seat journal
-    → ((views : Views) × (stood ≡ IsUp views)) ↔ Runs seat.node.me (steps_of journal.trace.steps)
-up_shown decides shown seat journal stood followed led agrees =
-    let is = shown (config_of journal.trace.config) journal.trace.sent (steps_of journal.trace.steps) journal.recovered (with_seat followed.0 seat.node.me stood) seat.node.me
-    (member_in seat journal stood led agrees) (reached decides seat journal stood followed led agrees) in (
+    → (before : History) → Precedes (config_of journal.trace.config) (seats_in journal.start) before
+    → ((views : Views) × (stood ≡ IsUp views)) ↔ Runs seat.node.me (joined before (history_of journal.trace)).steps
+up_shown decides shown seat journal stood followed led agrees before precedes =
+    let is = shown (config_of journal.trace.config) (seats_in journal.start) (with_seat followed.0 seat.node.me stood) before (history_of journal.trace) journal.recovered seat.node.me precedes
+    (reached decides seat journal stood followed led agrees) (member_in seat journal stood led agrees) in (
       λ up. is.0 (up.0, own_seat followed.0 seat.node.me stood ∙ up.1),
       λ runs. (let up = is.1 runs in (up.0, sym (own_seat followed.0 seat.node.me stood) ∙ up.1)),
     )
 
 pub runs_shown : {S : Type 0} → OwnDecides → UpIsShown → (seat : RunningSeat S) (journal : Journaled) → HasFollowed journal → IsLed seat → Agrees seat journal
-    → (IsDown seat → ⊥) ↔ Runs seat.node.me (steps_of journal.trace.steps)
-runs_shown decides shown seat journal followed (IsUp views, led) agrees =
-    let is = up_shown decides shown seat journal (IsUp views) followed led agrees in (
+    → (before : History) → Precedes (config_of journal.trace.config) (seats_in journal.start) before
+    → (IsDown seat → ⊥) ↔ Runs seat.node.me (joined before (history_of journal.trace)).steps
+runs_shown decides shown seat journal followed (IsUp views, led) agrees before precedes =
+    let is = up_shown decides shown seat journal (IsUp views) followed led agrees before precedes in (
       λ up. is.0 (views, refl),
       λ runs down. none_is_some led.stands.node (sym down ∙ led.stands.up),
     )
-runs_shown decides shown seat journal followed (following.IsDown records due, led) agrees =
-    let is = up_shown decides shown seat journal (following.IsDown records due) followed led agrees in (
+runs_shown decides shown seat journal followed (following.IsDown records due, led) agrees before precedes =
+    let is = up_shown decides shown seat journal (following.IsDown records due) followed led agrees before precedes in (
       λ up. absurd (up led.stands.down),
       λ runs down. (let up = is.1 runs in down_is_up up.0 records due up.1),
     )
 
 pub prefix_shown : {S : Type 0} → OwnDecides → PrefixIsShown → (seat : RunningSeat S) (journal : Journaled) (views : Views) (values : List Value) → HasFollowed journal
-    → IsLedTo seat (IsUp views) → Agrees seat journal
+    → IsLedTo seat (IsUp views) → Agrees seat journal → (before : History) → Precedes (config_of journal.trace.config) (seats_in journal.start) before
     → HasPrefix seat.node.config.members views.learner_calls values
-    ↔ HasLearnedPrefix seat.node.config.members journal.trace.sent (steps_of journal.trace.steps) seat.node.me values
-prefix_shown decides shown seat journal views values followed led agrees =
-    subst (λ (c : Config). HasPrefix c.members views.learner_calls values ↔ HasLearnedPrefix c.members journal.trace.sent (steps_of journal.trace.steps) seat.node.me values)
+    ↔ HasLearnedPrefix seat.node.config.members (joined before (history_of journal.trace)).sent (joined before (history_of journal.trace)).steps seat.node.me values
+prefix_shown decides shown seat journal views values followed led agrees before precedes =
+    subst (λ (c : Config). HasPrefix c.members views.learner_calls values
+    ↔ HasLearnedPrefix c.members (joined before (history_of journal.trace)).sent (joined before (history_of journal.trace)).steps seat.node.me values)
     (sym (config_in seat journal (IsUp views) led agrees))
-    (shown (config_of journal.trace.config) journal.trace.sent (steps_of journal.trace.steps) journal.recovered (with_seat followed.0 seat.node.me (IsUp views)) seat.node.me views values
-    (member_in seat journal (IsUp views) led agrees) (reached decides seat journal (IsUp views) followed led agrees) (own_seat followed.0 seat.node.me (IsUp views)))
+    (shown (config_of journal.trace.config) (seats_in journal.start) (with_seat followed.0 seat.node.me (IsUp views)) before (history_of journal.trace) journal.recovered seat.node.me views values precedes
+    (reached decides seat journal (IsUp views) followed led agrees) (member_in seat journal (IsUp views) led agrees) (own_seat followed.0 seat.node.me (IsUp views)))

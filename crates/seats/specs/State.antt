@@ -5,16 +5,18 @@ use Rattle.ballots.specs.declared.record.Record.{Record}
 use Rattle.agreement_rules.specs.Views.{Views}
 use Rattle.table_types.specs.Uploads.{Upload}
 use Rattle.histories.specs.Texts.{HasUploads}
-use Rattle.histories.specs.Following.{Seat, IsUp, IsDown, at_first}
+use Rattle.histories.specs.Following.{Seat, IsUp, IsDown}
 use Rattle.histories.specs.Owning.{Entry, OwnReaches}
 use Rattle.node_core.specs.State.{NodeState, NodeHas}
 use Rattle.node_seats.specs.State.{SeatState, IsPlaced, StandsUp}
 use Rattle.schedule_runner.specs.declared.config.Config.{Config}
 use Rattle.schedule_runner.specs.Told.{config_of}
-use Rattle.journal.specs.Journaled.{Journaled, own_in}
+use Rattle.journal.specs.Journaled.{seats_in, Journaled, own_in}
 
 pub record RunningSeat (S : Type 0) : Type 0 where
   pub config : Config
+  -- how it was where its own entries begin
+  pub start : Seat
   -- the node with its store
   pub node : SeatState S
   -- what it did, by its own entries
@@ -35,7 +37,7 @@ StandsSo state (IsDown records due) = StandsDownWith state records due
 pub record IsLedTo {S : Type 0} (seat : RunningSeat S) (stood : Seat) : Type 0 where
   pub config_is : seat.node.config ≡ config_of seat.config
   pub placed : IsPlaced seat.node
-  pub led : OwnReaches (config_of seat.config) (at_first seat.node.me) seat.own stood
+  pub led : OwnReaches (config_of seat.config) seat.start seat.own stood
   pub stands : StandsSo seat.node stood
 
 -- The seat's own entries leave this node these views, which it stands by, and these uploads are those of its prefix.
@@ -49,9 +51,10 @@ pub record IsLedNode {S : Type 0} (seat : RunningSeat S) (node : NodeState) : Ty
 abbrev pub IsLed : {S : Type 0} → RunningSeat S → Type 0
 IsLed seat = (stood : Seat) × IsLedTo seat stood
 
--- both have one configuration, and the journal has just these own entries of the node
-abbrev pub HasOwn : Config → ℕ → List Entry → Journaled → Type 0
-HasOwn config me own journal = (journal.trace.config ≡ config) × (own_in me journal ≡ own)
+-- both have one configuration, the node starts so, and the journal has just these own entries of it
+abbrev pub HasOwn : Config → ℕ → Seat → List Entry → Journaled → Type 0
+HasOwn config me start own journal =
+    (journal.trace.config ≡ config) × (own_in me journal ≡ own) × (seats_in journal.start me ≡ start)
 
 abbrev pub Agrees : {S : Type 0} → RunningSeat S → Journaled → Type 0
-Agrees seat journal = HasOwn seat.config seat.node.me seat.own journal
+Agrees seat journal = HasOwn seat.config seat.node.me seat.start seat.own journal

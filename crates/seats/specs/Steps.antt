@@ -45,6 +45,7 @@ IsDown seat = seat.node.node ≡ None
 -- the node stands as before, whatever room it made
 pub record StandsSame {S : Type 0} (old new : RunningSeat S) : Type 0 where
   pub config_is : new.config ≡ old.config
+  pub start_is : new.start ≡ old.start
   pub me_is : new.node.me ≡ old.node.me
   pub own_is : new.own ≡ old.own
   pub records_are : new.node.records ≡ old.node.records
@@ -173,8 +174,8 @@ Admits seat journal input (Err fault.Lost) = ⊥
 -- what another node did itself, the journal has still
 abbrev pub OthersAgree : ℕ → (before after : Journaled) → Type 0
 OthersAgree me before after =
-    (config : Config) (other : ℕ) (own : List Entry) → other ≢ me → other < config.members → HasOwn config other own before
-    → HasOwn config other own after
+    (config : Config) (other : ℕ) (start : Seat) (own : List Entry) → other ≢ me → other < config.members
+    → HasOwn config other start own before → HasOwn config other start own after
 
 -- the entry is told by the receipt
 abbrev pub TellsEntry : Journaled → Event → EventResult → Receipt → Type 0

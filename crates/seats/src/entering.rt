@@ -12,8 +12,7 @@ ghost use Rattle.seats.specs.Steps.{TellsEntry};
 use crate::compact_entry::CompactEntry;
 use crate::input::SeatInput;
 use ballots::{Message, NodeId};
-use growing_log::Naming;
-use journal::{Journal, OwnEntry, Receipt};
+use journal::{Beginning, Journal, OwnEntry, Receipt};
 use node_events::{Event, EventResult};
 use schedule_runner::Step;
 use std::alloc::{AllocError, Global};
@@ -119,7 +118,7 @@ pub(crate) fn push_own(own: &mut Vec<CompactEntry>, entry: CompactEntry)
 
 /// Enters an input that was done, with the messages that go out, which are numbered from those of the journal on: one entry
 /// of the journal, and one of the node's own. There is room for both.
-pub(crate) fn enter_done<J: Naming>(
+pub(crate) fn enter_done<J: Beginning>(
     me: NodeId,
     own: &mut Vec<CompactEntry>,
     journal: &mut Journal<J>,
@@ -179,7 +178,7 @@ pub(crate) fn enter_done<J: Naming>(
 
 /// Enters that a node went down in the midst of an input that is no put: one entry of the journal, and one of the node's
 /// own. There is room for both.
-pub(crate) fn enter_cut<J: Naming>(
+pub(crate) fn enter_cut<J: Beginning>(
     alloc: Global,
     me: NodeId,
     own: &mut Vec<CompactEntry>,

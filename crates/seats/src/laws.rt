@@ -1,6 +1,9 @@
 //! Laws of running nodes.
 
-ghost use Rattle.histories.specs.Following.{Seat as HistorySeat, at_first};
+ghost use Rattle.std.specs.Prelude.{◌≡◌, List, ◌++◌};
+ghost use Rattle.ballots.specs.declared.record.Record.{Record as Held};
+ghost use Rattle.agreement_rules.specs.Views.{Views};
+ghost use Rattle.histories.specs.Following.{Seat as HistorySeat, IsUp, at_first};
 ghost use Rattle.histories.specs.Keeping.{AreKept};
 ghost use Rattle.schedule_runner.specs.Told.{config_of};
 ghost use Rattle.seats.specs.State.{RunningSeat, IsLedTo};
@@ -10,10 +13,14 @@ use stable_records::Stable;
 
 /// The records of a running node are those that its own entries made it keep (Lamport, *Paxos Made Simple*, section 2.5):
 /// of each message that it sent the one behind the message, and of each cut the one that was due there, where the restart
-/// behind the cut recovered it.
+/// behind the cut recovered it. Where it did not start with nothing, they stand behind those that it started with.
 pub fn own_records_are_kept<S: Stable>()
-    ensures { (seat : RunningSeat S) (stood : HistorySeat) → IsLedTo seat stood
+    ensures whole { (seat : RunningSeat S) (stood : HistorySeat) → seat.start ≡ at_first seat.node.me
+        → IsLedTo seat stood
         → AreKept (config_of seat.config) (at_first seat.node.me) seat.own seat.node.records }
+    ensures later { (seat : RunningSeat S) (stood : HistorySeat) (views : Views) → seat.start ≡ IsUp views
+        → IsLedTo seat stood → (more : List Held) × AreKept (config_of seat.config) (IsUp views) seat.own more
+        × (seat.node.records ≡ views.records ++ more) }
 {
     plans_keep_what_they_send();
 }

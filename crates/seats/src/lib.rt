@@ -33,6 +33,6 @@ mod taking;
 
 pub use fault::SeatFault;
 pub use input::{Prepared, SeatInput};
-pub use journal::{Journal, OwnEntry, Receipt};
+pub use journal::{Beginning, Journal, OwnEntry, Receipt};
 pub use query::{Found, Query};
 pub use seat::Seat;

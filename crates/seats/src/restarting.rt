@@ -13,8 +13,7 @@ use crate::fault::SeatFault;
 use crate::seat::Seat;
 use crate::taking::make_room;
 use ballots::NodeId;
-use growing_log::Naming;
-use journal::{Journal, OwnEntry, Receipt};
+use journal::{Beginning, Journal, OwnEntry, Receipt};
 use node_core::Refusal;
 use node_events::{Event, EventResult};
 use node_seats::SeatFault as NodeFault;
@@ -22,7 +21,7 @@ use schedule_runner::Step;
 use stable_records::Stable;
 use std::alloc::Global;
 
-impl<S: Stable + Drop, J: Naming> Seat<S, J> {
+impl<S: Stable + Drop, J: Beginning> Seat<S, J> {
     /// Starts the node again, up or down, with the records that it kept and nothing else, and enters that.
     ///
     /// The first of these faults is told that stands, memory apart: [`SeatFault::Strange`] exactly where the seat does not
@@ -63,7 +62,7 @@ fn fault_for(fault: NodeFault) -> SeatFault
 }
 
 // Enters a restart: one entry of the journal, and one of the node's own. There is room for both.
-fn enter_restart<J: Naming>(
+fn enter_restart<J: Beginning>(
     alloc: Global,
     me: NodeId,
     own: &mut Vec<CompactEntry>,

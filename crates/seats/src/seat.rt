@@ -8,16 +8,19 @@ ghost use Rattle.table_types.specs.Uploads.{Upload as Uploaded};
 ghost use Rattle.table_versions.specs.Values.{AreUploadsIn};
 ghost use Rattle.table_versions.specs.State.{HasTaken};
 ghost use Rattle.agreement_rules.specs.Views.{started_with, Views, HasPrefix};
-ghost use Rattle.histories.specs.Following.{Seat as HistorySeat, IsUp};
+ghost use Rattle.histories.specs.Following.{Seat as HistorySeat, IsUp, at_first};
 ghost use Rattle.safe_histories.specs.Learning.{Runs, HasLearnedPrefix};
 ghost use Rattle.stable_records.specs.declared.fault.StoreFault.TheVariants.{OutOfMemory};
 ghost use Rattle.stable_records.specs.Calls.{RaisesCount};
-ghost use Rattle.node_seats.specs.State.{StandsUp};
+ghost use Rattle.node_seats.specs.State.{IsPlaced, StandsUp};
 ghost use Rattle.schedule_runner.specs.Limits.{IsWithinLimits};
-ghost use Rattle.schedule_runner.specs.Told.{steps_of};
-ghost use Rattle.journal.specs.Journaled.{own_in};
+ghost use Rattle.histories.specs.History.{History};
+ghost use Rattle.joined_histories.specs.Joined.{joined, Precedes};
+ghost use Rattle.schedule_runner.specs.Told.{config_of};
+ghost use Rattle.schedule_runner.specs.Traced.{history_of};
+ghost use Rattle.journal.specs.Journaled.{seats_in, own_in};
 ghost use Rattle.seats.specs.declared.fault.SeatFault.TheVariants.{Down};
-ghost use Rattle.seats.specs.State.{Agrees, IsLedTo, IsLedNode};
+ghost use Rattle.seats.specs.State.{StandsSo, Agrees, IsLedTo, IsLedNode};
 ghost use Rattle.seats.specs.Steps.{IsDown, StandsSame, PrepareGives, IsFaultFor};
 
 use crate::agreeing::are_own;
@@ -27,13 +30,13 @@ use crate::handing::handed_over;
 use crate::input::{Prepared, SeatInput};
 use agreement::Config as Agreed;
 use ballots::NodeId;
-use growing_log::{Naming, Reached};
+use growing_log::Reached;
 use histories::laws::own_entries_decide_the_node;
-use journal::{Journal, OwnEntry};
+use joined_histories::laws::joined_histories_show;
+use journal::{Beginning, Journal, OwnEntry};
 use node_core::{Node, Refusal};
 use node_events::Reason;
 use node_seats::Seat as NodeSeat;
-use safe_histories::laws::{prefix_is_shown, up_is_shown};
 use schedule_runner::Config;
 use stable_records::{Stable, StoreFault};
 use std::alloc::Global;
@@ -44,7 +47,7 @@ use std::marker::{Brand, Model};
 /// node as it is: up or down, with what it has, and its records those that it kept by them.
 ///
 /// Seats and journals that know one log have its name ([`Journal::with_log`]).
-pub struct Seat<S: Stable, J: Naming = Brand> {
+pub struct Seat<S: Stable, J: Beginning = Brand> {
     pub(crate) alloc: Global,
     pub(crate) me: NodeId,
     pub(crate) config: Config,
@@ -54,10 +57,11 @@ pub struct Seat<S: Stable, J: Naming = Brand> {
     pub(crate) known: Option<Reached<OwnEntry, J>>,
 }
 
-impl<S: Stable, J: Naming> Model for Seat<S, J> {
+impl<S: Stable, J: Beginning> Model for Seat<S, J> {
     ghost use Rattle.std.specs.Prelude.{◌≡◌};
     ghost use Rattle.std.specs.Option.{IfSome};
     ghost use Rattle.journal.specs.Logged.{own_of};
+    ghost use Rattle.journal.specs.Journaled.{seats_in};
     ghost use Rattle.seats.specs.State.{RunningSeat, IsLed};
 
     ghost Value = { RunningSeat S };
@@ -67,15 +71,20 @@ impl<S: Stable, J: Naming> Model for Seat<S, J> {
 
     ghost coded = { Prim.hlevel (codes, node_part.the_row.coded, S.code) };
 
-    ghost view = { λ s. record { config = s.config; node = s.node; own = s.own.items } };
+    ghost view = { λ s. record {
+      config = s.config;
+      start = seats_in J.start s.me;
+      node = s.node;
+      own = s.own.items;
+    } };
 
     ghost invariant = { λ s. (s.me ≡ s.node.me)
-        × IsLed (record { config = s.config; node = s.node; own = s.own.items })
+        × IsLed (record { config = s.config; start = seats_in J.start s.me; node = s.node; own = s.own.items })
         × IfSome s.known (λ log. s.own.items ≡ own_of s.me log) };
 }
 
 // Written out, so that a crate above lets go of a seat by one call, and does not prove again what is inside it.
-impl<S: Stable + Drop, J: Naming> Drop for Seat<S, J> {
+impl<S: Stable + Drop, J: Beginning> Drop for Seat<S, J> {
     fn drop(self) {
         let Seat {
             alloc: _,
@@ -91,7 +100,7 @@ impl<S: Stable + Drop, J: Naming> Drop for Seat<S, J> {
     }
 }
 
-impl<S: Stable + Drop, J: Naming> Seat<S, J> {
+impl<S: Stable + Drop, J: Beginning> Seat<S, J> {
     /// The node `me` of this configuration with this store, up and with nothing; `None` where the store has a record
     /// already. Memory is taken from this allocator; `hashing` has the random keys that keep look-ups fast whatever
     /// names clients choose.
@@ -106,6 +115,7 @@ impl<S: Stable + Drop, J: Naming> Seat<S, J> {
     ) -> Result<Option<Seat<S, J>>, StoreFault>
         requires within { IsWithinLimits config }
         requires member { me < config.members }
+        requires start { J.start ≡ [] }
         ensures me { IfOk result (λ opened. IfSome opened (λ seat. seat.node.me ≡ me)) }
         ensures config { IfOk result (λ opened. IfSome opened (λ seat. seat.config ≡ config)) }
         ensures own { IfOk result (λ opened. IfSome opened (λ seat. seat.own ≡ [])) }
@@ -129,6 +139,28 @@ impl<S: Stable + Drop, J: Naming> Seat<S, J> {
             own: Vec::new(alloc),
             known: None,
         }))
+    }
+
+    /// The seat of a node that is where a journal of this name begins: it has no entry of its own, and the node stands as the
+    /// name has it at its start ([`Beginning`]), up or down.
+    pub fn begin(alloc: Global, config: Config, node: NodeSeat<S>) -> Seat<S, J>
+        requires config { node.config ≡ config_of config }
+        requires placed { IsPlaced node }
+        requires stands { StandsSo node (seats_in J.start node.me) }
+        ensures node { result.node ≡ node }
+        ensures config { result.config ≡ config }
+        ensures start { result.start ≡ seats_in J.start node.me }
+        ensures own { result.own ≡ [] }
+    {
+        let me = node.me();
+        Seat {
+            alloc,
+            me,
+            config,
+            node,
+            own: Vec::new(alloc),
+            known: None,
+        }
     }
 
     /// Which node it is.
@@ -161,32 +193,45 @@ impl<S: Stable + Drop, J: Naming> Seat<S, J> {
     }
 
     /// Whether the journal is of the same configuration and has just the entries of this node that the seat has, each by
-    /// what it holds. Then the node is up exactly where the journal shows that it runs, and its prefix is what the
-    /// journal shows that it has learned.
+    /// what it holds. Then, behind any history that left the nodes as the journal has them at its start, the node is up
+    /// exactly where both show that it runs, and its prefix is what both show that it has learned.
     ///
     /// Where both know the log of their name, it compares two counts. Else it compares all of the journal's entries with
     /// those of the seat.
     pub fn agrees(&self, journal: &Journal<J>) -> bool
         ensures agrees { IsTrue result ↔ Agrees self.now journal.now }
-        ensures runs { IsTrue result
-            → (IsDown self.now → ⊥) ↔ Runs self.now.node.me (steps_of journal.now.trace.steps) }
-        ensures prefix { IsTrue result → (views : Views) (values : List Decided)
+        ensures runs { IsTrue result → (before : History)
+            → Precedes (config_of journal.now.trace.config) (seats_in journal.now.start) before
+            → (IsDown self.now → ⊥)
+            ↔ Runs self.now.node.me (joined before (history_of journal.now.trace)).steps }
+        ensures prefix { IsTrue result → (before : History) (views : Views) (values : List Decided)
+            → Precedes (config_of journal.now.trace.config) (seats_in journal.now.start) before
             → IsLedTo self.now (IsUp views)
             → HasPrefix self.now.node.config.members views.learner_calls values
-            ↔ HasLearnedPrefix self.now.node.config.members journal.now.trace.sent (steps_of journal.now.trace.steps)
-            self.now.node.me values }
+            ↔ HasLearnedPrefix self.now.node.config.members (joined before (history_of journal.now.trace)).sent
+            (joined before (history_of journal.now.trace)).steps self.now.node.me values }
     {
-        up_is_shown();
-        prefix_is_shown();
+        joined_histories_show();
         own_entries_decide_the_node();
         let _ = &self.own;
         let _ = journal.trace();
         self.has_own(journal)
     }
 
-    // Whether the journal is of the same configuration and has just the entries of this node that the seat has.
+    // Whether the journal is of the same configuration and has just the entries of this node that the seat has. Both start as
+    // their name has it.
     fn has_own(&self, journal: &Journal<J>) -> bool
         ensures { IsTrue result ↔ Agrees self.now journal.now }
+    {
+        let _ = &self.me;
+        journal.starts_as_named();
+        self.has_entries(journal)
+    }
+
+    // Whether the journal is of the same configuration and has just the entries of this node that the seat has.
+    fn has_entries(&self, journal: &Journal<J>) -> bool
+        ensures { IsTrue result ↔ ((journal.now.trace.config ≡ self.now.config)
+            × (own_in self.now.node.me journal.now ≡ self.now.own)) }
     {
         if self.config != journal.config() {
             return false;

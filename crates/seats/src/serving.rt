@@ -9,8 +9,7 @@ use crate::fault::SeatFault;
 use crate::query::{Found, Query};
 use crate::seat::Seat;
 use ballots::NodeId;
-use growing_log::Naming;
-use journal::{Journal, Receipt};
+use journal::{Beginning, Journal, Receipt};
 use node_core::Refusal;
 use node_events::{Event, EventResult, copy_of};
 use schedule_runner::Step;
@@ -28,7 +27,7 @@ fn event_for(me: NodeId, query: Query) -> Event
     }
 }
 
-impl<S: Stable + Drop, J: Naming> Seat<S, J> {
+impl<S: Stable + Drop, J: Beginning> Seat<S, J> {
     /// Enters what was read: the question at this node, with the answer, which is that of some tables. The seat is as
     /// [`Seat::read`] found it.
     ///
@@ -58,7 +57,7 @@ impl<S: Stable + Drop, J: Naming> Seat<S, J> {
 }
 
 // All that an answer takes memory for, made before anything is entered.
-fn made_ready<J: Naming>(
+fn made_ready<J: Beginning>(
     alloc: Global,
     journal: &mut Journal<J>,
     event: Event,

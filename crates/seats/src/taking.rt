@@ -13,14 +13,13 @@ use crate::input::{Prepared, SeatInput};
 use crate::messages::same_message;
 use crate::seat::Seat;
 use ballots::{Message, NodeId};
-use growing_log::Naming;
-use journal::{Journal, Receipt};
+use journal::{Beginning, Journal, Receipt};
 use node_core::Refusal;
 use stable_records::Stable;
 use std::alloc::{AllocError, Global};
 
 // Whether the message that is delivered, if one is, is the one of its number in the journal.
-fn is_sent<J: Naming>(journal: &Journal<J>, input: &SeatInput) -> bool
+fn is_sent<J: Beginning>(journal: &Journal<J>, input: &SeatInput) -> bool
     ensures { IsTrue result ↔ IsSentIn journal.now.trace.sent input.now }
 {
     match input {
@@ -32,7 +31,7 @@ fn is_sent<J: Naming>(journal: &Journal<J>, input: &SeatInput) -> bool
     }
 }
 
-impl<S: Stable + Drop, J: Naming> Seat<S, J> {
+impl<S: Stable + Drop, J: Beginning> Seat<S, J> {
     /// Why no entry of this node may stand next in the journal, if something speaks against it.
     pub(crate) fn is_open(&self, journal: &Journal<J>) -> Result<(), SeatFault>
         ensures { OpensFor self.now journal.now result }
@@ -105,7 +104,7 @@ impl<S: Stable + Drop, J: Naming> Seat<S, J> {
 }
 
 /// Room for an entry, in the journal and among the node's own, where so many messages go out.
-pub(crate) fn make_room<J: Naming>(
+pub(crate) fn make_room<J: Beginning>(
     own: &mut Vec<CompactEntry>,
     journal: &mut Journal<J>,
     count: usize,
@@ -120,7 +119,7 @@ pub(crate) fn make_room<J: Naming>(
 }
 
 // All that an input takes memory for, made before anything is done.
-fn made_ready<J: Naming>(
+fn made_ready<J: Beginning>(
     alloc: Global,
     me: NodeId,
     own: &mut Vec<CompactEntry>,

@@ -1,13 +1,13 @@
 //! Clusters whose nodes keep their records in files of a folder.
 
-ghost use Rattle.std.specs.Prelude.{◌≡◌};
+ghost use Rattle.std.specs.Prelude.{◌≡◌, []};
 
 use crate::fault::{ServeFault, fault_of};
 use disk_records::DiskStable;
 use file_disk::FileDisk;
 use flight_service::{ServiceFault, Started, config_of, open_seat, start_nodes};
-use growing_log::{Naming, Opened};
-use node_threads::{Journal, OwnEntry, Seat};
+use growing_log::Opened;
+use node_threads::{Beginning, Journal, OwnEntry, Seat};
 use schedule_runner::Config;
 use std::alloc::{Alloc, Global};
 use std::fs::{File, Files, canonicalize, create_dir_all};
@@ -91,13 +91,15 @@ pub(crate) fn open_disks<R: Files<File = File> + Alloc>(
 }
 
 // The node of this number, over the last of the disks, whose file is to have no records.
-fn seat<J: Naming>(
+fn seat<J: Beginning>(
     alloc: Global,
     hashing: RandomState,
     number: u8,
     config: Config,
     disks: &mut Vec<FileDisk>,
-) -> Result<Mutex<Seat<FileStore, J>>, ServeFault> {
+) -> Result<Mutex<Seat<FileStore, J>>, ServeFault>
+    requires { J.start ≡ [] }
+{
     let Some(disk) = disks.pop() else {
         return Err(ServeFault::Members);
     };
@@ -123,14 +125,15 @@ fn started<T: Drop>(started: Result<T, ServiceFault>) -> Result<T, ServeFault> {
 }
 
 /// Three nodes over these disks, the last node's first.
-pub(crate) fn three_nodes<R: Wait, J: Naming>(
+pub(crate) fn three_nodes<R: Wait, J: Beginning>(
     rt: &R,
     alloc: Global,
     hashing: RandomState,
     disks: Vec<FileDisk>,
     log: Opened<OwnEntry>,
 ) -> Result<Started<3, FileStore, J>, ServeFault>
-    requires { log ≡ J.book }
+    requires named { log ≡ J.book }
+    requires start { J.start ≡ [] }
 {
     let mut disks = disks;
     let config = configured(3)?;
@@ -147,14 +150,15 @@ pub(crate) fn three_nodes<R: Wait, J: Naming>(
 }
 
 /// Five nodes, as [`three_nodes`] makes three.
-pub(crate) fn five_nodes<R: Wait, J: Naming>(
+pub(crate) fn five_nodes<R: Wait, J: Beginning>(
     rt: &R,
     alloc: Global,
     hashing: RandomState,
     disks: Vec<FileDisk>,
     log: Opened<OwnEntry>,
 ) -> Result<Started<5, FileStore, J>, ServeFault>
-    requires { log ≡ J.book }
+    requires named { log ≡ J.book }
+    requires start { J.start ≡ [] }
 {
     let mut disks = disks;
     let config = configured(5)?;

@@ -1,6 +1,6 @@
 //! A cluster that is served.
 
-ghost use Rattle.std.specs.Prelude.{◌≡◌, ◌⊎◌, ℕ, List, OnOk, OnErr};
+ghost use Rattle.std.specs.Prelude.{◌≡◌, ◌⊎◌, ℕ, List, OnOk, OnErr, []};
 ghost use Rattle.std.specs.Io.KnownBytes.{Appends, Keeps};
 ghost use Rattle.grpc_frames.specs.FrameFaults.{IsBeginning};
 ghost use Rattle.serve_command.specs.Addresses.{addresses_text};
@@ -13,8 +13,8 @@ use cluster_backend::NoReceipts;
 use crossbeam_channel::Receiver;
 use file_disk::FileDisk;
 use flight_service::{Works, join_all, open_service};
-use growing_log::{Naming, Opened};
-use node_threads::{Note, OwnEntry};
+use growing_log::Opened;
+use node_threads::{Beginning, Note, OwnEntry};
 use std::alloc::{Alloc, Global};
 use std::fs::{File, Files};
 use std::hash::RandomState;
@@ -148,7 +148,7 @@ fn serve_three<
         + Send
         + 'static,
     W: Write,
-    J: Naming + Send + Sync + 'static,
+    J: Beginning + Send + Sync + 'static,
 >(
     rt: R,
     alloc: Global,
@@ -158,7 +158,8 @@ fn serve_three<
     w: &mut W,
     log: Opened<OwnEntry>,
 ) -> Result<(), ServeFault>
-    requires { log ≡ J.book }
+    requires named { log ≡ J.book }
+    requires start { J.start ≡ [] }
     ensures all { OnOk result (Appends (W.contents w.old) (W.contents w.new) (addresses_text first_port 3)) }
     ensures part { OnErr result ((written : List ℕ) × IsBeginning written (addresses_text first_port 3)
         × Appends (W.contents w.old) (W.contents w.new) written) }
@@ -179,7 +180,7 @@ fn serve_five<
         + Send
         + 'static,
     W: Write,
-    J: Naming + Send + Sync + 'static,
+    J: Beginning + Send + Sync + 'static,
 >(
     rt: R,
     alloc: Global,
@@ -189,7 +190,8 @@ fn serve_five<
     w: &mut W,
     log: Opened<OwnEntry>,
 ) -> Result<(), ServeFault>
-    requires { log ≡ J.book }
+    requires named { log ≡ J.book }
+    requires start { J.start ≡ [] }
     ensures all { OnOk result (Appends (W.contents w.old) (W.contents w.new) (addresses_text first_port 5)) }
     ensures part { OnErr result ((written : List ℕ) × IsBeginning written (addresses_text first_port 5)
         × Appends (W.contents w.old) (W.contents w.new) written) }

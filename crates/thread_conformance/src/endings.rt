@@ -1,13 +1,13 @@
 //! What puts that wait are told where all of a node's end for a fault.
 
-ghost use Rattle.std.specs.Prelude.{◌≡◌};
+ghost use Rattle.std.specs.Prelude.{◌≡◌, []};
 
 use crate::support::{
     FailingNodes, NEVER, Why, check, config, ends_as, put, three_that_fail, told,
 };
-use growing_log::{Naming, Opened};
+use growing_log::Opened;
 use node_core::Refusal;
-use node_threads::{OwnEntry, SeatFault};
+use node_threads::{Beginning, OwnEntry, SeatFault};
 use stable_records::StoreFault;
 use std::alloc::Global;
 use std::hash::RandomState;
@@ -46,7 +46,7 @@ const ENDS: [(SeatFault, Option<SeatFault>); 11] = [
 ];
 
 // A put at the first node, all of which end with this fault: it is told that, or waits on.
-fn one_ends<R: Wait, J: Naming>(
+fn one_ends<R: Wait, J: Beginning>(
     rt: &R,
     alloc: Global,
     nodes: &FailingNodes<J>,
@@ -66,7 +66,7 @@ fn one_ends<R: Wait, J: Naming>(
 }
 
 // Each fault ends the puts of its node alone.
-fn each_ends<R: Wait, J: Naming>(
+fn each_ends<R: Wait, J: Beginning>(
     rt: &R,
     alloc: Global,
     nodes: &FailingNodes<J>,
@@ -83,13 +83,14 @@ fn each_ends<R: Wait, J: Naming>(
     ends_as(rt, &other, SeatFault::JournalFull)
 }
 
-fn endings<R: Wait, J: Naming>(
+fn endings<R: Wait, J: Beginning>(
     rt: &R,
     alloc: Global,
     hashing: RandomState,
     log: Opened<OwnEntry>,
 ) -> Result<(), Why>
-    requires { log ≡ J.book }
+    requires named { log ≡ J.book }
+    requires start { J.start ≡ [] }
 {
     let passed = (NEVER, NEVER, NEVER);
     let config = config(10, 1000)?;

@@ -1,6 +1,6 @@
 //! Stores that fail: the node goes down and no other, and a restart brings it back.
 
-ghost use Rattle.std.specs.Prelude.{◌≡◌};
+ghost use Rattle.std.specs.Prelude.{◌≡◌, []};
 
 use crate::made::{
     Call, Gave, at, each_is_done, each_refuses, gives, is_cut, made, refuses, what_stands,
@@ -8,8 +8,8 @@ use crate::made::{
 use crate::support::{
     FailingNodes, Why, check, config, deliver_from, ends_as, put, three_that_fail, told, upload,
 };
-use growing_log::{Naming, Opened};
-use node_threads::{OwnEntry, SeatFault};
+use growing_log::Opened;
+use node_threads::{Beginning, OwnEntry, SeatFault};
 use stable_records::StoreFault;
 use std::alloc::Global;
 use std::hash::RandomState;
@@ -44,7 +44,7 @@ const DONE: [Call; 5] = [
 
 // The node's store fails in this call: one entry more says so, and the node is down. Its put waits on, and no other
 // node changes.
-fn goes_down<R: Wait, J: Naming>(
+fn goes_down<R: Wait, J: Beginning>(
     rt: &R,
     alloc: Global,
     nodes: &FailingNodes<J>,
@@ -64,7 +64,7 @@ fn goes_down<R: Wait, J: Naming>(
 }
 
 // A store that fails as it recalls: the node stays up, its put waits on, and the next restart is done.
-fn fails_in_a_restart<R: Wait, J: Naming>(
+fn fails_in_a_restart<R: Wait, J: Beginning>(
     rt: &R,
     alloc: Global,
     nodes: &FailingNodes<J>,
@@ -78,7 +78,7 @@ fn fails_in_a_restart<R: Wait, J: Naming>(
 }
 
 // The second node asks for promises. The first fails as it is handed that, and the third in a tick.
-fn fail_in_inputs<R: Wait, J: Naming>(
+fn fail_in_inputs<R: Wait, J: Beginning>(
     rt: &R,
     alloc: Global,
     nodes: &FailingNodes<J>,
@@ -104,7 +104,7 @@ fn fail_in_inputs<R: Wait, J: Naming>(
 }
 
 // The nodes that went down start again, and all three agree on an upload.
-fn come_back<R: Wait, J: Naming>(
+fn come_back<R: Wait, J: Beginning>(
     rt: &R,
     alloc: Global,
     nodes: &FailingNodes<J>,
@@ -119,13 +119,14 @@ fn come_back<R: Wait, J: Naming>(
     gives(rt, alloc, nodes, 2, Call::RunningGet, Gave::Done)
 }
 
-fn plays<R: Wait, J: Naming>(
+fn plays<R: Wait, J: Beginning>(
     rt: &R,
     alloc: Global,
     hashing: RandomState,
     log: Opened<OwnEntry>,
 ) -> Result<(), Why>
-    requires { log ≡ J.book }
+    requires named { log ≡ J.book }
+    requires start { J.start ≡ [] }
 {
     // The first call of each store is made as its seat is opened.
     let passed = (1, 1, 1);

@@ -1,15 +1,15 @@
 //! Faults that change nothing: of inputs and messages that are none, of a journal that is another, of nodes that are
 //! not there.
 
-ghost use Rattle.std.specs.Prelude.{◌≡◌};
+ghost use Rattle.std.specs.Prelude.{◌≡◌, []};
 
 use crate::made::{Call, Gave, decides, each_is_done, each_refuses, gives, refuses, what_stands};
 use crate::support::{
     FailingNodes, NEVER, Why, check, config, ends_as, put, three_that_fail, told, upload,
 };
-use growing_log::{Naming, Opened};
+use growing_log::Opened;
 use node_core::Refusal;
-use node_threads::{Journal, OwnEntry, SeatFault};
+use node_threads::{Beginning, Journal, OwnEntry, SeatFault};
 use stable_records::StoreFault;
 use std::alloc::Global;
 use std::hash::RandomState;
@@ -51,7 +51,7 @@ const WITHOUT_A_MESSAGE: [Call; 9] = [
 ];
 
 // What the journal's message of this number is answered with, `None` where there is a copy.
-fn no_message<R: Wait, J: Naming>(
+fn no_message<R: Wait, J: Beginning>(
     rt: &R,
     nodes: &FailingNodes<J>,
     number: u64,
@@ -66,7 +66,7 @@ fn no_message<R: Wait, J: Naming>(
 }
 
 // Messages that were not sent, and a tick that leaves too many slots, each beside one that is taken.
-fn looks_at_inputs<R: Wait, J: Naming>(
+fn looks_at_inputs<R: Wait, J: Beginning>(
     rt: &R,
     alloc: Global,
     nodes: &FailingNodes<J>,
@@ -94,7 +94,7 @@ fn looks_at_inputs<R: Wait, J: Naming>(
 }
 
 // Every call at a node that there is not.
-fn looks_for_a_node<R: Wait, J: Naming>(
+fn looks_for_a_node<R: Wait, J: Beginning>(
     rt: &R,
     alloc: Global,
     nodes: &FailingNodes<J>,
@@ -112,13 +112,14 @@ fn looks_for_a_node<R: Wait, J: Naming>(
     each_is_done(rt, alloc, nodes, 2, &EACH)
 }
 
-fn inputs<R: Wait, J: Naming>(
+fn inputs<R: Wait, J: Beginning>(
     rt: &R,
     alloc: Global,
     hashing: RandomState,
     log: Opened<OwnEntry>,
 ) -> Result<(), Why>
-    requires { log ≡ J.book }
+    requires named { log ≡ J.book }
+    requires start { J.start ≡ [] }
 {
     let passed = (NEVER, NEVER, NEVER);
     let config = config(10, 1000)?;
@@ -139,18 +140,22 @@ fn inputs_and_nodes_that_are_none_are_refused(rt: HostRuntime) -> Result<(), Fai
 }
 
 // Puts another journal in the place of the one that is held, which it gives.
-fn put_in<J: Naming>(held: &mut Journal<J>, other: Journal<J>) -> Journal<J> {
+fn put_in<J: Beginning>(held: &mut Journal<J>, other: Journal<J>) -> Journal<J> {
     mem::replace(held, other)
 }
 
 // Puts another journal in the place of the nodes' own, which it gives.
-fn exchanged<R: Wait, J: Naming>(rt: &R, nodes: &FailingNodes<J>, other: Journal<J>) -> Journal<J> {
+fn exchanged<R: Wait, J: Beginning>(
+    rt: &R,
+    nodes: &FailingNodes<J>,
+    other: Journal<J>,
+) -> Journal<J> {
     let mut journal = nodes.cluster().journal().lock(rt);
     put_in(&mut journal, other)
 }
 
 // A journal without an entry, of the same configuration.
-fn another_journal<J: Naming>(alloc: Global) -> Result<Journal<J>, Why> {
+fn another_journal<J: Beginning>(alloc: Global) -> Result<Journal<J>, Why> {
     let config = config(10, 1000)?;
     if !config.is_within_limits() {
         return Err("no configuration");
@@ -159,7 +164,7 @@ fn another_journal<J: Naming>(alloc: Global) -> Result<Journal<J>, Why> {
 }
 
 // The first node has an entry, which another journal has not: it does nothing there, while a node without one answers.
-fn one_is_strange<R: Wait, J: Naming>(
+fn one_is_strange<R: Wait, J: Beginning>(
     rt: &R,
     alloc: Global,
     nodes: &FailingNodes<J>,
@@ -180,7 +185,7 @@ fn one_is_strange<R: Wait, J: Naming>(
 }
 
 // A put whose outcome is known waits at the first node, and ends as with a store's fault where its journal is another.
-fn a_put_is_strange<R: Wait, J: Naming>(
+fn a_put_is_strange<R: Wait, J: Beginning>(
     rt: &R,
     alloc: Global,
     nodes: &FailingNodes<J>,
@@ -197,13 +202,14 @@ fn a_put_is_strange<R: Wait, J: Naming>(
     gives(rt, alloc, nodes, 0, Call::Settle(1), Gave::Done)
 }
 
-fn strange<R: Wait, J: Naming>(
+fn strange<R: Wait, J: Beginning>(
     rt: &R,
     alloc: Global,
     hashing: RandomState,
     log: Opened<OwnEntry>,
 ) -> Result<(), Why>
-    requires { log ≡ J.book }
+    requires named { log ≡ J.book }
+    requires start { J.start ≡ [] }
 {
     let passed = (NEVER, NEVER, NEVER);
     let config = config(10, 1000)?;

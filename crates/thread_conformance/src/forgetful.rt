@@ -1,13 +1,13 @@
 //! Stores that keep every record and give none back: no node starts again from one that has kept something.
 
-ghost use Rattle.std.specs.Prelude.{◌≡◌, true, false};
+ghost use Rattle.std.specs.Prelude.{◌≡◌, true, false, []};
 ghost use Rattle.thread_conformance.specs.Forgetful.{untold};
 
 use crate::made::{Call, Gave, each_is_done, each_refuses, gives};
 use crate::support::{Why, check, config, ends_as, had, put, seat, told};
 use ballots::Record;
-use growing_log::{Naming, Opened};
-use node_threads::{Cluster, Journal, OpenGate, OwnEntry, Running, SeatFault};
+use growing_log::Opened;
+use node_threads::{Beginning, Cluster, Journal, OpenGate, OwnEntry, Running, SeatFault};
 use stable_records::{Stable, StoreFault};
 use std::alloc::Global;
 use std::hash::RandomState;
@@ -53,13 +53,14 @@ impl Stable for Forgetful {
 type ForgetfulNodes<J> = Running<3, Forgetful, J, OpenGate>;
 
 // Three nodes with such stores.
-fn three<R: Wait, J: Naming>(
+fn three<R: Wait, J: Beginning>(
     rt: &R,
     alloc: Global,
     hashing: RandomState,
     log: Opened<OwnEntry>,
 ) -> Result<ForgetfulNodes<J>, Why>
-    requires { log ≡ J.book }
+    requires named { log ≡ J.book }
+    requires start { J.start ≡ [] }
 {
     let config = config(10, 1000)?;
     if !config.is_within_limits() {
@@ -79,7 +80,7 @@ fn three<R: Wait, J: Naming>(
 
 // The first node has kept a record, and does not start again: it goes on, and its put waits on. One that has kept none
 // starts.
-fn forgets<R: Wait, J: Naming>(
+fn forgets<R: Wait, J: Beginning>(
     rt: &R,
     alloc: Global,
     nodes: &ForgetfulNodes<J>,
@@ -96,13 +97,14 @@ fn forgets<R: Wait, J: Naming>(
     ends_as(rt, &pending, SeatFault::Store(StoreFault::Damaged))
 }
 
-fn plays<R: Wait, J: Naming>(
+fn plays<R: Wait, J: Beginning>(
     rt: &R,
     alloc: Global,
     hashing: RandomState,
     log: Opened<OwnEntry>,
 ) -> Result<(), Why>
-    requires { log ≡ J.book }
+    requires named { log ≡ J.book }
+    requires start { J.start ≡ [] }
 {
     let nodes = three::<R, J>(rt, alloc, hashing, log)?;
     let done = forgets(rt, alloc, &nodes);

@@ -1,6 +1,6 @@
 //! Limits that are reached: a journal that is full, and slots that are spent.
 
-ghost use Rattle.std.specs.Prelude.{◌≡◌};
+ghost use Rattle.std.specs.Prelude.{◌≡◌, []};
 
 use crate::made::{
     Call, Gave, decides, each_is_done, each_refuses, gives, made, refuses, what_stands,
@@ -9,9 +9,9 @@ use crate::support::{
     FailingNodes, NEVER, Why, check, config, deliver_from, ends_as, put, three_that_fail, told,
     upload,
 };
-use growing_log::{Naming, Opened};
+use growing_log::Opened;
 use node_core::Refusal;
-use node_threads::{OwnEntry, SeatFault};
+use node_threads::{Beginning, OwnEntry, SeatFault};
 use std::alloc::Global;
 use std::hash::RandomState;
 use std::marker::Brand;
@@ -51,7 +51,7 @@ const DONE: [Call; 10] = [
 ];
 
 // Asks the third node for its version, until the journal is full.
-fn fills<R: Wait, J: Naming>(rt: &R, alloc: Global, nodes: &FailingNodes<J>) -> Result<(), Why> {
+fn fills<R: Wait, J: Beginning>(rt: &R, alloc: Global, nodes: &FailingNodes<J>) -> Result<(), Why> {
     for _ in 0..100 {
         match made(rt, alloc, nodes, 2, Call::Ask)? {
             Gave::Done => {}
@@ -65,7 +65,11 @@ fn fills<R: Wait, J: Naming>(rt: &R, alloc: Global, nodes: &FailingNodes<J>) -> 
 }
 
 // Every call that would be entered is refused at each node; what enters nothing is done.
-fn is_full<R: Wait, J: Naming>(rt: &R, alloc: Global, nodes: &FailingNodes<J>) -> Result<(), Why> {
+fn is_full<R: Wait, J: Beginning>(
+    rt: &R,
+    alloc: Global,
+    nodes: &FailingNodes<J>,
+) -> Result<(), Why> {
     let full = SeatFault::JournalFull;
     each_refuses(rt, alloc, nodes, 0, &ENTERED, full)?;
     each_refuses(rt, alloc, nodes, 1, &ENTERED, full)?;
@@ -79,7 +83,7 @@ fn is_full<R: Wait, J: Naming>(rt: &R, alloc: Global, nodes: &FailingNodes<J>) -
 
 // Puts wait at two nodes as the journal is filled: the one whose outcome is known ends, since that can't be entered,
 // and the other waits on.
-fn a_journal_is_full<R: Wait, J: Naming>(
+fn a_journal_is_full<R: Wait, J: Beginning>(
     rt: &R,
     alloc: Global,
     nodes: &FailingNodes<J>,
@@ -106,13 +110,14 @@ fn a_journal_is_full<R: Wait, J: Naming>(
     ends_as(rt, &unknown, SeatFault::JournalFull)
 }
 
-fn full<R: Wait, J: Naming>(
+fn full<R: Wait, J: Beginning>(
     rt: &R,
     alloc: Global,
     hashing: RandomState,
     log: Opened<OwnEntry>,
 ) -> Result<(), Why>
-    requires { log ≡ J.book }
+    requires named { log ≡ J.book }
+    requires start { J.start ≡ [] }
 {
     let passed = (NEVER, NEVER, NEVER);
     let config = config(10, 60)?;
@@ -130,7 +135,7 @@ fn a_full_journal_refuses_what_is_entered(rt: HostRuntime) -> Result<(), Fail> {
 
 // An upload waits at the second node as the only slot is decided for another: it and each new one are refused, and all
 // else is done.
-fn a_slot_is_spent<R: Wait, J: Naming>(
+fn a_slot_is_spent<R: Wait, J: Beginning>(
     rt: &R,
     alloc: Global,
     nodes: &FailingNodes<J>,
@@ -151,7 +156,7 @@ fn a_slot_is_spent<R: Wait, J: Naming>(
 }
 
 // A node that starts again knows of no decision, so it takes an upload until it has learned one.
-fn starts_again<R: Wait, J: Naming>(
+fn starts_again<R: Wait, J: Beginning>(
     rt: &R,
     alloc: Global,
     nodes: &FailingNodes<J>,
@@ -163,13 +168,14 @@ fn starts_again<R: Wait, J: Naming>(
     refuses(rt, alloc, nodes, 2, Call::Put(4), SPENT)
 }
 
-fn spent<R: Wait, J: Naming>(
+fn spent<R: Wait, J: Beginning>(
     rt: &R,
     alloc: Global,
     hashing: RandomState,
     log: Opened<OwnEntry>,
 ) -> Result<(), Why>
-    requires { log ≡ J.book }
+    requires named { log ≡ J.book }
+    requires start { J.start ≡ [] }
 {
     let passed = (NEVER, NEVER, NEVER);
     let config = config(1, 1000)?;

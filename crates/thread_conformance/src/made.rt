@@ -2,9 +2,8 @@
 
 use crate::support::{Why, check, deliver_from, had, ticket, upload};
 use ballots::Message;
-use growing_log::Naming;
 use node_events::Event;
-use node_threads::{OpenGate, Query, Running, SeatFault, SeatInput};
+use node_threads::{Beginning, OpenGate, Query, Running, SeatFault, SeatInput};
 use stable_records::Stable;
 use std::alloc::{AllocError, Global};
 use std::sync::Wait;
@@ -98,7 +97,7 @@ fn what_came<T: Drop>(given: Result<T, SeatFault>) -> Gave {
 }
 
 // Makes a call of `Cluster` that hands the node an input.
-fn take<R: Wait, S: Stable + Drop, J: Naming>(
+fn take<R: Wait, S: Stable + Drop, J: Beginning>(
     rt: &R,
     nodes: &Running<3, S, J, OpenGate>,
     node: usize,
@@ -108,7 +107,7 @@ fn take<R: Wait, S: Stable + Drop, J: Naming>(
 }
 
 // A copy of the journal's first message.
-fn first_message<R: Wait, S: Stable + Drop, J: Naming>(
+fn first_message<R: Wait, S: Stable + Drop, J: Beginning>(
     rt: &R,
     nodes: &Running<3, S, J, OpenGate>,
 ) -> Result<Message, Why> {
@@ -119,7 +118,7 @@ fn first_message<R: Wait, S: Stable + Drop, J: Naming>(
 }
 
 // Asks for the first version, by `Running` or by its cluster.
-fn got<R: Wait, S: Stable + Drop, J: Naming>(
+fn got<R: Wait, S: Stable + Drop, J: Beginning>(
     rt: &R,
     alloc: Global,
     nodes: &Running<3, S, J, OpenGate>,
@@ -143,7 +142,7 @@ fn got<R: Wait, S: Stable + Drop, J: Naming>(
 }
 
 // What is told of the upload of this number.
-fn settled<R: Wait, S: Stable + Drop, J: Naming>(
+fn settled<R: Wait, S: Stable + Drop, J: Beginning>(
     rt: &R,
     alloc: Global,
     nodes: &Running<3, S, J, OpenGate>,
@@ -162,7 +161,7 @@ fn settled<R: Wait, S: Stable + Drop, J: Naming>(
 }
 
 // Makes the call that hands the node an input.
-fn taken<R: Wait, S: Stable + Drop, J: Naming>(
+fn taken<R: Wait, S: Stable + Drop, J: Beginning>(
     rt: &R,
     alloc: Global,
     nodes: &Running<3, S, J, OpenGate>,
@@ -187,7 +186,7 @@ fn taken<R: Wait, S: Stable + Drop, J: Naming>(
 }
 
 /// Makes the call at the node.
-pub(crate) fn made<R: Wait, S: Stable + Drop, J: Naming>(
+pub(crate) fn made<R: Wait, S: Stable + Drop, J: Beginning>(
     rt: &R,
     alloc: Global,
     nodes: &Running<3, S, J, OpenGate>,
@@ -213,7 +212,7 @@ pub(crate) fn made<R: Wait, S: Stable + Drop, J: Naming>(
 }
 
 // What stands at a node.
-fn at_node<R: Wait, S: Stable + Drop, J: Naming>(
+fn at_node<R: Wait, S: Stable + Drop, J: Beginning>(
     rt: &R,
     nodes: &Running<3, S, J, OpenGate>,
     upload: &Upload,
@@ -229,7 +228,7 @@ fn at_node<R: Wait, S: Stable + Drop, J: Naming>(
 }
 
 /// What stands, with what each node tells of this upload. It takes each lock, and no memory.
-pub(crate) fn what_stands<R: Wait, S: Stable + Drop, J: Naming>(
+pub(crate) fn what_stands<R: Wait, S: Stable + Drop, J: Beginning>(
     rt: &R,
     nodes: &Running<3, S, J, OpenGate>,
     upload: &Upload,
@@ -248,7 +247,7 @@ pub(crate) fn what_stands<R: Wait, S: Stable + Drop, J: Naming>(
 }
 
 // Whether the last entry is that of this node, which went down in the midst.
-fn ends_in_a_cut<R: Wait, S: Stable + Drop, J: Naming>(
+fn ends_in_a_cut<R: Wait, S: Stable + Drop, J: Beginning>(
     rt: &R,
     nodes: &Running<3, S, J, OpenGate>,
     node: u64,
@@ -280,7 +279,7 @@ pub(crate) fn at(standing: &Standing, node: u64) -> AtNode {
 
 /// Whether one entry more says that this node went down in the midst, and nothing else has changed: it is down, what
 /// waits there waits on, and the others stand as before.
-pub(crate) fn is_cut<R: Wait, S: Stable + Drop, J: Naming>(
+pub(crate) fn is_cut<R: Wait, S: Stable + Drop, J: Beginning>(
     rt: &R,
     nodes: &Running<3, S, J, OpenGate>,
     before: &Standing,
@@ -296,7 +295,7 @@ pub(crate) fn is_cut<R: Wait, S: Stable + Drop, J: Naming>(
 }
 
 /// Fails where the call gives something else than this fault, or where something else stands behind it.
-pub(crate) fn refuses<R: Wait, S: Stable + Drop, J: Naming>(
+pub(crate) fn refuses<R: Wait, S: Stable + Drop, J: Beginning>(
     rt: &R,
     alloc: Global,
     nodes: &Running<3, S, J, OpenGate>,
@@ -313,7 +312,7 @@ pub(crate) fn refuses<R: Wait, S: Stable + Drop, J: Naming>(
 }
 
 /// Fails where one of the calls does.
-pub(crate) fn each_refuses<R: Wait, S: Stable + Drop, J: Naming>(
+pub(crate) fn each_refuses<R: Wait, S: Stable + Drop, J: Beginning>(
     rt: &R,
     alloc: Global,
     nodes: &Running<3, S, J, OpenGate>,
@@ -328,7 +327,7 @@ pub(crate) fn each_refuses<R: Wait, S: Stable + Drop, J: Naming>(
 }
 
 /// Fails where the call gives something else.
-pub(crate) fn gives<R: Wait, S: Stable + Drop, J: Naming>(
+pub(crate) fn gives<R: Wait, S: Stable + Drop, J: Beginning>(
     rt: &R,
     alloc: Global,
     nodes: &Running<3, S, J, OpenGate>,
@@ -341,7 +340,7 @@ pub(crate) fn gives<R: Wait, S: Stable + Drop, J: Naming>(
 }
 
 /// Fails where one of the calls is not done.
-pub(crate) fn each_is_done<R: Wait, S: Stable + Drop, J: Naming>(
+pub(crate) fn each_is_done<R: Wait, S: Stable + Drop, J: Beginning>(
     rt: &R,
     alloc: Global,
     nodes: &Running<3, S, J, OpenGate>,
@@ -355,7 +354,7 @@ pub(crate) fn each_is_done<R: Wait, S: Stable + Drop, J: Naming>(
 }
 
 /// Three nodes agree on the upload 1, which is put at the first.
-pub(crate) fn decides<R: Wait, S: Stable + Drop, J: Naming>(
+pub(crate) fn decides<R: Wait, S: Stable + Drop, J: Beginning>(
     rt: &R,
     alloc: Global,
     nodes: &Running<3, S, J, OpenGate>,

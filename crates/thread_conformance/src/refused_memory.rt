@@ -2,13 +2,13 @@
 //! journal and all nodes are as before, or there is the one entry of a node that went down, or that of a question.
 //! Run with every allocation refused in turn, the test ends as before or for want of memory.
 
-ghost use Rattle.std.specs.Prelude.{◌≡◌};
+ghost use Rattle.std.specs.Prelude.{◌≡◌, []};
 
 use crate::made::{Call, Gave, Standing, at, is_cut, made, what_stands};
 use crate::support::{Nodes, Why, check, ends_as, three, told, upload};
-use growing_log::{Naming, Opened};
+use growing_log::Opened;
 use node_core::Refusal;
-use node_threads::{OpenGate, OwnEntry, Pending, SeatFault};
+use node_threads::{Beginning, OpenGate, OwnEntry, Pending, SeatFault};
 use stable_records::StoreFault;
 use std::alloc::Global;
 use std::hash::RandomState;
@@ -62,7 +62,7 @@ fn stands(before: &Standing, after: &Standing, call: Call) -> bool {
 }
 
 // Whether all stands as what a call gave says.
-fn is_promised<R: Wait, J: Naming>(
+fn is_promised<R: Wait, J: Beginning>(
     rt: &R,
     nodes: &Nodes<J, OpenGate>,
     before: &Standing,
@@ -83,7 +83,7 @@ fn is_promised<R: Wait, J: Naming>(
 }
 
 // Makes the call once. Whether it was done.
-fn make_once<R: Wait, J: Naming>(
+fn make_once<R: Wait, J: Beginning>(
     rt: &R,
     alloc: Global,
     nodes: &Nodes<J, OpenGate>,
@@ -102,7 +102,7 @@ fn make_once<R: Wait, J: Naming>(
 }
 
 // Makes the call, and again where memory was refused; behind a restart where the node went down.
-fn make<R: Wait, J: Naming>(
+fn make<R: Wait, J: Beginning>(
     rt: &R,
     alloc: Global,
     nodes: &Nodes<J, OpenGate>,
@@ -122,7 +122,7 @@ fn make<R: Wait, J: Naming>(
 }
 
 // Whether the call hands over a message that was not sent, since a node went down.
-fn is_not_sent<R: Wait, J: Naming>(rt: &R, nodes: &Nodes<J, OpenGate>, call: Call) -> bool {
+fn is_not_sent<R: Wait, J: Beginning>(rt: &R, nodes: &Nodes<J, OpenGate>, call: Call) -> bool {
     match call {
         Call::Deliver(number) => {
             let journal = nodes.cluster().journal().lock(rt);
@@ -133,7 +133,7 @@ fn is_not_sent<R: Wait, J: Naming>(rt: &R, nodes: &Nodes<J, OpenGate>, call: Cal
 }
 
 // Makes all calls.
-fn make_all<R: Wait, J: Naming>(
+fn make_all<R: Wait, J: Beginning>(
     rt: &R,
     alloc: Global,
     nodes: &Nodes<J, OpenGate>,
@@ -148,7 +148,7 @@ fn make_all<R: Wait, J: Naming>(
 }
 
 // Puts the upload at the first node, and again where memory was refused: then nothing waits, and all stands as before.
-fn put_again<R: Wait, J: Naming>(
+fn put_again<R: Wait, J: Beginning>(
     rt: &R,
     nodes: &Nodes<J, OpenGate>,
     upload: &Upload,
@@ -171,7 +171,7 @@ fn put_again<R: Wait, J: Naming>(
 
 // Ends the put, and looks again where memory was refused: it is told what became of its upload where the first node
 // knows that.
-fn ends<R: Wait, J: Naming>(
+fn ends<R: Wait, J: Beginning>(
     rt: &R,
     nodes: &Nodes<J, OpenGate>,
     upload: &Upload,
@@ -191,13 +191,14 @@ fn ends<R: Wait, J: Naming>(
     check(settled.outcome == Outcome::Applied(1), "another outcome")
 }
 
-fn plays<R: Wait, J: Naming>(
+fn plays<R: Wait, J: Beginning>(
     rt: &R,
     alloc: Global,
     hashing: RandomState,
     log: Opened<OwnEntry>,
 ) -> Result<(), Why>
-    requires { log ≡ J.book }
+    requires named { log ≡ J.book }
+    requires start { J.start ≡ [] }
 {
     let upload = upload(alloc, 1)?;
     let (nodes, notes) = three::<R, J, OpenGate>(rt, alloc, hashing, log, OpenGate)?;

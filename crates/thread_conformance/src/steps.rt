@@ -1,12 +1,12 @@
 //! Three nodes, one step after the other: an upload that is put at one is served at each.
 
-ghost use Rattle.std.specs.Prelude.{◌≡◌};
+ghost use Rattle.std.specs.Prelude.{◌≡◌, []};
 
 use crate::support::{Nodes, Why, check, deliver_from, members, put, three, ticket, told};
 use ballots::NodeId;
 use crossbeam_channel::Receiver;
-use growing_log::{Naming, Opened};
-use node_threads::{Note, OpenGate, OwnEntry, Pace, Receipt, SeatFault, SeatInput};
+use growing_log::Opened;
+use node_threads::{Beginning, Note, OpenGate, OwnEntry, Pace, Receipt, SeatFault, SeatInput};
 use schedule_runner::audit;
 use std::alloc::Global;
 use std::hash::RandomState;
@@ -17,7 +17,7 @@ use std::time::Clock;
 use table_versions::{Answer, Outcome};
 
 // The first version at this node.
-fn first_version<R: Wait, J: Naming>(
+fn first_version<R: Wait, J: Beginning>(
     rt: &R,
     alloc: Global,
     nodes: &Nodes<J, OpenGate>,
@@ -30,7 +30,7 @@ fn first_version<R: Wait, J: Naming>(
 }
 
 // An upload is put, decided and served; every receipt stands in the journal, which is lawful.
-fn decides<R: Wait, J: Naming>(
+fn decides<R: Wait, J: Beginning>(
     rt: &R,
     alloc: Global,
     nodes: &Nodes<J, OpenGate>,
@@ -67,7 +67,7 @@ fn decides<R: Wait, J: Naming>(
 }
 
 // A node that starts again ends its puts, and has what it learned once it is handed it again.
-fn starts_again<R: Wait, J: Naming>(
+fn starts_again<R: Wait, J: Beginning>(
     rt: &R,
     alloc: Global,
     nodes: &Nodes<J, OpenGate>,
@@ -92,7 +92,7 @@ fn starts_again<R: Wait, J: Naming>(
 }
 
 // The worker of a node at which an upload waits gives it a tick, and ends the put once it is told to stop.
-fn stops<R: Wait + Clock, J: Naming>(
+fn stops<R: Wait + Clock, J: Beginning>(
     rt: &R,
     alloc: Global,
     nodes: &Nodes<J, OpenGate>,
@@ -112,13 +112,14 @@ fn stops<R: Wait + Clock, J: Naming>(
     )
 }
 
-fn plays<R: Wait + Clock, J: Naming>(
+fn plays<R: Wait + Clock, J: Beginning>(
     rt: &R,
     alloc: Global,
     hashing: RandomState,
     log: Opened<OwnEntry>,
 ) -> Result<(), Why>
-    requires { log ≡ J.book }
+    requires named { log ≡ J.book }
+    requires start { J.start ≡ [] }
 {
     let (nodes, notes) = three::<R, J, OpenGate>(rt, alloc, hashing, log, OpenGate)?;
     let decided = decides(rt, alloc, &nodes);

@@ -1,13 +1,13 @@
 //! Three nodes, and what is asked of them.
 
-ghost use Rattle.std.specs.Prelude.{◌≡◌};
+ghost use Rattle.std.specs.Prelude.{◌≡◌, []};
 
 use ballots::{Members, NodeId};
 use crossbeam_channel::Receiver;
-use growing_log::{Naming, Opened};
+use growing_log::Opened;
 use header_types::Schema;
 use node_threads::{
-    Cluster, Gate, Journal, Note, OpenGate, OwnEntry, Pending, Running, Seat, SeatFault,
+    Beginning, Cluster, Gate, Journal, Note, OpenGate, OwnEntry, Pending, Running, Seat, SeatFault,
 };
 use schedule_runner::Config;
 use stable_records::{FailingStable, MemoryStable, Stable, StoreFault};
@@ -46,13 +46,15 @@ pub(crate) fn config(slot_limit: u32, journal_limit: u32) -> Result<Config, Why>
 }
 
 /// The seat of the node of this number, with this store.
-pub(crate) fn seat<S: Stable + Drop, J: Naming>(
+pub(crate) fn seat<S: Stable + Drop, J: Beginning>(
     alloc: Global,
     hashing: RandomState,
     number: u8,
     config: Config,
     store: S,
-) -> Result<Mutex<Seat<S, J>>, Why> {
+) -> Result<Mutex<Seat<S, J>>, Why>
+    requires { J.start ≡ [] }
+{
     let me = NodeId::new(number).ok_or("no node")?;
     if !config.is_within_limits() || !config.members.have(me) {
         return Err("no member of a configuration");
@@ -65,14 +67,15 @@ pub(crate) fn seat<S: Stable + Drop, J: Naming>(
 }
 
 /// Three nodes with this gate, and what their workers would read.
-pub(crate) fn three<R: Wait, J: Naming, G: Gate + Drop>(
+pub(crate) fn three<R: Wait, J: Beginning, G: Gate + Drop>(
     rt: &R,
     alloc: Global,
     hashing: RandomState,
     log: Opened<OwnEntry>,
     gate: G,
 ) -> Result<(Nodes<J, G>, Vec<Receiver<Note>>), Why>
-    requires { log ≡ J.book }
+    requires named { log ≡ J.book }
+    requires start { J.start ≡ [] }
 {
     let config = config(1000, 1_000_000)?;
     if !config.is_within_limits() {
@@ -95,7 +98,7 @@ fn failing(alloc: Global, passed: u64) -> FailingStable<MemoryStable> {
 
 /// Three nodes of this configuration. Of the store of each so many calls pass before one fails, whose record is not
 /// kept.
-pub(crate) fn three_that_fail<R: Wait, J: Naming>(
+pub(crate) fn three_that_fail<R: Wait, J: Beginning>(
     rt: &R,
     alloc: Global,
     hashing: RandomState,
@@ -103,7 +106,8 @@ pub(crate) fn three_that_fail<R: Wait, J: Naming>(
     config: Config,
     passed: (u64, u64, u64),
 ) -> Result<(FailingNodes<J>, Vec<Receiver<Note>>), Why>
-    requires { log ≡ J.book }
+    requires named { log ≡ J.book }
+    requires start { J.start ≡ [] }
 {
     if !config.is_within_limits() {
         return Err("no configuration");
@@ -119,7 +123,7 @@ pub(crate) fn three_that_fail<R: Wait, J: Naming>(
 }
 
 /// Hands an upload of this number to the node, where it waits.
-pub(crate) fn put<R: Wait, S: Stable + Drop, J: Naming>(
+pub(crate) fn put<R: Wait, S: Stable + Drop, J: Beginning>(
     rt: &R,
     alloc: Global,
     nodes: &Running<3, S, J, OpenGate>,
@@ -145,7 +149,7 @@ pub(crate) fn ends_as<R: Wait>(rt: &R, pending: &Pending, fault: SeatFault) -> R
 }
 
 /// Hands each message from this number on to each node, until no more are sent.
-pub(crate) fn deliver_from<R: Wait, S: Stable + Drop, J: Naming>(
+pub(crate) fn deliver_from<R: Wait, S: Stable + Drop, J: Beginning>(
     rt: &R,
     nodes: &Running<3, S, J, OpenGate>,
     first: u64,

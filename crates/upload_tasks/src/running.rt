@@ -1,15 +1,15 @@
 //! Nodes that share a journal.
 
-ghost use Rattle.std.specs.Prelude.{◌≡◌, IfOk};
+ghost use Rattle.std.specs.Prelude.{◌≡◌, IfOk, []};
 
 use crate::events::events_of;
 use crate::plan::plan_in;
 use crate::runs::weight;
 use ballots::NodeId;
-use growing_log::{Naming, Opened};
+use growing_log::Opened;
 use part_tasks::{TaskFault, push};
 use schedule_runner::{Config, Event};
-use seats::{Journal, OwnEntry, Query, Receipt, Seat, SeatFault, SeatInput};
+use seats::{Beginning, Journal, OwnEntry, Query, Receipt, Seat, SeatFault, SeatInput};
 use stable_records::MemoryStable;
 use std::alloc::Global;
 use std::hash::RandomState;
@@ -28,12 +28,14 @@ fn boxed<T: Drop>(alloc: Global, value: T) -> Result<Box<T>, TaskFault> {
 }
 
 /// The member of this number, with a store in memory.
-fn member_of<J: Naming>(
+fn member_of<J: Beginning>(
     alloc: Global,
     hashing: RandomState,
     config: Config,
     number: u8,
-) -> Result<Box<Seat<MemoryStable, J>>, TaskFault> {
+) -> Result<Box<Seat<MemoryStable, J>>, TaskFault>
+    requires { J.start ≡ [] }
+{
     let Some(me) = NodeId::new(number) else {
         return Err(TaskFault::BadConfig);
     };
@@ -46,11 +48,13 @@ fn member_of<J: Naming>(
     }
 }
 
-fn members_of<J: Naming>(
+fn members_of<J: Beginning>(
     alloc: Global,
     hashing: RandomState,
     config: Config,
-) -> Result<Members<J>, TaskFault> {
+) -> Result<Members<J>, TaskFault>
+    requires { J.start ≡ [] }
+{
     let mut members = Vec::new(alloc);
     for number in 0..config.members.count() {
         push(&mut members, member_of(alloc, hashing, config, number)?)?;
@@ -58,7 +62,7 @@ fn members_of<J: Naming>(
     Ok(members)
 }
 
-fn take<J: Naming>(
+fn take<J: Beginning>(
     seat: &mut Seat<MemoryStable, J>,
     journal: &mut Journal<J>,
     input: SeatInput,
@@ -67,7 +71,7 @@ fn take<J: Naming>(
     seat.take(journal, prepared)
 }
 
-fn serve<J: Naming>(
+fn serve<J: Beginning>(
     seat: &mut Seat<MemoryStable, J>,
     journal: &mut Journal<J>,
     query: Query,
@@ -77,7 +81,7 @@ fn serve<J: Naming>(
 }
 
 /// The event at its node, which has a receipt of it.
-fn receipt_of<J: Naming>(
+fn receipt_of<J: Beginning>(
     seat: &mut Seat<MemoryStable, J>,
     journal: &mut Journal<J>,
     event: &Event,
@@ -95,12 +99,14 @@ fn receipt_of<J: Naming>(
 }
 
 /// What the events weigh where they are taken by seats that share this journal.
-fn journal_weight<J: Naming>(
+fn journal_weight<J: Beginning>(
     alloc: Global,
     hashing: RandomState,
     events: &[Event],
     mut journal: Box<Journal<J>>,
-) -> Result<u64, TaskFault> {
+) -> Result<u64, TaskFault>
+    requires { J.start ≡ [] }
+{
     let mut members = members_of(alloc, hashing, journal.config())?;
     for event in events {
         let Some(seat) = members.get_mut(event.node() as usize) else {
@@ -115,14 +121,15 @@ fn journal_weight<J: Naming>(
 }
 
 /// The same with a journal that has a log.
-fn logged_weight<J: Naming>(
+fn logged_weight<J: Beginning>(
     alloc: Global,
     hashing: RandomState,
     config: Config,
     events: &[Event],
     log: Opened<OwnEntry>,
 ) -> Result<u64, TaskFault>
-    requires { log ≡ J.book }
+    requires named { log ≡ J.book }
+    requires start { J.start ≡ [] }
 {
     if !config.is_within_limits() {
         return Err(TaskFault::BadConfig);

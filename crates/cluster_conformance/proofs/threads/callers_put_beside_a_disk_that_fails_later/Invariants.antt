@@ -1,5 +1,5 @@
 use Rattle.cluster_conformance.proofs.threads.callers_put_beside_a_disk_that_fails_later.Given as goal
 
 -- the log that was just opened
-abbrev pub ghosts-plays_on_disks : goal.ghosts-plays_on_disks
-ghosts-plays_on_disks g a = record { book = a.log }
+abbrev pub ghosts-plays_on_disks-J-Naming : goal.ghosts-plays_on_disks-J-Naming
+ghosts-plays_on_disks-J-Naming g a = record { book = a.log }

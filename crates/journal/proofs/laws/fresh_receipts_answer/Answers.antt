@@ -2,4 +2,4 @@ use Rattle.journal.proofs.Worth.{is_fresh}
 use Rattle.journal.proofs.laws.fresh_receipts_answer.Goals as goal
 
 pub returns : goal.returns
-returns c = is_fresh c.fresh_answers.ensures c.telling_loses_nothing.ensures.given
+returns c = is_fresh c.fresh_tails_answer.ensures c.telling_loses_nothing.ensures.given

@@ -1,5 +1,5 @@
 use Rattle.journal_conformance.proofs.logged.a_second_seat_of_a_node_is_strange.Given as goal
 
 -- the log that was just opened
-abbrev pub ghosts-two_of_one_node : goal.ghosts-two_of_one_node
-ghosts-two_of_one_node a = record { book = a.log }
+abbrev pub ghosts-two_of_one_node-J-Naming : goal.ghosts-two_of_one_node-J-Naming
+ghosts-two_of_one_node-J-Naming a = record { book = a.log }

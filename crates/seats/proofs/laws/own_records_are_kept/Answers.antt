@@ -1,9 +1,10 @@
-use Rattle.std.proofs.Common.{◌≡◌, List, sym, subst}
+use Rattle.std.proofs.Common.{◌≡◌, ◌++◌, List, sym, subst, ◌∙◌}
 use Rattle.ballots.specs.declared.record.Record.{Record}
 use Rattle.histories.specs.Following.{Seat, IsUp, at_first}
 use Rattle.histories.specs.Following as following
 use Rattle.histories.specs.Keeping.{AreKept, records_in}
-use Rattle.histories.proofs.Keeping.{TicksKeep, PartsKeep, kept_from_nothing}
+use Rattle.histories.specs.Owning.{OwnReaches}
+use Rattle.histories.proofs.Keeping.{TicksKeep, PartsKeep, own_keeps, kept_from_nothing}
 use Rattle.node_seats.specs.State.{SeatState}
 use Rattle.schedule_runner.specs.Told.{config_of}
 use Rattle.seats.specs.State.{StandsSo}
@@ -13,8 +14,8 @@ stand_by : {S : Type 0} (state : SeatState S) (stood : Seat) → StandsSo state 
 stand_by state (IsUp views) stands = sym stands.kept
 stand_by state (following.IsDown records due) stands = sym stands.kept
 
-pub returns : goal.returns
-returns g c = λ seat stood led.
+pub returns-clause-whole : goal.returns-clause-whole
+returns-clause-whole g c = λ seat stood nothing led.
     let ticks : TicksKeep = λ config me views left plan is_due.
     let keeps = c.plans_keep_what_they_send.ensures.tick config me views left plan is_due in
     record { sends = keeps.0; records = keeps.1 } in
@@ -22,4 +23,17 @@ returns g c = λ seat stood led.
     let keeps = c.plans_keep_what_they_send.ensures.body config me views sender slot b plan is_due in
     record { sends = keeps.0; records = keeps.1 } in
     subst (λ (rs : List Record). AreKept (config_of seat.config) (at_first seat.node.me) seat.own rs) (stand_by seat.node stood led.stands)
-    (kept_from_nothing ticks parts (config_of seat.config) seat.own stood led.led)
+    (kept_from_nothing ticks parts (config_of seat.config) seat.own stood
+    (subst (λ (s : Seat). OwnReaches (config_of seat.config) s seat.own stood) nothing led.led))
+
+pub returns-clause-later : goal.returns-clause-later
+returns-clause-later g c = λ seat stood views begun led.
+    let ticks : TicksKeep = λ config me before left plan is_due.
+    let keeps = c.plans_keep_what_they_send.ensures.tick config me before left plan is_due in
+    record { sends = keeps.0; records = keeps.1 } in
+    let parts : PartsKeep = λ config me before sender slot b plan is_due.
+    let keeps = c.plans_keep_what_they_send.ensures.body config me before sender slot b plan is_due in
+    record { sends = keeps.0; records = keeps.1 } in
+    let since = own_keeps ticks parts (config_of seat.config) stood seat.own (IsUp views)
+    (subst (λ (s : Seat). OwnReaches (config_of seat.config) s seat.own stood) begun led.led) in
+    (since.records, since.kept, sym (stand_by seat.node stood led.stands) ∙ since.ends)

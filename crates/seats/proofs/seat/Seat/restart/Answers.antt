@@ -2,7 +2,7 @@ use Rattle.std.proofs.Common.{ℕ, List, [], ◌∷◌, ◌++◌, refl, sym, ap,
 use Rattle.histories.specs.Following.{IsUp, recovered_in}
 use Rattle.agreement_rules.specs.Views.{started_with}
 use Rattle.histories.specs.Owning.{Entry}
-use Rattle.journal.specs.Journaled.{Journaled, MayEnter}
+use Rattle.journal.specs.Journaled.{seats_in, Journaled, MayEnter}
 use Rattle.seats.specs.Entries.{restart_step, restart_entry}
 use Rattle.seats.specs.State.{RunningSeat}
 use Rattle.seats.specs.Steps.{IsOpen}
@@ -16,7 +16,7 @@ use Rattle.seats.proofs.seat.Seat.restart.Goals as goal
 
 pub enter_restart-receipt-requires-clause-follows : goal.enter_restart-receipt-requires-clause-follows
 enter_restart-receipt-requires-clause-follows g c =
-    let view : RunningSeat g.row.S.Denot = the_view g.row.S g.row.J g.S.Stable g.J.Naming c.self.inside in
+    let view : RunningSeat g.row.S.Denot = the_view g.row.S g.row.J g.S.Stable g.J.Beginning g.J.Naming c.self.inside in
     let mid : Journaled = c.make_room.new.journal in
     let may : IsOpen view c.args.journal.now = subst (λ (s : RunningSeat g.row.S.Denot). IsOpen s c.args.journal.now) (sym c.self.view_is) c.in_ok-is_open.ensures in
     let open_mid = open_as view c.args.journal.now mid c.make_room.ensures.journal may in
@@ -29,7 +29,7 @@ enter_restart-receipt-requires-clause-follows g c =
 
 pub invariant_of-self-2 : goal.invariant_of-self-2
 invariant_of-self-2 g c =
-    let view : RunningSeat g.row.S.Denot = the_view g.row.S g.row.J g.S.Stable g.J.Naming c.self.inside in
+    let view : RunningSeat g.row.S.Denot = the_view g.row.S g.row.J g.S.Stable g.J.Beginning g.J.Naming c.self.inside in
     let mid : Journaled = c.make_room.new.journal in
     let may : IsOpen view c.args.journal.now = subst (λ (s : RunningSeat g.row.S.Denot). IsOpen s c.args.journal.now) (sym c.self.view_is) c.in_ok-is_open.ensures in
     let open_mid = open_as view c.args.journal.now mid c.make_room.ensures.journal may in
@@ -40,9 +40,10 @@ invariant_of-self-2 g c =
     let entered : EnteredRestart mid c.enter_restart-receipt.new.journal was c.enter_restart-receipt.result c.make_room.new.own.items c.enter_restart-receipt.new.own.items view.node.me =
     subst (λ (m : ℕ). EnteredRestart mid c.enter_restart-receipt.new.journal was c.enter_restart-receipt.result c.make_room.new.own.items c.enter_restart-receipt.new.own.items m) c.self.invariant.0
     (c.enter_restart-receipt.ensures.entry, c.enter_restart-receipt.ensures.others, c.enter_restart-receipt.ensures.told, c.enter_restart-receipt.ensures.own) in
-    let new : RunningSeat g.row.S.Denot = record { config = c.self.inside.config; node = node; own = c.enter_restart-receipt.new.own.items } in
+    let new : RunningSeat g.row.S.Denot = record { config = c.self.inside.config; start = seats_in g.J.Beginning.start c.self.inside.me; node = node; own = c.enter_restart-receipt.new.own.items } in
     let more : HasMore view new node (restart_entry view.node.me was) = record {
       config_is = refl;
+      start_is = refl;
       node_is = refl;
       own_is = entered.3 ∙ ap (λ (es : List Entry). es ++ restart_entry view.node.me was ∷ []) c.make_room.ensures.own;
     } in

@@ -1,6 +1,6 @@
-use Rattle.std.proofs.Common.{◌≡◌, ℕ, arith, length, vec_len, List, [], ◌∷◌, ◌++◌, ap, false, Some, Ok, Err, refl, sym, subst, ◌∙◌}
+use Rattle.std.proofs.Common.{Result, ◌≡◌, ℕ, arith, length, vec_len, List, [], ◌∷◌, ◌++◌, ap, false, Some, Ok, Err, refl, sym, subst, ◌∙◌}
 use Rattle.histories.specs.Owning.{Entry}
-use Rattle.journal.specs.Journaled.{Journaled}
+use Rattle.journal.specs.Journaled.{seats_in, Journaled}
 use Rattle.histories.specs.Following as following
 use Rattle.seats.specs.declared.fault.SeatFault.TheVariants as fault
 use Rattle.seats.specs.State.{RunningSeat}
@@ -13,11 +13,23 @@ use Rattle.seats.proofs.Ready.{ready_done, ready_broken, may_enter_done, may_ent
 use Rattle.seats.proofs.Moving.{open_as, sent_as, taken_before, cut_before, others_before}
 use Rattle.seats.proofs.Owned.{own_done, own_cut, known_own}
 use Rattle.seats.specs.contracts.seat.Seat.{the_view}
+use Rattle.std.proofs.lemmas.Result.{err_from_is_err_and}
+use Rattle.journal.specs.declared.receipt.Receipt.{Receipt}
+use Rattle.seats.specs.declared.fault.SeatFault.{SeatFault}
+use Rattle.seats.specs.Steps.{TakeGives}
+use Rattle.seats.proofs.Moving.{refused_take}
 use Rattle.seats.proofs.seat.Seat.take.Goals as goal
+
+pub returns-in_err-admits-clause-gives : goal.returns-in_err-admits-clause-gives
+returns-in_err-admits-clause-gives g c =
+    let p = err_from_is_err_and c.from_residual.result c.from_residual.ensures.1 in
+    let why = c.in_err-admits.field-0.0 in
+    subst (λ (r : Result Receipt SeatFault). TakeGives c.args.self.now c.args.self.now c.args.journal.now c.args.journal.now c.args.prepared r) (sym (p.1 ∙ ap Err p.2))
+    (refused_take c.args.self.now c.args.journal.now c.args.prepared why c.in_err-admits.ensures)
 
 pub enter_done-receipt-requires-clause-follows : goal.enter_done-receipt-requires-clause-follows
 enter_done-receipt-requires-clause-follows g c =
-    let view : RunningSeat g.row.S.Denot = the_view g.row.S g.row.J g.S.Stable g.J.Naming c.self.inside in
+    let view : RunningSeat g.row.S.Denot = the_view g.row.S g.row.J g.S.Stable g.J.Beginning g.J.Naming c.self.inside in
     let mid : Journaled = c.made_ready.new.journal in
     let may : IsOpen view c.args.journal.now = subst (λ (s : RunningSeat g.row.S.Denot). IsOpen s c.args.journal.now) (sym c.self.view_is) c.in_ok-admits.ensures.0 in
     let open_mid = open_as view c.args.journal.now mid c.made_ready.ensures.journal may in
@@ -33,7 +45,7 @@ enter_done-receipt-requires-clause-follows g c =
 
 pub enter_done-receipt-requires-clause-entry : goal.enter_done-receipt-requires-clause-entry
 enter_done-receipt-requires-clause-entry g c =
-    let view : RunningSeat g.row.S.Denot = the_view g.row.S g.row.J g.S.Stable g.J.Naming c.self.inside in
+    let view : RunningSeat g.row.S.Denot = the_view g.row.S g.row.J g.S.Stable g.J.Beginning g.J.Naming c.self.inside in
     let mid : Journaled = c.made_ready.new.journal in
     let sent = sent_as c.args.journal.now mid c.args.prepared.input c.made_ready.ensures.journal c.in_ok-admits.ensures.1 in
     let prepared : IsPreparedFor view (record { input = c.args.prepared.input; plan = c.args.prepared.plan }) =
@@ -47,7 +59,7 @@ enter_done-receipt-requires-clause-entry g c =
 
 pub invariant_of-self-in-Ok-take : goal.invariant_of-self-in-Ok-take
 invariant_of-self-in-Ok-take g c =
-    let view : RunningSeat g.row.S.Denot = the_view g.row.S g.row.J g.S.Stable g.J.Naming c.self.inside in
+    let view : RunningSeat g.row.S.Denot = the_view g.row.S g.row.J g.S.Stable g.J.Beginning g.J.Naming c.self.inside in
     let mid : Journaled = c.made_ready.new.journal in
     let may : IsOpen view c.args.journal.now = subst (λ (s : RunningSeat g.row.S.Denot). IsOpen s c.args.journal.now) (sym c.self.view_is) c.in_ok-admits.ensures.0 in
     let open_mid = open_as view c.args.journal.now mid c.made_ready.ensures.journal may in
@@ -61,9 +73,10 @@ invariant_of-self-in-Ok-take g c =
     let counted : vec_len c.in-Ok.copies.sends ≡ length sends = omega (arith, c.in-Ok.copies.sends.ok.0) in
     let entered = entered_done mid c.enter_done-receipt.new.journal c.args.prepared.input sends c.enter_done-receipt.result c.made_ready.new.own.items c.enter_done-receipt.new.own.items c.self.inside.me view.node.me (vec_len c.in-Ok.copies.sends)
     c.self.invariant.0 counted (c.enter_done-receipt.ensures.entry, c.enter_done-receipt.ensures.others, c.enter_done-receipt.ensures.told, c.enter_done-receipt.ensures.own) in
-    let new : RunningSeat g.row.S.Denot = record { config = c.self.inside.config; node = node; own = c.enter_done-receipt.new.own.items } in
+    let new : RunningSeat g.row.S.Denot = record { config = c.self.inside.config; start = seats_in g.J.Beginning.start c.self.inside.me; node = node; own = c.enter_done-receipt.new.own.items } in
     let more : HasMore view new node (done_entry view.node.me c.args.prepared.input (length mid.trace.sent) sends) = record {
       config_is = refl;
+      start_is = refl;
       node_is = refl;
       own_is = entered.3 ∙ ap (λ (es : List Entry). es ++ done_entry view.node.me c.args.prepared.input (length mid.trace.sent) sends ∷ []) c.made_ready.ensures.own;
     } in
@@ -76,7 +89,7 @@ invariant_of-self-in-Ok-take g c =
 
 pub returns-in-Ok-take-clause-gives : goal.returns-in-Ok-take-clause-gives
 returns-in-Ok-take-clause-gives g c =
-    let view : RunningSeat g.row.S.Denot = the_view g.row.S g.row.J g.S.Stable g.J.Naming c.self.inside in
+    let view : RunningSeat g.row.S.Denot = the_view g.row.S g.row.J g.S.Stable g.J.Beginning g.J.Naming c.self.inside in
     let mid : Journaled = c.made_ready.new.journal in
     let may : IsOpen view c.args.journal.now = subst (λ (s : RunningSeat g.row.S.Denot). IsOpen s c.args.journal.now) (sym c.self.view_is) c.in_ok-admits.ensures.0 in
     let open_mid = open_as view c.args.journal.now mid c.made_ready.ensures.journal may in
@@ -90,9 +103,10 @@ returns-in-Ok-take-clause-gives g c =
     let counted : vec_len c.in-Ok.copies.sends ≡ length sends = omega (arith, c.in-Ok.copies.sends.ok.0) in
     let entered = entered_done mid c.enter_done-receipt.new.journal c.args.prepared.input sends c.enter_done-receipt.result c.made_ready.new.own.items c.enter_done-receipt.new.own.items c.self.inside.me view.node.me (vec_len c.in-Ok.copies.sends)
     c.self.invariant.0 counted (c.enter_done-receipt.ensures.entry, c.enter_done-receipt.ensures.others, c.enter_done-receipt.ensures.told, c.enter_done-receipt.ensures.own) in
-    let new : RunningSeat g.row.S.Denot = record { config = c.self.inside.config; node = node; own = c.enter_done-receipt.new.own.items } in
+    let new : RunningSeat g.row.S.Denot = record { config = c.self.inside.config; start = seats_in g.J.Beginning.start c.self.inside.me; node = node; own = c.enter_done-receipt.new.own.items } in
     let more : HasMore view new node (done_entry view.node.me c.args.prepared.input (length mid.trace.sent) sends) = record {
       config_is = refl;
+      start_is = refl;
       node_is = refl;
       own_is = entered.3 ∙ ap (λ (es : List Entry). es ++ done_entry view.node.me c.args.prepared.input (length mid.trace.sent) sends ∷ []) c.made_ready.ensures.own;
     } in
@@ -102,7 +116,7 @@ returns-in-Ok-take-clause-gives g c =
 
 pub returns-in-Ok-take-clause-others : goal.returns-in-Ok-take-clause-others
 returns-in-Ok-take-clause-others g c =
-    let view : RunningSeat g.row.S.Denot = the_view g.row.S g.row.J g.S.Stable g.J.Naming c.self.inside in
+    let view : RunningSeat g.row.S.Denot = the_view g.row.S g.row.J g.S.Stable g.J.Beginning g.J.Naming c.self.inside in
     let mid : Journaled = c.made_ready.new.journal in
     let may : IsOpen view c.args.journal.now = subst (λ (s : RunningSeat g.row.S.Denot). IsOpen s c.args.journal.now) (sym c.self.view_is) c.in_ok-admits.ensures.0 in
     let open_mid = open_as view c.args.journal.now mid c.made_ready.ensures.journal may in
@@ -116,9 +130,10 @@ returns-in-Ok-take-clause-others g c =
     let counted : vec_len c.in-Ok.copies.sends ≡ length sends = omega (arith, c.in-Ok.copies.sends.ok.0) in
     let entered = entered_done mid c.enter_done-receipt.new.journal c.args.prepared.input sends c.enter_done-receipt.result c.made_ready.new.own.items c.enter_done-receipt.new.own.items c.self.inside.me view.node.me (vec_len c.in-Ok.copies.sends)
     c.self.invariant.0 counted (c.enter_done-receipt.ensures.entry, c.enter_done-receipt.ensures.others, c.enter_done-receipt.ensures.told, c.enter_done-receipt.ensures.own) in
-    let new : RunningSeat g.row.S.Denot = record { config = c.self.inside.config; node = node; own = c.enter_done-receipt.new.own.items } in
+    let new : RunningSeat g.row.S.Denot = record { config = c.self.inside.config; start = seats_in g.J.Beginning.start c.self.inside.me; node = node; own = c.enter_done-receipt.new.own.items } in
     let more : HasMore view new node (done_entry view.node.me c.args.prepared.input (length mid.trace.sent) sends) = record {
       config_is = refl;
+      start_is = refl;
       node_is = refl;
       own_is = entered.3 ∙ ap (λ (es : List Entry). es ++ done_entry view.node.me c.args.prepared.input (length mid.trace.sent) sends ∷ []) c.made_ready.ensures.own;
     } in
@@ -129,7 +144,7 @@ returns-in-Ok-take-clause-others g c =
 
 pub enter_cut-requires-clause-follows : goal.enter_cut-requires-clause-follows
 enter_cut-requires-clause-follows g c =
-    let view : RunningSeat g.row.S.Denot = the_view g.row.S g.row.J g.S.Stable g.J.Naming c.self.inside in
+    let view : RunningSeat g.row.S.Denot = the_view g.row.S g.row.J g.S.Stable g.J.Beginning g.J.Naming c.self.inside in
     let mid : Journaled = c.made_ready.new.journal in
     let may : IsOpen view c.args.journal.now = subst (λ (s : RunningSeat g.row.S.Denot). IsOpen s c.args.journal.now) (sym c.self.view_is) c.in_ok-admits.ensures.0 in
     let open_mid = open_as view c.args.journal.now mid c.made_ready.ensures.journal may in
@@ -148,7 +163,7 @@ enter_cut-requires-clause-entry g c =
 
 pub invariant_of-self-in-Err-take : goal.invariant_of-self-in-Err-take
 invariant_of-self-in-Err-take g c =
-    let view : RunningSeat g.row.S.Denot = the_view g.row.S g.row.J g.S.Stable g.J.Naming c.self.inside in
+    let view : RunningSeat g.row.S.Denot = the_view g.row.S g.row.J g.S.Stable g.J.Beginning g.J.Naming c.self.inside in
     let mid : Journaled = c.made_ready.new.journal in
     let may : IsOpen view c.args.journal.now = subst (λ (s : RunningSeat g.row.S.Denot). IsOpen s c.args.journal.now) (sym c.self.view_is) c.in_ok-admits.ensures.0 in
     let open_mid = open_as view c.args.journal.now mid c.made_ready.ensures.journal may in
@@ -160,9 +175,10 @@ invariant_of-self-in-Err-take g c =
     let entered : EnteredCut mid c.enter_cut.new.journal c.args.prepared.input c.made_ready.new.own.items c.enter_cut.new.own.items view.node.me =
     subst (λ (m : ℕ). EnteredCut mid c.enter_cut.new.journal c.args.prepared.input c.made_ready.new.own.items c.enter_cut.new.own.items m) c.self.invariant.0 c.enter_cut.ensures in
     let cut = entered.0 in
-    let new : RunningSeat g.row.S.Denot = record { config = c.self.inside.config; node = node; own = c.enter_cut.new.own.items } in
+    let new : RunningSeat g.row.S.Denot = record { config = c.self.inside.config; start = seats_in g.J.Beginning.start c.self.inside.me; node = node; own = c.enter_cut.new.own.items } in
     let more : HasMore view new node (cut_entry cut c.args.prepared.input) = record {
       config_is = refl;
+      start_is = refl;
       node_is = refl;
       own_is = entered.2 ∙ ap (λ (es : List Entry). es ++ cut_entry cut c.args.prepared.input ∷ []) c.made_ready.ensures.own;
     } in
@@ -176,7 +192,7 @@ invariant_of-self-in-Err-take g c =
 
 pub returns-in-Err-take-clause-gives : goal.returns-in-Err-take-clause-gives
 returns-in-Err-take-clause-gives g c =
-    let view : RunningSeat g.row.S.Denot = the_view g.row.S g.row.J g.S.Stable g.J.Naming c.self.inside in
+    let view : RunningSeat g.row.S.Denot = the_view g.row.S g.row.J g.S.Stable g.J.Beginning g.J.Naming c.self.inside in
     let mid : Journaled = c.made_ready.new.journal in
     let may : IsOpen view c.args.journal.now = subst (λ (s : RunningSeat g.row.S.Denot). IsOpen s c.args.journal.now) (sym c.self.view_is) c.in_ok-admits.ensures.0 in
     let open_mid = open_as view c.args.journal.now mid c.made_ready.ensures.journal may in
@@ -188,9 +204,10 @@ returns-in-Err-take-clause-gives g c =
     let entered : EnteredCut mid c.enter_cut.new.journal c.args.prepared.input c.made_ready.new.own.items c.enter_cut.new.own.items view.node.me =
     subst (λ (m : ℕ). EnteredCut mid c.enter_cut.new.journal c.args.prepared.input c.made_ready.new.own.items c.enter_cut.new.own.items m) c.self.invariant.0 c.enter_cut.ensures in
     let cut = entered.0 in
-    let new : RunningSeat g.row.S.Denot = record { config = c.self.inside.config; node = node; own = c.enter_cut.new.own.items } in
+    let new : RunningSeat g.row.S.Denot = record { config = c.self.inside.config; start = seats_in g.J.Beginning.start c.self.inside.me; node = node; own = c.enter_cut.new.own.items } in
     let more : HasMore view new node (cut_entry cut c.args.prepared.input) = record {
       config_is = refl;
+      start_is = refl;
       node_is = refl;
       own_is = entered.2 ∙ ap (λ (es : List Entry). es ++ cut_entry cut c.args.prepared.input ∷ []) c.made_ready.ensures.own;
     } in
@@ -200,7 +217,7 @@ returns-in-Err-take-clause-gives g c =
 
 pub returns-in-Err-take-clause-others : goal.returns-in-Err-take-clause-others
 returns-in-Err-take-clause-others g c =
-    let view : RunningSeat g.row.S.Denot = the_view g.row.S g.row.J g.S.Stable g.J.Naming c.self.inside in
+    let view : RunningSeat g.row.S.Denot = the_view g.row.S g.row.J g.S.Stable g.J.Beginning g.J.Naming c.self.inside in
     let mid : Journaled = c.made_ready.new.journal in
     let may : IsOpen view c.args.journal.now = subst (λ (s : RunningSeat g.row.S.Denot). IsOpen s c.args.journal.now) (sym c.self.view_is) c.in_ok-admits.ensures.0 in
     let open_mid = open_as view c.args.journal.now mid c.made_ready.ensures.journal may in
@@ -212,9 +229,10 @@ returns-in-Err-take-clause-others g c =
     let entered : EnteredCut mid c.enter_cut.new.journal c.args.prepared.input c.made_ready.new.own.items c.enter_cut.new.own.items view.node.me =
     subst (λ (m : ℕ). EnteredCut mid c.enter_cut.new.journal c.args.prepared.input c.made_ready.new.own.items c.enter_cut.new.own.items m) c.self.invariant.0 c.enter_cut.ensures in
     let cut = entered.0 in
-    let new : RunningSeat g.row.S.Denot = record { config = c.self.inside.config; node = node; own = c.enter_cut.new.own.items } in
+    let new : RunningSeat g.row.S.Denot = record { config = c.self.inside.config; start = seats_in g.J.Beginning.start c.self.inside.me; node = node; own = c.enter_cut.new.own.items } in
     let more : HasMore view new node (cut_entry cut c.args.prepared.input) = record {
       config_is = refl;
+      start_is = refl;
       node_is = refl;
       own_is = entered.2 ∙ ap (λ (es : List Entry). es ++ cut_entry cut c.args.prepared.input ∷ []) c.made_ready.ensures.own;
     } in
