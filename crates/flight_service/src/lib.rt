@@ -26,11 +26,14 @@ mod timely;
 mod works;
 
 pub use cluster::{Started, config_of, five_nodes, open_seat, start_nodes, three_nodes};
+pub use cluster_backend::{AllReceipts, NoReceipts};
 pub use connection::{SILENCE_SECONDS, serve_connection};
 pub use fault::ServiceFault;
 pub use listening::{bind_all, start_listening};
+pub use node_threads::{Beginning, Journal, Note, OwnEntry, Seat};
 pub use opening::{OpenService, join_all, open_service};
 pub use places::{MOST_CONNECTIONS, Places};
+pub use schedule_runner::Config;
 pub use service::Service;
 pub use timely::{MOST_WRITE_BYTES, TimelyWriter};
 pub use works::{Works, start_workers};

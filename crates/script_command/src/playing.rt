@@ -10,12 +10,12 @@ ghost use Rattle.script_command.specs.Playing.{MeansNoScript, WritesAll, confirm
 use crate::calling::{FIRST_PORT, play_calls};
 use crate::fault::{PlayFault, Unplayed, not_served};
 use crate::status::{FAILURE, SUCCESS};
-use cluster_backend::AllReceipts;
 use crossbeam_channel::Receiver;
-use flight_service::{Works, five_nodes, join_all, open_service, three_nodes};
+use flight_service::{
+    AllReceipts, Beginning, Note, OwnEntry, Works, five_nodes, join_all, open_service, three_nodes,
+};
 use growing_log::Opened;
 use grpc_frames::transfer::put;
-use node_threads::{Beginning, Note, OwnEntry};
 use run_files::{Call, NodeCount, ScriptFault, read_script, script_flaw};
 use std::alloc::Global;
 use std::hash::RandomState;

@@ -5,10 +5,11 @@ ghost use Rattle.std.specs.Prelude.{◌≡◌, []};
 use crate::fault::{ServeFault, fault_of};
 use disk_records::DiskStable;
 use file_disk::FileDisk;
-use flight_service::{ServiceFault, Started, config_of, open_seat, start_nodes};
+use flight_service::{
+    Beginning, Config, Journal, OwnEntry, Seat, ServiceFault, Started, config_of, open_seat,
+    start_nodes,
+};
 use growing_log::Opened;
-use node_threads::{Beginning, Journal, OwnEntry, Seat};
-use schedule_runner::Config;
 use std::alloc::{Alloc, Global};
 use std::fs::{File, Files, canonicalize, create_dir_all};
 use std::hash::RandomState;
