@@ -1,0 +1,96 @@
+//! Messages that a node hears again.
+
+ghost use Rattle.std.specs.Prelude.{◌↔◌, IsTrue, List};
+ghost use Rattle.ballots.specs.declared.record.Record.{Record as Held};
+ghost use Rattle.agreement_rules.specs.Views.{Views, started_with};
+ghost use Rattle.resumed_histories.specs.StartingOver.{TellsOfAValue};
+ghost use Rattle.node_seats.specs.State.{IsPlaced, StandsUp};
+ghost use Rattle.resumed_nodes.specs.Hearing.{HearAnswers, HearLeaves, IsHearFaultFor, HearAllAnswers};
+
+use crate::fault::HearFault;
+use ballots::{Body, Message};
+use node_core::Input;
+use node_events::Reason;
+use node_seats::Seat;
+use stable_records::Stable;
+
+/// Hands the node, which is up, a message again that tells which value was accepted or decided: its learner is told,
+/// and it has seen the message's round (Lamport, *Paxos Made Simple*, sections 2.3 and 2.5). Nothing is kept or sent.
+///
+/// [`HearFault::NoValue`] comes exactly where the message tells of no value, [`HearFault::Down`] only where the node is
+/// down, which then hears nothing, and [`HearFault::OutOfRange`] only where the message names a node that is none or a
+/// slot that there is not. After each of these, and where memory is refused, the node stands as it stood.
+/// [`HearFault::Store`] never comes for a node that stands up by its rules.
+pub fn hear<S: Stable + Drop>(seat: &mut Seat<S>, message: &Message) -> Result<(), HearFault>
+    ensures gives { (views : Views) → IsPlaced seat.old → StandsUp seat.old views
+        → HearAnswers seat.old seat.new views message.now result }
+    ensures leaves { HearLeaves seat.old seat.new result }
+{
+    if !tells_of_a_value(&message.body) {
+        return Err(HearFault::NoValue);
+    }
+    match message.clone() {
+        Ok(copy) => hear_copy(seat, copy),
+        Err(_) => Err(HearFault::OutOfMemory),
+    }
+}
+
+// Whether it tells which value was accepted or decided.
+fn tells_of_a_value(body: &Body) -> bool
+    ensures { IsTrue result ↔ TellsOfAValue body.now }
+{
+    match body {
+        Body::Prepare { .. } => false,
+        Body::Promise { .. } => false,
+        Body::Nack { .. } => false,
+        Body::Accept(_) => false,
+        Body::Accepted(_) => true,
+        Body::Ask => false,
+        Body::Decided { .. } => true,
+    }
+}
+
+// Does what is due to a message that tells of a value.
+fn hear_copy<S: Stable + Drop>(seat: &mut Seat<S>, message: Message) -> Result<(), HearFault>
+    requires { TellsOfAValue message.body }
+    ensures gives { (views : Views) → IsPlaced seat.old → StandsUp seat.old views
+        → HearAnswers seat.old seat.new views message result }
+    ensures leaves { HearLeaves seat.old seat.new result }
+{
+    let plan = match seat.plan(Input::Deliver(message)) {
+        Ok(plan) => plan,
+        Err(reason) => return Err(fault_for(reason)),
+    };
+    match seat.take(plan) {
+        Ok(()) => Ok(()),
+        Err(fault) => Err(HearFault::Store(fault)),
+    }
+}
+
+// Why nothing is planned for a message.
+fn fault_for(reason: Reason) -> HearFault
+    ensures { IsHearFaultFor reason result }
+{
+    match reason {
+        Reason::OutOfMemory => HearFault::OutOfMemory,
+        Reason::Down => HearFault::Down,
+        _ => HearFault::OutOfRange,
+    }
+}
+
+/// Hands a node that was started with its records these messages again, one after the other: it has then learned what
+/// they tell, and nothing else has changed (Lamport, *Paxos Made Simple*, sections 2.3 and 2.5).
+///
+/// The faults are those of [`hear`], of the first message that meets one; the node has heard those before it.
+pub fn hear_all<S: Stable + Drop>(seat: &mut Seat<S>, told: &[Message]) -> Result<(), HearFault>
+    ensures { (records : List Held) → IsPlaced seat.old → StandsUp seat.old (started_with records)
+        → HearAllAnswers seat.old seat.new records told.now result }
+{
+    for message in told {
+        match hear(seat, message) {
+            Ok(()) => {}
+            Err(fault) => return Err(fault),
+        }
+    }
+    Ok(())
+}

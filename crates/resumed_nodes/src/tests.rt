@@ -1,0 +1,85 @@
+use super::*;
+use agreement::Config;
+use ballots::{Acceptance, Ballot, Body, Members, Message, NodeId, Slot, Value};
+use node_core::Input;
+use node_seats::Seat;
+use stable_records::MemoryStable;
+use std::alloc::Global;
+use std::hash::RandomState;
+use std::test::*;
+
+// Node 0 of three, with five thousand slots and no records.
+fn seat(alloc: Global, hashing: RandomState) -> Result<Box<Seat<MemoryStable>>, Fail> {
+    let me = NodeId::new(0).ok_or("no node")?;
+    let members = Members::new(3).ok_or("no members")?;
+    let config = Config::new(members, 5_000).ok_or("no config")?;
+    match Seat::reopen(alloc, hashing, me, config, MemoryStable::new(alloc)) {
+        Ok(seat) => Ok(Box::new(alloc, seat)?),
+        Err(_) => Err(Fail::from("no seat")),
+    }
+}
+
+// A message of this node about this slot.
+fn message(sender: u8, slot: u32, body: Body) -> Result<Message, Fail> {
+    Ok(Message {
+        sender: NodeId::new(sender).ok_or("no sender")?,
+        slot: Slot::new(slot).ok_or("no slot")?,
+        body,
+    })
+}
+
+// This node accepted a no-op for the slot, at the ballot 1.0.
+fn accepted(sender: u8, slot: u32) -> Result<Message, Fail> {
+    let node = NodeId::new(0).ok_or("no node")?;
+    let ballot = Ballot::new(1, node).ok_or("no ballot")?;
+    let value = Value::Noop;
+    message(sender, slot, Body::Accepted(Acceptance { ballot, value }))
+}
+
+// How many values the node tells to whoever asks it from this slot on.
+fn tells_from(seat: &mut Seat<MemoryStable>, slot: u32) -> Result<usize, Fail> {
+    match seat.plan(Input::Deliver(message(1, slot, Body::Ask)?)) {
+        Ok(plan) => Ok(plan.sends().len()),
+        Err(_) => Err(Fail::from("nothing is due")),
+    }
+}
+
+#[test]
+fn a_majority_is_heard(rt: HostRuntime) -> Result<(), Fail> {
+    let mut seat = seat(rt.alloc(), RandomState::new(&rt)?)?;
+    assert!(rt; hear(&mut seat, &accepted(0, 0)?).is_ok());
+    assert!(rt; tells_from(&mut seat, 0)? == 0);
+    assert!(rt; hear(&mut seat, &accepted(2, 0)?).is_ok());
+    assert!(rt; tells_from(&mut seat, 0)? == 1);
+    Ok(())
+}
+
+#[test]
+fn what_tells_no_value_is_not_heard(rt: HostRuntime) -> Result<(), Fail> {
+    let mut seat = seat(rt.alloc(), RandomState::new(&rt)?)?;
+    assert!(rt; hear(&mut seat, &message(1, 0, Body::Ask)?) == Err(HearFault::NoValue));
+    assert!(rt; hear(&mut seat, &accepted(3, 0)?) == Err(HearFault::OutOfRange));
+    assert!(rt; hear(&mut seat, &accepted(0, 5_000)?) == Err(HearFault::OutOfRange));
+    Ok(())
+}
+
+// What two nodes accepted for so many slots.
+fn told(alloc: Global, slots: u32) -> Result<Vec<Message>, Fail> {
+    let mut told = Vec::new(alloc);
+    for slot in 0..slots {
+        told.push(accepted(0, slot)?)?;
+        told.push(accepted(1, slot)?)?;
+    }
+    Ok(told)
+}
+
+#[test]
+fn thousands_of_slots_are_heard(rt: HostRuntime) -> Result<(), Fail> {
+    let mut seat = seat(rt.alloc(), RandomState::new(&rt)?)?;
+    let told = told(rt.alloc(), 4_000)?;
+    assert!(rt; hear_all(&mut seat, told.as_slice()).is_ok());
+    assert!(rt; tells_from(&mut seat, 0)? == 16);
+    assert!(rt; tells_from(&mut seat, 3_999)? == 1);
+    assert!(rt; tells_from(&mut seat, 4_000)? == 0);
+    Ok(())
+}
