@@ -1,2 +1,3 @@
 mod Told
 pub mod Taking
+pub mod Members

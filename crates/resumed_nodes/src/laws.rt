@@ -1,14 +1,29 @@
 //! Laws of what nodes have that start again.
 
-ghost use Rattle.std.specs.Prelude.{◌≡◌, ℕ, List};
+ghost use Rattle.std.specs.Prelude.{◌≡◌, ℕ, Bool, List, length, Some, slice_get, slice_index_or};
 ghost use Rattle.ballots.specs.declared.record.Record.{Record};
 ghost use Rattle.ballots.specs.declared.message.Message.{Message};
 ghost use Rattle.agreement_rules.specs.Views.{Config, Views, started_with};
-ghost use Rattle.resumed_histories.specs.StartingOver.{Hears};
-ghost use Rattle.resumed_nodes.specs.Heard.{heard};
+ghost use Rattle.histories.specs.History.{History};
+ghost use Rattle.histories.specs.Following.{Seat, recovered_in, at_first};
+ghost use Rattle.joined_histories.specs.Joined.{Precedes};
+ghost use Rattle.resumed_histories.specs.StartingOver.{Hears, StartsOver};
+ghost use Rattle.resumed_nodes.specs.Heard.{heard, starts_of};
 
 /// A node that starts with these records and hears these messages has one thing then, whichever node it is.
 pub fn what_is_heard_is_one()
     ensures { (config : Config) (node : ℕ) (records : List Record) (told : List Message) (after : Views)
         → Hears config node (started_with records) told after → after ≡ heard records told }
+{}
+
+/// Where a history left its members so, and each has been opened with its records and has heard these messages by its
+/// rules, the members have started over: each stands where the list of starts has it, and nobody beyond its end differs
+/// from a node that has nothing.
+pub fn members_have_started_over()
+    ensures { (config : Config) (left : ℕ → Seat) (before : History) (recovered : ℕ → Bool)
+        (all : List (List Record)) (told : List Message) → Precedes config left before → length all ≡ config.members
+        → ((node : ℕ) (records : List Record) → slice_get all node ≡ Some records
+        → (records ≡ recovered_in (recovered node) (left node))
+        × Hears config node (started_with records) told (heard records told))
+        → StartsOver config left recovered told (λ node. slice_index_or (starts_of all told) node (at_first node)) }
 {}
