@@ -1,5 +1,5 @@
 -- A store of the tests that tells nothing of what it has.
-use Rattle.std.specs.Prelude.{◌≡◌, Bool, true, false, IsTrue}
+use Rattle.std.specs.Prelude.{◌≡◌, true, false, IsTrue}
 
 -- it tells nothing
 pub untold : {P : Type 0} → IsTrue false → P

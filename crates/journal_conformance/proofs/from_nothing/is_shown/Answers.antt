@@ -1,0 +1,20 @@
+use Rattle.std.proofs.Common.{◌↔◌}
+use Rattle.agreement_rules.specs.Views.{HasPrefix}
+use Rattle.histories.specs.History.{History}
+use Rattle.safe_histories.specs.Learning.{Runs, HasLearnedPrefix}
+use Rattle.seats.specs.Steps.{IsDown}
+use Rattle.journal_conformance.proofs.Beginnings.{alone}
+use Rattle.journal_conformance.proofs.from_nothing.is_shown.Goals as goal
+
+pub returns-clause-runs : goal.returns-clause-runs
+returns-clause-runs g c = λ is.
+    alone c.nothing_precedes_the_start.ensures.precedes c.nothing_precedes_the_start.ensures.joined c.args.journal.now c.starts_as_named.ensures
+    (λ (history : History). (IsDown {S = g.row.S.Denot} c.args.seat.now → ⊥) ↔ Runs c.args.seat.now.node.me history.steps)
+    (c.agrees.ensures.runs is)
+
+pub returns-clause-prefix : goal.returns-clause-prefix
+returns-clause-prefix g c = λ is views values led.
+    alone c.nothing_precedes_the_start.ensures.precedes c.nothing_precedes_the_start.ensures.joined c.args.journal.now c.starts_as_named.ensures
+    (λ (history : History). HasPrefix c.args.seat.now.node.config.members views.learner_calls values
+    ↔ HasLearnedPrefix c.args.seat.now.node.config.members history.sent history.steps c.args.seat.now.node.me values)
+    (λ before precedes. c.agrees.ensures.prefix is before views values precedes led)
