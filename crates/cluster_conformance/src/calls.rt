@@ -5,11 +5,12 @@ ghost use Rattle.std.specs.Prelude.{◌≡◌, []};
 use crate::support::{Nodes, Why, check, had, three, ticket, told, upload};
 use call_words::BackFault;
 use client_calls::call_info;
-use cluster_backend::{AllReceipts, ClusterBackend};
 use flight_calls::Backend;
-use flight_service::serve_connection;
+use flight_service::{
+    AllReceipts, Beginning, ClusterBackend, OpenGate, OwnEntry, SeatFault, SeatInput,
+    serve_connection,
+};
 use growing_log::Opened;
-use node_threads::{Beginning, OpenGate, OwnEntry, SeatFault, SeatInput};
 use std::alloc::Global;
 use std::hash::RandomState;
 use std::marker::Brand;

@@ -4,9 +4,8 @@ ghost use Rattle.std.specs.Prelude.{◌≡◌, []};
 
 use crate::held::answers;
 use crate::support::{Nodes, Why, check, had, three, told};
-use flight_service::Works;
+use flight_service::{Beginning, Gate, OwnEntry, Running, Works};
 use growing_log::Opened;
-use node_threads::{Beginning, Gate, OwnEntry, Running};
 use std::alloc::Global;
 use std::hash::RandomState;
 use std::marker::Brand;

@@ -1,8 +1,7 @@
 //! Nodes with workers, and what tests do with them besides.
 
 use crate::flag::Flag;
-use flight_service::Works;
-use node_threads::{Beginning, OpenGate, Running};
+use flight_service::{Beginning, OpenGate, Running, Works};
 use schedule_runner::audit;
 use stable_records::Stable;
 use std::sync::Wait;

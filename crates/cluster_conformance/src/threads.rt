@@ -6,12 +6,13 @@ use crate::support::{Why, check, had, three, three_on_disks, ticket, told, uploa
 use crate::tested::Tested;
 use call_words::BackFault;
 use client_calls::{Download, call_get};
-use cluster_backend::{AllReceipts, ClusterBackend, Nodes};
 use crossbeam_channel::Receiver;
 use flight_calls::Backend;
-use flight_service::{Service, join_all, serve_connection, start_workers};
+use flight_service::{
+    AllReceipts, Beginning, ClusterBackend, Nodes, Note, OpenGate, OwnEntry, Service, join_all,
+    serve_connection, start_workers,
+};
 use growing_log::Opened;
-use node_threads::{Beginning, Note, OpenGate, OwnEntry};
 use std::alloc::Global;
 use std::hash::RandomState;
 use std::marker::Brand;

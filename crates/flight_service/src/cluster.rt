@@ -6,9 +6,9 @@ ghost use Rattle.std.specs.Prelude.{◌≡◌, []};
 
 use crate::fault::{ServiceFault, store_fault};
 use ballots::{Members, NodeId};
+use cluster_backend::{Beginning, Cluster, Journal, Note, OpenGate, OwnEntry, Running, Seat};
 use crossbeam_channel::Receiver;
 use growing_log::Opened;
-use node_threads::{Beginning, Cluster, Journal, Note, OpenGate, OwnEntry, Running, Seat};
 use schedule_runner::{Config, MAX_JOURNAL_ENTRIES, MAX_SLOTS};
 use stable_records::{MemoryStable, Stable};
 use std::alloc::Global;

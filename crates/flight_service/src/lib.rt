@@ -26,11 +26,13 @@ mod timely;
 mod works;
 
 pub use cluster::{Started, config_of, five_nodes, open_seat, start_nodes, three_nodes};
-pub use cluster_backend::{AllReceipts, NoReceipts};
+pub use cluster_backend::{
+    AllReceipts, Beginning, Cluster, ClusterBackend, Gate, Journal, NoReceipts, Nodes, Note,
+    OpenGate, OwnEntry, Running, Seat, SeatFault, SeatInput,
+};
 pub use connection::{SILENCE_SECONDS, serve_connection};
 pub use fault::ServiceFault;
 pub use listening::{bind_all, start_listening};
-pub use node_threads::{Beginning, Journal, Note, OwnEntry, Seat};
 pub use opening::{OpenService, join_all, open_service};
 pub use places::{MOST_CONNECTIONS, Places};
 pub use schedule_runner::Config;

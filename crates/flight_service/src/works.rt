@@ -3,9 +3,8 @@
 use crate::fault::ServiceFault;
 use crate::service::Service;
 use ballots::NodeId;
-use cluster_backend::{AllReceipts, Nodes, Receipts};
+use cluster_backend::{AllReceipts, Beginning, Gate, Nodes, Note, Pace, Receipts, Running};
 use crossbeam_channel::Receiver;
-use node_threads::{Beginning, Gate, Note, Pace, Running};
 use stable_records::Stable;
 use std::alloc::{AllocError, Global};
 use std::sync::{Arc, Wait};
