@@ -18,7 +18,7 @@ use crate::fault::SeatFault;
 use crate::kept::KeptRecords;
 use crate::reasons::reason_for;
 use crate::steps::keep_and_commit;
-use ballots::NodeId;
+use ballots::{NodeId, Record};
 use node_core::{Config, Input, Node, Plan};
 use node_events::Reason;
 use stable_records::{Stable, StoreFault};
@@ -128,6 +128,13 @@ impl<S: Stable + Drop> Seat<S> {
         ensures { option_map (λ node. node.now) result ≡ self.now.node }
     {
         self.node.as_ref()
+    }
+
+    /// The records that its store kept, the first that was kept first.
+    pub fn records(&self) -> &[Record]
+        ensures { result.now ≡ self.now.records }
+    {
+        self.kept.records.as_slice()
     }
 
     /// What is due to an input: a plan, which [`Seat::take`] makes true, or why the node refuses it, as [`Node::plan`]
