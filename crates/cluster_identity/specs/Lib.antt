@@ -1,0 +1,4 @@
+pub mod Marks
+pub mod Identities
+pub mod IdentityTexts
+pub mod Readings
