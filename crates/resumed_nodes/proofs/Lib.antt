@@ -1,3 +1,4 @@
 mod Told
 pub mod Taking
 pub mod Members
+pub mod Restarted

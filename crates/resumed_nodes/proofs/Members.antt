@@ -1,9 +1,8 @@
 -- Members that were opened again, and who is no member.
-use Rattle.std.proofs.Common.{◌≡◌, ◌≢◌, ℕ, zero, suc, ◌+◌, ◌<◌, ◌≤◌, inl, inr, Bool, Option, None, Some, List, [], ◌∷◌, length, map, slice_get, slice_index_or, refl, sym, ap, subst, ◌∙◌, arith}
+use Rattle.std.proofs.Common.{◌≡◌, ℕ, zero, suc, ◌+◌, ◌<◌, ◌≤◌, inl, inr, Bool, Some, List, [], ◌∷◌, length, map, slice_get, slice_index_or, refl, sym, ap, subst, ◌∙◌, arith}
 use Rattle.ballots.specs.declared.message.Message.{Message}
 use Rattle.ballots.specs.declared.record.Record.{Record}
-use Rattle.agreement_rules.specs.Views.{Config, Views, started_with}
-use Rattle.histories.specs.Event.{node_of}
+use Rattle.agreement_rules.specs.Views.{Config, started_with}
 use Rattle.histories.specs.EventResult.{count_of}
 use Rattle.histories.specs.History.{Step, History}
 use Rattle.histories.specs.Following.{Seat, IsUp, recovered_in, StepFollows, StepsReach, at_first}

@@ -1,6 +1,7 @@
-//! Why a node did not hear a message.
+//! Why a node did not start again, or did not hear a message.
 
 use stable_records::StoreFault;
+use std::alloc::AllocError;
 use thiserror::Error;
 
 /// Why a node did not hear a message. The node is as before, but for room that it made.
@@ -21,4 +22,32 @@ pub enum HearFault {
     /// The store failed. It never does for a node that stands up by its rules: what is heard keeps no record.
     #[error("Store: {0}")]
     Store(StoreFault),
+}
+
+/// Why a node was not started again over the records of its store.
+#[derive(Clone, Copy, Debug, PartialEq, Eq, Error)]
+pub enum ReopenFault {
+    /// The store gave no records back.
+    #[error("Store: {0}")]
+    Store(StoreFault),
+    /// A record names a node that is none, or a slot that there is not.
+    #[error("OutOfRange")]
+    OutOfRange,
+    /// A record says that the node began a ballot of another node: these are that node's records.
+    #[error("AnotherNode")]
+    AnotherNode,
+    /// Memory was refused.
+    #[error("OutOfMemory")]
+    OutOfMemory,
+}
+
+impl From<AllocError> for ReopenFault {
+    ghost use Rattle.std.specs.Prelude.{◌≡◌};
+    ghost use Rattle.resumed_nodes.specs.declared.fault.ReopenFault.TheVariants.{OutOfMemory};
+
+    ghost from_gives = { λ _ fault. fault ≡ OutOfMemory };
+
+    fn from(_: AllocError) -> ReopenFault {
+        ReopenFault::OutOfMemory
+    }
 }

@@ -1,18 +1,21 @@
 //! Messages that a node hears again.
 
-ghost use Rattle.std.specs.Prelude.{◌↔◌, IsTrue, List};
+ghost use Rattle.std.specs.Prelude.{◌≡◌, ◌<◌, ◌+◌, ◌↔◌, IsTrue, length, List, OnErr, OnOk};
+ghost use Rattle.std.specs.List.{All};
 ghost use Rattle.ballots.specs.declared.record.Record.{Record as Held};
 ghost use Rattle.agreement_rules.specs.Views.{Views, started_with};
 ghost use Rattle.resumed_histories.specs.StartingOver.{TellsOfAValue};
 ghost use Rattle.node_seats.specs.State.{IsPlaced, StandsUp};
+ghost use Rattle.resumed_nodes.specs.Starting.{HaveHeard, MayBeTold, records_of};
 ghost use Rattle.resumed_nodes.specs.Hearing.{HearAnswers, HearLeaves, IsHearFaultFor, HearAllAnswers};
 
 use crate::fault::HearFault;
 use ballots::{Body, Message};
-use node_core::Input;
+use node_core::{Config, Input};
 use node_events::Reason;
 use node_seats::Seat;
 use stable_records::Stable;
+use std::alloc::AllocError;
 
 /// Hands the node, which is up, a message again that tells which value was accepted or decided: its learner is told,
 /// and it has seen the message's round (Lamport, *Paxos Made Simple*, sections 2.3 and 2.5). Nothing is kept or sent.
@@ -93,4 +96,29 @@ pub fn hear_all<S: Stable + Drop>(seat: &mut Seat<S>, told: &[Message]) -> Resul
         }
     }
     Ok(())
+}
+
+/// Hands these messages to the next of the nodes that start again, which is at the place of its number, once those before it
+/// have heard them. It has then learned what they tell, as these have. The messages are such as [`chosen_by`] gives.
+///
+/// [`AllocError`] says that memory was refused; the node has then heard a beginning of the messages.
+///
+/// [`chosen_by`]: crate::chosen_by
+pub fn hear_next<S: Stable + Drop>(
+    config: Config,
+    nodes: &mut [Seat<S>],
+    number: usize,
+    told: &[Message],
+) -> Result<(), AllocError>
+    requires within { number < length nodes.old }
+    requires heard { HaveHeard config told.now number nodes.old }
+    requires may { All (MayBeTold config) told.now }
+    ensures heard { OnOk result (HaveHeard config told.now (number + 1) nodes.new) }
+    ensures records { OnOk result (records_of nodes.new ≡ records_of nodes.old) }
+{
+    match hear_all(&mut nodes[number], told) {
+        Ok(()) => Ok(()),
+        Err(HearFault::OutOfMemory) => Err(AllocError),
+        Err(_) => unreachable!(),
+    }
 }

@@ -6,17 +6,24 @@
 //! learned.
 //!
 //! ```text
-//! let mut seat = Seat::reopen(alloc, hashing, me, config, store)?;  // up, with its records and nothing else
-//! hear_all(&mut seat, told.as_slice())?;  // and has learned what these messages tell; nothing is kept or sent
+//! reopen_next(alloc, hashing, me, config, &mut nodes, store)?;   // each node in turn: up, with its records and nothing else
+//! let told = chosen_by(alloc, config, nodes.as_slice())?;        // what a majority of them recorded
+//! hear_next(config, nodes.as_mut_slice(), 0, told.as_slice())?;  // each in turn has learned it; nothing is kept or sent
 //! ```
+//!
+//! By the law `members_go_on` the history of an earlier process precedes nodes that have started so.
 #![tactic(auto)]
 
+mod choosing;
 mod fault;
 mod hearing;
 pub mod laws;
+mod starting;
 
-pub use fault::HearFault;
-pub use hearing::{hear, hear_all};
+pub use choosing::chosen_by;
+pub use fault::{HearFault, ReopenFault};
+pub use hearing::{hear, hear_all, hear_next};
+pub use starting::reopen_next;
 
 #[cfg(test)]
 mod tests;

@@ -1,9 +1,9 @@
 use super::*;
 use agreement::Config;
-use ballots::{Acceptance, Ballot, Body, Members, Message, NodeId, Slot, Value};
+use ballots::{Acceptance, Ballot, Body, Members, Message, NodeId, Record, Slot, Value};
 use node_core::Input;
 use node_seats::Seat;
-use stable_records::MemoryStable;
+use stable_records::{MemoryStable, Stable};
 use std::alloc::Global;
 use std::hash::RandomState;
 use std::test::*;
@@ -81,5 +81,91 @@ fn thousands_of_slots_are_heard(rt: HostRuntime) -> Result<(), Fail> {
     assert!(rt; tells_from(&mut seat, 0)? == 16);
     assert!(rt; tells_from(&mut seat, 3_999)? == 1);
     assert!(rt; tells_from(&mut seat, 4_000)? == 0);
+    Ok(())
+}
+
+// A store of what this node kept: it promised a ballot of node 0, and accepted a no-op at each of so many slots.
+fn store(alloc: Global, slots: u32) -> Result<MemoryStable, Fail> {
+    let node = NodeId::new(0).ok_or("no node")?;
+    let ballot = Ballot::new(1, node).ok_or("no ballot")?;
+    let mut store = MemoryStable::new(alloc);
+    for number in 0..slots {
+        let slot = Slot::new(number).ok_or("no slot")?;
+        let value = Value::Noop;
+        store.keep(&Record::Accepted(slot, Acceptance { ballot, value }))?;
+    }
+    Ok(store)
+}
+
+// The fault of a node that starts over this store, as the second of three.
+fn fault_over(
+    alloc: Global,
+    hashing: RandomState,
+    store: MemoryStable,
+) -> Result<ReopenFault, Fail> {
+    let members = Members::new(3).ok_or("no members")?;
+    let config = Config::new(members, 10).ok_or("no config")?;
+    let mut nodes = Vec::new(alloc);
+    let first = NodeId::new(0).ok_or("no node")?;
+    let second = NodeId::new(1).ok_or("no node")?;
+    match reopen_next(
+        alloc,
+        hashing,
+        first,
+        config,
+        &mut nodes,
+        MemoryStable::new(alloc),
+    ) {
+        Ok(()) => {}
+        Err(fault) => return Ok(fault),
+    }
+    match reopen_next(alloc, hashing, second, config, &mut nodes, store) {
+        Ok(()) => Err(Fail::from("it has started")),
+        Err(fault) => Ok(fault),
+    }
+}
+
+#[test]
+fn records_of_others_are_refused(rt: HostRuntime) -> Result<(), Fail> {
+    let alloc = rt.alloc();
+    let hashing = RandomState::new(&rt)?;
+    assert!(rt; fault_over(alloc, hashing, store(alloc, 11)?)? == ReopenFault::OutOfRange);
+    let node = NodeId::new(0).ok_or("no node")?;
+    let ballot = Ballot::new(1, node).ok_or("no ballot")?;
+    let mut other = MemoryStable::new(alloc);
+    other.keep(&Record::Began(ballot))?;
+    assert!(rt; fault_over(alloc, hashing, other)? == ReopenFault::AnotherNode);
+    Ok(())
+}
+
+// Three nodes that start again, of which the first accepted at one slot less.
+fn three(alloc: Global, hashing: RandomState) -> Result<Box<Vec<Seat<MemoryStable>>>, Fail> {
+    let members = Members::new(3).ok_or("no members")?;
+    let config = Config::new(members, 5_000).ok_or("no config")?;
+    let mut nodes = Vec::new(alloc);
+    for number in 0..3 {
+        let me = NodeId::new(number).ok_or("no node")?;
+        let store = store(alloc, if number == 0 { 2_999 } else { 3_000 })?;
+        if reopen_next(alloc, hashing, me, config, &mut nodes, store).is_err() {
+            return Err(Fail::from("it has not started"));
+        }
+    }
+    let told = match chosen_by(alloc, config, nodes.as_slice()) {
+        Ok(told) => told,
+        Err(_) => return Err(Fail::from("nothing is told")),
+    };
+    for number in 0..3 {
+        hear_next(config, nodes.as_mut_slice(), number, told.as_slice())?;
+    }
+    Ok(Box::new(alloc, nodes)?)
+}
+
+#[test]
+fn all_have_learned_what_was_chosen(rt: HostRuntime) -> Result<(), Fail> {
+    let mut nodes = three(rt.alloc(), RandomState::new(&rt)?)?;
+    for node in nodes.iter_mut() {
+        assert!(rt; tells_from(node, 2_999)? == 1);
+        assert!(rt; tells_from(node, 3_000)? == 0);
+    }
     Ok(())
 }

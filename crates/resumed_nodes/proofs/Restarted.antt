@@ -1,0 +1,176 @@
+-- Nodes that start again, one after the other.
+use Rattle.std.proofs.Common.{◌≡◌, ℕ, zero, suc, ◌+◌, ◌<◌, arith, inl, inr, Bool, None, Some, Result, Ok, Err, OnOk, IfOk, List, [], ◌∷◌, ◌++◌, length, map, slice_get, slice_index_or, slice_set, refl, sym, ap, subst, ◌∙◌}
+use Rattle.std.specs.List.{All, Contains}
+use Rattle.std.proofs.lemmas.Bool.{cases_lt}
+use Rattle.std.proofs.lemmas.List.{length-map, length_push, length-set, get_or_push, get_or_append_left, get_or-set_same, get_or-set_other}
+use Rattle.std.proofs.lemmas.List.Elements.{All-contains, All-from_recursion}
+use Rattle.ballots.specs.declared.record.Record.{Record}
+use Rattle.ballots.specs.declared.record.Record.TheVariants.{Accepted as HasAccepted}
+use Rattle.ballots.specs.declared.message.Message.{Message}
+use Rattle.ballots.specs.declared.message.Body.TheVariants.{Accepted}
+use Rattle.agreement_rules.specs.Views.{Config, started_with}
+use Rattle.agreement_rules.specs.Due.{IsBodyOf}
+use Rattle.histories.specs.History.{History}
+use Rattle.histories.specs.Following.{Seat, recovered_in, at_first}
+use Rattle.joined_histories.specs.Joined.{Precedes}
+use Rattle.cut_histories.specs.Settling.{of_clients}
+use Rattle.resumed_histories.specs.StartingOver.{TellsOfAValue, Hears, StartsOver}
+use Rattle.resumed_histories.specs.StartingOver as over
+use Rattle.chosen_records.specs.Chosen.{IsRecorded}
+use Rattle.node_core.specs.State.{IsRecordOf}
+use Rattle.node_seats.specs.State.{SeatState, IsPlaced, StandsUp}
+use Rattle.resumed_nodes.specs.Heard.{heard, starts_of}
+use Rattle.resumed_nodes.specs.Hearing.{HasHeard}
+use Rattle.resumed_nodes.specs.Starting.{IsStarted, AreStarted, HaveHeard, MayBeTold, HaveBack, GoesOn, records_of}
+
+none_is_some : {X : Type 0} (x : X) → None ≡ Some x → ⊥
+none_is_some x same = cc
+
+-- what stands at a place of what is made of each element
+placed : {X Y : Type 0} (f : X → Y) (xs : List X) (number : ℕ) (y : Y) → slice_get (map f xs) number ≡ Some y
+    → (x : X) × (number < length xs) × (slice_index_or xs number x ≡ x) × (y ≡ f x)
+placed f [] number y is = absurd (none_is_some y is)
+placed f (x ∷ xs) zero y is =
+    let same : y ≡ f x = cc in
+    (x, omega arith, refl, same)
+placed f (x ∷ xs) (suc number) y is =
+    let rest = placed f xs number y is in
+    (rest.0, omega (arith, rest.1), rest.2, rest.3)
+
+module _ {S : Type 0} (config : Config) where
+  -- ---- a node more
+
+  -- a node that was just opened has heard nothing
+  pub opened : (number : ℕ) (node : SeatState S) → node.me ≡ number → node.config ≡ config → IsPlaced node
+      → StandsUp node (started_with node.records) → IsStarted config [] number node
+  opened number node me is placed stands = record { me_is = me; config_is = is; placed = placed; stands = stands; hears = refl }
+
+  -- and stands behind the others
+  pub one_more : (nodes : List (SeatState S)) (last : SeatState S) → AreStarted config [] nodes → IsStarted config [] (length nodes) last
+      → AreStarted config [] (nodes ++ last ∷ [])
+  one_more nodes last started behind number d within =
+      elim (cases_lt number (length nodes)) as (λ _. IsStarted config [] number (slice_index_or (nodes ++ last ∷ []) number d)) [
+        | inl before ↦ subst (IsStarted config [] number) (sym (get_or_append_left nodes (last ∷ []) d number before)) (started number d before)
+        | inr past ↦
+            let here : length nodes ≡ number = omega (arith, past, within, length_push nodes last) in
+            subst (λ (n : ℕ). IsStarted config [] n (slice_index_or (nodes ++ last ∷ []) n d)) here
+            (subst (IsStarted config [] (length nodes)) (sym (get_or_push nodes last d (length nodes) refl)) behind)
+      ]
+
+  -- ---- the next one hears
+
+  module _ (told : List Message) (number : ℕ) (nodes : List (SeatState S)) (was after : SeatState S) where
+    pub has_started : IsStarted config [] number was → HasHeard was after (started_with was.records) told (heard was.records told) → IsStarted config told number after
+    has_started is has = record {
+      me_is = has.me_is ∙ is.me_is;
+      config_is = has.config_is ∙ is.config_is;
+      placed = has.placed;
+      stands = subst (λ (rs : List Record). StandsUp after (heard rs told)) (sym has.records_are) has.stands;
+      hears =
+          subst (λ (rs : List Record). Hears config number (started_with rs) told (heard rs told)) (sym has.records_are)
+          (subst (λ (n : ℕ). Hears config n (started_with was.records) told (heard was.records told)) is.me_is
+          (subst (λ (c : Config). Hears c was.me (started_with was.records) told (heard was.records told)) is.config_is has.hears));
+    }
+
+    pub heard_next : number < length nodes → HaveHeard config told number nodes → IsStarted config told number after
+        → HaveHeard config told (number + 1) (slice_set nodes number after)
+    heard_next within have is = record {
+      heard = λ k d inside below. elim (cases_lt k number) as (λ _. IsStarted config told k (slice_index_or (slice_set nodes number after) k d)) [
+        | inl before ↦
+            subst (IsStarted config told k) (sym (get_or-set_other nodes number k after d (λ same. absurd (omega (arith, before, same)))))
+            (have.heard k d (omega (arith, inside, length-set nodes number after)) before)
+        | inr past ↦
+            let here : number ≡ k = omega (arith, past, below) in
+            subst (λ (n : ℕ). IsStarted config told n (slice_index_or (slice_set nodes number after) n d)) here
+            (subst (IsStarted config told number) (sym (get_or-set_same nodes number after d within)) is)
+      ];
+      others = λ k d inside past.
+          subst (IsStarted config [] k) (sym (get_or-set_other nodes number k after d (λ same. absurd (omega (arith, past, same)))))
+          (have.others k d (omega (arith, inside, length-set nodes number after)) (omega (arith, past)));
+    }
+
+  -- ---- all of them
+
+  module _ (nodes : List (SeatState S)) (told : List Message) (started : AreStarted config told nodes) where
+    node_at : (number : ℕ) (own : List Record) → slice_get (records_of nodes) number ≡ Some own
+        → (node : SeatState S) × (number < length nodes) × IsStarted config told number node × (own ≡ node.records)
+    node_at number own is =
+        let at = placed (λ (node : SeatState S). node.records) nodes number own is in
+        (at.0, at.1, subst (IsStarted config told number) at.2 (started number at.0 at.1), at.3)
+
+    -- an acceptance that is recorded may be told
+    pub may_be_told : length nodes ≡ config.members → (m : Message) → IsRecorded (records_of nodes) m → MayBeTold config m
+    may_be_told count m (accepted, tells, (own, there, has)) =
+        let at = node_at m.sender own there in
+        let of = All-contains (IsRecordOf at.0.config) at.0.records (HasAccepted m.slot accepted)
+        (All-from_recursion (IsRecordOf at.0.config) at.0.records at.2.placed.records_are)
+        (subst (λ (rs : List Record). Contains rs (HasAccepted m.slot accepted)) at.3 has) in
+        let within = subst (λ (c : Config). IsRecordOf c (HasAccepted m.slot accepted)) at.2.config_is of in
+        let body : m.body ≡ Accepted accepted = ap (λ (m : Message). m.body) tells in (
+          subst TellsOfAValue (sym body) tt,
+          record {
+            sender = omega (arith, at.1, count);
+            slot = within.0;
+            body = subst (IsBodyOf config.members) (sym body) within.1;
+          },
+        )
+
+    -- ---- what goes before
+
+    module _ (left : ℕ → Seat) (found : ℕ → Bool) (back : HaveBack left found (records_of nodes)) where
+      -- each has back what it was left, and hears the messages by its rules
+      pub each_hears : (number : ℕ) (own : List Record) → slice_get (records_of nodes) number ≡ Some own
+          → (own ≡ recovered_in (found number) (left number)) × Hears config number (started_with own) told (heard own told)
+      each_hears number own is =
+          let at = node_at number own is in (
+            back number own is,
+            subst (λ (rs : List Record). Hears config number (started_with rs) told (heard rs told)) (sym at.3) at.2.hears,
+          )
+
+      -- what is recorded among the records of all is so among those that the nodes have back
+      pub recorded_by : length nodes ≡ config.members → (m : Message) → IsRecorded (records_of nodes) m → over.IsRecorded config left found m
+      recorded_by count m (accepted, tells, (own, there, has)) =
+          let at = node_at m.sender own there in
+          record {
+            member = omega (arith, at.1, count);
+            accepted = accepted;
+            tells = tells;
+            has = subst (λ (rs : List Record). Contains rs (HasAccepted m.slot accepted)) (back m.sender own there) has;
+          }
+
+-- ---- the laws that are cited
+
+abbrev pub HaveStartedOver : Type 0
+HaveStartedOver =
+    (config : Config) (left : ℕ → Seat) (before : History) (recovered : ℕ → Bool) (all : List (List Record)) (told : List Message) → Precedes config left before
+    → length all ≡ config.members
+    → ((node : ℕ) (records : List Record) → slice_get all node ≡ Some records
+    → (records ≡ recovered_in (recovered node) (left node)) × Hears config node (started_with records) told (heard records told))
+    → StartsOver config left recovered told (λ node. slice_index_or (starts_of all told) node (at_first node))
+
+abbrev pub MayStartOver : Type 0
+MayStartOver =
+    (config : Config) (left start : ℕ → Seat) (before : History) (recovered : ℕ → Bool) (told : List Message) → Precedes config left before
+    → ((m : Message) → Contains told m → over.IsRecorded config left recovered m) → StartsOver config left recovered told start
+    → (whole : History) × Precedes config start whole × (of_clients whole.steps ≡ of_clients before.steps)
+
+pub go_on : HaveStartedOver → MayStartOver → {S : Type 0} (config : Config) (nodes : List (SeatState S)) (told : List Message) → length nodes ≡ config.members
+    → AreStarted config told nodes → All (IsRecorded (records_of nodes)) told → GoesOn config (records_of nodes) told
+go_on starts_over may_start config nodes told count started recorded left before found precedes back =
+    may_start config left (λ node. slice_index_or (starts_of (records_of nodes) told) node (at_first node)) before found told precedes
+    (λ m has. recorded_by config nodes told started left found back count m (All-contains (IsRecorded (records_of nodes)) told m recorded has))
+    (starts_over config left before found (records_of nodes) told precedes
+    (length-map nodes (λ (node : SeatState _). node.records) ∙ count)
+    (each_hears config nodes told started left found back))
+
+-- ---- by cases of an answer
+
+pub on_ok : {V E : Type 0} {A B : Type 0} (result : Result V E) → (A → B) → OnOk result A → OnOk result B
+on_ok (Ok value) gives has = gives has
+on_ok (Err fault) gives has = tt
+
+pub may_all : {S V E : Type 0} (config : Config) (nodes : List (SeatState S)) (items : V → List Message) (result : Result V E) → length nodes ≡ config.members
+    → AreStarted config [] nodes → IfOk result (λ told. All (IsRecorded (records_of nodes)) (items told)) → IfOk result (λ told. All (MayBeTold config) (items told))
+may_all config nodes items (Ok told) count started recorded =
+    λ k d within. may_be_told config nodes [] started count (slice_index_or (items told) k d) (recorded k d within)
+may_all config nodes items (Err fault) count started recorded = tt

@@ -1,0 +1,65 @@
+//! What the records of all nodes say was chosen.
+
+ghost use Rattle.std.specs.Prelude.{◌≡◌, ℕ, [], length, map, IfErr, IfOk};
+ghost use Rattle.std.specs.List.{All};
+ghost use Rattle.std.specs.List.Sorted.{IsNonDecreasingBy};
+ghost use Rattle.ballots.specs.Ballot.{Ballot as Pair};
+ghost use Rattle.ballots.specs.declared.value.Value.{Value as Held};
+ghost use Rattle.chosen_records.specs.Chosen.{IsChosenAt, IsRecorded, IsToldChosen, TellsChosen, TellsDiffer};
+ghost use Rattle.resumed_nodes.specs.Starting.{AreStarted, MayBeTold, records_of};
+
+use ballots::{Message, OutOfMemory, Record};
+use chosen_records::{ChosenFault, chosen_again};
+use node_core::Config;
+use node_seats::Seat;
+use stable_records::Stable;
+use std::alloc::Global;
+
+/// The messages that tell again what a majority of these nodes recorded, all of which have started again: of each slot that
+/// was chosen, the `Accepted` of each member that recorded one at the slot's first ballot at which a majority did
+/// ([`chosen_again`]). Slots rise. The messages share the bytes of the records.
+///
+/// It is [`ChosenFault::Differ`] exactly where two values are recorded at one ballot of a slot, memory apart, and names
+/// such a slot.
+pub fn chosen_by<S: Stable + Drop>(
+    alloc: Global,
+    config: Config,
+    nodes: &[Seat<S>],
+) -> Result<Vec<Message>, ChosenFault>
+    requires all { length nodes.now ≡ config.members }
+    requires started { AreStarted config [] nodes.now }
+    ensures recorded { IfOk result (λ told. All (IsRecorded (records_of nodes.now)) told.items) }
+    ensures may { IfOk result (λ told. All (MayBeTold config) told.items) }
+    ensures only { IfOk result (λ told. All (TellsChosen config.members (records_of nodes.now)) told.items) }
+    ensures chosen { IfOk result (λ told. (slot : ℕ) (ballot : Pair) (value : Held)
+        → IsChosenAt config.members (records_of nodes.now) slot ballot value → IsToldChosen config.members told.items slot) }
+    ensures rising { IfOk result (λ told. IsNonDecreasingBy (λ message. message.slot) told.items) }
+    ensures differ { IfErr result (TellsDiffer (records_of nodes.now)) }
+{
+    let records = all_records(alloc, nodes)?;
+    chosen_again(alloc, config.members(), records.as_slice())
+}
+
+// The records of each node. They share the bytes of their values.
+fn all_records<S: Stable + Drop>(
+    alloc: Global,
+    nodes: &[Seat<S>],
+) -> Result<Vec<Vec<Record>>, OutOfMemory>
+    ensures { IfOk result (λ all. map (λ own. own.items) all.items ≡ records_of nodes.now) }
+{
+    let mut all = Vec::new(alloc);
+    for node in nodes {
+        all.push(copies(alloc, node.records())?)?;
+    }
+    Ok(all)
+}
+
+fn copies(alloc: Global, records: &[Record]) -> Result<Vec<Record>, OutOfMemory>
+    ensures { IfOk result (λ copies. copies.items ≡ records.now) }
+{
+    let mut copies = Vec::with_capacity(alloc, records.len())?;
+    for told in records {
+        copies.push(told.clone()?)?;
+    }
+    Ok(copies)
+}
