@@ -6,7 +6,9 @@
 Each time it starts `PROGRAM serve` (crates/flightd/out/flightd) with three nodes or five over a new folder, has two callers a node put
 uploads, one after the other, and kills the server (SIGKILL) up to two seconds after it has said where it is served. Then each file has
 to mean records, by `PROGRAM records` and by a reader of its own, each upload that was acknowledged has to stand in the files of most nodes, and
-the server must not take the files again. Last it says how many uploads were acknowledged in all. The status is 1 where one of these is not so."""
+the server must not take the files anew. With `--resume` one has to take them, and then another one: each node has to serve each of these
+uploads at once, at its version; one that is put again has to be told that, a new one to come behind them, and to the files records must only
+be added. Last it says how many uploads were acknowledged in all. The status is 1 where one of these is not so."""
 import random
 import subprocess
 import sys
@@ -33,8 +35,9 @@ def main(count, program):
         uploads += killed(program, nodes, drawn.uniform(0, LATEST_SECONDS), lambda files: told.extend(reads(program, files)), least=0)
         records += sum(told)
         if (number + 1) % 20 == 0:
-            print(f"{number + 1} servers were killed; {uploads} uploads that they acknowledged stand at most nodes, in files of {records} records", flush=True)
-    print(f"{count} servers were killed: {uploads} uploads, {records} records")
+            print(f"{number + 1} servers were killed; {uploads} uploads that they acknowledged stand at most nodes, in files of {records} records, "
+                  "and are served by those that go on over them", flush=True)
+    print(f"{count} servers were killed: {uploads} uploads, {records} records, {2 * count} starts over them")
 
 
 if __name__ == "__main__":

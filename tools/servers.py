@@ -3,6 +3,7 @@ kills.py, soak.py, harm.py and hostile.py and the benches of servers share."""
 import contextlib
 import os
 import random
+import re
 import resource
 import signal
 import socket
@@ -25,6 +26,8 @@ PROGRAM = TOP / "crates" / "flightd" / "out" / "flightd"
 CALL_SECONDS, LEARN_SECONDS = 30, 30
 # A node serves so many calls at once; others wait until one of these ends.
 MOST_CONNECTIONS = 128
+# What a server that goes on over records says of its start, where that takes longer than a second.
+PROGRESS = re.compile(r"^node \d has (its records|learned what was decided)\n", re.MULTILINE)
 
 
 class Wrong(Exception):
@@ -69,10 +72,16 @@ def limited(kind, count):
     return lambda: resource.setrlimit(kind, (count, count))
 
 
-def started(program, nodes, folder, limit=None):
-    """A server of so many nodes with their records in this folder, its clients, and the port of its first node."""
+def without_progress(told):
+    """What a server reports on standard error, but for how far its start has come."""
+    return PROGRESS.sub("", told)
+
+
+def started(program, nodes, folder, limit=None, resumed=False):
+    """A server of so many nodes with their records in this folder, its clients, and the port of its first node. It goes on over the records
+    that stand there, where it is resumed."""
     port = free_port(nodes)
-    words = [program, "serve", "--nodes", str(nodes), "--port", str(port), "--data", folder]
+    words = [program, "serve", "--nodes", str(nodes), "--port", str(port), "--data", folder, *(["--resume"] if resumed else [])]
     process = subprocess.Popen(words, stdout=subprocess.PIPE, stderr=subprocess.PIPE, text=True, preexec_fn=limit)
     lines = [f"node {number} at 127.0.0.1:{port + number}\n" for number in range(nodes)]
     found = [process.stdout.readline() for _ in lines]
@@ -83,18 +92,19 @@ def started(program, nodes, folder, limit=None):
 
 
 @contextlib.contextmanager
-def server(program, nodes, folder=None, limit=None):
-    """The clients of so many nodes that are served, with their records in this folder, or in one that is taken away afterwards."""
+def server(program, nodes, folder=None, limit=None, resumed=False, ending=signal.SIGTERM):
+    """The clients of so many nodes that are served, with their records in this folder, or in one that is taken away afterwards, until the
+    server is ended by this signal."""
     with contextlib.ExitStack() as stack:
         folder = folder or stack.enter_context(tempfile.TemporaryDirectory())
-        process, clients, port = started(program, nodes, folder, limit)
+        process, clients, port = started(program, nodes, folder, limit, resumed)
         try:
             yield clients, port
             want(process.poll(), None)
         finally:
-            process.terminate()
+            process.send_signal(ending)
             _, told = process.communicate(timeout=CALL_SECONDS)
-        want(told, "")
+        want(without_progress(told) if resumed else told, "")
 
 
 Looked = namedtuple("Looked", "most now threads seconds")
@@ -163,11 +173,17 @@ def reset(peer):
 # ---- files of records
 
 
-def records_in(file):
-    """The records of a node's file: its text is a closed gate, or an open one, a length, a record and what follows from the next gate."""
-    text, at, found = Path(file).read_bytes(), 0, []
-    while text[at] == 1:
+def records_of(text):
+    """The records that the bytes of a node's file mean, and the place of the closed gate behind them: the text is a closed gate, or an open
+    one, a length, a record and what follows from the next gate."""
+    at, found = 0, []
+    while text[at : at + 1] == b"\x01":
         (length,) = struct.unpack_from("<I", text, at + 1)
         found.append(text[at + 5 : at + 5 + length])
         at += 5 + length
-    return found
+    return found, at
+
+
+def records_in(file):
+    """The records of a node's file."""
+    return records_of(Path(file).read_bytes())[0]

@@ -8,18 +8,27 @@ It plays the scripts of examples/scripts, and compares the lines with those besi
 lines with the nodes' addresses, an upload that is put at one node and got at each, what comes of it when it is put again or its id is
 another's, puts of several callers at once, calls that are cut off in their midst, peers that stay silent, the words of a client and what
 they show of a slow call, and the files that the nodes keep their records in: which it takes, and that each upload that was acknowledged
-stands there at most nodes, also where the server is killed while it takes others. It has each fault come that keeps a server or a
-script from being started or told of, but want of memory, which tools/refused_program.py brings about. The status is 1 where anything is
-not as it has to be."""
+stands there at most nodes, also where the server is killed while it takes others. Servers with `--resume` are started over what earlier
+ones left that were killed, or ended by SIGTERM: each node serves at once what was acknowledged before, byte for byte, an upload that is put
+again is told its version, and to the files records are only added; where there is nothing to go on over they start anew. Folders in which
+a file is missing, cut, damaged, old, exchanged or in use, or what is said of the cluster is not as it was, keep a server from being
+started, and are left as they were. It has each fault come that keeps a server or a script from being started or told of, but want of
+memory, which tools/refused_program.py brings about, and a file that can't be read. The status is 1 where anything is not as it has to
+be."""
 import concurrent.futures
 import contextlib
 import fcntl
+import hashlib
+import json
 import os
 import pty
 import random
 import re
 import resource
+import shutil
+import signal
 import socket
+import struct
 import subprocess
 import sys
 import tempfile
@@ -27,8 +36,8 @@ import threading
 import time
 from pathlib import Path
 
-from servers import CALL_SECONDS, LEARN_SECONDS, MOST_CONNECTIONS, PROGRAM, TOP, Wrong, felzoren, file_limit, free_port, got, limited
-from servers import records_in, request_of, reset, server, started, want
+from servers import CALL_SECONDS, LEARN_SECONDS, MOST_CONNECTIONS, PROGRAM, TOP, Wrong, felzoren, file_limit, free_port, got, learned
+from servers import limited, records_in, records_of, request_of, reset, server, started, want, without_progress
 
 # For how long an answer is held back: a call says nothing of itself for a second.
 HELD_SECONDS = 1.5
@@ -36,7 +45,22 @@ CALLERS, PUTS = 8, 6
 # In which steps a process is given more memory, and not more than this, in bytes.
 MEMORY_STEP, MOST_MEMORY = 4 << 20, 1 << 30
 CUTS, SEED = 60, 20261127
+# How many bytes a file may have of a process whose standard output is a file with room for a few: a server's other files have fewer.
+FILE_BYTES = 1 << 16
+# So many servers go on over one folder, one after the other.
+RESUMED = 5
 ROWS = [{"shop": "Bern", "sold": 3}, {"shop": "Zürich", "sold": None}]
+# What the second line of a fault says of a file or a folder, or how that begins.
+OLD, NO_RECORDS, MISSING = "has records: --resume goes on over them", "means no records: ", "is missing: "
+IN_USE, NOT_OPENED = "is in use by another process", "can't be opened or made"
+SHORTER, OTHER_COUNT = "is shorter than the last server left it: ", "has the files of another number of nodes: "
+NOT_LEFT, NOT_ITS_OWN = "is not the file that the last server left: ", "has the records of another node or cluster: "
+TWO_CLUSTERS, NOT_WRITTEN = "has the files of two clusters: ", "has a cluster.json that no server wrote: "
+# A promise to node 4 in slot 0: in the file of a node of three it names a node that there is not.
+TO_NODE_4 = bytes.fromhex("0802180c2004")
+# What a process that ends in the midst of a write may leave behind a closed gate: the length of a record, the record and a gate. It is longer
+# than the next record, and what stands of it behind that looks like open gates.
+BEGUN = struct.pack("<I", 40) + b"\x01" * 40 + b"\0"
 
 
 def refusal(call, *given, **named):
@@ -126,19 +150,20 @@ def silent_peers(clients, port):
             want(waiting.result(CALL_SECONDS), ROWS)
 
 
-def not_served(program, folder, name, port=None, stdout=subprocess.PIPE, limit=None):
-    """A server with its records in this folder, which does not start and says why."""
-    words = [program, "serve", "--port", str(port or free_port(3)), "--data", folder]
-    ran = subprocess.run(
-        words, stdout=stdout, stderr=subprocess.PIPE, text=True, timeout=CALL_SECONDS, check=False, preexec_fn=limit
-    )
-    want((ran.returncode, ran.stdout or "", ran.stderr), (1, "", f"flightd: {name}\n"))
+def not_served(program, folder, name, says=None, nodes=3, resumed=False, port=None, limit=None):
+    """A server with its records in this folder, which does not start and says why; where it is about the folder or a file, in a second line,
+    which begins so."""
+    words = [program, "serve", "--nodes", str(nodes), "--port", str(port or free_port(nodes)), "--data", folder]
+    status, output, error = ended(words + ["--resume"] * resumed, limit=limit)
+    lines = (without_progress(error) if resumed else error).splitlines(keepends=True)
+    found = lines[:1] + [line[: len(says)] for line in lines[1:]] if says else lines
+    want((status, output, found, error[-1:]), (1, "", [f"flightd: {name}\n", *([says] if says else [])], "\n"))
 
 
 def taken_port(program, port):
     """A port that another has."""
     with tempfile.TemporaryDirectory() as folder:
-        not_served(program, folder, "Bind", port - 1)
+        not_served(program, folder, "Bind", port=port - 1)
 
 
 def ended(words, stdout=subprocess.PIPE, stderr=subprocess.PIPE, limit=None):
@@ -148,10 +173,12 @@ def ended(words, stdout=subprocess.PIPE, stderr=subprocess.PIPE, limit=None):
 
 
 def into_room(words, room):
-    """The same, where its files have room for so many bytes, of which its standard output is one."""
+    """The same, where its standard output is a file that has room for so many bytes more."""
     with tempfile.TemporaryFile("w+", encoding="utf-8") as file:
-        status, _, error = ended(words, stdout=file, limit=file_limit(room))
-        file.seek(0)
+        file.write(" " * (FILE_BYTES - room))
+        file.flush()
+        status, _, error = ended(words, stdout=file, limit=file_limit(FILE_BYTES))
+        file.seek(FILE_BYTES - room)
         return status, file.read(), error
 
 
@@ -178,10 +205,12 @@ def lost_addresses(program):
 
 def without_descriptors(program):
     """A process that may have few files and sockets open, of which three are its standard streams and a fourth is there to load it: of a server
-    first a file, then a port can't be had, and of a script a port, then a connection."""
-    for count, name in ((4, "Open"), (5, "Open"), (6, "Open"), (7, "Bind"), (8, "Bind")):
+    first a node's file, the last node's first, then what it puts down of the cluster, then a port can't be had, and of a script a port, then a
+    connection."""
+    opened = [(4 + place, "Open", f"/node-{2 - place}.rec {NOT_OPENED}") for place in range(3)]
+    for count, name, says in (*opened, (7, "Device", " has a cluster.json that can't be read or written"), (8, "Bind", None)):
         with tempfile.TemporaryDirectory() as folder:
-            not_served(program, folder, name, limit=limited(resource.RLIMIT_NOFILE, count))
+            not_served(program, folder, name, says and folder + says, limit=limited(resource.RLIMIT_NOFILE, count))
     for count, name in ((4, "Bind"), (5, "Bind"), (6, "Io")):
         found = ended([program, "script", SCRIPT], limit=limited(resource.RLIMIT_NOFILE, count))
         want(found, (1, "", f"flightd: {name}\n"))
@@ -421,93 +450,412 @@ def show_records(program, file):
     want(told(program, ["records", file]), (1, "", "flightd: Damaged\n" + damage))
 
 
+def texts_in(folder):
+    """The bytes of each file of a folder, as far as there is a folder."""
+    folder = Path(folder)
+    return {it.name: it.read_bytes() if it.is_file() else None for it in (folder.iterdir() if folder.is_dir() else ())}
+
+
+def only_added(old, new):
+    """Behind what each file meant stand at most more records. Its closed gate may be open then, and what stood behind that, where it means
+    nothing, may be written over."""
+    for name in [it for it in old if it.endswith(".rec")]:
+        gate = records_of(old[name])[1]
+        again = new[name] == old[name] or records_of(new[name])[1] > gate
+        want((name, again, new[name][:gate] == old[name][:gate], len(new[name]) >= len(old[name])), (name, True, True, True))
+
+
+def refused(program, folder, name, says, nodes=3, resumed=False):
+    """A server that does not start over a folder, leaves each file there as it was, and adds none. What it says of the folder begins so."""
+    before = texts_in(folder)
+    not_served(program, folder, name, folder + says, nodes, resumed)
+    after = texts_in(folder)
+    want([it for it in {**before, **after} if it not in before or it not in after or before[it] != after[it]], [])
+
+
+def go_on_over(program, nodes, folder, table, acks):
+    """A server goes on over a folder: each node serves at once all that was acknowledged, and each of these uploads at its version; one that
+    is put again is told that, and a new one, which is added to these, comes behind them."""
+    old, latest = texts_in(folder), max((ack.version for ack in acks), default=0)
+    with server(program, nodes, folder, resumed=True) as (clients, _):
+        for client in clients if acks else ():
+            found = client.get(table, latest)
+            want((found.to_pylist() == ROWS * latest, len(found.uploads)), (True, latest))
+            want([ack for ack in acks if found.uploads[ack.version - 1].id != ack.id], [])
+        for ack in acks[:1] + acks[-1:]:
+            want(clients[-1].put(table, ROWS, id=ack.id), ack)
+        acks.append(clients[0].put(table, ROWS))
+        want(acks[-1].version > latest, True)
+    only_added(old, texts_in(folder))
+
+
 def old_and_locked_files(program, nodes):
-    """Files that have records are not taken again, and not while another server has them."""
+    """Files that have records are not taken anew, and not while another server has them."""
     with tempfile.TemporaryDirectory() as top:
         folder = f"{top}/made/here"
         with server(program, nodes, folder) as (clients, _):
             acks = [client.put("kept", ROWS) for client in clients]
-            not_served(program, folder, "Locked")
+            for resumed in (False, True):
+                not_served(program, folder, "Locked", f"{folder}/node-{nodes - 1}.rec {IN_USE}", nodes, resumed)
         uploads_kept(folder, nodes, [bytes.fromhex(ack.id) for ack in acks])
-        not_served(program, folder, "OldRecords")
+        refused(program, folder, "OldRecords", f"/node-0.rec {OLD}", nodes)
         show_records(program, f"{folder}/node-0.rec")
 
 
 def bad_files(program):
     """For each node in turn a file that is damaged, that has records, that another process has, and a folder in its place."""
     for number in range(3):
-        for text, name in (("0104000000080118", "Damaged"), ("01040000000801180100", "OldRecords")):
+        for text, name, says in (("0104000000080118", "Damaged", NO_RECORDS), ("01040000000801180100", "OldRecords", OLD)):
             with tempfile.TemporaryDirectory() as folder:
                 file = Path(f"{folder}/node-{number}.rec")
                 file.write_bytes(bytes.fromhex(text))
-                not_served(program, folder, name)
+                not_served(program, folder, name, f"{file} {says}")
                 want(file.read_bytes(), bytes.fromhex(text))
         with tempfile.TemporaryDirectory() as folder, open(f"{folder}/node-{number}.rec", "wb") as file:
             fcntl.flock(file, fcntl.LOCK_EX)
-            not_served(program, folder, "Locked")
+            for resumed in (False, True):
+                not_served(program, folder, "Locked", f"{file.name} {IN_USE}", resumed=resumed)
         with tempfile.TemporaryDirectory() as folder:
             os.mkdir(f"{folder}/node-{number}.rec")
-            not_served(program, folder, "Open")
+            not_served(program, folder, "Open", f"{folder}/node-{number}.rec {NOT_OPENED}")
 
 
 def no_folder(program):
     """A folder in which nothing can be written or made, and what is none."""
-    with tempfile.TemporaryDirectory() as folder:
-        not_served(program, folder, "Device", limit=file_limit(0))
-        Path(f"{folder}/file").write_bytes(b"")
-        not_served(program, f"{folder}/file", "Open")
-        not_served(program, f"{folder}/file/below", "Open")
-        os.symlink("itself", f"{folder}/itself")
-        not_served(program, f"{folder}/itself", "Open")
-    not_served(program, "/proc/none", "Open")
+    for resumed in (False, True):
+        with tempfile.TemporaryDirectory() as folder:
+            says = f"{folder}/node-0.rec can't be read or written"
+            not_served(program, folder, "Device", says, resumed=resumed, limit=file_limit(0))
+            Path(f"{folder}/file").write_bytes(b"")
+            os.symlink("itself", f"{folder}/itself")
+            for name in (f"{folder}/file/below", f"{folder}/itself", "/proc/none"):
+                not_served(program, name, "Open", f"{name} {NOT_OPENED}", resumed=resumed)
+    with tempfile.NamedTemporaryFile() as file:
+        not_served(program, file.name, "Open", f"{file.name}/node-2.rec {NOT_OPENED}")
 
 
 def full_later(program):
     """Files that are full once some uploads were taken: the put that finds it ends as Store, its node is down, and what was acknowledged is
-    served by the others."""
-    with tempfile.TemporaryDirectory() as folder, server(program, 3, folder, file_limit(8_000)) as (clients, _):
+    served by the others, and by all where a server goes on over these files with more room."""
+    with tempfile.TemporaryDirectory() as folder:
         acks = []
-        with contextlib.suppress(felzoren.Refused):
-            while True:
-                acks.append(clients[0].put("full", ROWS))
-        want(len(acks) > 0, True)
-        want(refusal(clients[0].put, "full", ROWS), ("Down", 14))
-        want(got(clients[1], "full", len(acks)), ROWS * len(acks))
-        uploads_kept(folder, 3, [bytes.fromhex(ack.id) for ack in acks])
+        with server(program, 3, folder, file_limit(8_000)) as (clients, _):
+            with contextlib.suppress(felzoren.Refused):
+                while True:
+                    acks.append(clients[0].put("full", ROWS))
+            want(len(acks) > 0, True)
+            want(refusal(clients[0].put, "full", ROWS), ("Down", 14))
+            want(got(clients[1], "full", len(acks)), ROWS * len(acks))
+            uploads_kept(folder, 3, [bytes.fromhex(ack.id) for ack in acks])
+        go_on_over(program, 3, folder, "full", acks)
 
 
-def killed(program, nodes, seconds, look=None, least=1):
-    """A server that is killed while callers put, after so many seconds and once so many uploads were acknowledged: each of these stands
-    at most nodes. The files are looked at too, where this is asked for."""
-    acknowledged = []
+def acknowledged_until_killed(program, nodes, folder, seconds, least):
+    """What a server acknowledged that was killed while callers put, after so many seconds and once so many uploads were acknowledged."""
+    acks = []
 
     def puts(client):
         with contextlib.suppress(OSError, felzoren.Refused, felzoren.BadAnswer):
             while True:
-                acknowledged.append(client.put("killed", ROWS).id)
+                acks.append(client.put("killed", ROWS))
 
+    process, clients, _ = started(program, nodes, folder)
+    callers = [threading.Thread(target=puts, args=(client,)) for client in clients for _ in range(2)]
+    for caller in callers:
+        caller.start()
+    time.sleep(seconds)
+    until = time.monotonic() + CALL_SECONDS
+    while len(acks) < least and time.monotonic() < until:
+        time.sleep(0.01)
+    process.kill()
+    process.communicate(timeout=CALL_SECONDS)
+    for caller in callers:
+        caller.join(CALL_SECONDS)
+    want(len(acks) >= least, True)
+    return acks
+
+
+def killed(program, nodes, seconds, look=None, least=1):
+    """A server that is killed while callers put, after so many seconds and once so many uploads were acknowledged: each of these stands
+    at most nodes. The files are looked at too, where this is asked for. No server takes them anew, but one goes on over them, and then another
+    one, and each node serves each of these uploads at once."""
     with tempfile.TemporaryDirectory() as folder:
-        process, clients, _ = started(program, nodes, folder)
-        callers = [threading.Thread(target=puts, args=(client,)) for client in clients for _ in range(2)]
-        for caller in callers:
-            caller.start()
-        time.sleep(seconds)
-        until = time.monotonic() + CALL_SECONDS
-        while len(acknowledged) < least and time.monotonic() < until:
-            time.sleep(0.01)
-        process.kill()
-        process.communicate(timeout=CALL_SECONDS)
-        for caller in callers:
-            caller.join(CALL_SECONDS)
-        want(len(acknowledged) >= least, True)
+        acks = acknowledged_until_killed(program, nodes, folder, seconds, least)
         files = [f"{folder}/node-{number}.rec" for number in range(nodes)]
-        uploads_kept(folder, nodes, [bytes.fromhex(name) for name in acknowledged])
+        uploads_kept(folder, nodes, [bytes.fromhex(ack.id) for ack in acks])
         if look:
             look(files)
         # A server that was killed at once may have kept nothing, and its files are new ones.
-        if any(records_in(file) for file in files):
-            not_served(program, folder, "OldRecords")
-    return len(acknowledged)
+        first = next((number for number, file in enumerate(files) if records_in(file)), None)
+        if first is not None:
+            refused(program, folder, "OldRecords", f"/node-{first}.rec {OLD}", nodes)
+        count = len(acks)
+        for _ in range(2):
+            go_on_over(program, nodes, folder, "killed", acks)
+    return count
+
+
+# ---- servers that go on over records
+
+
+def mark_of(text):
+    """How a file is marked that begins with these bytes: by their number, and a digest of the first and the last of them."""
+    return {"length": len(text), "sha256": hashlib.sha256(text[:4_096] + text[-4_096:]).hexdigest()}
+
+
+def cluster_in(folder, nodes):
+    """The name of the cluster in a folder whose server has just started: a mark for each file is of a beginning that has all its records."""
+    text = Path(f"{folder}/cluster.json").read_text(encoding="ascii")
+    told = json.loads(text)
+    want((text.rstrip("\n"), list(told)), (json.dumps(told, separators=(",", ":")), ["members", "id", "files"]))
+    files = [Path(f"{folder}/node-{number}.rec").read_bytes() for number in range(nodes)]
+    want((told["members"], told["files"]), (nodes, [mark_of(file[: it["length"]]) for file, it in zip(files, told["files"])]))
+    want([number for number, file in enumerate(files) if told["files"][number]["length"] < records_of(file)[1]], [])
+    want(re.fullmatch("[0-9a-f]{32}", told["id"]) is not None, True)
+    return told["id"]
+
+
+def rows_of(version):
+    """The row that makes a version, of up to some 6,000 bytes."""
+    return [{"number": version, "text": "x" * (2_500 * version % 6_007)}]
+
+
+def answered(client, version):
+    """A digest of the frames of a version, as a node serves it now."""
+    ticket = felzoren.bytes_field(1, felzoren.Ticket("kept", version).encode())
+    return client.call("DoGet", [ticket], lambda messages: hashlib.sha256(b"".join(felzoren.frame(0, it) for it in messages)).hexdigest())
+
+
+def stands_at_once(clients, ids, served):
+    """Each node serves each version at once with the bytes that it had, and an upload that is put again at any node is told its version."""
+    for client in clients:
+        want([answered(client, version) for version in range(1, len(ids) + 1)], served)
+    for version, name in enumerate(ids, 1):
+        want(clients[version % len(clients)].put("kept", rows_of(version), id=name).version, version)
+
+
+def put_more(clients, ids, served):
+    """A put at each node makes the next version, which all nodes come to serve with the same bytes."""
+    for client in clients:
+        ack = client.put("kept", rows_of(len(ids) + 1))
+        want(ack.version, len(ids) + 1)
+        ids.append(ack.id)
+        found = {learned(lambda node=node: answered(node, len(ids))) for node in clients}
+        want(len(found), 1)
+        served += found
+
+
+def begin_records(folder, nodes):
+    """Leaves behind the closed gate of each file a record that was begun, as a process does that ends before it opens the gate."""
+    for number in range(nodes):
+        file = Path(f"{folder}/node-{number}.rec")
+        text = file.read_bytes()
+        file.write_bytes(text[: records_of(text)[1]] + b"\0" + BEGUN)
+
+
+def resumes(program, nodes):
+    """A server takes puts at each node and is killed, and others go on over its folder, one after the other: what was acknowledged before
+    stands at once, and the cluster keeps its name. Some find a record that was begun; the last one is ended by SIGTERM, and looked behind."""
+    ids, served, names = [], [], set()
+    with tempfile.TemporaryDirectory() as top:
+        folder = f"{top}/made/here"
+        for number in range(RESUMED + 1):
+            ending = signal.SIGTERM if number == RESUMED else signal.SIGKILL
+            if number % 2:
+                begin_records(folder, nodes)
+            old = texts_in(folder)
+            with server(program, nodes, folder, resumed=number > 0, ending=ending) as (clients, _):
+                names.add(cluster_in(folder, nodes))
+                stands_at_once(clients, ids, served)
+                put_more(clients, ids, served)
+            only_added(old, texts_in(folder))
+        with server(program, nodes, folder, resumed=True) as (clients, _):
+            names.add(cluster_in(folder, nodes))
+            stands_at_once(clients, ids, served)
+    want(len(names), 1)
+    return len(ids)
+
+
+def resumes_nothing(program):
+    """Where there is nothing to go on over, a server starts anew: no folder, one without files, and one with files of at most a byte. Others go
+    on over what it left, the first over files without records."""
+    for texts in (None, (), (b"", b"", b""), (b"\0", b"\1", b"")):
+        with tempfile.TemporaryDirectory() as top:
+            folder = f"{top}/made/here"
+            if texts is not None:
+                os.makedirs(folder)
+            for number, text in enumerate(texts or ()):
+                Path(f"{folder}/node-{number}.rec").write_bytes(text)
+            with server(program, 3, folder, resumed=True, ending=signal.SIGKILL) as (clients, _):
+                name = cluster_in(folder, 3)
+                want(refusal(clients[0].info, "kept"), ("NoTable", 5))
+            ids, served = [], []
+            for _ in range(2):
+                with server(program, 3, folder, resumed=True, ending=signal.SIGKILL) as (clients, _):
+                    want(cluster_in(folder, 3), name)
+                    stands_at_once(clients, ids, served)
+                    put_more(clients, ids, served)
+
+
+def resumes_unmarked(program):
+    """A server goes on over a folder from which cluster.json was taken away, and one is there afterwards, of which the next one takes the name."""
+    ids, served, names = [], [], []
+    with tempfile.TemporaryDirectory() as folder:
+        for number in range(3):
+            if number == 1:
+                os.remove(f"{folder}/cluster.json")
+            with server(program, 3, folder, resumed=number > 0, ending=signal.SIGKILL) as (clients, _):
+                names.append(cluster_in(folder, 3))
+                stands_at_once(clients, ids, served)
+                put_more(clients, ids, served)
+    want(names[1], names[2])
+
+
+# ---- folders over which no server goes on
+
+
+def sizes_in(folder, nodes):
+    """How long the nodes' files are, as far as there is a folder."""
+    return [os.path.getsize(f"{folder}/node-{number}.rec") for number in range(nodes)] if os.path.isdir(folder) else [0] * nodes
+
+
+def stand_everywhere(folder, nodes, name):
+    """Waits until an upload stands in the file of each node."""
+    end = time.monotonic() + LEARN_SECONDS
+    while not all(name in b"".join(records_in(f"{folder}/node-{number}.rec")) for number in range(nodes)):
+        if time.monotonic() > end:
+            raise Wrong(f"upload {name.hex()} does not come to stand in the files of all nodes")
+        time.sleep(0.01)
+
+
+def leave_records(program, nodes, folder, least=0):
+    """Has a server leave a folder that is killed, anew where there is none: it took an upload at each node, and more, until each file is
+    longer than any was before, and than so many bytes. Each upload stands in the files of all nodes before the next one is put."""
+    least, count = max(least, *sizes_in(folder, nodes)), 0
+    with server(program, nodes, folder, resumed=os.path.isdir(folder), ending=signal.SIGKILL) as (clients, _):
+        while count < nodes or min(sizes_in(folder, nodes)) <= least:
+            ack = clients[count % nodes].put("left", rows_of(count))
+            stand_everywhere(folder, nodes, bytes.fromhex(ack.id))
+            count += 1
+
+
+def swap_files(folder):
+    os.rename(folder / "node-0.rec", folder / "swapped")
+    os.rename(folder / "node-1.rec", folder / "node-0.rec")
+    os.rename(folder / "swapped", folder / "node-1.rec")
+
+
+def link_to_itself(file):
+    file.unlink()
+    os.symlink(file.name, file)
+
+
+def cut_last_record(file):
+    """Takes away the gate behind a file's last record, and what stands behind that."""
+    text = file.read_bytes()
+    file.write_bytes(text[: records_of(text)[1]])
+
+
+def add_record(file, record):
+    """Puts a record behind those of a file."""
+    text = file.read_bytes()
+    file.write_bytes(text[: records_of(text)[1]] + b"\x01" + struct.pack("<I", len(record)) + record + b"\0")
+
+
+def change_mark(file, **more):
+    """Says something else of the file of node 1."""
+    told = json.loads(file.read_text(encoding="ascii"))
+    told["files"][1].update(more)
+    file.write_text(json.dumps(told, separators=(",", ":")) + "\n", encoding="ascii")
+
+
+def marked_faults(early, other):
+    """What is changed in a folder with its cluster.json, and the fault and how its second line begins: `early` are older copies of the same
+    files, and `other` are those of another cluster."""
+
+    def cut_mark(folder):
+        length = json.loads((folder / "cluster.json").read_text(encoding="ascii"))["files"][1]["length"]
+        os.truncate(folder / "node-1.rec", length - 1)
+
+    def broken(change):
+        return lambda to: (to / "cluster.json").write_bytes(change((to / "cluster.json").read_bytes()))
+
+    one = "/node-1.rec "
+    yield from (("Damaged", f" {NOT_WRITTEN}", broken(it)) for it in (
+        lambda text: b"", lambda text: text[: len(text) // 2], lambda text: text[1:], lambda text: b"\xff" + text,
+        lambda text: text.replace(b'"members":3', b'"members":5'), lambda text: text.replace(b'"sha256":"', b'"sha256":"0', 1),
+    ))
+    yield "Missing", f"/node-0.rec {MISSING}", lambda to: [it.unlink() for it in to.glob("*.rec")]
+    yield "Truncated", one + SHORTER, cut_mark
+    yield "Truncated", one + SHORTER, lambda to: shutil.copy(f"{early}/node-1.rec", to)
+    yield "Truncated", one + SHORTER, lambda to: change_mark(to / "cluster.json", length=1 << 40)
+    yield "Foreign", f"/node-0.rec {NOT_LEFT}", swap_files
+    yield "Foreign", one + NOT_LEFT, lambda to: shutil.copy(f"{other}/node-1.rec", to)
+    yield "Foreign", f"/node-0.rec {NOT_LEFT}", lambda to: shutil.copy(f"{other}/cluster.json", to)
+    yield "Foreign", one + NOT_LEFT, lambda to: change_mark(to / "cluster.json", sha256="00" * 32)
+
+
+def unmarked_faults(other):
+    """The same of a folder without cluster.json."""
+    yield "Members", f" {OTHER_COUNT}", lambda to: shutil.copy(f"{other}/node-2.rec", to / "node-3.rec")
+    yield "Foreign", f"/node-0.rec {NOT_ITS_OWN}", swap_files
+    yield "Foreign", f" {TWO_CLUSTERS}", lambda to: shutil.copy(f"{other}/node-1.rec", to)
+
+
+def any_faults():
+    """The same of a folder with cluster.json or without."""
+    one = "/node-1.rec "
+    yield "Missing", one + MISSING, lambda to: (to / "node-1.rec").unlink()
+    yield "Truncated", one + SHORTER, lambda to: os.truncate(to / "node-1.rec", 0)
+    yield "Damaged", one + NO_RECORDS, lambda to: cut_last_record(to / "node-1.rec")
+    yield "Foreign", one + NOT_ITS_OWN, lambda to: add_record(to / "node-1.rec", TO_NODE_4)
+    yield "Open", one + NOT_OPENED, lambda to: link_to_itself(to / "node-1.rec")
+
+
+def refuses_changed(program, folder, faults, is_marked):
+    """No server goes on over a copy of a folder in which one thing was changed."""
+    for name, says, change in faults:
+        with tempfile.TemporaryDirectory() as top:
+            copy = Path(shutil.copytree(folder, f"{top}/copy"))
+            if not is_marked:
+                (copy / "cluster.json").unlink()
+            change(copy)
+            refused(program, str(copy), name, says, resumed=True)
+
+
+def refuses_as_it_is(program, folder, is_marked):
+    """A folder that was not changed: no server takes it anew, or goes on over it with another number of nodes or while it is in use. Then one
+    goes on over it."""
+    with tempfile.TemporaryDirectory() as top:
+        copy = shutil.copytree(folder, f"{top}/copy")
+        if not is_marked:
+            os.remove(f"{copy}/cluster.json")
+        refused(program, copy, "OldRecords", f"/node-0.rec {OLD}")
+        name, says = ("Members", f" {OTHER_COUNT}") if is_marked else ("Missing", f"/node-3.rec {MISSING}")
+        refused(program, copy, name, says, nodes=5, resumed=True)
+        for number in range(3):
+            with open(f"{copy}/node-{number}.rec", "rb") as file:
+                fcntl.flock(file, fcntl.LOCK_EX)
+                refused(program, copy, "Locked", f"/node-{number}.rec {IN_USE}", resumed=True)
+        with server(program, 3, copy, resumed=True):
+            for resumed in (False, True):
+                refused(program, copy, "Locked", f"/node-2.rec {IN_USE}", resumed=resumed)
+
+
+def refuses_to_resume(program):
+    """No server goes on over files that are not those which the last one left, each in its place, and it leaves them as they are."""
+    with tempfile.TemporaryDirectory() as top:
+        folder, early, other = (f"{top}/{it}" for it in ("folder", "early", "other"))
+        leave_records(program, 3, folder)
+        shutil.copytree(folder, early)
+        leave_records(program, 3, folder)
+        leave_records(program, 3, folder)
+        leave_records(program, 3, other)
+        leave_records(program, 3, other, max(sizes_in(folder, 3)))
+        refuses_changed(program, folder, [*marked_faults(early, other), *any_faults()], is_marked=True)
+        refuses_changed(program, folder, [*unmarked_faults(other), *any_faults()], is_marked=False)
+        for is_marked in (True, False):
+            refuses_as_it_is(program, folder, is_marked)
 
 
 def scripts(program):
@@ -534,6 +882,11 @@ def main(program):
             taken_port(program, port)
         print(f"{nodes} nodes: puts at one are got at all, by several callers at once, beside calls that are cut off and peers that stay silent")
         old_and_locked_files(program, nodes)
+        count = resumes(program, nodes)
+        print(f"{nodes} nodes: {count} uploads put at {RESUMED + 1} servers, one after the other over one folder, stand at once in the next")
+    resumes_nothing(program)
+    resumes_unmarked(program)
+    refuses_to_resume(program)
     lost_answer(program)
     bad_script(program)
     unread_script(program)
@@ -547,7 +900,8 @@ def main(program):
     no_folder(program)
     full_later(program)
     counts = [killed(program, nodes, seconds) for nodes in (3, 5) for seconds in (1, 2)]
-    print(f"{sum(counts)} uploads were acknowledged by servers that were then killed, and each stands in the files of most nodes")
+    print(f"{sum(counts)} uploads were acknowledged by servers that were then killed: each stands in the files of most nodes, and is served by those "
+          "that go on over them")
 
 
 if __name__ == "__main__":

@@ -9,10 +9,17 @@ Four to 32 callers put uploads of several types and sizes to a few tables at all
 put at, and ask of tables. Some cut a connection at a drawn byte of the request or of the answer, with a reset or without; some put an
 upload again under its id, at another node, once its connection was cut or its answer was let go. At a drawn moment the server is killed
 (SIGKILL), or ended (SIGTERM), or the callers just end: then every node has to tell of each table and to serve it with equal bytes, with
-each upload that was acknowledged once, at its version, with the rows and the frames that were sent, and none whose request was cut.
-However the round ends, `PROGRAM records` has to show the files of all nodes as this reads them; where most nodes have accepted a value
-at one ballot it is that slot's, the only one; and the slots from 0 on have to make each upload that was acknowledged, byte for byte, at
-its version. The next round has a new folder, for a server takes no old one.
+each upload that was acknowledged once, at its version, with the rows and the frames that were sent, and none whose request was cut; and
+the server is ended.
+
+Up to four more servers, as is drawn, then go on over the folder, one after the other (`--resume`), each until a drawn moment and a drawn
+end of its own. Once one of them has started, each node has to tell at once of all that was acknowledged before, and of what any node had
+told of, and to serve it, with the bytes that it had; uploads that are put again have to be told the versions that they were; and the
+callers go on, most of them with the puts that the server before had left without an answer.
+
+However the last server ends, `PROGRAM records` has to show the files of all nodes as this reads them; where most nodes have accepted a
+value at one ballot it is that slot's, the only one; and the slots from 0 on have to make each upload that any server acknowledged, byte
+for byte, at its version. The next round has a new folder.
 
 Behind every other round the next of the tests runs that play the nodes in threads, by its full name: those that
 cluster_conformance_tests and thread_conformance_tests list, which are looked for each time beside PROGRAM and where the gate builds
@@ -39,14 +46,18 @@ import threading
 import time
 from pathlib import Path
 
-from servers import CALL_SECONDS, LEARN_SECONDS, PROGRAM, TOP, Wrong, felzoren, learned, look, records_in, reset, started, want
+from servers import CALL_SECONDS, LEARN_SECONDS, PROGRAM, TOP, Wrong, felzoren, learned, look, records_in, reset, started, want, without_progress
 from felzoren import bytes_field, data_message, descriptor, schema_header
 
 TESTS = ("cluster_conformance", "thread_conformance")
 # A test runs behind every so many rounds, and for so many seconds at most.
 TEST_ROUNDS, TEST_SECONDS = 2, 300
-# For how long callers call in a round, and how often altogether: the journal of a server has room for a million entries.
+# For how long callers call a server, and how often altogether: its journal has room for a million entries.
 MOST_SECONDS, MOST_CALLS = 15, 8_000
+# So many servers go on over the folder of a round at most. Of the uploads with fewer bytes than SMALL that were acknowledged one in KEPT_EACH
+# is kept, and once a server has started over old records so many of these are put again. Of the puts that the server before had left
+# without an answer this share is made again.
+MOST_RESUMED, SMALL, KEPT_EACH, MOST_AGAIN, LEFT_SHARE = 4, 1 << 16, 10, 10, 0.75
 ENDINGS = {"kill -9": signal.SIGKILL, "SIGTERM": signal.SIGTERM, "callers end": None}
 # How many bytes the large uploads of a round may have together, of which it draws one.
 BUDGETS = (8 << 20, 32 << 20, 128 << 20)
@@ -158,16 +169,22 @@ class Round:
 
     def __init__(self, program, seed, number):
         self.program, self.seed, self.number = program, seed, number
-        drawn = random.Random(f"{seed} {number}")
+        self.drawn = drawn = random.Random(f"{seed} {number}")
         self.nodes, self.callers = drawn.choice((3, 5)), drawn.randint(4, 32)
-        self.ending, self.seconds = drawn.choice(list(ENDINGS)), drawn.uniform(0.2, MOST_SECONDS)
+        # Of each server how it ends, and after how many seconds; and what each caller draws from.
+        self.endings = [(drawn.choice(list(ENDINGS)), drawn.uniform(0.2, MOST_SECONDS)) for _ in range(1 + drawn.randint(0, MOST_RESUMED))]
+        self.draws = [random.Random(f"{seed} {number} {caller}") for caller in range(self.callers)]
         self.budget = drawn.choice(BUDGETS)
         self.lock, self.over, self.ended = threading.Lock(), threading.Event(), threading.Event()
         # Of each upload that may stand: what it is; the ids of those that may not; the versions that were acknowledged, by id and by table;
         # and for each node and table the latest version that the node was heard of.
         self.sent, self.never, self.acknowledged = {}, set(), {}
         self.versions, self.heard = {table: {} for table in TABLES}, collections.Counter()
-        self.counts, self.faults, self.held = collections.Counter(), [], 0
+        # Of each table the latest version of which a server before this one was heard; and of each version that was served a digest.
+        self.old, self.served = collections.Counter(), {}
+        # Uploads with what is sent of them: those whose put has no answer, those that are to be put again for that, and some others.
+        self.unanswered, self.left, self.kept = {}, [], []
+        self.counts, self.faults, self.held, self.last_call = collections.Counter(), [], 0, MOST_CALLS
 
     def blame(self, fault):
         with self.lock:
@@ -193,13 +210,31 @@ class Round:
     def put(self, upload, node):
         """Puts an upload at a node, and remembers that it was acknowledged: once at one version, which no other upload has."""
         id, table = upload.id, upload.table
+        with self.lock:
+            self.unanswered[id] = upload
         version = self.client(node).call("DoPut", upload.messages, lambda answer: felzoren.read_version(felzoren.only(answer), id))
         with self.lock:
+            self.unanswered.pop(id, None)
+            is_new = id not in self.acknowledged
             told = self.acknowledged.setdefault(id, version), self.versions[table].setdefault(version, id)
             if told != (version, id):
                 raise Wrong(f"upload {id.hex()} of {table} is told version {version}, and was {told[0]}, which is that of {told[1].hex()}")
             self.heard[node, table] = max(self.heard[node, table], version)
+            if is_new and len(self.acknowledged) % KEPT_EACH == 0 and sum(map(len, upload.messages)) < SMALL:
+                self.kept.append(upload)
         return version
+
+    def put_again(self, upload, drawn):
+        """Puts an upload at any node that was put before."""
+        self.put(upload, drawn.randrange(self.nodes))
+        self.count("puts repeated")
+
+    def put_left(self, drawn):
+        """Puts an upload again, if there is one left that the server before had given no answer."""
+        with self.lock:
+            upload = self.left.pop() if self.left else None
+        if upload:
+            self.put_again(upload, drawn)
 
     def puts(self, drawn):
         """A put, and a get of its version at another node, or a second put of the same upload."""
@@ -236,8 +271,7 @@ class Round:
                 self.never.add(upload.id)
         self.send_cut(drawn, text if whole else text[: drawn.randrange(len(text))])
         if again:
-            self.put(upload, drawn.randrange(self.nodes))
-            self.count("puts repeated")
+            self.put_again(upload, drawn)
 
     def cut_gets(self, drawn):
         """A get whose request, or whose answer, is cut."""
@@ -286,12 +320,17 @@ class Round:
     # ---- what is compared
 
     def answer(self, node, table, version):
-        """What a node serves for a ticket, once it has learned the version."""
+        """What a node serves for a ticket: at once where a server before this one was heard of the version, and else once it has learned it."""
         ticket = bytes_field(1, felzoren.Ticket(table, version).encode())
-        return learned(lambda: self.client(node).call("DoGet", [ticket], lambda messages: read_answer(table, messages)))
+
+        def call():
+            return self.client(node).call("DoGet", [ticket], lambda messages: read_answer(table, messages))
+
+        return call() if version <= self.old[table] else learned(call)
 
     def compare(self, node, table, version):
-        """A version at a node: so many uploads, each once, each as it was sent, and those that were acknowledged at their versions."""
+        """A version at a node: so many uploads, each once, each as it was sent, and those that were acknowledged at their versions. It has the
+        bytes that it has had at any node, of this server or one before."""
         found = self.answer(node, table, version)
         ids = [id for id, _ in found.uploads]
         if (len(ids), len(set(ids))) != (version, version):
@@ -302,8 +341,11 @@ class Round:
             wrong += [id.hex() for place, id in enumerate(ids, 1) if told.get(place, id) != id or self.acknowledged.get(id, place) != place]
             self.heard[node, table] = max(self.heard[node, table], version)
             self.counts["gets compared"] += 1
+            is_same = self.served.setdefault((table, version), found.whole) == found.whole
         if wrong:
             raise Wrong(f"version {version} of {table} at node {node} has uploads not as they were sent or acknowledged: {wrong[:3]}")
+        if not is_same:
+            raise Wrong(f"version {version} of {table} has other bytes at node {node} than it was served with before")
         return found
 
     def compare_rows(self, table, version):
@@ -333,13 +375,24 @@ class Round:
                 continue
             info = self.agreed_info(table, max(told))
             found = [self.compare(node, table, info.ticket.version) for node in range(self.nodes)]
-            if len({it.whole for it in found}) > 1:
-                raise Wrong(f"version {info.ticket.version} of {table} has other bytes at one node than at another")
             header = 5 + len(data_message(schema_header(TABLES[table]), b"", b""))
             rows = sum(self.sent[id].rows for id, _ in found[0].uploads)
             want((info.schema, info.total_records, info.total_bytes), (TABLES[table], rows, header + found[0].size))
             want(len(info.locations), self.nodes)
             self.compare_rows(table, info.ticket.version)
+
+    def compare_old(self):
+        """What any server before this one was heard of, once this one has started: all nodes tell of that, and of the same version, and serve it
+        at once; and uploads that are put again are told their versions."""
+        for table in [it for it in TABLES if self.old[it]]:
+            infos = [self.client(node).info(table) for node in range(self.nodes)]
+            want(infos, [infos[0]] * self.nodes)
+            self.check_info(0, infos[0], self.old[table])
+            self.old[table] = infos[0].ticket.version
+            for node in range(self.nodes):
+                self.compare(node, table, self.old[table])
+        for upload in self.drawn.sample(self.kept, min(len(self.kept), MOST_AGAIN)):
+            self.put_again(upload, self.drawn)
 
     # ---- the files of records
 
@@ -378,10 +431,10 @@ class Round:
     # ---- how a round goes
 
     def caller(self, number):
-        drawn = random.Random(f"{self.seed} {self.number} {number}")
+        drawn = self.draws[number]
         acts = {self.puts: 45, self.cut_puts: 15, self.gets: 15, self.cut_gets: 10, self.asks: 15}
-        while not self.over.is_set() and self.counts["calls"] < MOST_CALLS:
-            act = drawn.choices(list(acts), list(acts.values()))[0]
+        while not self.over.is_set() and self.counts["calls"] < self.last_call:
+            act = self.put_left if self.left else drawn.choices(list(acts), list(acts.values()))[0]
             self.count("calls")
             try:
                 act(drawn)
@@ -391,13 +444,13 @@ class Round:
                     self.blame(f"caller {number}, {act.__name__}: {type(fault).__name__}: {fault}")
                     return
 
-    def load(self, process):
-        """Has the callers call, until they are to end, and ends the server where that is how the round ends."""
+    def load(self, process, ending, seconds):
+        """Has the callers call, until they are to end, and ends the server where that is how it ends."""
         callers = [threading.Thread(target=self.caller, args=(number,), daemon=True) for number in range(self.callers)]
         for caller in callers:
             caller.start()
-        time.sleep(self.seconds)
-        self.end(process, ENDINGS[self.ending])
+        time.sleep(seconds)
+        self.end(process, ENDINGS[ending])
         self.over.set()
         end = time.monotonic() + 2 * CALL_SECONDS + LEARN_SECONDS
         for number, caller in enumerate(callers):
@@ -413,31 +466,54 @@ class Round:
         if number is not None:
             self.ended.set()
             process.send_signal(number)
-            want((process.communicate(timeout=CALL_SECONDS)[1], process.returncode), ("", -number))
+            told = process.communicate(timeout=CALL_SECONDS)[1]
+            want((without_progress(told), process.returncode), ("", -number))
 
-    def play(self, folder):
+    def go_on(self):
+        """What the servers before this one leave to it: what any node was heard of is old, and known to each node; and most puts that they gave
+        no answer are made again."""
+        for table in TABLES:
+            self.old[table] = max(self.heard[node, table] for node in range(self.nodes))
+            for node in range(self.nodes):
+                self.heard[node, table] = self.old[table]
+        self.left += [it for it in self.unanswered.values() if self.drawn.random() < LEFT_SHARE]
+        self.unanswered.clear()
+        self.count("starts over old records")
+
+    def serve(self, folder, number):
+        """A server of the round, by its number: but for the first it goes on over the records of those before."""
+        ending, seconds = self.endings[number]
+        process, _, self.port = started_anew(self.program, self.nodes, folder, number > 0)
+        self.over, self.ended, self.last_call = threading.Event(), threading.Event(), self.counts["calls"] + MOST_CALLS
+        self.count(ending)
         try:
-            process, _, self.port = started_anew(self.program, self.nodes, folder)
-        except Wrong as fault:
-            self.blame(fault)
-            return
-        try:
-            self.load(process)
-            if ENDINGS[self.ending] is None:
+            if number > 0:
+                self.go_on()
+                self.compare_old()
+            self.load(process, ending, seconds)
+            if ENDINGS[ending] is None:
                 self.compare_all()
                 self.end(process, signal.SIGTERM)
-            self.check_files(folder)
-        except (Wrong, OSError, felzoren.Refused, felzoren.BadAnswer, subprocess.TimeoutExpired) as fault:
-            self.blame(f"{type(fault).__name__}: {fault}")
         finally:
             self.ended.set()
             self.over.set()
             process.kill()
             process.communicate()
 
+    def play(self, folder):
+        """One server after the other, up to the first that callers find something wrong with, and then the files that they leave."""
+        try:
+            for number in range(len(self.endings)):
+                if not self.faults:
+                    self.serve(folder, number)
+            self.check_files(folder)
+        except (Wrong, OSError, felzoren.Refused, felzoren.BadAnswer, subprocess.TimeoutExpired) as fault:
+            self.blame(f"{type(fault).__name__}: {fault}")
+
     def tell(self):
         counts = self.counts
-        print(f"round {self.number}: {self.nodes} nodes, {self.callers} callers, {self.ending} after {self.seconds:.1f} s: "
+        endings = ", then ".join(f"{ending} after {seconds:.1f} s" for ending, seconds in self.endings)
+        print(f"round {self.number}: {self.nodes} nodes, {self.callers} callers, {endings}: "
               f"{len(self.acknowledged)} uploads acknowledged, {counts['puts repeated']} puts repeated, {counts['gets compared']} gets, "
               f"{counts['questions']} questions, {counts['connections cut']} cut, {counts['records']} records, "
               f"{self.held / 2**20:.0f} MiB{'' if not self.faults else f', WRONG {len(self.faults)}'}", flush=True)
@@ -458,11 +534,11 @@ def learned_info(client, table):
             time.sleep(0.01)
 
 
-def started_anew(program, nodes, folder):
+def started_anew(program, nodes, folder, resumed):
     """A server. A port that was free may be another's by the time that it is opened; then others are looked for."""
     for _ in range(STARTS):
         try:
-            return started(program, nodes, folder)
+            return started(program, nodes, folder, resumed=resumed)
         except Wrong as fault:
             if "flightd: Bind" not in str(fault):
                 raise
@@ -539,7 +615,7 @@ class Sums:
 
     def add(self, played):
         self.counts.update(played.counts)
-        self.counts.update({"rounds": 1, "uploads acknowledged": len(played.acknowledged), played.ending: 1})
+        self.counts.update({"rounds": 1, "uploads acknowledged": len(played.acknowledged)})
         self.wrong += [f"round {played.number}: {fault}" for fault in played.faults]
         self.held = max(self.held, (played.held, played.number))
 
@@ -551,8 +627,8 @@ class Sums:
 
     def tell(self):
         print(f"{'minutes':<28} {(time.monotonic() - self.start) / 60:.1f}")
-        for name in ("rounds", *ENDINGS, "uploads acknowledged", "gets compared", "puts repeated", "connections cut", "questions",
-                     "records"):
+        for name in ("rounds", *ENDINGS, "starts over old records", "uploads acknowledged", "gets compared", "puts repeated",
+                     "connections cut", "questions", "records"):
             print(f"{name:<28} {self.counts[name]:,}")
         print(f"{'runs of tests':<28} {sum(self.tests.values())}{''.join(f', {count} {name}' for name, count in self.tests.items())}")
         print(f"{'most memory of a server':<28} {self.held[0] / 2**20:.1f} MiB, in round {self.held[1]}")

@@ -71,7 +71,8 @@ fn with_serve<'a>(alloc: Global, program: Command<'a>) -> Result<Command<'a>, Al
         .after_help(help::SERVE_MORE)
         .arg(option(alloc, "nodes", "N", help::NODES))?
         .arg(option(alloc, "port", "P", help::PORT))?
-        .arg(option(alloc, "data", "DIR", help::DATA))?;
+        .arg(option(alloc, "data", "DIR", help::DATA))?
+        .arg(flag(alloc, "resume", help::RESUME))?;
     program.subcommand(serve)
 }
 

@@ -56,8 +56,9 @@ pub(crate) const SERVE: &str =
 
 /// Which ports are served, and how it ends.
 pub(crate) const SERVE_MORE: &str = "\
-Example: flightd serve --data records --nodes 5 --port 42000 serves nodes 0 to 4 at the ports 42000 to 42004.
+Example: flightd serve --data records --resume --nodes 5 --port 42000 serves nodes 0 to 4 at the ports 42000 to 42004.
 Output: once all ports are open, a line for each node with its address. Node k keeps its records in DIR/node-k.rec.
+With --resume every version that an earlier server acknowledged is served again.
 Exit status: 1 after a fault; 2 words that are no call.";
 
 /// How many nodes are served.
@@ -69,7 +70,12 @@ pub(crate) const PORT: &str =
 
 /// Where the nodes keep their records.
 pub(crate) const DATA: &str =
-    "The folder of the nodes' records, which has none yet; it is made where it is missing. It has to be named";
+    "The folder of the nodes' records, which is made where it is missing; without --resume it has none yet. \
+     It has to be named";
+
+/// What the option to resume asks for.
+pub(crate) const RESUME: &str =
+    "Goes on over the records that an earlier server left in DIR; in a folder without records it starts anew";
 
 /// What a script does.
 pub(crate) const SCRIPT: &str =

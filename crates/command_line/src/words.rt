@@ -30,6 +30,8 @@ pub enum Asked<'a> {
         port: Option<&'a str>,
         /// The folder of their records.
         folder: Option<&'a str>,
+        /// Whether the cluster goes on over the records that an earlier server left in the folder.
+        is_resumed: bool,
     },
     /// The calls of the script that this file tells, at a cluster of their own.
     Script(&'a str),
@@ -78,7 +80,7 @@ pub enum Asked<'a> {
 /// | `acceptor` | | |
 /// | `audit` | `FILE` | `--explain` |
 /// | `replay` | `FILE` | |
-/// | `serve` | | `--nodes N`, `--port P`, `--data DIR` |
+/// | `serve` | | `--nodes N`, `--port P`, `--data DIR`, `--resume` |
 /// | `script` | `FILE` | |
 /// | `records` | `FILE` | |
 /// | `put` | `ADDRESS TABLE FILE` | `--id ID`, `--schema SCHEMA` |
@@ -148,6 +150,7 @@ fn asked_of<'a>(name: &str, found: &ArgMatches<'a>) -> Asked<'a>
             nodes: found.get_str("nodes"),
             port: found.get_str("port"),
             folder: found.get_str("data"),
+            is_resumed: has_flag(found, "resume"),
         },
         "script" => Asked::Script(operand(found, "FILE")),
         "records" => Asked::Records(operand(found, "FILE")),

@@ -33,11 +33,14 @@ const NO_CALL: u8 = 2;
 enum Left {
     /// Nothing: the command has ended with this status.
     Nothing(u8),
-    /// A cluster is to be served, with its records in this folder, with these keys for its look-ups.
+    /// A cluster is to be served, with its records in this folder, over which it goes on or not; a new one has this name. These are
+    /// the keys for its look-ups.
     Serve {
         nodes: u8,
         port: u16,
         folder: String,
+        is_resumed: bool,
+        id: [u8; 16],
         hashing: RandomState,
     },
     /// The script that these bytes are is to be played, at a cluster with these keys for its look-ups.
@@ -52,6 +55,8 @@ fn main(rt: HostRuntime) -> ExitCode {
                 nodes,
                 port,
                 folder,
+                is_resumed,
+                id,
                 hashing,
             },
         ) => serve_run(
@@ -61,6 +66,8 @@ fn main(rt: HostRuntime) -> ExitCode {
             nodes,
             port,
             folder.as_str(),
+            is_resumed,
+            id,
             &mut rt.stdout(),
             &mut rt.stderr(),
         ),
@@ -112,7 +119,8 @@ fn follow(rt: &HostRuntime, asked: Asked) -> io::Result<Left> {
             nodes,
             port,
             folder,
-        } => return serve(rt, nodes, port, folder),
+            is_resumed,
+        } => return serve(rt, nodes, port, folder, is_resumed),
         Asked::Script(file) => {
             return Ok(Left::Script(fs::read(rt, file)?, RandomState::new(rt)?));
         }
@@ -142,12 +150,17 @@ fn serve(
     nodes: Option<&str>,
     port: Option<&str>,
     folder: Option<&str>,
+    is_resumed: bool,
 ) -> io::Result<Left> {
+    let mut id = [0; 16];
+    rt.fill_bytes(&mut id)?;
     match served_by(nodes, port, folder) {
         Ok(served) => Ok(Left::Serve {
             nodes: served.nodes,
             port: served.port,
             folder: String::from_str(rt.alloc(), served.folder)?,
+            is_resumed,
+            id,
             hashing: RandomState::new(rt)?,
         }),
         Err(fault) => Ok(Left::Nothing(refuse(rt, fault))),

@@ -2,16 +2,20 @@
 //!
 //! `serve_run` opens a port for each node of a cluster, starts their workers, says where each node is served, and serves
 //! until it is ended from outside. It gives the exit status, and reports a fault in a line. The nodes keep their records in
-//! the files of a folder, so that a process that ends at any moment loses none that a node answered for.
+//! the files of a folder, so that a process that ends at any moment loses none that a node answered for, and a later one can go
+//! on over them: what was acknowledged is served again as soon as the ports are open.
 #![tactic(auto)]
 
 mod addresses;
+mod advice;
 mod fault;
-mod folder;
+mod new_nodes;
+mod progress;
+mod restarting;
 mod serving;
 mod status;
 
 pub use addresses::tell_addresses;
 pub use fault::ServeFault;
-pub use serving::{serve, serve_run};
+pub use serving::{serve, serve_again, serve_run};
 pub use status::{FAILURE, SUCCESS};

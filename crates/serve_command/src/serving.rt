@@ -3,20 +3,30 @@
 ghost use Rattle.std.specs.Prelude.{◌≡◌, ◌⊎◌, ℕ, List, OnOk, OnErr, []};
 ghost use Rattle.std.specs.Io.KnownBytes.{Appends, Keeps};
 ghost use Rattle.grpc_frames.specs.FrameFaults.{IsBeginning};
+ghost use Rattle.schedule_runner.specs.Told.{config_of};
+ghost use Rattle.resumed_nodes.specs.Heard.{starts_of};
+ghost use Rattle.resumed_nodes.specs.Starting.{AreStarted, records_of};
 ghost use Rattle.serve_command.specs.Addresses.{addresses_text};
 
 use crate::addresses::tell_addresses;
-use crate::fault::{ServeFault, fault_of};
-use crate::folder::{five_nodes, open_disks, three_nodes};
+use crate::advice::advise;
+use crate::fault::{ServeFault, fault_of, folder_fault};
+use crate::new_nodes::{configured, five_nodes, three_nodes};
+use crate::restarting::{FileNodes, five_again, restart, three_again};
 use crate::status::{FAILURE, SUCCESS};
+use ballots::Message;
+use cluster_folder::{open_folder, put_down};
+use cluster_identity::Identity;
 use crossbeam_channel::Receiver;
 use file_disk::FileDisk;
-use flight_service::{Beginning, NoReceipts, Note, OwnEntry, Works, join_all, open_service};
+use flight_service::{
+    Beginning, Config, NoReceipts, Note, OwnEntry, Works, join_all, open_service,
+};
 use growing_log::Opened;
 use std::alloc::{Alloc, Global};
 use std::fs::{File, Files};
 use std::hash::RandomState;
-use std::io::Write;
+use std::io::{Eprint, Write};
 use std::marker::Brand;
 use std::net::{Net, TcpListener, TcpStream};
 use std::sync::Wait;
@@ -26,20 +36,25 @@ use std::time::Clock;
 /// `flightd serve`: serves a cluster of 3 or 5 nodes, node k at the port of 127.0.0.1 that is k more than the first, until it
 /// is ended from outside. Once all ports are open a line for each node goes to `w`, which is flushed ([`tell_addresses`]).
 /// `hashing` has the random keys that keep look-ups fast whatever names clients choose. Node k keeps its records in the file `node-k.rec`
-/// of `folder`, which is made where it is missing; no file may have records yet.
+/// of `folder`, which is made where it is missing, and has the name `id` where it is new. Where `is_resumed` says so, the nodes go on over the records that an earlier
+/// server left there, and have learned at once what these say was chosen; else no file may have records yet.
 ///
 /// A fault's line goes to `e`: `flightd: Bind` where a port can't be had, `flightd: Members` where the cluster would have
 /// another number of nodes, `flightd: Open` where the folder or a file can't be opened or made, `flightd: Locked` where another
-/// process has a file, `flightd: OldRecords` where a file has records, `flightd: Damaged` where what stands in one means no records,
-/// `flightd: Device` where one can't be read or written, `flightd: OutOfMemory` where memory or a thread is refused, `flightd: Io` where
-/// `w` fails. Where that can't be written, the status alone tells.
+/// process has a file, `flightd: OldRecords` where a file has records and the nodes do not go on over them, `flightd: Damaged` where
+/// what stands in one means no records, `flightd: Device` where one can't be read or written, `flightd: OutOfMemory` where memory or a
+/// thread is refused, `flightd: Io` where `w` fails. Of nodes that go on it is also `flightd: Missing` where a file is not there
+/// and others have records, `flightd: Truncated` where one is empty and others have records, and `flightd: Foreign` where the records in
+/// one are those of another node or cluster. A second line says which file it is, and what can be done. Where these can't be written, the
+/// status alone tells.
 pub fn serve_run<
     R: Net<Listener = TcpListener, Stream = TcpStream>
         + Threads
         + Wait
         + Clock
+        + Eprint
         + Files<File = File>
-        + Alloc
+        + Alloc<A = Global>
         + Copy
         + Send
         + 'static,
@@ -52,6 +67,8 @@ pub fn serve_run<
     nodes: u8,
     first_port: u16,
     folder: &str,
+    is_resumed: bool,
+    id: [u8; 16],
     w: &mut W,
     e: &mut E,
 ) -> u8
@@ -61,11 +78,14 @@ pub fn serve_run<
     ensures failed { result ≡ 1 → (written : List ℕ) × IsBeginning written (addresses_text first_port nodes)
         × Appends (W.contents w.old) (W.contents w.new) written }
 {
-    match serve_from(rt, alloc, hashing, nodes, first_port, folder, w) {
+    match serve_from(
+        rt, alloc, hashing, nodes, first_port, folder, is_resumed, id, w,
+    ) {
         Ok(()) => SUCCESS,
         Err(fault) => {
             // Where this fails too, the status alone tells.
             let _ = writeln!(e, "flightd: {fault}");
+            advise(folder, fault, e);
             let _ = e.flush();
             FAILURE
         }
@@ -78,8 +98,9 @@ fn serve_from<
         + Threads
         + Wait
         + Clock
+        + Eprint
         + Files<File = File>
-        + Alloc
+        + Alloc<A = Global>
         + Copy
         + Send
         + 'static,
@@ -91,6 +112,8 @@ fn serve_from<
     nodes: u8,
     first_port: u16,
     folder: &str,
+    is_resumed: bool,
+    id: [u8; 16],
     w: &mut W,
 ) -> Result<(), ServeFault>
     ensures all { OnOk result (Appends (W.contents w.old) (W.contents w.new) (addresses_text first_port nodes)) }
@@ -100,10 +123,28 @@ fn serve_from<
     if nodes != 3 && nodes != 5 {
         return Err(ServeFault::Members);
     }
-    match open_disks(&rt, alloc, nodes, folder) {
-        Ok(disks) => serve(rt, alloc, hashing, nodes, first_port, disks, w),
-        Err(fault) => Err(fault),
+    let (disks, identity) = match open_folder(&rt, alloc, nodes, folder, is_resumed, id) {
+        Ok(opened) => (opened.disks, opened.identity),
+        Err(fault) => return Err(folder_fault(fault)),
+    };
+    let place = Place {
+        folder,
+        identity: &identity,
+    };
+    if is_resumed {
+        serve_again(rt, alloc, hashing, nodes, first_port, disks, &place, w)
+    } else {
+        serve(rt, alloc, hashing, nodes, first_port, disks, &place, w)
     }
+}
+
+/// Where the records of a cluster are, and what is put down there of it once its nodes have started.
+#[derive(Drop)]
+pub struct Place<'a> {
+    /// The folder.
+    pub folder: &'a str,
+    /// What the cluster is.
+    pub identity: &'a Identity,
 }
 
 /// Serves a cluster as [`serve_run`] does, over the files of its nodes, the last node's first, and gives the fault itself.
@@ -112,6 +153,7 @@ pub fn serve<
         + Threads
         + Wait
         + Clock
+        + Files<File = File>
         + Copy
         + Send
         + 'static,
@@ -123,6 +165,7 @@ pub fn serve<
     nodes: u8,
     first_port: u16,
     disks: Vec<FileDisk>,
+    place: &Place<'_>,
     w: &mut W,
 ) -> Result<(), ServeFault>
     ensures all { OnOk result (Appends (W.contents w.old) (W.contents w.new) (addresses_text first_port nodes)) }
@@ -130,8 +173,26 @@ pub fn serve<
         × Appends (W.contents w.old) (W.contents w.new) written) }
 {
     match nodes {
-        3 => serve_three::<R, W, Brand>(rt, alloc, hashing, first_port, disks, w, Opened::new()),
-        5 => serve_five::<R, W, Brand>(rt, alloc, hashing, first_port, disks, w, Opened::new()),
+        3 => serve_three::<R, W, Brand>(
+            rt,
+            alloc,
+            hashing,
+            first_port,
+            disks,
+            place,
+            w,
+            Opened::new(),
+        ),
+        5 => serve_five::<R, W, Brand>(
+            rt,
+            alloc,
+            hashing,
+            first_port,
+            disks,
+            place,
+            w,
+            Opened::new(),
+        ),
         _ => Err(ServeFault::Members),
     }
 }
@@ -142,6 +203,7 @@ fn serve_three<
         + Threads
         + Wait
         + Clock
+        + Files<File = File>
         + Copy
         + Send
         + 'static,
@@ -153,6 +215,7 @@ fn serve_three<
     hashing: RandomState,
     first_port: u16,
     disks: Vec<FileDisk>,
+    place: &Place<'_>,
     w: &mut W,
     log: Opened<OwnEntry>,
 ) -> Result<(), ServeFault>
@@ -163,7 +226,7 @@ fn serve_three<
         × Appends (W.contents w.old) (W.contents w.new) written) }
 {
     match three_nodes::<R, J>(&rt, alloc, hashing, disks, log) {
-        Ok((nodes, notes)) => serve_nodes(rt, alloc, nodes, notes, first_port, 3, w),
+        Ok((nodes, notes)) => serve_nodes(rt, alloc, nodes, notes, first_port, 3, place, w),
         Err(fault) => Err(fault),
     }
 }
@@ -174,6 +237,7 @@ fn serve_five<
         + Threads
         + Wait
         + Clock
+        + Files<File = File>
         + Copy
         + Send
         + 'static,
@@ -185,6 +249,7 @@ fn serve_five<
     hashing: RandomState,
     first_port: u16,
     disks: Vec<FileDisk>,
+    place: &Place<'_>,
     w: &mut W,
     log: Opened<OwnEntry>,
 ) -> Result<(), ServeFault>
@@ -195,7 +260,177 @@ fn serve_five<
         × Appends (W.contents w.old) (W.contents w.new) written) }
 {
     match five_nodes::<R, J>(&rt, alloc, hashing, disks, log) {
-        Ok((nodes, notes)) => serve_nodes(rt, alloc, nodes, notes, first_port, 5, w),
+        Ok((nodes, notes)) => serve_nodes(rt, alloc, nodes, notes, first_port, 5, place, w),
+        Err(fault) => Err(fault),
+    }
+}
+
+/// Serves a cluster as [`serve`] does, whose nodes go on over the records in these files, and gives the fault itself.
+pub fn serve_again<
+    R: Net<Listener = TcpListener, Stream = TcpStream>
+        + Threads
+        + Wait
+        + Clock
+        + Eprint
+        + Files<File = File>
+        + Copy
+        + Send
+        + 'static,
+    W: Write,
+>(
+    rt: R,
+    alloc: Global,
+    hashing: RandomState,
+    nodes: u8,
+    first_port: u16,
+    disks: Vec<FileDisk>,
+    place: &Place<'_>,
+    w: &mut W,
+) -> Result<(), ServeFault>
+    ensures all { OnOk result (Appends (W.contents w.old) (W.contents w.new) (addresses_text first_port nodes)) }
+    ensures part { OnErr result ((written : List ℕ) × IsBeginning written (addresses_text first_port nodes)
+        × Appends (W.contents w.old) (W.contents w.new) written) }
+{
+    let config = match configured(nodes) {
+        Ok(config) => config,
+        Err(fault) => {
+            drop(disks);
+            return Err(fault);
+        }
+    };
+    match restart(&rt, alloc, hashing, &config, disks) {
+        Ok((old, told)) => { serve_old(rt, alloc, nodes, first_port, config, old, told, place, w) }
+        Err(fault) => Err(fault),
+    }
+}
+
+// Serves so many nodes that have started again, and have heard these messages.
+fn serve_old<
+    R: Net<Listener = TcpListener, Stream = TcpStream>
+        + Threads
+        + Wait
+        + Clock
+        + Files<File = File>
+        + Copy
+        + Send
+        + 'static,
+    W: Write,
+>(
+    rt: R,
+    alloc: Global,
+    nodes: u8,
+    first_port: u16,
+    config: Config,
+    old: FileNodes,
+    told: Vec<Message>,
+    place: &Place<'_>,
+    w: &mut W,
+) -> Result<(), ServeFault>
+    requires { AreStarted (config_of config) told.items old.items }
+    ensures all { OnOk result (Appends (W.contents w.old) (W.contents w.new) (addresses_text first_port nodes)) }
+    ensures part { OnErr result ((written : List ℕ) × IsBeginning written (addresses_text first_port nodes)
+        × Appends (W.contents w.old) (W.contents w.new) written) }
+{
+    match nodes {
+        3 => serve_three_again::<R, W, Brand>(
+            rt,
+            alloc,
+            first_port,
+            config,
+            old,
+            told,
+            place,
+            w,
+            Opened::new(),
+        ),
+        5 => serve_five_again::<R, W, Brand>(
+            rt,
+            alloc,
+            first_port,
+            config,
+            old,
+            told,
+            place,
+            w,
+            Opened::new(),
+        ),
+        _ => {
+            drop(old);
+            Err(ServeFault::Members)
+        }
+    }
+}
+
+// Serves three nodes that have started again, whose journal has this log, and begins where they stand.
+fn serve_three_again<
+    R: Net<Listener = TcpListener, Stream = TcpStream>
+        + Threads
+        + Wait
+        + Clock
+        + Files<File = File>
+        + Copy
+        + Send
+        + 'static,
+    W: Write,
+    J: Beginning + Send + Sync + 'static,
+>(
+    rt: R,
+    alloc: Global,
+    first_port: u16,
+    config: Config,
+    old: FileNodes,
+    told: Vec<Message>,
+    place: &Place<'_>,
+    w: &mut W,
+    log: Opened<OwnEntry>,
+) -> Result<(), ServeFault>
+    requires named { log ≡ J.book }
+    requires start { J.start ≡ starts_of (records_of old.items) told.items }
+    requires stand { AreStarted (config_of config) told.items old.items }
+    ensures all { OnOk result (Appends (W.contents w.old) (W.contents w.new) (addresses_text first_port 3)) }
+    ensures part { OnErr result ((written : List ℕ) × IsBeginning written (addresses_text first_port 3)
+        × Appends (W.contents w.old) (W.contents w.new) written) }
+{
+    drop(told);
+    match three_again::<R, J>(&rt, alloc, config, old, log) {
+        Ok((nodes, notes)) => serve_nodes(rt, alloc, nodes, notes, first_port, 3, place, w),
+        Err(fault) => Err(fault),
+    }
+}
+
+// Serves five nodes that have started again, whose journal has this log, and begins where they stand.
+fn serve_five_again<
+    R: Net<Listener = TcpListener, Stream = TcpStream>
+        + Threads
+        + Wait
+        + Clock
+        + Files<File = File>
+        + Copy
+        + Send
+        + 'static,
+    W: Write,
+    J: Beginning + Send + Sync + 'static,
+>(
+    rt: R,
+    alloc: Global,
+    first_port: u16,
+    config: Config,
+    old: FileNodes,
+    told: Vec<Message>,
+    place: &Place<'_>,
+    w: &mut W,
+    log: Opened<OwnEntry>,
+) -> Result<(), ServeFault>
+    requires named { log ≡ J.book }
+    requires start { J.start ≡ starts_of (records_of old.items) told.items }
+    requires stand { AreStarted (config_of config) told.items old.items }
+    ensures all { OnOk result (Appends (W.contents w.old) (W.contents w.new) (addresses_text first_port 5)) }
+    ensures part { OnErr result ((written : List ℕ) × IsBeginning written (addresses_text first_port 5)
+        × Appends (W.contents w.old) (W.contents w.new) written) }
+{
+    drop(told);
+    match five_again::<R, J>(&rt, alloc, config, old, log) {
+        Ok((nodes, notes)) => serve_nodes(rt, alloc, nodes, notes, first_port, 5, place, w),
         Err(fault) => Err(fault),
     }
 }
@@ -206,6 +441,7 @@ fn serve_nodes<
         + Threads
         + Wait
         + Clock
+        + Files<File = File>
         + Copy
         + Send
         + 'static,
@@ -218,17 +454,21 @@ fn serve_nodes<
     notes: Vec<Receiver<Note>>,
     first_port: u16,
     count: u8,
+    place: &Place<'_>,
     w: &mut W,
 ) -> Result<(), ServeFault>
     ensures all { OnOk result (Appends (W.contents w.old) (W.contents w.new) (addresses_text first_port count)) }
     ensures part { OnErr result ((written : List ℕ) × IsBeginning written (addresses_text first_port count)
         × Appends (W.contents w.old) (W.contents w.new) written) }
 {
+    if let Err(fault) = put_down(&rt, alloc, place.folder, place.identity) {
+        return Err(folder_fault(fault));
+    }
     let (service, workers) = match open_service(
         rt, alloc, nodes, NoReceipts, notes, first_port, count,
     ) {
         Ok(opened) => opened,
-        Err(fault) => return Err(fault_of(fault)),
+        Err(fault) => return Err(fault_of(0, fault)),
     };
     let told = tell_addresses(alloc, first_port, count, w);
     if told.is_err() {

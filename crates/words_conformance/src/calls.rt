@@ -88,6 +88,35 @@ fn takes_a_cluster(rt: HostRuntime) -> Result<(), Fail> {
             nodes,
             port,
             folder,
+            is_resumed: false,
+        };
+        assert!(rt; asks_for(alloc, &words, wanted), "{call}");
+    }
+    Ok(())
+}
+
+#[test]
+fn takes_a_cluster_that_goes_on(rt: HostRuntime) -> Result<(), Fail> {
+    let alloc = rt.alloc();
+    for (call, folder, is_resumed) in [
+        ("flightd serve --resume", None, true),
+        ("flightd serve --resume --", None, true),
+        ("flightd serve --resume --data d", Some("d"), true),
+        ("flightd serve --data=d --resume", Some("d"), true),
+        ("flightd serve --data resume", Some("resume"), false),
+        ("flightd serve --data=--resume", Some("--resume"), false),
+        (
+            "flightd serve --data=--resume --resume",
+            Some("--resume"),
+            true,
+        ),
+    ] {
+        let words = words_in(alloc, call)?;
+        let wanted = Asked::Serve {
+            nodes: None,
+            port: None,
+            folder,
+            is_resumed,
         };
         assert!(rt; asks_for(alloc, &words, wanted), "{call}");
     }

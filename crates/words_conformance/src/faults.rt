@@ -12,7 +12,9 @@ const NO_CALLS: [(ErrorKind, &str); 6] = [
         "flightd serve a;flightd serve --folder d;flightd script a b;flightd records a b;flightd put a t f g;flightd get a t 1 2;flightd list a b;\
          flightd info a t 1;flightd serve -p 9000;flightd serve --node 3;flightd serve --Port 9000;flightd list --id 7;\
          flightd put -id 7 a t f;flightd get a t --all;flightd get a t --all-location;flightd info --all-locations a t;\
-         flightd script --explain f;flightd --nodes 3 serve;flightd get -a t",
+         flightd script --explain f;flightd --nodes 3 serve;flightd get -a t;flightd serve --resume d;\
+         flightd serve --resumed;flightd serve --res;flightd serve -resume;flightd serve --Resume;\
+         flightd script --resume f;flightd --resume serve",
     ),
     (
         ErrorKind::InvalidSubcommand,
@@ -26,19 +28,22 @@ const NO_CALLS: [(ErrorKind, &str); 6] = [
     ),
     (
         ErrorKind::InvalidValue,
-        "flightd serve --nodes;flightd serve --port;flightd serve --data;flightd serve --nodes --port 9000;flightd put a t f --id;\
-         flightd put a t f --schema;flightd put --id -- a t f;flightd put --id --schema s a t f",
+        "flightd serve --nodes;flightd serve --port;flightd serve --data;flightd serve --nodes --port 9000;\
+         flightd serve --data --resume;flightd put a t f --id;flightd put a t f --schema;flightd put --id -- a t f;\
+         flightd put --id --schema s a t f",
     ),
     // An option stands twice.
     (
         ErrorKind::ArgumentConflict,
         "flightd serve --nodes 3 --nodes 3;flightd serve --data a --data b;flightd serve --port=1 --nodes 3 --port 2;flightd put --id 7 a t f --id 7;\
-         flightd put --schema=s --schema=s a t f;flightd get --all-locations a t --all-locations",
+         flightd put --schema=s --schema=s a t f;flightd get --all-locations a t --all-locations;\
+         flightd serve --resume --resume;flightd serve --resume --data d --resume",
     ),
     // An option without a value has one.
     (
         ErrorKind::TooManyValues,
-        "flightd get a t --all-locations=true;flightd get --all-locations= a t",
+        "flightd get a t --all-locations=true;flightd get --all-locations= a t;\
+         flightd serve --resume=x;flightd serve --resume=true;flightd serve --resume= --data d",
     ),
 ];
 

@@ -1,4 +1,5 @@
-//! The options of a put, in each place among its operands, in either order, and in each form.
+//! The options of a put, in each place among its operands, in either order, and in each form; and the option of a
+//! cluster that has no value, in each place among the others.
 
 use crate::support::asks_for;
 use command_line::Asked;
@@ -12,6 +13,16 @@ const OPERANDS: [&str; 3] = ["a:1", "t", "rows"];
 const IDS: [&str; 2] = ["--id=7", "--id 7"];
 
 const SCHEMAS: [&str; 2] = ["--schema=s", "--schema s"];
+
+/// The other options of a cluster, in each order.
+const CLUSTERS: [[&str; 3]; 6] = [
+    ["--nodes 5", "--port 9000", "--data d"],
+    ["--nodes=5", "--data d", "--port=9000"],
+    ["--port 9000", "--nodes=5", "--data=d"],
+    ["--port=9000", "--data=d", "--nodes 5"],
+    ["--data d", "--nodes 5", "--port=9000"],
+    ["--data=d", "--port 9000", "--nodes=5"],
+];
 
 fn push_words(alloc: Global, words: &mut Vec<String>, text: &str) -> Result<(), AllocError> {
     for word in text.split(' ') {
@@ -90,6 +101,44 @@ fn takes_options_in_each_place(rt: HostRuntime) -> Result<(), Fail> {
                 are_taken(alloc, first_at, SCHEMAS, second_at, IDS)?,
                 "{first_at} {second_at}"
             );
+        }
+    }
+    Ok(())
+}
+
+/// The words of a cluster that has so many of these options before the word to resume.
+fn serve_with(
+    alloc: Global,
+    resumed_at: usize,
+    options: [&str; 3],
+) -> Result<Vec<String>, AllocError> {
+    let mut words = Vec::new(alloc);
+    push_words(alloc, &mut words, "flightd serve")?;
+    for at in 0..4 {
+        if at == resumed_at {
+            push_words(alloc, &mut words, "--resume")?;
+        }
+        if let Some(option) = options.get(at) {
+            push_words(alloc, &mut words, *option)?;
+        }
+    }
+    Ok(words)
+}
+
+#[test]
+fn takes_the_word_to_resume_in_each_place(rt: HostRuntime) -> Result<(), Fail> {
+    let alloc = rt.alloc();
+    // At place 4 the word is not there.
+    for (resumed_at, is_resumed) in [(0, true), (1, true), (2, true), (3, true), (4, false)] {
+        for options in CLUSTERS {
+            let words = serve_with(alloc, resumed_at, options)?;
+            let wanted = Asked::Serve {
+                nodes: Some("5"),
+                port: Some("9000"),
+                folder: Some("d"),
+                is_resumed,
+            };
+            assert!(rt; asks_for(alloc, &words, wanted), "{resumed_at}");
         }
     }
     Ok(())

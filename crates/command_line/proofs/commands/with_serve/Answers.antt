@@ -10,5 +10,6 @@ returns c =
     let start : app_of c.after_help.result ≡ new_app (codes "serve") = ap app_of_fields c.after_help.ensures ∙ ap app_of_fields c.about.ensures ∙ c.new.ensures.app in
     let made_1 = made_more _ _ _ _ _ start c.in_ok-arg.ensures c.option.ensures.rule c.option.ensures.local in
     let made_2 = made_more _ _ _ _ _ made_1 c.in_ok-arg-2.ensures c.option-2.ensures.rule c.option-2.ensures.local in
-    let made_3 = made_more _ _ _ _ _ made_2 c.in_ok-serve.ensures c.option-3.ensures.rule c.option-3.ensures.local in
-    IfOk-weaker c.subcommand.result _ _ (λ made adds. made_subcommand _ _ _ _ refl made_3 adds) c.subcommand.ensures
+    let made_3 = made_more _ _ _ _ _ made_2 c.in_ok-arg-3.ensures c.option-3.ensures.rule c.option-3.ensures.local in
+    let made_4 = made_more _ _ _ _ _ made_3 c.in_ok-serve.ensures c.flag.ensures.rule c.flag.ensures.local in
+    IfOk-weaker c.subcommand.result _ _ (λ made adds. made_subcommand _ _ _ _ refl made_4 adds) c.subcommand.ensures

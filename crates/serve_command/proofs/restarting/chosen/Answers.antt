@@ -1,0 +1,9 @@
+use Rattle.std.proofs.Common.{subst}
+use Rattle.std.specs.List.{All}
+use Rattle.chosen_records.specs.Chosen.{IsRecorded}
+use Rattle.resumed_nodes.specs.Starting.{records_of}
+use Rattle.serve_command.proofs.restarting.chosen.Goals as goal
+
+pub returns-in-Ok-clause-recorded : goal.returns-in-Ok-clause-recorded
+returns-in-Ok-clause-recorded c =
+    subst (λ nodes. All (IsRecorded (records_of nodes)) c.in-Ok.told.items) c.as_slice.ensures.value c.in-Ok.ensures.recorded

@@ -1,0 +1,18 @@
+-- Nodes that have started again over old records, and where a journal of theirs begins.
+use Rattle.std.specs.Prelude.{◌≡◌, ℕ, ◌<◌, List, length, slice_index_or}
+use Rattle.histories.specs.Following.{Seat}
+use Rattle.node_seats.specs.State.{SeatState, IsPlaced}
+use Rattle.schedule_runner.specs.declared.config.Config.{Config}
+use Rattle.schedule_runner.specs.Told.{config_of}
+use Rattle.journal.specs.Journaled.{seats_in}
+use Rattle.seats.specs.State.{StandsSo}
+
+-- it is of this configuration, and stands as the list has it
+pub record IsAtStart {S : Type 0} (config : Config) (start : List Seat) (node : SeatState S) : Type 0 where
+  pub config_is : node.config ≡ config_of config
+  pub placed : IsPlaced node
+  pub stands : StandsSo node (seats_in start node.me)
+
+abbrev pub AreAtStart : {S : Type 0} → Config → List Seat → List (SeatState S) → Type 0
+AreAtStart config start nodes =
+    (number : ℕ) (d : SeatState _) → number < length nodes → IsAtStart config start (slice_index_or nodes number d)

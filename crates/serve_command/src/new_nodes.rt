@@ -1,0 +1,105 @@
+//! Clusters whose nodes start with nothing, each over a file that has no records.
+
+ghost use Rattle.std.specs.Prelude.{◌≡◌, []};
+
+use crate::fault::{ServeFault, fault_of};
+use disk_records::DiskStable;
+use file_disk::FileDisk;
+use flight_service::{
+    Beginning, Config, Journal, OwnEntry, Seat, ServiceFault, Started, config_of, open_seat,
+    start_nodes,
+};
+use growing_log::Opened;
+use std::alloc::Global;
+use std::hash::RandomState;
+use std::sync::{Mutex, Wait};
+
+/// The store of a node on a disk.
+pub(crate) type FileStore = DiskStable<FileDisk>;
+
+// The node of this number, over the last of the disks, whose file is to have no records.
+fn seat<J: Beginning>(
+    alloc: Global,
+    hashing: RandomState,
+    number: u8,
+    config: Config,
+    disks: &mut Vec<FileDisk>,
+) -> Result<Mutex<Seat<FileStore, J>>, ServeFault>
+    requires { J.start ≡ [] }
+{
+    let Some(disk) = disks.pop() else {
+        return Err(ServeFault::Members);
+    };
+    match open_seat(alloc, hashing, number, config, DiskStable::new(alloc, disk)) {
+        Ok(seat) => Ok(seat),
+        Err(fault) => Err(fault_of(number, fault)),
+    }
+}
+
+/// The configuration of so many nodes.
+pub(crate) fn configured(count: u8) -> Result<Config, ServeFault> {
+    match config_of(count) {
+        Ok(config) => Ok(config),
+        Err(fault) => Err(fault_of(0, fault)),
+    }
+}
+
+/// What starts, or why it does not.
+pub(crate) fn started<T: Drop>(started: Result<T, ServiceFault>) -> Result<T, ServeFault> {
+    match started {
+        Ok(nodes) => Ok(nodes),
+        Err(fault) => Err(fault_of(0, fault)),
+    }
+}
+
+/// Three nodes over these disks, the last node's first.
+pub(crate) fn three_nodes<R: Wait, J: Beginning>(
+    rt: &R,
+    alloc: Global,
+    hashing: RandomState,
+    disks: Vec<FileDisk>,
+    log: Opened<OwnEntry>,
+) -> Result<Started<3, FileStore, J>, ServeFault>
+    requires named { log ≡ J.book }
+    requires start { J.start ≡ [] }
+{
+    let mut disks = disks;
+    let config = configured(3)?;
+    let seats = [
+        seat(alloc, hashing, 0, config, &mut disks)?,
+        seat(alloc, hashing, 1, config, &mut disks)?,
+        seat(alloc, hashing, 2, config, &mut disks)?,
+    ];
+    if !config.is_within_limits() {
+        return Err(ServeFault::Members);
+    }
+    let journal = Journal::with_log(alloc, config, log);
+    started(start_nodes(rt, alloc, seats, journal))
+}
+
+/// Five nodes, as [`three_nodes`] makes three.
+pub(crate) fn five_nodes<R: Wait, J: Beginning>(
+    rt: &R,
+    alloc: Global,
+    hashing: RandomState,
+    disks: Vec<FileDisk>,
+    log: Opened<OwnEntry>,
+) -> Result<Started<5, FileStore, J>, ServeFault>
+    requires named { log ≡ J.book }
+    requires start { J.start ≡ [] }
+{
+    let mut disks = disks;
+    let config = configured(5)?;
+    let seats = [
+        seat(alloc, hashing, 0, config, &mut disks)?,
+        seat(alloc, hashing, 1, config, &mut disks)?,
+        seat(alloc, hashing, 2, config, &mut disks)?,
+        seat(alloc, hashing, 3, config, &mut disks)?,
+        seat(alloc, hashing, 4, config, &mut disks)?,
+    ];
+    if !config.is_within_limits() {
+        return Err(ServeFault::Members);
+    }
+    let journal = Journal::with_log(alloc, config, log);
+    started(start_nodes(rt, alloc, seats, journal))
+}

@@ -1,0 +1,259 @@
+//! Clusters that go on over the records of an earlier server.
+
+ghost use Rattle.std.specs.Prelude.{◌≡◌, [], length, IfOk, OnOk};
+ghost use Rattle.std.specs.List.{All};
+ghost use Rattle.chosen_records.specs.Chosen.{IsRecorded};
+ghost use Rattle.schedule_runner.specs.Told.{config_of};
+ghost use Rattle.resumed_nodes.specs.Starting.{AreStarted, GoesOn, MayBeTold, records_of};
+ghost use Rattle.serve_command.specs.Restarting.{AreAtStart};
+
+use crate::fault::ServeFault;
+use crate::new_nodes::{FileStore, configured, started};
+use crate::progress::Progress;
+use agreement::Config as Agreed;
+use ballots::{Message, NodeId};
+use chosen_records::ChosenFault;
+use disk_records::DiskStable;
+use file_disk::FileDisk;
+use flight_service::{Beginning, Config, Journal, OwnEntry, Seat, Started, start_nodes};
+use growing_log::Opened;
+use node_seats::Seat as NodeSeat;
+use resumed_nodes::laws::members_go_on;
+use resumed_nodes::{ReopenFault, chosen_by, hear_next, reopen_next};
+use stable_records::StoreFault;
+use std::alloc::Global;
+use std::hash::RandomState;
+use std::io::Eprint;
+use std::sync::{Mutex, Wait};
+use std::time::Clock;
+
+/// The nodes of a cluster that have started again, each over the records in its file.
+pub(crate) type FileNodes = Vec<NodeSeat<FileStore>>;
+
+// What nodes of this configuration agree on before they start.
+fn agreed_by(config: &Config) -> Result<Agreed, ServeFault>
+    ensures { IfOk result (λ agreed. agreed ≡ config_of config.now) }
+{
+    match Agreed::new(config.members, config.slot_limit) {
+        Some(agreed) => Ok(agreed),
+        None => Err(ServeFault::Members),
+    }
+}
+
+// The fault of a server whose node of this number does not start again.
+fn reopen_fault(node: u8, fault: ReopenFault) -> ServeFault {
+    match fault {
+        ReopenFault::Store(StoreFault::Damaged) => ServeFault::Damaged(node),
+        ReopenFault::Store(StoreFault::OutOfMemory) => ServeFault::OutOfMemory,
+        ReopenFault::Store(StoreFault::Device | StoreFault::Broken) => ServeFault::Device(node),
+        ReopenFault::OutOfRange | ReopenFault::AnotherNode => ServeFault::Foreign(node),
+        ReopenFault::OutOfMemory => ServeFault::OutOfMemory,
+    }
+}
+
+// Starts the next node again, over the last of the disks.
+fn restart_next(
+    alloc: Global,
+    hashing: RandomState,
+    agreed: Agreed,
+    disks: &mut Vec<FileDisk>,
+    nodes: &mut FileNodes,
+) -> Result<(), ServeFault>
+    requires { AreStarted agreed [] nodes.old.items }
+    ensures { OnOk result (AreStarted agreed [] nodes.new.items) }
+{
+    let number = nodes.len();
+    let (Ok(node), Some(disk)) = (u8::try_from(number), disks.pop()) else {
+        return Err(ServeFault::Members);
+    };
+    let Some(me) = NodeId::new(node) else {
+        drop(disk);
+        return Err(ServeFault::Members);
+    };
+    if !agreed.members().have(me) {
+        drop(disk);
+        return Err(ServeFault::Members);
+    }
+    match reopen_next(
+        alloc,
+        hashing,
+        me,
+        agreed,
+        nodes,
+        DiskStable::new(alloc, disk),
+    ) {
+        Ok(()) => Ok(()),
+        Err(fault) => Err(reopen_fault(node, fault)),
+    }
+}
+
+// The nodes over these disks, the last node's first, each with its records.
+fn restarted<R: Clock + Eprint>(
+    alloc: Global,
+    hashing: RandomState,
+    agreed: Agreed,
+    disks: Vec<FileDisk>,
+    progress: &mut Progress<'_, R>,
+) -> Result<FileNodes, ServeFault>
+    ensures { IfOk result (λ nodes. AreStarted agreed [] nodes.items) }
+{
+    let mut disks = disks;
+    let mut nodes = Vec::new(alloc);
+    for number in 0..agreed.members().count() {
+        restart_next(alloc, hashing, agreed, &mut disks, &mut nodes)?;
+        progress.tell(usize::from(number), "has its records");
+    }
+    Ok(nodes)
+}
+
+// What the nodes' records say was chosen.
+fn chosen(alloc: Global, agreed: Agreed, nodes: &FileNodes) -> Result<Vec<Message>, ServeFault>
+    requires { AreStarted agreed [] nodes.now.items }
+    ensures all { IfOk result (λ told. length nodes.now.items ≡ agreed.members) }
+    ensures may { IfOk result (λ told. All (MayBeTold agreed) told.items) }
+    ensures recorded { IfOk result (λ told. All (IsRecorded (records_of nodes.now.items)) told.items) }
+{
+    if nodes.len() != usize::from(agreed.members().count()) {
+        return Err(ServeFault::Members);
+    }
+    match chosen_by(alloc, agreed, nodes.as_slice()) {
+        Ok(told) => Ok(told),
+        Err(ChosenFault::Differ(_)) => Err(ServeFault::Mixed),
+        Err(ChosenFault::OutOfMemory) => Err(ServeFault::OutOfMemory),
+    }
+}
+
+// Has each node hear what was chosen.
+fn have_hear<R: Clock + Eprint>(
+    agreed: Agreed,
+    nodes: &mut [NodeSeat<FileStore>],
+    told: &[Message],
+    progress: &mut Progress<'_, R>,
+) -> Result<(), ServeFault>
+    requires started { AreStarted agreed [] nodes.old }
+    requires may { All (MayBeTold agreed) told.now }
+    ensures heard { OnOk result (AreStarted agreed told.now nodes.new) }
+    ensures records { OnOk result (records_of nodes.new ≡ records_of nodes.old) }
+{
+    for number in 0..nodes.len() {
+        if hear_next(agreed, nodes, number, told).is_err() {
+            return Err(ServeFault::OutOfMemory);
+        }
+        progress.tell(number, "has learned what was decided");
+    }
+    Ok(())
+}
+
+// The nodes, once each has heard what was chosen.
+fn heard<R: Clock + Eprint>(
+    agreed: Agreed,
+    nodes: FileNodes,
+    told: &[Message],
+    progress: &mut Progress<'_, R>,
+) -> Result<FileNodes, ServeFault>
+    requires started { AreStarted agreed [] nodes.items }
+    requires may { All (MayBeTold agreed) told.now }
+    ensures heard { IfOk result (λ heard. AreStarted agreed told.now heard.items) }
+    ensures records { IfOk result (λ heard. records_of heard.items ≡ records_of nodes.items) }
+    ensures all { IfOk result (λ heard. length heard.items ≡ length nodes.items) }
+{
+    let mut nodes = nodes;
+    match have_hear(agreed, nodes.as_mut_slice(), told, progress) {
+        Ok(()) => Ok(nodes),
+        Err(fault) => {
+            drop(nodes);
+            Err(fault)
+        }
+    }
+}
+
+/// The nodes over these disks, the last node's first, each with the records in its file, once they have heard what these say
+/// was chosen; and the messages that told them so. Whatever history left the nodes with these records, some history precedes
+/// them as they stand then, in which clients did the same and were answered the same.
+pub(crate) fn restart<R: Clock + Eprint>(
+    rt: &R,
+    alloc: Global,
+    hashing: RandomState,
+    config: &Config,
+    disks: Vec<FileDisk>,
+) -> Result<(FileNodes, Vec<Message>), ServeFault>
+    ensures started { IfOk result (λ found. AreStarted (config_of config.now) found.1.items found.0.items) }
+    ensures goes_on { IfOk result (λ found. GoesOn (config_of config.now) (records_of found.0.items) found.1.items) }
+{
+    members_go_on::<FileStore>();
+    let agreed = agreed_by(config)?;
+    let mut progress = Progress::new(rt);
+    let nodes = restarted(alloc, hashing, agreed, disks, &mut progress)?;
+    let told = match chosen(alloc, agreed, &nodes) {
+        Ok(told) => told,
+        Err(fault) => {
+            drop(nodes);
+            return Err(fault);
+        }
+    };
+    match heard(agreed, nodes, told.as_slice(), &mut progress) {
+        Ok(nodes) => Ok((nodes, told)),
+        Err(fault) => Err(fault),
+    }
+}
+
+// The seat of the last of these nodes.
+fn begun<J: Beginning>(
+    alloc: Global,
+    config: Config,
+    nodes: &mut FileNodes,
+) -> Result<Mutex<Seat<FileStore, J>>, ServeFault>
+    requires { AreAtStart config J.start nodes.old.items }
+    ensures { AreAtStart config J.start nodes.new.items }
+{
+    match nodes.pop() {
+        Some(node) => Ok(Mutex::new(Seat::begin(alloc, config, node))),
+        None => Err(ServeFault::Members),
+    }
+}
+
+/// Three nodes that have started again, and whose journal begins where they stand.
+pub(crate) fn three_again<R: Wait, J: Beginning>(
+    rt: &R,
+    alloc: Global,
+    config: Config,
+    nodes: FileNodes,
+    log: Opened<OwnEntry>,
+) -> Result<Started<3, FileStore, J>, ServeFault>
+    requires named { log ≡ J.book }
+    requires start { AreAtStart config J.start nodes.items }
+{
+    let mut nodes = nodes;
+    let two = begun(alloc, config, &mut nodes)?;
+    let one = begun(alloc, config, &mut nodes)?;
+    let zero = begun(alloc, config, &mut nodes)?;
+    if !config.is_within_limits() {
+        return Err(ServeFault::Members);
+    }
+    let journal = Journal::with_log(alloc, config, log);
+    started(start_nodes(rt, alloc, [zero, one, two], journal))
+}
+
+/// Five nodes, as [`three_again`] makes three.
+pub(crate) fn five_again<R: Wait, J: Beginning>(
+    rt: &R,
+    alloc: Global,
+    config: Config,
+    nodes: FileNodes,
+    log: Opened<OwnEntry>,
+) -> Result<Started<5, FileStore, J>, ServeFault>
+    requires named { log ≡ J.book }
+    requires start { AreAtStart config J.start nodes.items }
+{
+    let mut nodes = nodes;
+    let four = begun(alloc, config, &mut nodes)?;
+    let three = begun(alloc, config, &mut nodes)?;
+    let two = begun(alloc, config, &mut nodes)?;
+    let one = begun(alloc, config, &mut nodes)?;
+    let zero = begun(alloc, config, &mut nodes)?;
+    if !config.is_within_limits() {
+        return Err(ServeFault::Members);
+    }
+    let journal = Journal::with_log(alloc, config, log);
+    started(start_nodes(rt, alloc, [zero, one, two, three, four], journal))
+}
