@@ -1,0 +1,5 @@
+mod Filling
+mod Marking
+mod Listed
+mod Standing
+mod OneReport

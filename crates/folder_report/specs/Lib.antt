@@ -1,0 +1,4 @@
+pub mod Reporting
+pub mod Values
+pub mod Marks
+pub mod Lines

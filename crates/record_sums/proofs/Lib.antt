@@ -1,0 +1,4 @@
+pub mod Entries
+pub mod Files
+pub mod Damages
+pub mod Entered

@@ -1,0 +1,28 @@
+-- What reading the file of sums gives, and what writing its beginning leaves.
+use Rattle.std.specs.Prelude.{◌≡◌, ℕ, List, ◌++◌, length, drop, Result, Ok, Err, ⊤, Vec}
+use Rattle.std.specs.declared.alloc.Global.{Global}
+use Rattle.ballots.specs.declared.record.Record.{Record}
+use Rattle.stable_records.specs.declared.fault.StoreFault.{StoreFault}
+use Rattle.stable_records.specs.declared.fault.StoreFault.TheVariants.{Device, Damaged, Broken, OutOfMemory}
+use Rattle.record_sums.specs.Sums.{Fits, IsFirstMisfit}
+use Rattle.record_sums.specs.Entering.{AreEntries}
+
+-- all its bytes, or a fault; the file is as before, unless a call of the disk failed
+abbrev pub ReadsAll : Result (Vec ℕ Global) StoreFault → List ℕ → List ℕ → Type 0
+ReadsAll (Ok bytes) old new = (bytes.items ≡ old) × (new ≡ old)
+ReadsAll (Err Device) old new = ⊤
+ReadsAll (Err Damaged) old new = ⊥
+ReadsAll (Err Broken) old new = ⊥
+ReadsAll (Err OutOfMemory) old new = new ≡ old
+
+-- the file has this text in the place of as many bytes at its beginning
+abbrev pub Settles : List ℕ → List ℕ → List ℕ → Type 0
+Settles old new text = new ≡ text ++ drop (length text) old
+
+-- by cases of the answer: entries of these records, which the bytes fit; or that they do not; or memory was refused
+abbrev pub Compares : Result (Vec (List ℕ) Global) StoreFault → List ℕ → List Record → Type 0
+Compares (Ok entries) found records = AreEntries entries.items records × Fits found records
+Compares (Err Device) found records = ⊥
+Compares (Err Damaged) found records = (number : ℕ) × IsFirstMisfit found records number
+Compares (Err Broken) found records = ⊥
+Compares (Err OutOfMemory) found records = ⊤
