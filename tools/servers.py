@@ -26,8 +26,11 @@ PROGRAM = TOP / "crates" / "flightd" / "out" / "flightd"
 CALL_SECONDS, LEARN_SECONDS = 30, 30
 # A node serves so many calls at once; others wait until one of these ends.
 MOST_CONNECTIONS = 128
-# What a server that goes on over records says of its start, where that takes longer than a second.
-PROGRESS = re.compile(r"^node \d has (its records|learned what was decided)\n", re.MULTILINE)
+# What a server says of its start over records, where that takes longer than a second, and of a node that was down.
+PROGRESS = re.compile(
+    r"^node \d (has its records|has learned what was decided|was down, and has started again|is down, and can't be started again yet)\n",
+    re.MULTILINE,
+)
 
 
 class Wrong(Exception):
@@ -73,7 +76,7 @@ def limited(kind, count):
 
 
 def without_progress(told):
-    """What a server reports on standard error, but for how far its start has come."""
+    """What a server reports on standard error, but for how far its start has come and for nodes that start again."""
     return PROGRESS.sub("", told)
 
 
@@ -104,7 +107,7 @@ def server(program, nodes, folder=None, limit=None, resumed=False, ending=signal
         finally:
             process.send_signal(ending)
             _, told = process.communicate(timeout=CALL_SECONDS)
-        want(without_progress(told) if resumed else told, "")
+        want(without_progress(told), "")
 
 
 Looked = namedtuple("Looked", "most now threads seconds")

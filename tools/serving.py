@@ -37,6 +37,7 @@ import time
 from pathlib import Path
 
 from servers import CALL_SECONDS, LEARN_SECONDS, MOST_CONNECTIONS, PROGRAM, TOP, Wrong, felzoren, file_limit, free_port, got, learned
+from folder_model import missing_sums, report_of
 from servers import limited, records_in, records_of, request_of, reset, server, started, want, without_progress
 
 # For how long an answer is held back: a call says nothing of itself for a second.
@@ -51,7 +52,12 @@ FILE_BYTES = 1 << 16
 RESUMED = 5
 ROWS = [{"shop": "Bern", "sold": 3}, {"shop": "Zürich", "sold": None}]
 # What the second line of a fault says of a file or a folder, or how that begins.
-OLD, NO_RECORDS, MISSING = "has records: --resume goes on over them", "means no records: ", "is missing: "
+OLD, MISSING = "has records: --resume goes on over them", "is missing: "
+# What it says of damage, behind the byte; and that of a file whose first record is not whole.
+COPIES = "; put back whole copies of the node's two files, as they were last"
+NO_RECORD, CHANGED = "no whole record stands behind this gate, which is open", "the record behind this gate is not the one that was kept"
+CLOSED = "this gate is closed, and a record was kept behind it"
+NO_RECORDS = f"byte 0: {NO_RECORD}{COPIES}"
 IN_USE, NOT_OPENED = "is in use by another process", "can't be opened or made"
 SHORTER, OTHER_COUNT = "is shorter than the last server left it: ", "has the files of another number of nodes: "
 NOT_LEFT, NOT_ITS_OWN = "is not the file that the last server left: ", "has the records of another node or cluster: "
@@ -205,10 +211,11 @@ def lost_addresses(program):
 
 def without_descriptors(program):
     """A process that may have few files and sockets open, of which three are its standard streams and a fourth is there to load it: of a server
-    first a node's file, the last node's first, then what it puts down of the cluster, then a port can't be had, and of a script a port, then a
+    first a node's file of records, the last node's first, then one of sums, then what it puts down of the cluster, then a port can't be had, and of a script a port, then a
     connection."""
-    opened = [(4 + place, "Open", f"/node-{2 - place}.rec {NOT_OPENED}") for place in range(3)]
-    for count, name, says in (*opened, (7, "Device", " has a cluster.json that can't be read or written"), (8, "Bind", None)):
+    names = [f"/node-{number}.{ending}" for ending in ("rec", "sum") for number in (2, 1, 0)]
+    opened = [(count, "Open", f"{name} {NOT_OPENED}") for count, name in enumerate(names, 4)]
+    for count, name, says in (*opened, (10, "Device", " has a cluster.json that can't be read or written"), (11, "Bind", None)):
         with tempfile.TemporaryDirectory() as folder:
             not_served(program, folder, name, says and folder + says, limit=limited(resource.RLIMIT_NOFILE, count))
     for count, name in ((4, "Bind"), (5, "Bind"), (6, "Io")):
@@ -534,19 +541,45 @@ def no_folder(program):
         not_served(program, file.name, "Open", f"{file.name}/node-2.rec {NOT_OPENED}")
 
 
+def in_time(call, seconds=LEARN_SECONDS):
+    """What a call gives once it is not refused any more, as by a node that is down for a while."""
+    end = time.monotonic() + seconds
+    while True:
+        try:
+            return call()
+        except felzoren.Refused:
+            if time.monotonic() > end:
+                raise
+            time.sleep(0.1)
+
+
 def full_later(program):
-    """Files that are full once some uploads were taken: the put that finds it ends as Store, its node is down, and what was acknowledged is
-    served by the others, and by all where a server goes on over these files with more room."""
+    """Files that are full once some uploads were taken: the put that finds it ends as Store, and what was acknowledged is served by the other
+    nodes, and soon by this one too, which starts again. Once there is room, puts are taken at it. The same stands where a server goes on over
+    these files."""
     with tempfile.TemporaryDirectory() as folder:
         acks = []
-        with server(program, 3, folder, file_limit(8_000)) as (clients, _):
-            with contextlib.suppress(felzoren.Refused):
+        process, clients, _ = started(program, 3, folder, file_limit(8_000))
+        try:
+            try:
                 while True:
                     acks.append(clients[0].put("full", ROWS))
-            want(len(acks) > 0, True)
-            want(refusal(clients[0].put, "full", ROWS), ("Down", 14))
+            except felzoren.Refused as refused:
+                want((refused.name, len(acks) > 0), ("Store", True))
             want(got(clients[1], "full", len(acks)), ROWS * len(acks))
+            want(in_time(lambda: clients[0].get("full", len(acks)).to_pylist()), ROWS * len(acks))
+            want(refusal(clients[0].put, "full", ROWS)[0] in ("Store", "Down"), True)
             uploads_kept(folder, 3, [bytes.fromhex(ack.id) for ack in acks])
+            resource.prlimit(process.pid, resource.RLIMIT_FSIZE, (resource.RLIM_INFINITY, resource.RLIM_INFINITY))
+            acks.append(in_time(lambda: clients[0].put("full", ROWS, id="77" * 16), 4 * LEARN_SECONDS))
+            for client in clients:
+                in_time(lambda node=client: node.get("full", acks[-1].version), 4 * LEARN_SECONDS)
+        finally:
+            process.terminate()
+            _, error = process.communicate(timeout=CALL_SECONDS)
+        want(without_progress(error), "")
+        want("was down, and has started again" in error, True)
+        acks.sort(key=lambda ack: ack.version)
         go_on_over(program, 3, folder, "full", acks)
 
 
@@ -653,6 +686,18 @@ def begin_records(folder, nodes):
         file.write_bytes(text[: records_of(text)[1]] + b"\0" + BEGUN)
 
 
+def sums_stand(folder, nodes):
+    """Each record has its sum in the file beside it, but for the last one of a process that was killed before it entered that."""
+    want([number for number in range(nodes) if missing_sums(folder, number) > 1], [])
+
+
+def tells_of_folder(program, folder, nodes):
+    """What a resumed server would serve of a folder is what a plain program tells of its files, and nothing in it is changed."""
+    before = texts_in(folder)
+    want(told(program, ["records", folder]), (0, report_of(folder, nodes), ""))
+    want(texts_in(folder), before)
+
+
 def resumes(program, nodes):
     """A server takes puts at each node and is killed, and others go on over its folder, one after the other: what was acknowledged before
     stands at once, and the cluster keeps its name. Some find a record that was begun; the last one is ended by SIGTERM, and looked behind."""
@@ -669,7 +714,10 @@ def resumes(program, nodes):
                 stands_at_once(clients, ids, served)
                 put_more(clients, ids, served)
             only_added(old, texts_in(folder))
+            sums_stand(folder, nodes)
+            tells_of_folder(program, folder, nodes)
         with server(program, nodes, folder, resumed=True) as (clients, _):
+            tells_of_folder(program, folder, nodes)
             names.add(cluster_in(folder, nodes))
             stands_at_once(clients, ids, served)
     want(len(names), 1)
@@ -698,16 +746,19 @@ def resumes_nothing(program):
 
 
 def resumes_unmarked(program):
-    """A server goes on over a folder from which cluster.json was taken away, and one is there afterwards, of which the next one takes the name."""
+    """A server goes on over a folder from which cluster.json and the files of sums were taken away, and they are there afterwards: the next one
+    takes the name of the cluster, and the sums of the records."""
     ids, served, names = [], [], []
     with tempfile.TemporaryDirectory() as folder:
         for number in range(3):
             if number == 1:
-                os.remove(f"{folder}/cluster.json")
+                for name in ("cluster.json", *(f"node-{it}.sum" for it in range(3))):
+                    os.remove(f"{folder}/{name}")
             with server(program, 3, folder, resumed=number > 0, ending=signal.SIGKILL) as (clients, _):
                 names.append(cluster_in(folder, 3))
                 stands_at_once(clients, ids, served)
                 put_more(clients, ids, served)
+            sums_stand(folder, 3)
     want(names[1], names[2])
 
 
@@ -739,10 +790,18 @@ def leave_records(program, nodes, folder, least=0):
             count += 1
 
 
-def swap_files(folder):
-    os.rename(folder / "node-0.rec", folder / "swapped")
-    os.rename(folder / "node-1.rec", folder / "node-0.rec")
-    os.rename(folder / "swapped", folder / "node-1.rec")
+def swap_files(folder, *endings):
+    """Gives the files with these endings of nodes 0 and 1 each other's names."""
+    for ending in endings or ("rec", "sum"):
+        os.rename(folder / f"node-0.{ending}", folder / "swapped")
+        os.rename(folder / f"node-1.{ending}", folder / f"node-0.{ending}")
+        os.rename(folder / "swapped", folder / f"node-1.{ending}")
+
+
+def copy_files(other, folder, number):
+    """Puts the files of a node of another folder in the place of this one's."""
+    for ending in ("rec", "sum"):
+        shutil.copy(f"{other}/node-{number}.{ending}", folder)
 
 
 def link_to_itself(file):
@@ -754,6 +813,18 @@ def cut_last_record(file):
     """Takes away the gate behind a file's last record, and what stands behind that."""
     text = file.read_bytes()
     file.write_bytes(text[: records_of(text)[1]])
+
+
+def place_of(file, number):
+    """The place of the gate of the record of this number."""
+    return sum(5 + len(record) for record in records_in(file)[:number])
+
+
+def change_byte(file, place, change):
+    """Changes a byte of a file, the last one where the place is -1."""
+    text = bytearray(file.read_bytes())
+    text[place] = change(text[place])
+    file.write_bytes(text)
 
 
 def add_record(file, record):
@@ -799,7 +870,25 @@ def unmarked_faults(other):
     """The same of a folder without cluster.json."""
     yield "Members", f" {OTHER_COUNT}", lambda to: shutil.copy(f"{other}/node-2.rec", to / "node-3.rec")
     yield "Foreign", f"/node-0.rec {NOT_ITS_OWN}", swap_files
-    yield "Foreign", f" {TWO_CLUSTERS}", lambda to: shutil.copy(f"{other}/node-1.rec", to)
+    yield "Foreign", f" {TWO_CLUSTERS}", lambda to: copy_files(other, to, 1)
+    yield from changed_bytes()
+
+
+def changed_bytes():
+    """Bytes of a file that changed, of which the record or the gate is found by the sums: the first record's gate, that of another one, and
+    the last byte of a value."""
+    yield "Damaged", f"/node-1.rec byte 0: {CLOSED}{COPIES}", lambda to: change_byte(to / "node-1.rec", 0, lambda _: 0)
+    for number in (1, 3):
+        yield "Damaged", f"/node-1.rec byte ", lambda to, it=number: change_byte(to / "node-1.rec", place_of(to / "node-1.rec", it), lambda _: 0)
+    yield "Damaged", f"/node-1.rec byte ", lambda to: change_byte(to / "node-1.rec", end_of_value(to / "node-1.rec"), lambda it: it ^ 1)
+    yield "Damaged", f"/node-0.rec byte 0: {CHANGED}{COPIES}", lambda to: swap_files(to, "sum")
+    yield "Damaged", f"/node-0.rec byte 0: {CLOSED}{COPIES}", lambda to: (to / "node-0.rec").write_bytes(b"\0\0")
+
+
+def end_of_value(file):
+    """The place of the last byte of the first record with an upload."""
+    number = next(number for number, record in enumerate(records_in(file)) if len(record) > 100)
+    return place_of(file, number + 1) - 1
 
 
 def any_faults():
@@ -807,9 +896,18 @@ def any_faults():
     one = "/node-1.rec "
     yield "Missing", one + MISSING, lambda to: (to / "node-1.rec").unlink()
     yield "Truncated", one + SHORTER, lambda to: os.truncate(to / "node-1.rec", 0)
-    yield "Damaged", one + NO_RECORDS, lambda to: cut_last_record(to / "node-1.rec")
+    yield "Damaged", one + "byte ", lambda to: cut_last_record(to / "node-1.rec")
     yield "Foreign", one + NOT_ITS_OWN, lambda to: add_record(to / "node-1.rec", TO_NODE_4)
     yield "Open", one + NOT_OPENED, lambda to: link_to_itself(to / "node-1.rec")
+
+
+def refuses_to_tell(program, folder, name, says):
+    """What a resumed server would serve of such a folder is not told either; of damage the line is the same but for what can be done."""
+    if name in ("Damaged", "Foreign") and NOT_ITS_OWN not in says:
+        status, output, error = told(program, ["records", str(folder)])
+        first, *more = error.splitlines()
+        want((status, output, first, len(more)), (1, "", f"flightd: {name}", 1))
+        want(more[0].startswith(f"{folder}{says}".split(COPIES)[0].split(TWO_CLUSTERS)[0]), True)
 
 
 def refuses_changed(program, folder, faults, is_marked):
@@ -821,6 +919,7 @@ def refuses_changed(program, folder, faults, is_marked):
                 (copy / "cluster.json").unlink()
             change(copy)
             refused(program, str(copy), name, says, resumed=True)
+            refuses_to_tell(program, copy, name, says)
 
 
 def refuses_as_it_is(program, folder, is_marked):

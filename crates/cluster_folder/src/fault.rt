@@ -8,12 +8,18 @@ pub enum FolderFault {
     /// The folder can't be opened or made.
     #[error("Open")]
     Folder,
-    /// A file can't be opened or made.
+    /// A file of records can't be opened or made.
     #[error("Open")]
     Open(u8),
-    /// Another process has a file.
+    /// Another process has a file of records.
     #[error("Locked")]
     Locked(u8),
+    /// A file of sums can't be opened or made.
+    #[error("Open")]
+    SumsOpen(u8),
+    /// Another process has a file of sums.
+    #[error("Locked")]
+    SumsLocked(u8),
     /// What the folder says of its cluster can't be read, or written.
     #[error("Device")]
     IdentityDevice,

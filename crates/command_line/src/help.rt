@@ -91,16 +91,18 @@ Exit status: 0 where the receipts of all answers are right; 1 where not, or afte
 pub(crate) const SCRIPT_FILE: &str = "A script of calls";
 
 /// What showing records does.
-pub(crate) const RECORDS: &str = "Prints the records that a node keeps in a file, a line for each";
+pub(crate) const RECORDS: &str =
+    "Prints the records that a node keeps in a file, or what a resumed server would serve of a folder";
 
 /// What is shown, and how it ends.
 pub(crate) const RECORDS_MORE: &str = "\
-Example: flightd records data/node-0.rec
-Input: FILE, the file of a node that was served (docs/FORMATS.md).
+Example: flightd records data/node-0.rec prints a line for each record; flightd records data says of all nodes' files how
+many slots are decided, which tables and versions they make, and which slots are open. Nothing is written or changed.
+Input: FILE, the file of a node that was served, or the folder with the files of all (docs/FORMATS.md).
 Exit status: 0 where all was printed; 1 after a fault, as a file that is damaged; 2 words that are no call.";
 
 /// What the file of records is.
-pub(crate) const RECORDS_FILE: &str = "A node's file of records";
+pub(crate) const RECORDS_FILE: &str = "A node's file of records, or the folder of a cluster";
 
 /// What a put does.
 pub(crate) const PUT: &str =

@@ -4,7 +4,7 @@
 //! FILE` says whether a recorded run of such messages is one that correct nodes may have sent, and `flightd audit --explain
 //! FILE` also why it is not. `flightd replay FILE` plays a schedule, and prints a line for each of its events. `flightd serve`
 //! serves a cluster, and `flightd script FILE` makes a script's calls of a cluster of its own; `flightd records FILE` prints what a
-//! node of a cluster keeps. `flightd put`, `get`, `list` and `info` are a client's calls of a server. The words are read by
+//! node of a cluster keeps, and `flightd records DIR` what a server that resumes over the files of all would serve. `flightd put`, `get`, `list` and `info` are a client's calls of a server. The words are read by
 //! `command_line`, and each command is one function over any reader and writers, with its contract, of a library of its own;
 //! `main` gives it the real ones.
 #![tactic(auto)]
@@ -13,8 +13,9 @@ use acceptor_command::acceptor_run;
 use audit_command::{AuditFault, FAILURE, audit_run, explain_run};
 use client_command::{get_everywhere_run, get_run, info_run, list_run, put_run, put_words};
 use client_connections::Sockets;
+use cluster_folder::{FolderFault, advise, node_files, read_folder};
 use command_line::{Asked, asked_by, parse, served_by, version_by};
-use records_command::records_run;
+use records_command::{folder_run, records_run};
 use replay_command::replay_run;
 use schema_words::{SchemaWordsFault, schema_of_words};
 use script_command::script_run;
@@ -311,9 +312,49 @@ fn tell(rt: &HostRuntime, address: &str, table: &str) -> io::Result<u8> {
     ))
 }
 
+// Prints the records of a file, or what a resumed server would serve of a folder.
 fn show(rt: &HostRuntime, path: &str) -> io::Result<u8> {
+    if fs::metadata(rt, path)?.is_dir() {
+        show_folder(rt, path)
+    } else {
+        show_file(rt, path)
+    }
+}
+
+fn show_file(rt: &HostRuntime, path: &str) -> io::Result<u8> {
     let alloc = rt.alloc();
-    let file = fs::read(rt, path)?;
+    let files = node_files(rt, alloc, path)?;
     let mut output = BufWriter::new(alloc, rt.stdout())?;
-    Ok(records_run(alloc, &file, &mut output, &mut rt.stderr()))
+    Ok(records_run(
+        alloc,
+        files.records.as_slice(),
+        files.sums.as_slice(),
+        &mut output,
+        &mut rt.stderr(),
+    ))
+}
+
+fn show_folder(rt: &HostRuntime, path: &str) -> io::Result<u8> {
+    let alloc = rt.alloc();
+    let nodes = match read_folder(rt, alloc, path) {
+        Ok(nodes) => nodes,
+        Err(fault) => return Ok(refuse_folder(rt, path, fault)),
+    };
+    let hashing = RandomState::new(rt)?;
+    let mut output = BufWriter::new(alloc, rt.stdout())?;
+    Ok(folder_run(
+        alloc,
+        hashing,
+        path,
+        nodes.as_slice(),
+        &mut output,
+        &mut rt.stderr(),
+    ))
+}
+
+// Says what is wrong with a folder. Where that can't be written, the status alone tells.
+fn refuse_folder(rt: &HostRuntime, path: &str, fault: FolderFault) -> u8 {
+    let _ = eprintln!(rt; "flightd: {fault}");
+    advise(path, fault, &mut rt.stderr());
+    FAILURE
 }

@@ -1,23 +1,32 @@
 //! What is said of a fault that a file is at: which file it is, and what can be done.
 
 use crate::fault::ServeFault;
-use cluster_folder::FolderFault;
+use cluster_folder::node_files;
+use record_sums::{Damage, damage_in};
+use std::alloc::{Alloc, Global};
+use std::fs::{File, Files};
 use std::io::Write;
+
+/// What is to be put back for a node whose file is damaged.
+const WHOLE_COPIES: &str = "whole copies of the node's two files, as they were last";
 
 /// Writes which file a fault is about, and what can be done, where it is about one. Where that can't be written, the fault's
 /// own line tells.
-pub(crate) fn advise<E: Write>(folder: &str, fault: ServeFault, e: &mut E) {
+pub(crate) fn advise<R: Files<File = File> + Alloc<A = Global>, E: Write>(
+    files: &R,
+    alloc: Global,
+    folder: &str,
+    fault: ServeFault,
+    e: &mut E,
+) {
     match fault {
-        ServeFault::Folder(fault) => advise_of_folder(folder, fault, e),
+        ServeFault::Folder(fault) => cluster_folder::advise(folder, fault, e),
         ServeFault::OldRecords(node) => {
             advise_of_file(folder, node, "has records: --resume goes on over them", e);
         }
-        ServeFault::Damaged(node) => advise_of_file(
-            folder,
-            node,
-            "means no records: `flightd records` names the byte; put back a whole copy of the file",
-            e,
-        ),
+        ServeFault::Damaged(node) => {
+            advise_of_damage(folder, node, damage_of(files, alloc, folder, node), e);
+        }
         ServeFault::Device(node) => {
             advise_of_file(folder, node, "can't be read or written", e);
         }
@@ -36,52 +45,32 @@ pub(crate) fn advise<E: Write>(folder: &str, fault: ServeFault, e: &mut E) {
     }
 }
 
-// What is said of a folder's files.
-fn advise_of_folder<E: Write>(folder: &str, fault: FolderFault, e: &mut E) {
-    match fault {
-        FolderFault::Folder => advise_of_all(folder, "can't be opened or made", e),
-        FolderFault::Open(node) => advise_of_file(folder, node, "can't be opened or made", e),
-        FolderFault::Locked(node) => {
-            advise_of_file(folder, node, "is in use by another process", e);
-        }
-        FolderFault::Members => advise_of_all(
-            folder,
-            "has the files of another number of nodes: --nodes has to name that number",
-            e,
-        ),
-        FolderFault::Missing(node) => advise_of_file(
-            folder,
-            node,
-            "is missing: put it back; a new file would let its node promise again what it has promised",
-            e,
-        ),
-        FolderFault::Truncated(node) => advise_of_file(
-            folder,
-            node,
-            "is shorter than the last server left it: put back the whole file, as it was last",
-            e,
-        ),
-        FolderFault::Foreign(node) => advise_of_file(
-            folder,
-            node,
-            "is not the file that the last server left: put back the node's own file, as it was last",
-            e,
-        ),
-        FolderFault::Device(node) => advise_of_file(folder, node, "can't be read", e),
-        FolderFault::IdentityDevice => {
-            advise_of_all(
-                folder,
-                "has a cluster.json that can't be read or written",
+// Where a node's files are damaged, as far as they can be read again.
+fn damage_of<R: Files<File = File> + Alloc<A = Global>>(
+    files: &R,
+    alloc: Global,
+    folder: &str,
+    node: u8,
+) -> Option<Damage> {
+    let path = format!(in alloc; "{folder}/node-{node}.rec").ok()?;
+    let read = node_files(files, alloc, path.as_str()).ok()?;
+    damage_in(alloc, read.records.as_slice(), read.sums.as_slice()).ok()?
+}
+
+// What is said of a file that is damaged, at this byte where it is known.
+fn advise_of_damage<E: Write>(folder: &str, node: u8, damage: Option<Damage>, e: &mut E) {
+    let _ = match damage {
+        Some(damage) => {
+            writeln!(
                 e,
-            );
+                "{folder}/node-{node}.rec {damage}; put back {WHOLE_COPIES}"
+            )
         }
-        FolderFault::IdentityDamaged => advise_of_all(
-            folder,
-            "has a cluster.json that no server wrote: put it back, or remove it to start without it",
+        None => writeln!(
             e,
+            "{folder}/node-{node}.rec is damaged; put back {WHOLE_COPIES}"
         ),
-        FolderFault::OutOfMemory => {}
-    }
+    };
 }
 
 fn advise_of_file<E: Write>(folder: &str, node: u8, what: &str, e: &mut E) {

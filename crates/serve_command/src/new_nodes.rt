@@ -3,8 +3,7 @@
 ghost use Rattle.std.specs.Prelude.{◌≡◌, []};
 
 use crate::fault::{ServeFault, fault_of};
-use disk_records::DiskStable;
-use file_disk::FileDisk;
+use crate::stores::FileStore;
 use flight_service::{
     Beginning, Config, Journal, OwnEntry, Seat, ServiceFault, Started, config_of, open_seat,
     start_nodes,
@@ -14,23 +13,20 @@ use std::alloc::Global;
 use std::hash::RandomState;
 use std::sync::{Mutex, Wait};
 
-/// The store of a node on a disk.
-pub(crate) type FileStore = DiskStable<FileDisk>;
-
-// The node of this number, over the last of the disks, whose file is to have no records.
+// The node of this number, over the last of the stores, whose file is to have no records.
 fn seat<J: Beginning>(
     alloc: Global,
     hashing: RandomState,
     number: u8,
     config: Config,
-    disks: &mut Vec<FileDisk>,
+    stores: &mut Vec<FileStore>,
 ) -> Result<Mutex<Seat<FileStore, J>>, ServeFault>
     requires { J.start ≡ [] }
 {
-    let Some(disk) = disks.pop() else {
+    let Some(store) = stores.pop() else {
         return Err(ServeFault::Members);
     };
-    match open_seat(alloc, hashing, number, config, DiskStable::new(alloc, disk)) {
+    match open_seat(alloc, hashing, number, config, store) {
         Ok(seat) => Ok(seat),
         Err(fault) => Err(fault_of(number, fault)),
     }
@@ -52,23 +48,23 @@ pub(crate) fn started<T: Drop>(started: Result<T, ServiceFault>) -> Result<T, Se
     }
 }
 
-/// Three nodes over these disks, the last node's first.
+/// Three nodes over these stores, the last node's first.
 pub(crate) fn three_nodes<R: Wait, J: Beginning>(
     rt: &R,
     alloc: Global,
     hashing: RandomState,
-    disks: Vec<FileDisk>,
+    stores: Vec<FileStore>,
     log: Opened<OwnEntry>,
 ) -> Result<Started<3, FileStore, J>, ServeFault>
     requires named { log ≡ J.book }
     requires start { J.start ≡ [] }
 {
-    let mut disks = disks;
+    let mut stores = stores;
     let config = configured(3)?;
     let seats = [
-        seat(alloc, hashing, 0, config, &mut disks)?,
-        seat(alloc, hashing, 1, config, &mut disks)?,
-        seat(alloc, hashing, 2, config, &mut disks)?,
+        seat(alloc, hashing, 0, config, &mut stores)?,
+        seat(alloc, hashing, 1, config, &mut stores)?,
+        seat(alloc, hashing, 2, config, &mut stores)?,
     ];
     if !config.is_within_limits() {
         return Err(ServeFault::Members);
@@ -82,20 +78,20 @@ pub(crate) fn five_nodes<R: Wait, J: Beginning>(
     rt: &R,
     alloc: Global,
     hashing: RandomState,
-    disks: Vec<FileDisk>,
+    stores: Vec<FileStore>,
     log: Opened<OwnEntry>,
 ) -> Result<Started<5, FileStore, J>, ServeFault>
     requires named { log ≡ J.book }
     requires start { J.start ≡ [] }
 {
-    let mut disks = disks;
+    let mut stores = stores;
     let config = configured(5)?;
     let seats = [
-        seat(alloc, hashing, 0, config, &mut disks)?,
-        seat(alloc, hashing, 1, config, &mut disks)?,
-        seat(alloc, hashing, 2, config, &mut disks)?,
-        seat(alloc, hashing, 3, config, &mut disks)?,
-        seat(alloc, hashing, 4, config, &mut disks)?,
+        seat(alloc, hashing, 0, config, &mut stores)?,
+        seat(alloc, hashing, 1, config, &mut stores)?,
+        seat(alloc, hashing, 2, config, &mut stores)?,
+        seat(alloc, hashing, 3, config, &mut stores)?,
+        seat(alloc, hashing, 4, config, &mut stores)?,
     ];
     if !config.is_within_limits() {
         return Err(ServeFault::Members);

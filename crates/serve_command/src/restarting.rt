@@ -8,13 +8,12 @@ ghost use Rattle.resumed_nodes.specs.Starting.{AreStarted, GoesOn, MayBeTold, re
 ghost use Rattle.serve_command.specs.Restarting.{AreAtStart};
 
 use crate::fault::ServeFault;
-use crate::new_nodes::{FileStore, configured, started};
+use crate::new_nodes::{configured, started};
 use crate::progress::Progress;
+use crate::stores::FileStore;
 use agreement::Config as Agreed;
 use ballots::{Message, NodeId};
 use chosen_records::ChosenFault;
-use disk_records::DiskStable;
-use file_disk::FileDisk;
 use flight_service::{Beginning, Config, Journal, OwnEntry, Seat, Started, start_nodes};
 use growing_log::Opened;
 use node_seats::Seat as NodeSeat;
@@ -51,56 +50,49 @@ fn reopen_fault(node: u8, fault: ReopenFault) -> ServeFault {
     }
 }
 
-// Starts the next node again, over the last of the disks.
+// Starts the next node again, over the last of the stores.
 fn restart_next(
     alloc: Global,
     hashing: RandomState,
     agreed: Agreed,
-    disks: &mut Vec<FileDisk>,
+    stores: &mut Vec<FileStore>,
     nodes: &mut FileNodes,
 ) -> Result<(), ServeFault>
     requires { AreStarted agreed [] nodes.old.items }
     ensures { OnOk result (AreStarted agreed [] nodes.new.items) }
 {
     let number = nodes.len();
-    let (Ok(node), Some(disk)) = (u8::try_from(number), disks.pop()) else {
+    let (Ok(node), Some(store)) = (u8::try_from(number), stores.pop()) else {
         return Err(ServeFault::Members);
     };
     let Some(me) = NodeId::new(node) else {
-        drop(disk);
+        drop(store);
         return Err(ServeFault::Members);
     };
     if !agreed.members().have(me) {
-        drop(disk);
+        drop(store);
         return Err(ServeFault::Members);
     }
-    match reopen_next(
-        alloc,
-        hashing,
-        me,
-        agreed,
-        nodes,
-        DiskStable::new(alloc, disk),
-    ) {
+    match reopen_next(alloc, hashing, me, agreed, nodes, store) {
         Ok(()) => Ok(()),
         Err(fault) => Err(reopen_fault(node, fault)),
     }
 }
 
-// The nodes over these disks, the last node's first, each with its records.
+// The nodes over these stores, the last node's first, each with its records.
 fn restarted<R: Clock + Eprint>(
     alloc: Global,
     hashing: RandomState,
     agreed: Agreed,
-    disks: Vec<FileDisk>,
+    stores: Vec<FileStore>,
     progress: &mut Progress<'_, R>,
 ) -> Result<FileNodes, ServeFault>
     ensures { IfOk result (λ nodes. AreStarted agreed [] nodes.items) }
 {
-    let mut disks = disks;
+    let mut stores = stores;
     let mut nodes = Vec::new(alloc);
     for number in 0..agreed.members().count() {
-        restart_next(alloc, hashing, agreed, &mut disks, &mut nodes)?;
+        restart_next(alloc, hashing, agreed, &mut stores, &mut nodes)?;
         progress.tell(usize::from(number), "has its records");
     }
     Ok(nodes)
@@ -167,7 +159,7 @@ fn heard<R: Clock + Eprint>(
     }
 }
 
-/// The nodes over these disks, the last node's first, each with the records in its file, once they have heard what these say
+/// The nodes over these stores, the last node's first, each with the records in its file, once they have heard what these say
 /// was chosen; and the messages that told them so. Whatever history left the nodes with these records, some history precedes
 /// them as they stand then, in which clients did the same and were answered the same.
 pub(crate) fn restart<R: Clock + Eprint>(
@@ -175,7 +167,7 @@ pub(crate) fn restart<R: Clock + Eprint>(
     alloc: Global,
     hashing: RandomState,
     config: &Config,
-    disks: Vec<FileDisk>,
+    stores: Vec<FileStore>,
 ) -> Result<(FileNodes, Vec<Message>), ServeFault>
     ensures started { IfOk result (λ found. AreStarted (config_of config.now) found.1.items found.0.items) }
     ensures goes_on { IfOk result (λ found. GoesOn (config_of config.now) (records_of found.0.items) found.1.items) }
@@ -183,7 +175,7 @@ pub(crate) fn restart<R: Clock + Eprint>(
     members_go_on::<FileStore>();
     let agreed = agreed_by(config)?;
     let mut progress = Progress::new(rt);
-    let nodes = restarted(alloc, hashing, agreed, disks, &mut progress)?;
+    let nodes = restarted(alloc, hashing, agreed, stores, &mut progress)?;
     let told = match chosen(alloc, agreed, &nodes) {
         Ok(told) => told,
         Err(fault) => {

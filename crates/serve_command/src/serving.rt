@@ -14,11 +14,12 @@ use crate::fault::{ServeFault, fault_of, folder_fault};
 use crate::new_nodes::{configured, five_nodes, three_nodes};
 use crate::restarting::{FileNodes, five_again, restart, three_again};
 use crate::status::{FAILURE, SUCCESS};
+use crate::stores::{FileStore, stores_over};
+use crate::supervisor::{Restarts, Supervisor};
 use ballots::Message;
 use cluster_folder::{open_folder, put_down};
 use cluster_identity::Identity;
 use crossbeam_channel::Receiver;
-use file_disk::FileDisk;
 use flight_service::{
     Beginning, Config, NoReceipts, Note, OwnEntry, Works, join_all, open_service,
 };
@@ -85,7 +86,7 @@ pub fn serve_run<
         Err(fault) => {
             // Where this fails too, the status alone tells.
             let _ = writeln!(e, "flightd: {fault}");
-            advise(folder, fault, e);
+            advise(&rt, alloc, folder, fault, e);
             let _ = e.flush();
             FAILURE
         }
@@ -123,18 +124,36 @@ fn serve_from<
     if nodes != 3 && nodes != 5 {
         return Err(ServeFault::Members);
     }
-    let (disks, identity) = match open_folder(&rt, alloc, nodes, folder, is_resumed, id) {
-        Ok(opened) => (opened.disks, opened.identity),
-        Err(fault) => return Err(folder_fault(fault)),
+    let (stores, identity) = match opened(&rt, alloc, nodes, folder, is_resumed, id) {
+        Ok(opened) => opened,
+        Err(fault) => return Err(fault),
     };
     let place = Place {
         folder,
         identity: &identity,
     };
     if is_resumed {
-        serve_again(rt, alloc, hashing, nodes, first_port, disks, &place, w)
+        serve_again(rt, alloc, hashing, nodes, first_port, stores, &place, w)
     } else {
-        serve(rt, alloc, hashing, nodes, first_port, disks, &place, w)
+        serve(rt, alloc, hashing, nodes, first_port, stores, &place, w)
+    }
+}
+
+// The stores over the files of a folder, the last node's first, and what the cluster is.
+fn opened<R: Files<File = File> + Alloc<A = Global>>(
+    rt: &R,
+    alloc: Global,
+    nodes: u8,
+    folder: &str,
+    is_resumed: bool,
+    id: [u8; 16],
+) -> Result<(Vec<FileStore>, Identity), ServeFault> {
+    match open_folder(rt, alloc, nodes, folder, is_resumed, id) {
+        Ok(opened) => {
+            let stores = stores_over(alloc, opened.disks, opened.sums)?;
+            Ok((stores, opened.identity))
+        }
+        Err(fault) => Err(folder_fault(fault)),
     }
 }
 
@@ -147,12 +166,13 @@ pub struct Place<'a> {
     pub identity: &'a Identity,
 }
 
-/// Serves a cluster as [`serve_run`] does, over the files of its nodes, the last node's first, and gives the fault itself.
+/// Serves a cluster as [`serve_run`] does, over the stores of its nodes, the last node's first, and gives the fault itself.
 pub fn serve<
     R: Net<Listener = TcpListener, Stream = TcpStream>
         + Threads
         + Wait
         + Clock
+        + Eprint
         + Files<File = File>
         + Copy
         + Send
@@ -164,7 +184,7 @@ pub fn serve<
     hashing: RandomState,
     nodes: u8,
     first_port: u16,
-    disks: Vec<FileDisk>,
+    stores: Vec<FileStore>,
     place: &Place<'_>,
     w: &mut W,
 ) -> Result<(), ServeFault>
@@ -178,7 +198,7 @@ pub fn serve<
             alloc,
             hashing,
             first_port,
-            disks,
+            stores,
             place,
             w,
             Opened::new(),
@@ -188,7 +208,7 @@ pub fn serve<
             alloc,
             hashing,
             first_port,
-            disks,
+            stores,
             place,
             w,
             Opened::new(),
@@ -203,6 +223,7 @@ fn serve_three<
         + Threads
         + Wait
         + Clock
+        + Eprint
         + Files<File = File>
         + Copy
         + Send
@@ -214,7 +235,7 @@ fn serve_three<
     alloc: Global,
     hashing: RandomState,
     first_port: u16,
-    disks: Vec<FileDisk>,
+    stores: Vec<FileStore>,
     place: &Place<'_>,
     w: &mut W,
     log: Opened<OwnEntry>,
@@ -225,7 +246,7 @@ fn serve_three<
     ensures part { OnErr result ((written : List ℕ) × IsBeginning written (addresses_text first_port 3)
         × Appends (W.contents w.old) (W.contents w.new) written) }
 {
-    match three_nodes::<R, J>(&rt, alloc, hashing, disks, log) {
+    match three_nodes::<R, J>(&rt, alloc, hashing, stores, log) {
         Ok((nodes, notes)) => serve_nodes(rt, alloc, nodes, notes, first_port, 3, place, w),
         Err(fault) => Err(fault),
     }
@@ -237,6 +258,7 @@ fn serve_five<
         + Threads
         + Wait
         + Clock
+        + Eprint
         + Files<File = File>
         + Copy
         + Send
@@ -248,7 +270,7 @@ fn serve_five<
     alloc: Global,
     hashing: RandomState,
     first_port: u16,
-    disks: Vec<FileDisk>,
+    stores: Vec<FileStore>,
     place: &Place<'_>,
     w: &mut W,
     log: Opened<OwnEntry>,
@@ -259,7 +281,7 @@ fn serve_five<
     ensures part { OnErr result ((written : List ℕ) × IsBeginning written (addresses_text first_port 5)
         × Appends (W.contents w.old) (W.contents w.new) written) }
 {
-    match five_nodes::<R, J>(&rt, alloc, hashing, disks, log) {
+    match five_nodes::<R, J>(&rt, alloc, hashing, stores, log) {
         Ok((nodes, notes)) => serve_nodes(rt, alloc, nodes, notes, first_port, 5, place, w),
         Err(fault) => Err(fault),
     }
@@ -283,7 +305,7 @@ pub fn serve_again<
     hashing: RandomState,
     nodes: u8,
     first_port: u16,
-    disks: Vec<FileDisk>,
+    stores: Vec<FileStore>,
     place: &Place<'_>,
     w: &mut W,
 ) -> Result<(), ServeFault>
@@ -294,11 +316,11 @@ pub fn serve_again<
     let config = match configured(nodes) {
         Ok(config) => config,
         Err(fault) => {
-            drop(disks);
+            drop(stores);
             return Err(fault);
         }
     };
-    match restart(&rt, alloc, hashing, &config, disks) {
+    match restart(&rt, alloc, hashing, &config, stores) {
         Ok((old, told)) => { serve_old(rt, alloc, nodes, first_port, config, old, told, place, w) }
         Err(fault) => Err(fault),
     }
@@ -310,6 +332,7 @@ fn serve_old<
         + Threads
         + Wait
         + Clock
+        + Eprint
         + Files<File = File>
         + Copy
         + Send
@@ -367,6 +390,7 @@ fn serve_three_again<
         + Threads
         + Wait
         + Clock
+        + Eprint
         + Files<File = File>
         + Copy
         + Send
@@ -404,6 +428,7 @@ fn serve_five_again<
         + Threads
         + Wait
         + Clock
+        + Eprint
         + Files<File = File>
         + Copy
         + Send
@@ -441,12 +466,13 @@ fn serve_nodes<
         + Threads
         + Wait
         + Clock
+        + Eprint
         + Files<File = File>
         + Copy
         + Send
         + 'static,
     W: Write,
-    C: Works + Drop + 'static,
+    C: Restarts + Drop + 'static,
 >(
     rt: R,
     alloc: Global,
@@ -470,10 +496,19 @@ fn serve_nodes<
         Ok(opened) => opened,
         Err(fault) => return Err(fault_of(0, fault)),
     };
+    let supervisor = match Supervisor::start(rt, alloc, &service, count) {
+        Ok(supervisor) => supervisor,
+        Err(fault) => {
+            service.nodes().stop(&rt);
+            join_all(&rt, workers);
+            return Err(fault);
+        }
+    };
     let told = tell_addresses(alloc, first_port, count, w);
     if told.is_err() {
         service.nodes().stop(&rt);
     }
     join_all(&rt, workers);
+    supervisor.stop(&rt);
     told
 }

@@ -1,0 +1,83 @@
+#!/usr/bin/env python3
+"""How long a server takes to start over the records of an earlier one, and what it holds then.
+
+    bench/resume.py [COUNT [BYTES]]
+
+A server takes one upload, and its record is written COUNT times into the files of three nodes, with other ids and in slots of their own, as
+if a cluster had taken as many: 100,000 where nothing is said. With BYTES the uploads have a column of texts of as many bytes together. Then a
+server goes on over these files: the seconds until it has told its addresses, those that `cat` takes for the files, and the most memory that it
+held. Each node has to report all versions at once.
+"""
+import struct
+import subprocess
+import sys
+import tempfile
+import time
+from pathlib import Path
+
+sys.path.insert(0, str(Path(__file__).resolve().parent.parent / "tools"))
+
+from folder_model import fields_of
+from servers import PROGRAM, felzoren, look, records_in, server, started, want
+
+NODES = 3
+ROWS = [{"shop": "Bern", "sold": 3}, {"shop": "Zürich", "sold": None}]
+# The most bytes of one text of a row, as many rows are made.
+TEXT_BYTES = 1 << 16
+
+
+def rows_of(size):
+    return ROWS if not size else [{"text": "x" * min(TEXT_BYTES, size - at)} for at in range(0, size, TEXT_BYTES)]
+
+
+def varint(value):
+    found = b""
+    while value > 0x7F:
+        found, value = found + bytes([value & 0x7F | 0x80]), value >> 7
+    return found + bytes([value])
+
+
+def template_of(program, size):
+    """The bytes of an upload, and its id."""
+    with tempfile.TemporaryDirectory() as folder:
+        with server(program, NODES, folder) as (clients, _):
+            ack = clients[0].put("resumed", rows_of(size))
+        records = [fields_of(it) for it in records_in(f"{folder}/node-0.rec")]
+    return next(it[5] for it in records if 5 in it), bytes.fromhex(ack.id)
+
+
+def write_files(folder, count, upload, name):
+    """The files of nodes that have accepted so many uploads, each of node 0 at the ballot of round 1."""
+    at = upload.index(name)
+    with open(f"{folder}/node-0.rec", "wb") as file:
+        for slot in range(count):
+            value = upload[:at] + struct.pack(">QQ", 7, slot) + upload[at + len(name) :]
+            record = b"\x08\x03" + (b"\x10" + varint(slot) if slot else b"") + b"\x18\x01\x2a" + varint(len(value)) + value
+            file.write(b"\x01" + struct.pack("<I", len(record)) + record)
+        file.write(b"\x00")
+    for number in range(1, NODES):
+        Path(f"{folder}/node-{number}.rec").write_bytes(Path(f"{folder}/node-0.rec").read_bytes())
+
+
+def main(count, size, program=str(PROGRAM)):
+    upload, name = template_of(program, size)
+    with tempfile.TemporaryDirectory() as folder:
+        write_files(folder, count, upload, name)
+        files = sorted(str(it) for it in Path(folder).glob("*.rec"))
+        begun = time.monotonic()
+        subprocess.run(["cat", *files], stdout=subprocess.DEVNULL, check=True)
+        copied = time.monotonic() - begun
+        for turn in ("without sums", "with sums"):
+            begun = time.monotonic()
+            process, clients, _ = started(program, NODES, folder, resumed=True)
+            taken = time.monotonic() - begun
+            want([client.info("resumed").ticket.version for client in clients], [count] * NODES)
+            held = look(process)
+            process.kill()
+            process.communicate()
+            print(f"{count} uploads of {len(upload)} bytes, {turn}: served after {taken:.2f} s, cat takes {copied:.2f} s; "
+                  f"at most {held.most >> 20} MiB held")
+
+
+if __name__ == "__main__":
+    main(*(int(it) for it in (sys.argv[1:3] + ["100000", "0"][len(sys.argv[1:3]):])))

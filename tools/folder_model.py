@@ -1,0 +1,94 @@
+"""What stands in a cluster's folder, by a plain program over its files: the sums of the records, and what these say was decided. It shares
+nothing with the server but docs/FORMATS.md."""
+import hashlib
+import struct
+from collections import defaultdict
+from pathlib import Path
+
+from servers import records_in
+
+ENTRY_BYTES = 24
+BEGAN, PROMISED, ACCEPTED = 1, 2, 3
+
+
+def entry_of(number, record):
+    """The entry of the record of this number: its digest, and what seals that."""
+    digest = hashlib.md5(record).digest()
+    return digest + hashlib.md5(struct.pack("<Q", number) + digest).digest()[:8]
+
+
+def entries_of(records):
+    return b"".join(entry_of(number, record) for number, record in enumerate(records))
+
+
+def varint(text, at):
+    """A number of seven bits a byte, the lowest first, and the place behind it."""
+    value, shift = 0, 0
+    while True:
+        byte = text[at]
+        value, shift, at = value | (byte & 0x7F) << shift, shift + 7, at + 1
+        if byte < 0x80:
+            return value, at
+
+
+def fields_of(text):
+    """What each field of a message has, by its number: a number, or bytes."""
+    at, found = 0, {}
+    while at < len(text):
+        key, at = varint(text, at)
+        if key & 7 == 0:
+            found[key >> 3], at = varint(text, at)
+        else:
+            size, at = varint(text, at)
+            found[key >> 3], at = text[at : at + size], at + size
+    return found
+
+
+def accepted_by(records):
+    """What a node's records say that it accepted: slot, ballot and value, which is None where it is a Noop."""
+    for record in map(fields_of, records):
+        if record.get(1) == ACCEPTED:
+            yield record.get(2, 0), (record.get(3, 0), record.get(4, 0)), record.get(5)
+
+
+def chosen_by(nodes):
+    """The value that each slot has which most nodes accepted at one ballot, and all slots for which one node did."""
+    counted, slots = defaultdict(set), set()
+    for number, records in enumerate(nodes):
+        for slot, ballot, value in accepted_by(records):
+            counted[slot, ballot, value].add(number)
+            slots.add(slot)
+    return {slot: value for (slot, _, value), members in counted.items() if 2 * len(members) > len(nodes)}, slots
+
+
+def tables_of(values):
+    """The latest version of each table: how many uploads it has with ids of their own, as long as all of a table have one schema."""
+    ids = defaultdict(dict)
+    for value in values:
+        if value is not None:
+            upload = fields_of(value)
+            ids[upload[1].decode()][upload[2]] = True
+    return {table: len(names) for table, names in ids.items()}
+
+
+def report_of(folder, nodes):
+    """The lines of `flightd records` for a folder of so many nodes."""
+    records = [records_in(f"{folder}/node-{number}.rec") for number in range(nodes)]
+    chosen, slots = chosen_by(records)
+    decided = next(slot for slot in range(len(chosen) + 1) if slot not in chosen)
+    lines = [f"node {number} records {len(own)}" for number, own in enumerate(records)]
+    lines.append(f"slots {decided}")
+    lines += [f"table {table} version {version}" for table, version in tables_of([chosen[slot] for slot in range(decided)]).items()]
+    state = {True: "decided, and served once the slots before it are", False: "undecided"}
+    lines += [f"slot {slot} {state[slot in chosen]}" for slot in sorted(slots) if slot >= decided]
+    return "".join(f"{line}\n" for line in lines)
+
+
+def missing_sums(folder, number):
+    """How many of the last records of a node have no entry; each entry that there is has to be its record's."""
+    records = records_in(f"{folder}/node-{number}.rec")
+    sums = Path(f"{folder}/node-{number}.sum").read_bytes()
+    whole = entries_of(records)
+    if not whole.startswith(sums[: len(whole)]) or len(sums) > len(whole):
+        raise ValueError(f"{folder}/node-{number}.sum does not fit its records")
+    return len(records) - len(sums) // ENTRY_BYTES
