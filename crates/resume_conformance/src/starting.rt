@@ -1,0 +1,142 @@
+//! How the nodes of a process start.
+
+ghost use Rattle.std.specs.Prelude.{◌≡◌, [], length, IfOk};
+ghost use Rattle.resumed_nodes.specs.Starting.{AreStarted};
+
+use agreement::Config;
+use ballots::{Members, Message, NodeId, Record};
+use node_seats::Seat;
+use resumed_nodes::{chosen_by, hear_next, reopen_next};
+use stable_records::{MemoryStable, Stable};
+use std::alloc::Global;
+use std::hash::RandomState;
+use std::test::Fail;
+
+/// More slots than the rows fill.
+const SLOTS: u32 = 1_000;
+
+/// Three nodes, and whether one of them accepted a value for a slot at which they have learned none.
+#[derive(Drop)]
+pub(crate) struct Started {
+    pub(crate) nodes: Box<Vec<Seat<MemoryStable>>>,
+    pub(crate) is_undecided: bool,
+}
+
+// Puts a node behind the others.
+fn push(nodes: &mut Vec<Seat<MemoryStable>>, node: Seat<MemoryStable>) -> Result<(), Fail> {
+    match nodes.push(node) {
+        Ok(()) => Ok(()),
+        Err(refused) => {
+            drop(refused);
+            Err(Fail::from("OutOfMemory"))
+        }
+    }
+}
+
+/// Three nodes that have nothing.
+pub(crate) fn started_anew(alloc: Global, hashing: RandomState) -> Result<Started, Fail> {
+    let members = Members::new(3).ok_or("no members")?;
+    let config = Config::new(members, SLOTS).ok_or("no config")?;
+    let mut nodes = Vec::new(alloc);
+    for number in 0..3 {
+        let me = NodeId::new(number).ok_or("no node")?;
+        match Seat::open(alloc, hashing, me, config, MemoryStable::new(alloc)) {
+            Ok(Some(node)) => push(&mut nodes, node)?,
+            _ => return Err(Fail::from("a node is not opened")),
+        }
+    }
+    Ok(Started {
+        nodes: Box::new(alloc, nodes)?,
+        is_undecided: false,
+    })
+}
+
+// A store of what the node of this number kept, without so many of its last records.
+fn store(
+    alloc: Global,
+    before: &[Seat<MemoryStable>],
+    number: u8,
+    lost: usize,
+) -> Result<MemoryStable, Fail> {
+    let Some(node) = before.get(usize::from(number)) else {
+        return Err(Fail::from("no node before"));
+    };
+    let records = node.records();
+    let mut store = MemoryStable::new(alloc);
+    for kept in &records[..records.len().saturating_sub(lost)] {
+        store.keep(kept)?;
+    }
+    Ok(store)
+}
+
+// Whether one of these records accepts a value for a slot of which nothing is told.
+fn leaves_undecided(records: &[Record], told: &[Message]) -> bool {
+    records.iter().any(|kept| match kept {
+        Record::Accepted(slot, _) => !told.iter().any(|message| message.slot == *slot),
+        _ => false,
+    })
+}
+
+// Three nodes that start over what these ones kept, without so many of the last records of each.
+fn reopened(
+    alloc: Global,
+    hashing: RandomState,
+    config: Config,
+    before: &[Seat<MemoryStable>],
+    lost: usize,
+) -> Result<Vec<Seat<MemoryStable>>, Fail>
+    requires { config.members ≡ 3 }
+    ensures three { IfOk result (λ nodes. length nodes.items ≡ 3) }
+    ensures started { IfOk result (λ nodes. AreStarted config [] nodes.items) }
+{
+    let mut nodes = Vec::new(alloc);
+    for number in 0..3 {
+        let me = NodeId::new(number).ok_or("no node")?;
+        let store = store(alloc, before, number, lost)?;
+        if reopen_next(alloc, hashing, me, config, &mut nodes, store).is_err() {
+            return Err(Fail::from("a node is not opened again"));
+        }
+    }
+    Ok(nodes)
+}
+
+// The three nodes hear what was chosen, which is told here.
+fn hear(
+    alloc: Global,
+    config: Config,
+    nodes: &mut [Seat<MemoryStable>],
+) -> Result<Vec<Message>, Fail>
+    requires members { config.members ≡ 3 }
+    requires three { length nodes.old ≡ 3 }
+    requires started { AreStarted config [] nodes.old }
+{
+    let told = match chosen_by(alloc, config, nodes) {
+        Ok(told) => told,
+        Err(_) => return Err(Fail::from("nothing is told")),
+    };
+    for number in 0..3 {
+        hear_next(config, nodes, number, told.as_slice())?;
+    }
+    Ok(told)
+}
+
+/// Three nodes that go on over what these ones kept, and have heard what was chosen. Against the rules, each has lost so many
+/// of its last records.
+pub(crate) fn started_over(
+    alloc: Global,
+    hashing: RandomState,
+    before: &[Seat<MemoryStable>],
+    lost: usize,
+) -> Result<Started, Fail> {
+    let members = Members::new(3).ok_or("no members")?;
+    let config = Config::new(members, SLOTS).ok_or("no config")?;
+    let mut nodes = Box::new(alloc, reopened(alloc, hashing, config, before, lost)?)?;
+    let told = hear(alloc, config, nodes.as_mut_slice())?;
+    let is_undecided = nodes
+        .iter()
+        .any(|node| leaves_undecided(node.records(), told.as_slice()));
+    Ok(Started {
+        nodes,
+        is_undecided,
+    })
+}
