@@ -61,10 +61,10 @@ def free_port(count):
 
 
 def file_limit(count):
-    """Has the files of a process started so stay within so many bytes, as on a full disk."""
+    """Has the files of a process started so stay within so many bytes, as on a full disk, until somebody allows it more."""
 
     def limit():
-        resource.setrlimit(resource.RLIMIT_FSIZE, (count, count))
+        resource.setrlimit(resource.RLIMIT_FSIZE, (count, resource.getrlimit(resource.RLIMIT_FSIZE)[1]))
         signal.signal(signal.SIGXFSZ, signal.SIG_IGN)
 
     return limit

@@ -616,6 +616,8 @@ def killed(program, nodes, seconds, look=None, least=1):
         acks = acknowledged_until_killed(program, nodes, folder, seconds, least)
         files = [f"{folder}/node-{number}.rec" for number in range(nodes)]
         uploads_kept(folder, nodes, [bytes.fromhex(ack.id) for ack in acks])
+        sums_stand(folder, nodes)
+        tells_of_folder(program, folder, nodes)
         if look:
             look(files)
         # A server that was killed at once may have kept nothing, and its files are new ones.

@@ -7,6 +7,7 @@ use Rattle.std.proofs.lemmas.Bool.{cases_lt}
 use Rattle.std.specs.Int.{w64, to_le_bytes}
 use Rattle.md5.specs.Md5.{md5}
 use Rattle.md5.proofs.StandardFacts.{length-md5}
+use Rattle.disk_records.specs.Disk.{written_at}
 use Rattle.ballots.specs.Record.{canonical_record}
 use Rattle.ballots.specs.declared.record.Record.{Record}
 use Rattle.record_sums.specs.Sums.{IsEntered, IsEntry, IsMisfit, Fits, HasAll, bytes_at, entry_of, seal_of, sum_of}
@@ -118,15 +119,39 @@ as_settled old mid new text entries same spelled is =
     is ∙ ap (λ (l : List ℕ). l ++ drop (length l) mid) spelled
     ∙ ap (λ (l : List ℕ). entries_text entries ++ drop (length (entries_text entries)) l) same
 
-pub all_entered : (old mid new found text : List ℕ) (entries : List (List ℕ)) (records : List Record) → found ≡ old → mid ≡ old
-    → AreEntries entries records → Fits found records → text ≡ entries_text entries → new ≡ text ++ drop (length text) mid
-    → Fits old records × IsEntered new records
-all_entered old mid new found text entries records read same are fits spelled is =
-    let before = subst (λ (l : List ℕ). Fits l records) read fits in
-    (before, entered old new entries records are (as_settled old mid new text entries same spelled is) before)
+-- what is written at the front takes the place of as many bytes
+at_front : (file text : List ℕ) → written_at file 0 text ≡ text ++ drop (length text) file
+at_front file text =
+    let same : 0 + length text ≡ length text = omega arith in
+    ap (λ (n : ℕ). text ++ drop n file) same
 
-pub all_reach : (old mid new text : List ℕ) (entries : List (List ℕ)) (records : List Record) → mid ≡ old
-    → AreEntries entries records → text ≡ entries_text entries → new ≡ text ++ drop (length text) mid
-    → 24 * length records ≤ length new
-all_reach old mid new text entries records same are spelled is =
-    reaches old new entries records are (as_settled old mid new text entries same spelled is)
+-- a file that begins with the entries of all records has the sums of all
+pub all_there : (old mid found text : List ℕ) (entries : List (List ℕ)) (records : List Record) → found ≡ old → mid ≡ old
+    → AreEntries entries records → Fits found records → text ≡ entries_text entries → take (length text) found ≡ text
+    → (mid ≡ old) × Fits old records × IsEntered old records
+all_there old mid found text entries records read same are fits spelled begins =
+    let before = subst (λ (l : List ℕ). Fits l records) read fits in
+    (same, before, entered old old entries records are (as_settled old old old text entries refl spelled (settled old found text (sym read) begins)) before)
+
+-- and so has one in which they are written there
+pub all_missing : (old mid found text : List ℕ) (entries : List (List ℕ)) (records : List Record) → found ≡ old → mid ≡ old
+    → AreEntries entries records → Fits found records → text ≡ entries_text entries
+    → (mid ≡ old) × Fits old records × IsEntered (written_at old 0 text) records
+all_missing old mid found text entries records read same are fits spelled =
+    let before = subst (λ (l : List ℕ). Fits l records) read fits in (
+      same,
+      before,
+      entered old (written_at old 0 text) entries records are
+          (as_settled old old (written_at old 0 text) text entries refl spelled (at_front old text)) before,
+    )
+
+pub there_reach : (old mid found text : List ℕ) (entries : List (List ℕ)) (records : List Record) → found ≡ old → mid ≡ old
+    → AreEntries entries records → text ≡ entries_text entries → take (length text) found ≡ text → 24 * length records ≤ length mid
+there_reach old mid found text entries records read same are spelled begins =
+    let within = reaches old old entries records are (as_settled old old old text entries refl spelled (settled old found text (sym read) begins)) in
+    omega (arith, within, ap length same)
+
+pub missing_reach : (mid text : List ℕ) (entries : List (List ℕ)) (records : List Record) → AreEntries entries records
+    → text ≡ entries_text entries → 24 * length records ≤ length (written_at mid 0 text)
+missing_reach mid text entries records are spelled =
+    reaches mid (written_at mid 0 text) entries records are (as_settled mid mid (written_at mid 0 text) text entries refl spelled (at_front mid text))

@@ -1,9 +1,10 @@
 -- What reading the file of sums gives, and what writing its beginning leaves.
-use Rattle.std.specs.Prelude.{◌≡◌, ℕ, List, ◌++◌, length, drop, Result, Ok, Err, ⊤, Vec}
+use Rattle.std.specs.Prelude.{◌≡◌, ℕ, List, Option, Some, None, Result, Ok, Err, ⊤, Vec}
 use Rattle.std.specs.declared.alloc.Global.{Global}
 use Rattle.ballots.specs.declared.record.Record.{Record}
 use Rattle.stable_records.specs.declared.fault.StoreFault.{StoreFault}
 use Rattle.stable_records.specs.declared.fault.StoreFault.TheVariants.{Device, Damaged, Broken, OutOfMemory}
+use Rattle.disk_records.specs.Disk.{written_at}
 use Rattle.record_sums.specs.Sums.{Fits, IsFirstMisfit}
 use Rattle.record_sums.specs.Entering.{AreEntries}
 
@@ -15,9 +16,10 @@ ReadsAll (Err Damaged) old new = ⊥
 ReadsAll (Err Broken) old new = ⊥
 ReadsAll (Err OutOfMemory) old new = new ≡ old
 
--- the file has this text in the place of as many bytes at its beginning
-abbrev pub Settles : List ℕ → List ℕ → List ℕ → Type 0
-Settles old new text = new ≡ text ++ drop (length text) old
+-- the file once it begins with this text, where there is one to be written
+abbrev pub with_text : List ℕ → Option (Vec ℕ Global) → List ℕ
+with_text file None = file
+with_text file (Some text) = written_at file 0 text.items
 
 -- by cases of the answer: entries of these records, which the bytes fit; or that they do not; or memory was refused
 abbrev pub Compares : Result (Vec (List ℕ) Global) StoreFault → List ℕ → List Record → Type 0

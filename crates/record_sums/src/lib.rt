@@ -8,8 +8,8 @@
 //!
 //! ```text
 //! let mut store = SummedStable::new(alloc, DiskStable::new(alloc, records), sums);
-//! let records = store.recall(alloc)?;  // reads both, compares them, and enters what has no entry yet
-//! store.keep(&record)?;                // the record stands, and then its sum is entered, without a sync
+//! let records = store.recall(alloc)?;  // reads both, and compares them
+//! store.keep(&record)?;                // the record stands, and then its sum is entered, and each that is missing, without a sync
 //! ```
 //!
 //! A crash may leave an entry out, or a part of it, which is none then. So it never leaves an entry that is not its

@@ -1,14 +1,15 @@
 //! A store that enters the sum of each record.
 
-ghost use Rattle.std.specs.Prelude.{◌≡◌, ◌+◌, ◌*◌, ◌<◌, ◌≤◌, ◌^◌, ⊤, true, false, length, IsTrue, IsErrOf, IfOk, OnOk};
+ghost use Rattle.std.specs.Prelude.{◌≡◌, ◌+◌, ◌*◌, ◌<◌, ◌≤◌, ◌^◌, ⊤, true, false, None, length, IsTrue, IsErrOf, IfOk, OnOk};
 ghost use Rattle.stable_records.specs.declared.fault.StoreFault.TheVariants.{Device, Damaged, Broken};
 ghost use Rattle.stable_records.specs.Calls.{CountsFault, ReadyAfterKeep, ReadyAfterRecall, Keeps};
 ghost use Rattle.disk_records.specs.Disk.{written_at};
 ghost use Rattle.record_sums.specs.Sums.{entry_of};
-ghost use Rattle.record_sums.specs.Recalling.{EntersAll, MayBeDamaged, RecallsOf, nothing_is_told};
+ghost use Rattle.record_sums.specs.Recalling.{IsCompared, MayBeDamaged, RecallsOf, nothing_is_told};
+ghost use Rattle.record_sums.specs.Reading.{with_text};
 
 use crate::entry::{ENTRY_BYTES, entry_of};
-use crate::file::enter_all;
+use crate::file::{enter, missing_in};
 use ballots::Record;
 use disk_records::Disk;
 use stable_records::{FaultCount, Stable, StoreFault};
@@ -18,8 +19,8 @@ use std::alloc::Global;
 /// [`StoreFault::Damaged`] where an entry is not its record's, or is that of a record which is not there.
 ///
 /// A keep enters the sum once the record stands, and without a sync: a crash may leave it out. A recall compares what
-/// there is, and enters what is missing. Where the file of sums can't be read or written the call is
-/// [`StoreFault::Device`], as where the other store's is.
+/// there is, and writes nothing; what was missing is entered with the next keep. Where the file of sums can't be read or
+/// written the call is [`StoreFault::Device`], as where the other store's is.
 ///
 /// Since bytes may have changed on the medium, the store tells nothing of its content; what its calls do to the store
 /// beneath, and to the file of sums, is in their contracts.
@@ -29,11 +30,13 @@ pub struct SummedStable<S: Stable, D: Disk> {
     sums: D,
     alloc: Global,
     is_ready: bool,
-    /// How many records have been entered, once the store is ready.
+    /// How many records there are, once the store is ready.
     count: usize,
+    /// What the file of sums has to begin with before the next entry, where it lacks some.
+    missing: Option<Vec<u8>>,
     refusals: FaultCount,
     ghost ready: { is_ready ≡ true → IsTrue (S.is_ready store) },
-    ghost reaches: { is_ready ≡ true → IsTrue D.tells → 24 * count ≤ length (D.content sums) },
+    ghost reaches: { is_ready ≡ true → IsTrue D.tells → 24 * count ≤ length (with_text (D.content sums) missing) },
     ghost small: { is_ready ≡ true → 24 * count < 2 ^ 64 },
 }
 
@@ -54,6 +57,7 @@ impl<S: Stable, D: Disk> SummedStable<S, D> {
             alloc,
             is_ready: false,
             count: 0,
+            missing: None,
             refusals: FaultCount::new(),
         }
     }
@@ -74,7 +78,7 @@ impl<S: Stable, D: Disk> SummedStable<S, D> {
 }
 
 impl<S: Stable, D: Disk> Stable for SummedStable<S, D> {
-    ghost use Rattle.record_sums.specs.SummedStable.{store_of, sums_of, count_of};
+    ghost use Rattle.record_sums.specs.SummedStable.{store_of, sums_of, count_of, missing_of};
 
     ghost tells = { false };
 
@@ -89,7 +93,7 @@ impl<S: Stable, D: Disk> Stable for SummedStable<S, D> {
     ghost finds_since = { λ _ _ _. ⊤ };
 
     /// Beside what every store promises: the store beneath keeps the record by its contract, and where the answer is `Ok`
-    /// the record's entry stands behind those of the earlier ones.
+    /// the record's entry stands behind those of the earlier ones, of which none is missing then.
     fn keep(&mut self, told: &Record) -> Result<(), StoreFault>
         ensures counted { CountsFault result
             (⟦<SummedStable<S, D> as Stable>⟧.faults self.old) (⟦<SummedStable<S, D> as Stable>⟧.faults self.new) }
@@ -97,8 +101,10 @@ impl<S: Stable, D: Disk> Stable for SummedStable<S, D> {
             (⟦<SummedStable<S, D> as Stable>⟧.is_ready self.old) (⟦<SummedStable<S, D> as Stable>⟧.is_ready self.new) }
         ensures beneath { IsTrue S.tells → Keeps told.now result (S.finds (store_of self.old)) (S.finds (store_of self.new)) }
         ensures entered { IsTrue D.tells → OnOk result (D.content (sums_of self.new)
-            ≡ written_at (D.content (sums_of self.old)) (24 * count_of self.old) (entry_of (count_of self.old) told.now)) }
+            ≡ written_at (with_text (D.content (sums_of self.old)) (missing_of self.old)) (24 * count_of self.old)
+            (entry_of (count_of self.old) told.now)) }
         ensures count { OnOk result (count_of self.new ≡ count_of self.old + 1) }
+        ensures none { OnOk result (missing_of self.new ≡ None) }
     {
         if !self.is_ready {
             self.refusals.rise();
@@ -112,11 +118,8 @@ impl<S: Stable, D: Disk> Stable for SummedStable<S, D> {
             self.is_ready = kept != Err(StoreFault::Device);
             return kept;
         }
-        if self
-            .sums
-            .write_at(self.count * ENTRY_BYTES, &entry)
-            .is_err()
-        {
+        let place = self.count * ENTRY_BYTES;
+        if enter(&mut self.sums, &mut self.missing, place, &entry).is_err() {
             self.is_ready = false;
             return Err(StoreFault::Device);
         }
@@ -124,17 +127,17 @@ impl<S: Stable, D: Disk> Stable for SummedStable<S, D> {
         Ok(())
     }
 
-    /// Beside what every store promises: the records are those that the store beneath gives back, and the file of sums then
-    /// has the sum of each of them and no other. It is [`StoreFault::Damaged`] only where that store's recall is, or where an
-    /// entry is not its record's.
+    /// Beside what every store promises: the records are those that the store beneath gives back, and the file of sums fits
+    /// them: it has the sum of each and no other once what is missing is written. Nothing is written. It is
+    /// [`StoreFault::Damaged`] only where that store's recall is, or where an entry is not its record's.
     fn recall(&mut self, alloc: Global) -> Result<Vec<Record>, StoreFault>
         ensures counted { CountsFault result
             (⟦<SummedStable<S, D> as Stable>⟧.faults self.old) (⟦<SummedStable<S, D> as Stable>⟧.faults self.new) }
         ensures ready { ReadyAfterRecall result
             (⟦<SummedStable<S, D> as Stable>⟧.is_ready self.old) (⟦<SummedStable<S, D> as Stable>⟧.is_ready self.new) }
         ensures beneath { IsTrue S.tells → RecallsOf result (S.finds (store_of self.old)) (S.finds (store_of self.new)) }
-        ensures entered { IsTrue D.tells → IfOk result (λ records. EntersAll result
-            (D.content (sums_of self.old)) (D.content (sums_of self.new)) records.items) }
+        ensures compared { IsTrue D.tells → IfOk result (λ records. IsCompared
+            (D.content (sums_of self.old)) (D.content (sums_of self.new)) (missing_of self.new) records.items) }
         ensures count { IfOk result (λ records. count_of self.new ≡ length records.items) }
         ensures damaged { IsTrue S.tells → IsTrue D.tells → IsErrOf result Damaged
             → MayBeDamaged (S.finds (store_of self.old)) (D.content (sums_of self.old)) }
@@ -146,10 +149,11 @@ impl<S: Stable, D: Disk> Stable for SummedStable<S, D> {
                 return Err(fault);
             }
         };
-        match enter_all(alloc, &mut self.sums, &records) {
-            Ok(()) => {
+        match missing_in(alloc, &mut self.sums, &records) {
+            Ok(missing) => {
                 self.is_ready = true;
                 self.count = records.len();
+                self.missing = missing;
                 Ok(records)
             }
             Err(fault) => {

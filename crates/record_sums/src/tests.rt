@@ -148,8 +148,16 @@ fn an_entry_that_is_missing_or_torn_is_entered(rt: HostRuntime) -> Result<(), Fa
         torn.extend_from_slice(&[0xff; 5])?;
         let mut store = store_of(alloc, &RECORDS, &torn)?;
         assert_eq!(rt; store.recall(alloc)?.len(), 2);
+        assert!(rt;
+            store.sums().bytes()?.as_slice() == torn.as_slice(),
+            "cut at {end}"
+        );
+        store.keep(&promised(1)?)?;
         let left = store.sums().bytes()?;
-        assert!(rt; left.starts_with(&whole), "cut at {end}");
+        assert!(rt;
+            left.starts_with(&whole) && left.len() == 3 * ENTRY_BYTES,
+            "cut at {end}"
+        );
     }
     Ok(())
 }
