@@ -1,16 +1,16 @@
-//! Numbers that a seed draws.
+//! Numbers that a run draws.
 
-/// Numbers that look as if drawn, and are the same for the same seed (Marsaglia, *Xorshift RNGs*, section 3.1).
+/// Numbers that look as if drawn, and are the same for the same run (Marsaglia, *Xorshift RNGs*, section 3.1).
 #[derive(Drop)]
 pub(crate) struct Draws {
     state: u64,
 }
 
 impl Draws {
-    /// The numbers of this seed.
-    pub(crate) fn new(seed: u64) -> Draws {
+    /// The numbers of this run.
+    pub(crate) fn new(run: u64) -> Draws {
         Draws {
-            state: seed.wrapping_mul(0x9E37_79B9_7F4A_7C15) | 1,
+            state: run.wrapping_mul(0x9E37_79B9_7F4A_7C15) | 1,
         }
     }
 

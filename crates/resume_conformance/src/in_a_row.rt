@@ -1,14 +1,14 @@
-//! Processes in a row, for many seeds.
+//! Processes in a row, for many runs of draws.
 
 use crate::rows::Row;
 use std::alloc::Global;
 use std::hash::RandomState;
 use std::test::Fail;
 
-/// How many seeds are tried.
-const SEEDS: u64 = 24;
+/// How many runs are tried.
+const RUNS: u64 = 24;
 
-/// What happened in the rows of all seeds.
+/// What happened in all runs.
 #[derive(Clone, Copy)]
 struct Sums {
     sent: usize,
@@ -39,11 +39,11 @@ impl Sums {
 fn in_a_row(
     alloc: Global,
     hashing: RandomState,
-    seed: u64,
+    run: u64,
     processes: u64,
     lost: usize,
 ) -> Result<Box<Row>, Fail> {
-    let mut row = Row::new(alloc, hashing, seed)?;
+    let mut row = Row::new(alloc, hashing, run)?;
     row.run()?;
     for _ in 1..processes {
         row.go_on(lost)?;
@@ -63,8 +63,8 @@ fn summed(alloc: Global, hashing: RandomState, processes: u64, lost: usize) -> R
         undecided: 0,
         decided_later: 0,
     };
-    for seed in 0..SEEDS {
-        let row = in_a_row(alloc, hashing, seed, processes, lost)?;
+    for run in 0..RUNS {
+        let row = in_a_row(alloc, hashing, run, processes, lost)?;
         sums.add(&row)?;
     }
     Ok(sums)

@@ -34,14 +34,14 @@ pub(crate) struct Row {
 }
 
 impl Row {
-    /// A first process, with what this seed draws.
-    pub(crate) fn new(alloc: Global, hashing: RandomState, seed: u64) -> Result<Box<Row>, Fail> {
+    /// A first process, with what this run draws.
+    pub(crate) fn new(alloc: Global, hashing: RandomState, run: u64) -> Result<Box<Row>, Fail> {
         let started = started_anew(alloc, hashing)?;
         let process = Box::new(alloc, Process::new(alloc, started))?;
         let row = Row {
             alloc,
             hashing,
-            draws: Draws::new(seed),
+            draws: Draws::new(run),
             process,
             uploads: 0,
             sent: Vec::new(alloc),
