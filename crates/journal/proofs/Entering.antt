@@ -1,5 +1,5 @@
 -- A step that is entered: it follows behind the steps before, and leaves its node so, as its own entries do.
-use Rattle.std.proofs.Common.{◌≡◌, ℕ, ◌<◌, Bool, if◌then◌else◌, List, [], ◌∷◌, ◌++◌, length, refl, sym, ap, subst, ◌∙◌}
+use Rattle.std.proofs.Common.{◌≡◌, ℕ, ◌<◌, Bool, if◌then◌else◌, Option, List, [], ◌∷◌, ◌++◌, length, refl, sym, ap, subst, ◌∙◌}
 use Rattle.std.proofs.lemmas.Bool.{eq-eqb}
 use Rattle.std.proofs.lemmas.List.{map_push}
 use Rattle.ballots.specs.declared.message.Message.{Message}
@@ -7,12 +7,14 @@ use Rattle.agreement_rules.specs.Views.{Config}
 use Rattle.histories.specs.Event.{node_of}
 use Rattle.histories.specs.History.{Step as HistoryStep}
 use Rattle.histories.specs.Following.{Seat, SeatGives, StepFollows, ReachesFrom, with_seat}
-use Rattle.histories.specs.Owning.{own, entries_of, OwnReaches}
+use Rattle.histories.specs.Owning.{Entry, own, entries_of, OwnReaches}
 use Rattle.schedule_runner.specs.declared.step.Step.{Step}
 use Rattle.schedule_runner.specs.declared.config.Config.{Config as RunConfig}
 use Rattle.schedule_runner.specs.Told.{config_of, event_of, result_of, step_of, steps_of}
-use Rattle.schedule_runner.specs.Traced.{TraceReachesFrom, StepFollowsBehind}
-use Rattle.journal.specs.Journaled.{seats_in, Journaled, HasFollowed, HasEntry, IsNext, own_in}
+use Rattle.schedule_runner.specs.Traced.{Tells, TraceReachesFrom, StepFollowsBehind}
+use Rattle.journal.specs.Recalled.{Recalled}
+use Rattle.journal.specs.Kept.{Kept}
+use Rattle.journal.specs.Journaled.{seats_in, Journaled, journaled, HasFollowed, HasEntry, IsNext, own_in}
 
 -- ---- the laws that are cited
 
@@ -49,6 +51,16 @@ starts nowhere config journal config_is sent_is steps_are recovered_is = (
       (subst (λ (ss : List Step). ReachesFrom (config_of config) (seats_in journal.start) [] (steps_of ss) journal.recovered (seats_in journal.start)) (sym steps_are)
       (subst (λ (rs : List Bool). ReachesFrom (config_of config) (seats_in journal.start) [] [] rs (seats_in journal.start)) (sym recovered_is) (nowhere (config_of config) (seats_in journal.start))))),
 )
+
+-- likewise of steps that are kept, whichever log the journal knows
+pub starts_kept : StartsNowhere → (config : RunConfig) (start : List Seat) (kept : Kept) (steps : Recalled) (log : Option (List Entry)) → kept.recalled ≡ steps
+    → Tells steps.trace config [] [] → steps.recovered ≡ [] → HasFollowed (journaled start kept log)
+starts_kept nowhere config start kept steps log is tells none =
+    starts nowhere config (journaled start kept log)
+    (ap (λ (r : Recalled). r.trace.config) is ∙ tells.config_is)
+    (ap (λ (r : Recalled). r.trace.sent) is ∙ tells.sent_is)
+    (ap (λ (r : Recalled). r.trace.steps) is ∙ tells.steps_are)
+    (ap (λ (r : Recalled). r.recovered) is ∙ none)
 
 -- ---- a step more
 

@@ -1,3 +1,4 @@
+mod Ends
 mod Worth
 mod Entering
 mod Logging

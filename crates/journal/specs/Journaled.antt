@@ -1,7 +1,7 @@
 -- What contracts see of a journal of running nodes: where its nodes start, a trace from there on, and of each restart whether
 -- the node had back the record that was due where it went down (Lamport, "Paxos Made Simple", section 2.5). That nodes share a
 -- journal is this service's own.
-use Rattle.std.specs.Prelude.{◌≡◌, ℕ, ◌<◌, Bool, List, [], ◌∷◌, ◌++◌, length, slice_index_or}
+use Rattle.std.specs.Prelude.{◌≡◌, ℕ, ◌<◌, ◌≤◌, Bool, IsTrue, Option, List, [], ◌∷◌, ◌++◌, length, slice_index_or}
 use Rattle.ballots.specs.declared.message.Message.{Message}
 use Rattle.histories.specs.Event.{node_of}
 use Rattle.histories.specs.EventResult.{count_of}
@@ -9,6 +9,7 @@ use Rattle.histories.specs.Following.{Seat, SeatGives, IsAsked, at_first}
 use Rattle.histories.specs.Owning.{Entry, own, entries_of, OwnReaches}
 use Rattle.schedule_runner.specs.declared.step.Step.{Step}
 use Rattle.schedule_runner.specs.Told.{config_of, event_of, result_of, step_of, steps_of}
+use Rattle.journal.specs.Kept.{Kept}
 use Rattle.schedule_runner.specs.Traced.{Traced, TellsAsBefore, TellsMore, HasRoomFor, TraceReachesFrom}
 
 -- how a node starts: as the list has it, or with nothing where the list ends
@@ -23,6 +24,24 @@ pub record Journaled : Type 0 where
   pub recovered : List Bool
   -- how many more of these it takes without memory
   pub room : ℕ
+  -- whether it holds all of its steps and messages
+  pub whole : Bool
+  -- so many messages, the first ones, it holds no more
+  pub forgotten : ℕ
+  -- the log of all nodes' own entries, where it knows it
+  pub log : Option (List Entry)
+
+-- what a journal is seen to be that keeps these steps and knows this log
+abbrev pub journaled : List Seat → Kept → Option (List Entry) → Journaled
+journaled start kept log = record {
+  start = start;
+  trace = kept.recalled.trace;
+  recovered = kept.recalled.recovered;
+  room = kept.recalled.room;
+  whole = kept.whole;
+  forgotten = kept.recalled.forgotten;
+  log = log;
+}
 
 -- each step followed by the nodes' rules from the start and those before, and they left the nodes so or so
 abbrev pub HasFollowed : Journaled → Type 0
@@ -33,6 +52,9 @@ pub record TellsSame (old new : Journaled) : Type 0 where
   pub start_is : new.start ≡ old.start
   pub trace : TellsAsBefore old.trace new.trace
   pub recovered_is : new.recovered ≡ old.recovered
+  pub whole_is : new.whole ≡ old.whole
+  pub forgotten_is : new.forgotten ≡ old.forgotten
+  pub log_is : new.log ≡ old.log
 
 -- there is room for one step more, and for so many messages
 abbrev pub HasRoom : Journaled → ℕ → Type 0
@@ -43,6 +65,11 @@ pub record HasEntry (old : Journaled) (step : Step) (more : List Message) (recov
   pub start_is : new.start ≡ old.start
   pub trace : TellsMore old.trace step more new.trace
   pub recovered_is : new.recovered ≡ old.recovered ++ recovered ∷ []
+  pub whole_is : new.whole ≡ old.whole
+
+-- it holds all of its steps, and has as many as its configuration allows
+abbrev pub IsFull : Journaled → Type 0
+IsFull journal = IsTrue journal.whole × (journal.trace.config.journal_limit ≤ length journal.trace.steps)
 
 -- what one node did, by its own entries
 abbrev pub own_in : ℕ → Journaled → List Entry

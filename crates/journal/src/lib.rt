@@ -15,18 +15,28 @@
 //! A [`Receipt`] is what whoever took a step has of it: its number, its event and what it gave. [`Journal::meet`] says of
 //! two receipts whether both stand there, whichever threads got them, and what they are worth to each other.
 //!
+//! A journal holds all of its steps ([`Whole`]), or forgets them ([`Recent`]): then it has how many they are and its last
+//! messages, and does not grow. What is promised of the steps is the same, and each node's own entries stand there alike.
+//!
 //! A journal can have a log of the nodes' own entries beside it ([`Journal::with_log`]), which exists in proofs alone. A
 //! node that knows the same log has just the journal's own entries of it where it has as many.
 #![tactic(auto)]
 
 mod beginning;
 mod journal;
+mod kept;
+mod last_messages;
 pub mod laws;
 mod own;
 mod progress;
 mod receipt;
+mod recent_steps;
+mod retention;
+mod whole_steps;
 
 pub use beginning::Beginning;
 pub use journal::Journal;
+pub use last_messages::RECENT_MESSAGES;
 pub use own::OwnEntry;
 pub use receipt::Receipt;
+pub use retention::{Recent, Retention, Whole};

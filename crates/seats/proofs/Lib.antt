@@ -1,3 +1,4 @@
+mod Held
 mod Walking
 mod Joining
 mod Leading

@@ -1,6 +1,6 @@
 -- A journal with more room tells the same, so that what is entered in it is entered in the one before; and calls that change
 -- nothing.
-use Rattle.std.proofs.Common.{ℕ, ◌≤◌, Bool, false, Err, List, [], ◌∷◌, ◌++◌, length, refl, sym, ap, subst, ◌∙◌}
+use Rattle.std.proofs.Common.{◌≡◌, inl, inr, ℕ, ◌≤◌, Bool, IsTrue, false, Option, Some, IsSome, Err, List, [], ◌∷◌, ◌++◌, length, refl, sym, ap, subst, ◌∙◌}
 use Rattle.ballots.specs.declared.message.Message.{Message}
 use Rattle.node_events.specs.declared.event.Event.{Event}
 use Rattle.node_events.specs.declared.event_result.EventResult.{EventResult}
@@ -10,33 +10,46 @@ use Rattle.node_seats.specs.Kept.{CountsRecall}
 use Rattle.schedule_runner.specs.declared.step.Step.{Step}
 use Rattle.schedule_runner.specs.declared.config.Config.{Config}
 use Rattle.journal.specs.declared.receipt.Receipt.{Receipt}
+use Rattle.histories.specs.Owning.{Entry}
+use Rattle.journal.specs.Recalled.{held_at}
 use Rattle.journal.specs.Journaled.{Journaled, HasEntry, TellsSame}
 use Rattle.seats.specs.declared.fault.SeatFault.{SeatFault}
 use Rattle.seats.specs.declared.fault.SeatFault.TheVariants as fault
 use Rattle.seats.specs.declared.input.SeatInput.{SeatInput}
 use Rattle.seats.specs.declared.input.Prepared.{Prepared}
 use Rattle.seats.specs.declared.query.Found.{Found}
-use Rattle.seats.specs.Inputs.{event_at, given_for, IsSentIn}
-use Rattle.seats.specs.State.{RunningSeat}
+use Rattle.seats.specs.declared.input.SeatInput.TheVariants.{Put, Tick, Deliver}
+use Rattle.seats.specs.Inputs.{event_at, given_for, IsHeldIn}
+use Rattle.seats.specs.State.{RunningSeat, CanTell}
 use Rattle.seats.specs.Steps.{StandsSame, IsOpen, OpensFor, Admits, OthersAgree, TellsEntry, IsTaken, IsCut, IsRestarted, IsFaultOf, TakeGives, ServeGives, RestartGives, Counts}
 use Rattle.seats.proofs.Leading.{still_agrees}
 
 -- ---- a journal that tells the same
 
 pub same_journal : (journal : Journaled) → TellsSame journal journal
-same_journal journal = record { start_is = refl; trace = record { config_is = refl; sent_is = refl; steps_are = refl }; recovered_is = refl }
+same_journal journal = record { start_is = refl; trace = record { config_is = refl; sent_is = refl; steps_are = refl }; recovered_is = refl; whole_is = refl; forgotten_is = refl; log_is = refl }
+
+tell_as : {S : Type 0} (seat : RunningSeat S) (before mid : Journaled) → TellsSame before mid → CanTell seat before → CanTell seat mid
+tell_as seat before mid same (inl both) = inl (both.0, subst (λ (b : Bool). IsTrue b) (sym same.whole_is) both.1)
+tell_as seat before mid same (inr both) = inr (both.0, subst (λ (log : Option (List Entry)). IsSome log) (sym same.log_is) both.1)
 
 pub open_as : {S : Type 0} (seat : RunningSeat S) (before mid : Journaled) → TellsSame before mid → IsOpen seat before → IsOpen seat mid
 open_as seat before mid same may = (
-  still_agrees seat.config seat.node.me seat.start seat.own before mid same may.0,
+  (still_agrees seat.config seat.node.me seat.start seat.own before mid same may.0.0, tell_as seat before mid same may.0.1),
   λ full.
-      may.1
-      (subst (λ (c : Config). c.journal_limit ≤ length before.trace.steps) same.trace.config_is
-      (subst (λ (ss : List Step). mid.trace.config.journal_limit ≤ length ss) same.trace.steps_are full)),
+      may.1 (
+        subst (λ (b : Bool). IsTrue b) same.whole_is full.0,
+        subst (λ (c : Config). c.journal_limit ≤ length before.trace.steps) same.trace.config_is
+            (subst (λ (ss : List Step). mid.trace.config.journal_limit ≤ length ss) same.trace.steps_are full.1),
+      ),
 )
 
-pub sent_as : (before mid : Journaled) (input : SeatInput) → TellsSame before mid → IsSentIn before.trace.sent input → IsSentIn mid.trace.sent input
-sent_as before mid input same is = subst (λ (ms : List Message). IsSentIn ms input) (sym same.trace.sent_is) is
+pub held_as : (before mid : Journaled) (input : SeatInput) → TellsSame before mid → IsHeldIn before input → IsHeldIn mid input
+held_as before mid (Put upload) same is = tt
+held_as before mid (Tick left) same is = tt
+held_as before mid (Deliver number message) same is =
+    subst (λ (k : ℕ). held_at k mid.trace.sent number ≡ Some message) (sym same.forgotten_is)
+    (subst (λ (ms : List Message). held_at before.forgotten ms number ≡ Some message) (sym same.trace.sent_is) is)
 
 entry_before : (before mid after : Journaled) (step : Step) (more : List Message) (was : Bool) → TellsSame before mid → HasEntry mid step more was after → HasEntry before step more was after
 entry_before before mid after step more was same entry = record {
@@ -47,6 +60,7 @@ entry_before before mid after step more was same entry = record {
     steps_are = entry.trace.steps_are ∙ ap (λ (ss : List Step). ss ++ step ∷ []) same.trace.steps_are;
   };
   recovered_is = entry.recovered_is ∙ ap (λ (rs : List Bool). rs ++ was ∷ []) same.recovered_is;
+  whole_is = entry.whole_is ∙ same.whole_is;
 }
 
 told_before : (before mid : Journaled) (e : Event) (given : EventResult) (receipt : Receipt) → TellsSame before mid → TellsEntry mid e given receipt → TellsEntry before e given receipt
@@ -64,6 +78,7 @@ taken_before old new before mid after prepared receipt same taken = record {
   answer_is = taken.answer_is ∙ ap (λ (ms : List Message). given_for prepared.input (length ms) (length taken.plan.sends)) same.trace.sent_is;
   told = told_before before mid (event_at old.node.me prepared.input) receipt.answer receipt same taken.told;
   agrees = taken.agrees;
+  knows = taken.knows;
 }
 
 pub cut_before : {S : Type 0} (old new : RunningSeat S) (before mid after : Journaled) (prepared : Prepared) → TellsSame before mid → IsCut old new mid after prepared
@@ -80,6 +95,7 @@ cut_before old new before mid after prepared same cut = record {
   is_cut = cut.is_cut;
   entry = entry_before before mid after _ [] false same cut.entry;
   agrees = cut.agrees;
+  knows = cut.knows;
 }
 
 pub restarted_before : {S : Type 0} (old new : RunningSeat S) (before mid after : Journaled) (receipt : Receipt) → TellsSame before mid → IsRestarted old new mid after receipt
@@ -91,6 +107,7 @@ restarted_before old new before mid after receipt same restarted = record {
   entry = entry_before before mid after _ [] restarted.recovered same restarted.entry;
   told = told_before before mid _ _ receipt same restarted.told;
   agrees = restarted.agrees;
+  knows = restarted.knows;
 }
 
 pub others_before : (before mid after : Journaled) (me : ℕ) → TellsSame before mid → OthersAgree me mid after → OthersAgree me before after
@@ -103,7 +120,7 @@ others_same before after me same config other start own differs member has = sti
 -- ---- calls that change nothing
 
 pub same_seat : {S : Type 0} (seat : RunningSeat S) → StandsSame seat seat
-same_seat seat = record { config_is = refl; start_is = refl; me_is = refl; own_is = refl; records_are = refl; doubted_is = refl; stands = λ stood is. is }
+same_seat seat = record { config_is = refl; start_is = refl; me_is = refl; own_is = refl; keeps_is = refl; known_is = refl; records_are = refl; doubted_is = refl; stands = λ stood is. is }
 
 pub refused_take : {S : Type 0} (seat : RunningSeat S) (journal : Journaled) (prepared : Prepared) (why : SeatFault) → Admits {T = Unit {0}} seat journal prepared.input (Err why)
     → TakeGives seat seat journal journal prepared (Err why)

@@ -70,6 +70,11 @@ known_own new after left me None leaves is has = tt
 known_own new after left me (Some log) leaves is has =
     subst (λ (m : ℕ). new.own ≡ own_of m log) (sym is) (sym leaves.agrees.1 ∙ has new.node.me (member_in new after left leaves.led leaves.agrees))
 
+-- a log without an entry has none of the node
+pub nothing_known : (known : Option (List Entry)) (mine : List Entry) (me : ℕ) → mine ≡ [] → IfSome known (λ entries. entries ≡ []) → IfSome known (λ log. mine ≡ own_of me log)
+nothing_known None mine me none empty = tt
+nothing_known (Some log) mine me none empty = none ∙ sym (ap (λ (es : List Entry). own_of me es) empty)
+
 -- ---- two that know one log
 
 own_begins : (node : ℕ) (xs ys : List Entry) → IsPrefix xs ys → IsPrefix (own_of node xs) (own_of node ys)

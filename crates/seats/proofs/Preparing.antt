@@ -50,7 +50,7 @@ refused_gives {S = S} old new node input copy why told same is answers =
 
 -- what is planned
 pub prepared_gives : {S : Type 0} (old : RunningSeat S) (node : SeatState S) (input : SeatInput) (copy : Input) (plan : Planned) → copy ≡ input_of input → IsLed old → StandsStill old.node node
-    → PlanAnswers old.node node copy (Ok plan) → IsPreparedFor (record { config = old.config; start = old.start; node = node; own = old.own }) (record { input = input; plan = plan })
+    → PlanAnswers old.node node copy (Ok plan) → IsPreparedFor (record { config = old.config; start = old.start; node = node; own = old.own; keeps = old.keeps; known = old.known }) (record { input = input; plan = plan })
 prepared_gives old node input copy plan same led still answers =
     let was = was_up old led (none_is_some old.node.node answers.0) in
     let planned = answers.1 was.views was.led.stands in

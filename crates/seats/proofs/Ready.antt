@@ -9,7 +9,7 @@ use Rattle.histories.specs.Due.{Input}
 use Rattle.histories.specs.EventResult.{EventResult as HistoryResult, count_of}
 use Rattle.histories.specs.Following.{Seat, IsUp, GetGives}
 use Rattle.histories.specs.Following as following
-use Rattle.histories.specs.Owning.{Entry, OwnReaches}
+use Rattle.histories.specs.Owning.{Entry}
 use Rattle.node_core.specs.State.{NodeState}
 use Rattle.node_core.specs.declared.plan.Planned.{Planned}
 use Rattle.node_core.specs.Plans.{CanCommit, sent_by}
@@ -20,7 +20,6 @@ use Rattle.node_events.specs.declared.event_result.EventResult.TheVariants as re
 use Rattle.node_events.specs.Told.{result_of}
 use Rattle.node_seats.specs.State.{SeatState, IsPlaced, StandsUp}
 use Rattle.node_seats.specs.Parts.{IsPlannedFor, IsDoneFor, IsBrokenOff, IsUnchanged as NodeUnchanged, StandsStill}
-use Rattle.schedule_runner.specs.Told.{config_of}
 use Rattle.journal.specs.declared.receipt.Receipt.{Receipt}
 use Rattle.journal.specs.Journaled.{Journaled, HasEntry, MayEnter, EntersOwn}
 use Rattle.seats.specs.declared.input.SeatInput.{SeatInput}
@@ -102,7 +101,7 @@ EnteredRestart before after was receipt old new me =
 
 -- what it was led to, it is led to
 pub led_still : {S : Type 0} (old : RunningSeat S) (node : SeatState S) (stood : Seat) → node.me ≡ old.node.me → node.config ≡ old.node.config → IsPlaced node → StandsSo node stood
-    → IsLedTo old stood → IsLedTo (record { config = old.config; start = old.start; node = node; own = old.own }) stood
+    → IsLedTo old stood → IsLedTo (record { config = old.config; start = old.start; node = node; own = old.own; keeps = old.keeps; known = old.known }) stood
 led_still old node stood me config placed stands led = record {
   config_is = config ∙ led.config_is;
   placed = placed;

@@ -7,6 +7,8 @@ use Rattle.node_events.specs.declared.event.Event.{Event}
 use Rattle.node_events.specs.declared.event.Event.TheVariants as event
 use Rattle.node_events.specs.declared.event_result.EventResult.{EventResult}
 use Rattle.node_events.specs.declared.event_result.EventResult.TheVariants as results
+use Rattle.journal.specs.Recalled.{held_at}
+use Rattle.journal.specs.Journaled.{Journaled}
 use Rattle.seats.specs.declared.input.SeatInput.{SeatInput}
 use Rattle.seats.specs.declared.input.SeatInput.TheVariants.{Put, Tick, Deliver}
 
@@ -44,3 +46,9 @@ abbrev pub IsSentIn : List Message → SeatInput → Type 0
 IsSentIn sent (Put upload) = Unit {0}
 IsSentIn sent (Tick left) = Unit {0}
 IsSentIn sent (Deliver number message) = slice_get sent number ≡ Some message
+
+-- likewise, and the journal holds it
+abbrev pub IsHeldIn : Journaled → SeatInput → Type 0
+IsHeldIn journal (Put upload) = Unit {0}
+IsHeldIn journal (Tick left) = Unit {0}
+IsHeldIn journal (Deliver number message) = held_at journal.forgotten journal.trace.sent number ≡ Some message

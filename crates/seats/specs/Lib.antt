@@ -1,3 +1,5 @@
+pub mod OwnLists
+pub mod OwnListsSeen
 pub mod Inputs
 pub mod State
 pub mod Entries

@@ -1,6 +1,6 @@
 -- A node that runs beside others: its store, what it did itself, and how that agrees with the journal of all (Lamport, "Paxos
 -- Made Simple", section 2.5, for what a node keeps). That nodes share a journal is this service's own.
-use Rattle.std.specs.Prelude.{◌≡◌, ◌⊎◌, ℕ, Option, None, List}
+use Rattle.std.specs.Prelude.{◌≡◌, ◌⊎◌, ℕ, Bool, IsTrue, IsSome, Option, None, List}
 use Rattle.ballots.specs.declared.record.Record.{Record}
 use Rattle.agreement_rules.specs.Views.{Views}
 use Rattle.table_types.specs.Uploads.{Upload}
@@ -21,6 +21,10 @@ pub record RunningSeat (S : Type 0) : Type 0 where
   pub node : SeatState S
   -- what it did, by its own entries
   pub own : List Entry
+  -- whether it holds these
+  pub keeps : Bool
+  -- the log of all nodes' own entries, where it knows it
+  pub known : Option (List Entry)
 
 -- It is down with these records, without the one that was due where it went down; of this one nobody knows whether its
 -- store has it, or the store has it not.
@@ -58,3 +62,10 @@ HasOwn config me start own journal =
 
 abbrev pub Agrees : {S : Type 0} → RunningSeat S → Journaled → Type 0
 Agrees seat journal = HasOwn seat.config seat.node.me seat.start seat.own journal
+
+-- whether they agree can be told: both hold their entries, or both know the log of their name
+abbrev pub CanTell : {S : Type 0} → RunningSeat S → Journaled → Type 0
+CanTell seat journal = (IsTrue seat.keeps × IsTrue journal.whole) ⊎ (IsSome seat.known × IsSome journal.log)
+
+abbrev pub IsSeenToAgree : {S : Type 0} → RunningSeat S → Journaled → Type 0
+IsSeenToAgree seat journal = Agrees seat journal × CanTell seat journal

@@ -1,6 +1,6 @@
 -- What the calls of a running node give and leave, by cases of what they answer (Lamport, "Paxos Made Simple", section 2.5, for
 -- what a node keeps before it answers). Seats, journals and receipts are this service's own.
-use Rattle.std.specs.Prelude.{◌≡◌, ◌≢◌, ◌⊎◌, ℕ, ◌<◌, ◌≤◌, Bool, false, IsTrue, None, Some, IsSome, Result, Ok, Err, List, [], length}
+use Rattle.std.specs.Prelude.{◌≡◌, ◌≢◌, ◌⊎◌, ℕ, ◌<◌, Bool, false, IsTrue, None, Some, IsSome, Result, Ok, Err, List, [], length}
 use Rattle.ballots.specs.declared.record.Record.{Record}
 use Rattle.stable_records.specs.Calls.{RaisesCount}
 use Rattle.agreement.specs.declared.refusal.Refusal.{Refusal}
@@ -28,7 +28,7 @@ use Rattle.node_seats.specs.State.{Stands, StandsUp}
 use Rattle.node_seats.specs.Parts.{IsPlannedFor}
 use Rattle.schedule_runner.specs.declared.config.Config.{Config}
 use Rattle.journal.specs.declared.receipt.Receipt.{Receipt}
-use Rattle.journal.specs.Journaled.{Journaled, HasEntry, TellsSame}
+use Rattle.journal.specs.Journaled.{Journaled, IsFull, HasEntry, TellsSame}
 use Rattle.seats.specs.declared.fault.SeatFault.{SeatFault}
 use Rattle.seats.specs.declared.fault.SeatFault.TheVariants as fault
 use Rattle.seats.specs.declared.input.SeatInput.{SeatInput}
@@ -36,8 +36,8 @@ use Rattle.seats.specs.declared.input.Prepared.{Prepared}
 use Rattle.seats.specs.declared.query.Query.{Query}
 use Rattle.seats.specs.declared.query.Query.TheVariants as query
 use Rattle.seats.specs.declared.query.Found.{Found}
-use Rattle.seats.specs.Inputs.{input_of, event_at, given_for, IsCutAt, IsSentIn}
-use Rattle.seats.specs.State.{RunningSeat, IsLedTo, HasOwn, Agrees}
+use Rattle.seats.specs.Inputs.{input_of, event_at, given_for, IsCutAt, IsHeldIn}
+use Rattle.seats.specs.State.{RunningSeat, IsLedTo, HasOwn, Agrees, IsSeenToAgree}
 
 abbrev pub IsDown : {S : Type 0} → RunningSeat S → Type 0
 IsDown seat = seat.node.node ≡ None
@@ -48,6 +48,8 @@ pub record StandsSame {S : Type 0} (old new : RunningSeat S) : Type 0 where
   pub start_is : new.start ≡ old.start
   pub me_is : new.node.me ≡ old.node.me
   pub own_is : new.own ≡ old.own
+  pub keeps_is : new.keeps ≡ old.keeps
+  pub known_is : new.known ≡ old.known
   pub records_are : new.node.records ≡ old.node.records
   pub doubted_is : new.node.doubted ≡ old.node.doubted
   pub stands : (seat : Seat) → Stands old.node seat → Stands new.node seat
@@ -142,31 +144,28 @@ ReadGives seat asked (Err fault.Lost) = ⊥
 
 -- ---- what a call with the journal comes to before it does anything
 
-abbrev pub IsFull : Journaled → Type 0
-IsFull journal = journal.trace.config.journal_limit ≤ length journal.trace.steps
-
 -- seat and journal agree, and there is room for an entry
 abbrev pub IsOpen : {S : Type 0} → RunningSeat S → Journaled → Type 0
-IsOpen seat journal = Agrees seat journal × (IsFull journal → ⊥)
+IsOpen seat journal = IsSeenToAgree seat journal × (IsFull journal → ⊥)
 
 -- whether it is open, and if not, why
 abbrev pub OpensFor : {S T : Type 0} → RunningSeat S → Journaled → Result T SeatFault → Type 0
 OpensFor seat journal (Ok _) = IsOpen seat journal
 OpensFor seat journal (Err fault.Down) = ⊥
-OpensFor seat journal (Err fault.Strange) = Agrees seat journal → ⊥
-OpensFor seat journal (Err fault.JournalFull) = Agrees seat journal × IsFull journal
+OpensFor seat journal (Err fault.Strange) = IsSeenToAgree seat journal → ⊥
+OpensFor seat journal (Err fault.JournalFull) = IsSeenToAgree seat journal × IsFull journal
 OpensFor seat journal (Err fault.NotSent) = ⊥
 OpensFor seat journal (Err (fault.Refused why)) = ⊥
 OpensFor seat journal (Err (fault.Store why)) = ⊥
 OpensFor seat journal (Err fault.Lost) = ⊥
 
--- and the delivered message, if there is one, is sent
+-- and the delivered message, if there is one, is held
 abbrev pub Admits : {S T : Type 0} → RunningSeat S → Journaled → SeatInput → Result T SeatFault → Type 0
-Admits seat journal input (Ok _) = IsOpen seat journal × IsSentIn journal.trace.sent input
+Admits seat journal input (Ok _) = IsOpen seat journal × IsHeldIn journal input
 Admits seat journal input (Err fault.Down) = ⊥
-Admits seat journal input (Err fault.Strange) = Agrees seat journal → ⊥
-Admits seat journal input (Err fault.JournalFull) = Agrees seat journal × IsFull journal
-Admits seat journal input (Err fault.NotSent) = IsOpen seat journal × (IsSentIn journal.trace.sent input → ⊥)
+Admits seat journal input (Err fault.Strange) = IsSeenToAgree seat journal → ⊥
+Admits seat journal input (Err fault.JournalFull) = IsSeenToAgree seat journal × IsFull journal
+Admits seat journal input (Err fault.NotSent) = IsOpen seat journal × (IsHeldIn journal input → ⊥)
 Admits seat journal input (Err (fault.Refused why)) = ⊥
 Admits seat journal input (Err (fault.Store why)) = ⊥
 Admits seat journal input (Err fault.Lost) = ⊥
@@ -197,6 +196,7 @@ pub record IsTaken {S : Type 0} (old new : RunningSeat S) (before after : Journa
   pub answer_is : receipt.answer ≡ given_for prepared.input (length before.trace.sent) (length plan.sends)
   pub told : TellsEntry before (event_at old.node.me prepared.input) receipt.answer receipt
   pub agrees : Agrees new after
+  pub knows : new.known ≡ after.log
 
 -- The store failed: one entry, that of the node that went down in the midst, where a record was due that is not kept, or of
 -- which nobody knows.
@@ -212,6 +212,7 @@ pub record IsCut {S : Type 0} (old new : RunningSeat S) (before after : Journale
   pub is_cut : IsCutAt old.node.me prepared.input cut
   pub entry : HasEntry before (record { event = cut; result = results.Done }) [] false after
   pub agrees : Agrees new after
+  pub knows : new.known ≡ after.log
 
 -- nothing changes
 abbrev pub IsUnchanged : {S : Type 0} → (old new : RunningSeat S) → (before after : Journaled) → Type 0
@@ -219,18 +220,18 @@ IsUnchanged old new before after = StandsSame old new × TellsSame before after
 
 abbrev pub TakeGives : {S : Type 0} → (old new : RunningSeat S) → (before after : Journaled) → Prepared → Result Receipt SeatFault → Type 0
 TakeGives old new before after prepared (Ok receipt) =
-    IsOpen old before × IsSentIn before.trace.sent prepared.input × IsTaken old new before after prepared receipt
+    IsOpen old before × IsHeldIn before prepared.input × IsTaken old new before after prepared receipt
 TakeGives old new before after prepared (Err fault.Down) = ⊥
-TakeGives old new before after prepared (Err fault.Strange) = (Agrees old before → ⊥) × IsUnchanged old new before after
+TakeGives old new before after prepared (Err fault.Strange) = (IsSeenToAgree old before → ⊥) × IsUnchanged old new before after
 TakeGives old new before after prepared (Err fault.JournalFull) =
-    Agrees old before × IsFull before × IsUnchanged old new before after
+    IsSeenToAgree old before × IsFull before × IsUnchanged old new before after
 TakeGives old new before after prepared (Err fault.NotSent) =
-    IsOpen old before × (IsSentIn before.trace.sent prepared.input → ⊥) × IsUnchanged old new before after
+    IsOpen old before × (IsHeldIn before prepared.input → ⊥) × IsUnchanged old new before after
 TakeGives old new before after prepared (Err (fault.Refused why)) =
-    IsOpen old before × IsSentIn before.trace.sent prepared.input × (why ≡ refusal.OutOfMemory)
+    IsOpen old before × IsHeldIn before prepared.input × (why ≡ refusal.OutOfMemory)
     × IsUnchanged old new before after
 TakeGives old new before after prepared (Err (fault.Store why)) =
-    IsOpen old before × IsSentIn before.trace.sent prepared.input × IsCut old new before after prepared
+    IsOpen old before × IsHeldIn before prepared.input × IsCut old new before after prepared
 TakeGives old new before after prepared (Err fault.Lost) = ⊥
 
 -- ---- an answer that is served
@@ -244,8 +245,8 @@ pub record IsServed {S : Type 0} (seat : RunningSeat S) (before after : Journale
 abbrev pub ServeGives : {S : Type 0} → RunningSeat S → (before after : Journaled) → Found → Result Receipt SeatFault → Type 0
 ServeGives seat before after found (Ok receipt) = IsOpen seat before × IsServed seat before after found receipt
 ServeGives seat before after found (Err fault.Down) = ⊥
-ServeGives seat before after found (Err fault.Strange) = (Agrees seat before → ⊥) × TellsSame before after
-ServeGives seat before after found (Err fault.JournalFull) = Agrees seat before × IsFull before × TellsSame before after
+ServeGives seat before after found (Err fault.Strange) = (IsSeenToAgree seat before → ⊥) × TellsSame before after
+ServeGives seat before after found (Err fault.JournalFull) = IsSeenToAgree seat before × IsFull before × TellsSame before after
 ServeGives seat before after found (Err fault.NotSent) = ⊥
 ServeGives seat before after found (Err (fault.Refused why)) =
     IsOpen seat before × (why ≡ refusal.OutOfMemory) × TellsSame before after
@@ -268,13 +269,14 @@ pub record IsRestarted {S : Type 0} (old new : RunningSeat S) (before after : Jo
   pub entry : HasEntry before (record { event = event.Restart old.node.me; result = results.Done }) [] recovered after
   pub told : TellsEntry before (event.Restart old.node.me) results.Done receipt
   pub agrees : Agrees new after
+  pub knows : new.known ≡ after.log
 
 abbrev pub RestartGives : {S : Type 0} → (old new : RunningSeat S) → (before after : Journaled) → Result Receipt SeatFault → Type 0
 RestartGives old new before after (Ok receipt) = IsOpen old before × IsRestarted old new before after receipt
 RestartGives old new before after (Err fault.Down) = ⊥
-RestartGives old new before after (Err fault.Strange) = (Agrees old before → ⊥) × IsUnchanged old new before after
+RestartGives old new before after (Err fault.Strange) = (IsSeenToAgree old before → ⊥) × IsUnchanged old new before after
 RestartGives old new before after (Err fault.JournalFull) =
-    Agrees old before × IsFull before × IsUnchanged old new before after
+    IsSeenToAgree old before × IsFull before × IsUnchanged old new before after
 RestartGives old new before after (Err fault.NotSent) = ⊥
 RestartGives old new before after (Err (fault.Refused why)) =
     IsOpen old before × (why ≡ refusal.OutOfMemory) × IsUnchanged old new before after

@@ -1,6 +1,6 @@
 //! What is entered of an input: a step of the journal, the node's own entry of it, and the receipt.
 
-ghost use Rattle.std.specs.Prelude.{◌≡◌, ℕ, ◌+◌, ◌≤◌, ◌<◌, ◌∷◌, ◌++◌, [], false, Some, IfOk, IsSome, length, vec_len, vec_capacity};
+ghost use Rattle.std.specs.Prelude.{◌≡◌, ℕ, ◌+◌, ◌≤◌, ◌<◌, ◌∷◌, ◌++◌, [], false, Some, IfOk, IsSome, length, vec_len};
 ghost use Rattle.std.specs.Option.{IfSome};
 ghost use Rattle.node_events.specs.declared.event.Event.{Event as EventSpec};
 ghost use Rattle.journal.specs.Journaled.{HasRoom, MayEnter, HasEntry, EntersOwn};
@@ -9,10 +9,10 @@ ghost use Rattle.seats.specs.Inputs.{event_at, given_for, handed_by, IsCutAt};
 ghost use Rattle.seats.specs.Entries.{AreCopies, done_step, done_entry, cut_step, cut_entry};
 ghost use Rattle.seats.specs.Steps.{TellsEntry};
 
-use crate::compact_entry::CompactEntry;
 use crate::input::SeatInput;
+use crate::own_entries::OwnEntries;
 use ballots::{Message, NodeId};
-use journal::{Beginning, Journal, OwnEntry, Receipt};
+use journal::{Beginning, Journal, OwnEntry, Receipt, Retention};
 use node_events::{Event, EventResult};
 use schedule_runner::Step;
 use std::alloc::{AllocError, Global};
@@ -105,27 +105,16 @@ fn cut_for(me: NodeId, input: &SeatInput) -> Option<Event>
     }
 }
 
-// Puts an entry behind the node's own, where there is room for it.
-pub(crate) fn push_own(own: &mut Vec<CompactEntry>, entry: CompactEntry)
-    requires { vec_len own.old < vec_capacity own.old }
-    ensures { own.new.items ≡ own.old.items ++ entry ∷ [] }
-{
-    match own.push(entry) {
-        Ok(()) => {}
-        Err(_) => unreachable!(),
-    }
-}
-
 /// Enters an input that was done, with the messages that go out, which are numbered from those of the journal on: one entry
 /// of the journal, and one of the node's own. There is room for both.
-pub(crate) fn enter_done<J: Beginning>(
+pub(crate) fn enter_done<J: Beginning, M: Retention>(
     me: NodeId,
-    own: &mut Vec<CompactEntry>,
-    journal: &mut Journal<J>,
+    own: &mut OwnEntries,
+    journal: &mut Journal<J, M>,
     input: SeatInput,
     copies: Copies,
 ) -> Receipt
-    requires own_room { vec_len own.old < vec_capacity own.old }
+    requires own_room { 0 < own.old.room }
     requires room { HasRoom journal.old (vec_len copies.sends) }
     requires copies { AreCopies me input copies.sends.items copies }
     requires follows { MayEnter journal.old
@@ -133,8 +122,9 @@ pub(crate) fn enter_done<J: Beginning>(
     requires entry { own_entry journal.old
         (done_step me input (length journal.old.trace.sent) (vec_len copies.sends)) copies.sends.items false
         ≡ Some (done_entry me input (length journal.old.trace.sent) copies.sends.items) }
-    ensures own { own.new.items ≡ own.old.items
+    ensures own { own.new.entries ≡ own.old.entries
         ++ done_entry me input (length journal.old.trace.sent) copies.sends.items ∷ [] }
+    ensures keeps { own.new.keeps ≡ own.old.keeps }
     ensures entry { HasEntry journal.old
         (done_step me input (length journal.old.trace.sent) (vec_len copies.sends)) copies.sends.items false journal.new }
     ensures told { TellsEntry journal.old (event_at me input)
@@ -149,8 +139,8 @@ pub(crate) fn enter_done<J: Beginning>(
         sends,
         own_sends,
     } = copies;
-    let first = journal.trace().sent().len() as u64;
-    let number = journal.trace().steps().len() as u64;
+    let first = journal.sent_count();
+    let number = journal.step_count();
     let count = sends.len() as u64;
     let receipt = Receipt {
         number,
@@ -172,26 +162,27 @@ pub(crate) fn enter_done<J: Beginning>(
         sends: own_sends,
     };
     journal.enter(step, sends, false, Some(&entry));
-    push_own(own, CompactEntry::of(me, entry));
+    own.push(me, entry);
     receipt
 }
 
 /// Enters that a node went down in the midst of an input that is no put: one entry of the journal, and one of the node's
 /// own. There is room for both.
-pub(crate) fn enter_cut<J: Beginning>(
+pub(crate) fn enter_cut<J: Beginning, M: Retention>(
     alloc: Global,
     me: NodeId,
-    own: &mut Vec<CompactEntry>,
-    journal: &mut Journal<J>,
+    own: &mut OwnEntries,
+    journal: &mut Journal<J, M>,
     input: SeatInput,
 )
-    requires own_room { vec_len own.old < vec_capacity own.old }
+    requires own_room { 0 < own.old.room }
     requires room { HasRoom journal.old 0 }
     requires follows { (cut : EventSpec) × IsCutAt me input cut × MayEnter journal.old (cut_step cut) [] false }
     requires entry { (cut : EventSpec) → IsCutAt me input cut
         → own_entry journal.old (cut_step cut) [] false ≡ Some (cut_entry cut input) }
-    ensures { (cut : EventSpec) × IsCutAt me input cut
-        × (own.new.items ≡ own.old.items ++ cut_entry cut input ∷ [])
+    ensures keeps { own.new.keeps ≡ own.old.keeps }
+    ensures entered { (cut : EventSpec) × IsCutAt me input cut
+        × (own.new.entries ≡ own.old.entries ++ cut_entry cut input ∷ [])
         × HasEntry journal.old (cut_step cut) [] false journal.new
         × EntersOwn journal.old (cut_step cut) [] false journal.new }
 {
@@ -215,5 +206,5 @@ pub(crate) fn enter_cut<J: Beginning>(
         result: EventResult::Done,
     };
     journal.enter(step, Vec::new(alloc), false, Some(&entry));
-    push_own(own, CompactEntry::of(me, entry));
+    own.push(me, entry);
 }

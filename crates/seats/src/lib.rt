@@ -24,6 +24,7 @@ mod handing;
 mod input;
 pub mod laws;
 mod messages;
+mod own_entries;
 mod query;
 mod reading;
 mod restarting;
@@ -33,6 +34,6 @@ mod taking;
 
 pub use fault::SeatFault;
 pub use input::{Prepared, SeatInput};
-pub use journal::{Beginning, Journal, OwnEntry, Receipt};
+pub use journal::{Beginning, Journal, OwnEntry, Receipt, Recent, Retention, Whole};
 pub use query::{Found, Query};
 pub use seat::Seat;

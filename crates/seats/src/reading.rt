@@ -6,7 +6,7 @@ ghost use Rattle.seats.specs.Steps.{NodeReads, ReadGives};
 use crate::fault::SeatFault;
 use crate::query::{Found, Query};
 use crate::seat::Seat;
-use journal::Beginning;
+use journal::{Beginning, Retention};
 use node_core::{Node, Refusal};
 use node_events::EventResult;
 use stable_records::Stable;
@@ -29,7 +29,7 @@ fn answer_of(node: &Node, query: &Query) -> Result<EventResult, Refusal>
     }
 }
 
-impl<S: Stable + Drop, J: Beginning> Seat<S, J> {
+impl<S: Stable + Drop, J: Beginning, M: Retention> Seat<S, J, M> {
     /// What the node answers to a query, which [`Seat::serve`] enters: from the tables of its prefix, and memory apart
     /// ([`SeatFault::Refused`]); or [`SeatFault::Down`], exactly where the node is down. Nothing changes.
     pub fn read(&self, query: Query) -> Result<Found, SeatFault>

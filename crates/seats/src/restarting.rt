@@ -1,19 +1,18 @@
 //! A restart.
 
-ghost use Rattle.std.specs.Prelude.{◌≡◌, ◌<◌, ◌∷◌, ◌++◌, [], length, vec_len, vec_capacity};
+ghost use Rattle.std.specs.Prelude.{◌≡◌, ◌<◌, ◌∷◌, ◌++◌, [], length};
 ghost use Rattle.node_events.specs.declared.event.Event.TheVariants.{Restart};
 ghost use Rattle.node_events.specs.declared.event_result.EventResult.TheVariants.{Done};
 ghost use Rattle.journal.specs.Journaled.{HasRoom, MayEnter, HasEntry, EntersOwn};
 ghost use Rattle.seats.specs.Entries.{restart_step, restart_entry};
 ghost use Rattle.seats.specs.Steps.{TellsEntry, Counts, RestartGives, OthersAgree, IsFaultOf};
 
-use crate::compact_entry::CompactEntry;
-use crate::entering::push_own;
 use crate::fault::SeatFault;
+use crate::own_entries::OwnEntries;
 use crate::seat::Seat;
 use crate::taking::make_room;
 use ballots::NodeId;
-use journal::{Beginning, Journal, OwnEntry, Receipt};
+use journal::{Beginning, Journal, OwnEntry, Receipt, Retention};
 use node_core::Refusal;
 use node_events::{Event, EventResult};
 use node_seats::SeatFault as NodeFault;
@@ -21,16 +20,16 @@ use schedule_runner::Step;
 use stable_records::Stable;
 use std::alloc::Global;
 
-impl<S: Stable + Drop, J: Beginning> Seat<S, J> {
+impl<S: Stable + Drop, J: Beginning, M: Retention> Seat<S, J, M> {
     /// Starts the node again, up or down, with the records that it kept and nothing else, and enters that.
     ///
-    /// The first of these faults is told that stands, memory apart: [`SeatFault::Strange`] exactly where the seat does not
-    /// agree with the journal; [`SeatFault::JournalFull`]; [`SeatFault::Store`], the store's fault in recalling its
+    /// The first of these faults is told that stands, memory apart: [`SeatFault::Strange`] exactly where the seat is not
+    /// seen to agree with the journal; [`SeatFault::JournalFull`]; [`SeatFault::Store`], the store's fault in recalling its
     /// records, or its want of memory; [`SeatFault::Lost`] where other records were recalled than were kept so far;
     /// [`SeatFault::Refused`] where memory was refused. None of them changes the node or the journal.
     ///
     /// It takes time with the number of the journal's entries.
-    pub fn restart(&mut self, journal: &mut Journal<J>) -> Result<Receipt, SeatFault>
+    pub fn restart(&mut self, journal: &mut Journal<J, M>) -> Result<Receipt, SeatFault>
         ensures gives { RestartGives self.old self.new journal.old journal.new result }
         ensures counted { Counts S.tells result (S.faults self.old.node.store) (S.faults self.new.node.store) }
         ensures others { OthersAgree self.old.node.me journal.old journal.new }
@@ -62,23 +61,24 @@ fn fault_for(fault: NodeFault) -> SeatFault
 }
 
 // Enters a restart: one entry of the journal, and one of the node's own. There is room for both.
-fn enter_restart<J: Beginning>(
+fn enter_restart<J: Beginning, M: Retention>(
     alloc: Global,
     me: NodeId,
-    own: &mut Vec<CompactEntry>,
-    journal: &mut Journal<J>,
+    own: &mut OwnEntries,
+    journal: &mut Journal<J, M>,
     recovered: bool,
 ) -> Receipt
-    requires own_room { vec_len own.old < vec_capacity own.old }
+    requires own_room { 0 < own.old.room }
     requires room { HasRoom journal.old 0 }
     requires follows { MayEnter journal.old (restart_step me) [] recovered }
-    ensures own { own.new.items ≡ own.old.items ++ restart_entry me recovered ∷ [] }
+    ensures own { own.new.entries ≡ own.old.entries ++ restart_entry me recovered ∷ [] }
+    ensures keeps { own.new.keeps ≡ own.old.keeps }
     ensures entry { HasEntry journal.old (restart_step me) [] recovered journal.new }
     ensures told { TellsEntry journal.old (Restart me) Done result }
     ensures others { EntersOwn journal.old (restart_step me) [] recovered journal.new }
 {
     let node = u64::from(me.number());
-    let number = journal.trace().steps().len() as u64;
+    let number = journal.step_count();
     let entry = OwnEntry {
         step: done(node),
         recovered,
@@ -86,7 +86,7 @@ fn enter_restart<J: Beginning>(
         sends: Vec::new(alloc),
     };
     journal.enter(done(node), Vec::new(alloc), recovered, Some(&entry));
-    push_own(own, CompactEntry::of(me, entry));
+    own.push(me, entry);
     Receipt {
         number,
         event: Event::Restart(node),

@@ -20,20 +20,20 @@ ghost use Rattle.schedule_runner.specs.Told.{config_of};
 ghost use Rattle.schedule_runner.specs.Traced.{history_of};
 ghost use Rattle.journal.specs.Journaled.{seats_in, own_in};
 ghost use Rattle.seats.specs.declared.fault.SeatFault.TheVariants.{Down};
-ghost use Rattle.seats.specs.State.{StandsSo, Agrees, IsLedTo, IsLedNode};
+ghost use Rattle.seats.specs.State.{StandsSo, CanTell, IsSeenToAgree, IsLedTo, IsLedNode};
 ghost use Rattle.seats.specs.Steps.{IsDown, StandsSame, PrepareGives, IsFaultFor};
 
 use crate::agreeing::are_own;
-use crate::compact_entry::CompactEntry;
 use crate::fault::SeatFault;
 use crate::handing::handed_over;
 use crate::input::{Prepared, SeatInput};
+use crate::own_entries::OwnEntries;
 use agreement::Config as Agreed;
 use ballots::NodeId;
 use growing_log::Reached;
 use histories::laws::own_entries_decide_the_node;
 use joined_histories::laws::joined_histories_show;
-use journal::{Beginning, Journal, OwnEntry};
+use journal::{Beginning, Journal, OwnEntry, Recent, Retention, Whole};
 use node_core::{Node, Refusal};
 use node_events::Reason;
 use node_seats::Seat as NodeSeat;
@@ -41,23 +41,25 @@ use schedule_runner::Config;
 use stable_records::{Stable, StoreFault};
 use std::alloc::Global;
 use std::hash::RandomState;
-use std::marker::{Brand, Model};
+use std::marker::{Brand, Model, PhantomData};
 
 /// A node with the store of its records, up or down, and what it did itself. The type keeps that its own entries leave the
 /// node as it is: up or down, with what it has, and its records those that it kept by them.
 ///
-/// Seats and journals that know one log have its name ([`Journal::with_log`]).
-pub struct Seat<S: Stable, J: Beginning = Brand> {
+/// Seats and journals that know one log have its name ([`Journal::with_log`]). A seat of nodes whose journal forgets
+/// ([`Recent`]) counts its own entries, and holds none of them.
+pub struct Seat<S: Stable, J: Beginning = Brand, M: Retention = Whole> {
     pub(crate) alloc: Global,
     pub(crate) me: NodeId,
     pub(crate) config: Config,
     pub(crate) node: NodeSeat<S>,
-    pub(crate) own: Vec<CompactEntry>,
+    pub(crate) own: OwnEntries,
     /// What is known of the log of all nodes' own entries.
     pub(crate) known: Option<Reached<OwnEntry, J>>,
+    pub(crate) of: PhantomData<M>,
 }
 
-impl<S: Stable, J: Beginning> Model for Seat<S, J> {
+impl<S: Stable, J: Beginning, M: Retention> Model for Seat<S, J, M> {
     ghost use Rattle.std.specs.Prelude.{◌≡◌};
     ghost use Rattle.std.specs.Option.{IfSome};
     ghost use Rattle.journal.specs.Logged.{own_of};
@@ -75,16 +77,26 @@ impl<S: Stable, J: Beginning> Model for Seat<S, J> {
       config = s.config;
       start = seats_in J.start s.me;
       node = s.node;
-      own = s.own.items;
+      own = s.own.entries;
+      keeps = s.own.keeps;
+      known = s.known;
     } };
 
     ghost invariant = { λ s. (s.me ≡ s.node.me)
-        × IsLed (record { config = s.config; start = seats_in J.start s.me; node = s.node; own = s.own.items })
-        × IfSome s.known (λ log. s.own.items ≡ own_of s.me log) };
+        × IsLed (record {
+          config = s.config;
+          start = seats_in J.start s.me;
+          node = s.node;
+          own = s.own.entries;
+          keeps = s.own.keeps;
+          known = s.known;
+        })
+        × IfSome s.known (λ log. s.own.entries ≡ own_of s.me log)
+        × (s.own.keeps ≡ M.whole) };
 }
 
 // Written out, so that a crate above lets go of a seat by one call, and does not prove again what is inside it.
-impl<S: Stable + Drop, J: Beginning> Drop for Seat<S, J> {
+impl<S: Stable + Drop, J: Beginning, M: Retention> Drop for Seat<S, J, M> {
     fn drop(self) {
         let Seat {
             alloc: _,
@@ -93,6 +105,7 @@ impl<S: Stable + Drop, J: Beginning> Drop for Seat<S, J> {
             node,
             own,
             known,
+            of: _,
         } = self;
         drop(node);
         drop(own);
@@ -100,7 +113,7 @@ impl<S: Stable + Drop, J: Beginning> Drop for Seat<S, J> {
     }
 }
 
-impl<S: Stable + Drop, J: Beginning> Seat<S, J> {
+impl<S: Stable + Drop, J: Beginning> Seat<S, J, Whole> {
     /// The node `me` of this configuration with this store, up and with nothing; `None` where the store has a record
     /// already. Memory is taken from this allocator; `hashing` has the random keys that keep look-ups fast whatever
     /// names clients choose.
@@ -112,7 +125,7 @@ impl<S: Stable + Drop, J: Beginning> Seat<S, J> {
         me: NodeId,
         config: Config,
         store: S,
-    ) -> Result<Option<Seat<S, J>>, StoreFault>
+    ) -> Result<Option<Seat<S, J, Whole>>, StoreFault>
         requires within { IsWithinLimits config }
         requires member { me < config.members }
         requires start { J.start ≡ [] }
@@ -136,14 +149,15 @@ impl<S: Stable + Drop, J: Beginning> Seat<S, J> {
             me,
             config,
             node,
-            own: Vec::new(alloc),
+            own: OwnEntries::held(alloc),
             known: None,
+            of: PhantomData,
         }))
     }
 
     /// The seat of a node that is where a journal of this name begins: it has no entry of its own, and the node stands as the
     /// name has it at its start ([`Beginning`]), up or down.
-    pub fn begin(alloc: Global, config: Config, node: NodeSeat<S>) -> Seat<S, J>
+    pub fn begin(alloc: Global, config: Config, node: NodeSeat<S>) -> Seat<S, J, Whole>
         requires config { node.config ≡ config_of config }
         requires placed { IsPlaced node }
         requires stands { StandsSo node (seats_in J.start node.me) }
@@ -158,11 +172,46 @@ impl<S: Stable + Drop, J: Beginning> Seat<S, J> {
             me,
             config,
             node,
-            own: Vec::new(alloc),
+            own: OwnEntries::held(alloc),
             known: None,
+            of: PhantomData,
         }
     }
 
+    /// The seat with a journal that forgets, where it has no entry of its own yet: it counts its entries from here on. It knows
+    /// the journal's log where that has no entry either.
+    pub fn counting(self, journal: &Journal<J, Recent>) -> Seat<S, J, Recent>
+        requires { self.own ≡ [] }
+        ensures node { result.node ≡ self.node }
+        ensures config { result.config ≡ self.config }
+        ensures start { result.start ≡ self.start }
+        ensures own { result.own ≡ [] }
+        ensures known { journal.now.log ≡ Some [] → result.known ≡ Some [] }
+    {
+        let Seat {
+            alloc,
+            me,
+            config,
+            node,
+            own,
+            known,
+            of: _,
+        } = self;
+        drop(own);
+        drop(known);
+        Seat {
+            alloc,
+            me,
+            config,
+            node,
+            own: OwnEntries::counted(),
+            known: without_entries(journal.log()),
+            of: PhantomData,
+        }
+    }
+}
+
+impl<S: Stable + Drop, J: Beginning, M: Retention> Seat<S, J, M> {
     /// Which node it is.
     pub fn me(&self) -> NodeId
         ensures { result ≡ self.now.node.me }
@@ -192,14 +241,22 @@ impl<S: Stable + Drop, J: Beginning> Seat<S, J> {
         }
     }
 
+    /// That it holds its own entries exactly where its kind says so. It does nothing.
+    pub fn keeps_as_named(&self)
+        ensures { self.now.keeps ≡ M.whole }
+    {
+        let _ = &self.own;
+    }
+
     /// Whether the journal is of the same configuration and has just the entries of this node that the seat has, each by
-    /// what it holds. Then, behind any history that left the nodes as the journal has them at its start, the node is up
-    /// exactly where both show that it runs, and its prefix is what both show that it has learned.
+    /// what it holds, and this is seen: both hold their entries, or both know the log of their name. Then,
+    /// behind any history that left the nodes as the journal has them at its start, the node is up exactly where both show
+    /// that it runs, and its prefix is what both show that it has learned.
     ///
     /// Where both know the log of their name, it compares two counts. Else it compares all of the journal's entries with
     /// those of the seat.
-    pub fn agrees(&self, journal: &Journal<J>) -> bool
-        ensures agrees { IsTrue result ↔ Agrees self.now journal.now }
+    pub fn agrees(&self, journal: &Journal<J, M>) -> bool
+        ensures agrees { IsTrue result ↔ IsSeenToAgree self.now journal.now }
         ensures runs { IsTrue result → (before : History)
             → Precedes (config_of journal.now.trace.config) (seats_in journal.now.start) before
             → (IsDown self.now → ⊥)
@@ -214,24 +271,24 @@ impl<S: Stable + Drop, J: Beginning> Seat<S, J> {
         joined_histories_show();
         own_entries_decide_the_node();
         let _ = &self.own;
-        let _ = journal.trace();
+        journal.keeps_promises();
         self.has_own(journal)
     }
 
-    // Whether the journal is of the same configuration and has just the entries of this node that the seat has. Both start as
-    // their name has it.
-    fn has_own(&self, journal: &Journal<J>) -> bool
-        ensures { IsTrue result ↔ Agrees self.now journal.now }
+    // Whether the journal is of the same configuration and is seen to have just the entries of this node that the seat has. Both
+    // start as their name has it.
+    fn has_own(&self, journal: &Journal<J, M>) -> bool
+        ensures { IsTrue result ↔ IsSeenToAgree self.now journal.now }
     {
         let _ = &self.me;
         journal.starts_as_named();
         self.has_entries(journal)
     }
 
-    // Whether the journal is of the same configuration and has just the entries of this node that the seat has.
-    fn has_entries(&self, journal: &Journal<J>) -> bool
+    // Whether the journal is of the same configuration and is seen to have just the entries of this node that the seat has.
+    fn has_entries(&self, journal: &Journal<J, M>) -> bool
         ensures { IsTrue result ↔ ((journal.now.trace.config ≡ self.now.config)
-            × (own_in self.now.node.me journal.now ≡ self.now.own)) }
+            × (own_in self.now.node.me journal.now ≡ self.now.own) × CanTell self.now journal.now) }
     {
         if self.config != journal.config() {
             return false;
@@ -239,24 +296,23 @@ impl<S: Stable + Drop, J: Beginning> Seat<S, J> {
         match (&self.known, journal.log(), journal.own_count(self.me)) {
             (Some(known), Some(log), Some(count)) => {
                 known.beside(&log);
-                self.own.len() as u64 == count
+                self.own.len() == count
             }
             _ => self.has_each(journal),
         }
     }
 
-    // Whether the journal has just the entries of this node that the seat has, each compared.
-    fn has_each(&self, journal: &Journal<J>) -> bool
-        ensures { IsTrue result ↔ (own_in self.now.node.me journal.now ≡ self.now.own) }
+    // Whether the journal has just the entries of this node that the seat has, each compared, where both hold them.
+    fn has_each(&self, journal: &Journal<J, M>) -> bool
+        ensures { IsTrue result ↔ ((own_in self.now.node.me journal.now ≡ self.now.own)
+            × IsTrue self.now.keeps × IsTrue journal.now.whole) }
     {
-        let trace = journal.trace();
-        are_own(
-            self.own.as_slice(),
-            self.me,
-            trace.sent(),
-            trace.steps(),
-            journal.recovered(),
-        )
+        match (self.own.entries(), journal.steps()) {
+            (Some(own), Some((trace, recovered))) => {
+                are_own(own, self.me, trace.sent(), trace.steps(), recovered)
+            }
+            _ => false,
+        }
     }
 
     /// What is due to an input, which [`Seat::take`] does: exactly the plan that is due, or the refusal, memory apart
@@ -288,6 +344,17 @@ impl<S: Stable + Drop, J: Beginning> Seat<S, J> {
             }
         };
         Ok(Prepared { input, plan })
+    }
+}
+
+// What is known of a log that has no entry yet.
+fn without_entries<J: Beginning>(log: Option<Reached<OwnEntry, J>>) -> Option<Reached<OwnEntry, J>>
+    ensures none { IfSome result (λ entries. entries ≡ []) }
+    ensures known { log ≡ Some [] → result ≡ Some [] }
+{
+    match log {
+        Some(log) if log.len() == 0 => Some(log),
+        _ => None,
     }
 }
 

@@ -9,7 +9,7 @@ use crate::fault::SeatFault;
 use crate::query::{Found, Query};
 use crate::seat::Seat;
 use ballots::NodeId;
-use journal::{Beginning, Journal, Receipt};
+use journal::{Beginning, Journal, Receipt, Retention};
 use node_core::Refusal;
 use node_events::{Event, EventResult, copy_of};
 use schedule_runner::Step;
@@ -27,16 +27,16 @@ fn event_for(me: NodeId, query: Query) -> Event
     }
 }
 
-impl<S: Stable + Drop, J: Beginning> Seat<S, J> {
+impl<S: Stable + Drop, J: Beginning, M: Retention> Seat<S, J, M> {
     /// Enters what was read: the question at this node, with the answer, which is that of some tables. The seat is as
     /// [`Seat::read`] found it.
     ///
-    /// The first of these faults is told that stands, memory apart: [`SeatFault::Strange`] exactly where the seat does not
-    /// agree with the journal; [`SeatFault::JournalFull`]. These, and [`SeatFault::Refused`] where memory was refused,
+    /// The first of these faults is told that stands, memory apart: [`SeatFault::Strange`] exactly where the seat is not
+    /// seen to agree with the journal; [`SeatFault::JournalFull`]. These, and [`SeatFault::Refused`] where memory was refused,
     /// change nothing.
     ///
     /// It takes time with the number of the journal's entries.
-    pub fn serve(&self, journal: &mut Journal<J>, found: Found) -> Result<Receipt, SeatFault>
+    pub fn serve(&self, journal: &mut Journal<J, M>, found: Found) -> Result<Receipt, SeatFault>
         requires { IsFoundBy self.now found }
         ensures gives { ServeGives self.now journal.old journal.new found result }
         ensures answers { IfOk result (λ receipt. (uploads : List Uploaded)
@@ -57,9 +57,9 @@ impl<S: Stable + Drop, J: Beginning> Seat<S, J> {
 }
 
 // All that an answer takes memory for, made before anything is entered.
-fn made_ready<J: Beginning>(
+fn made_ready<J: Beginning, M: Retention>(
     alloc: Global,
-    journal: &mut Journal<J>,
+    journal: &mut Journal<J, M>,
     event: Event,
     answer: EventResult,
 ) -> Result<(Step, Receipt), AllocError>
@@ -68,7 +68,7 @@ fn made_ready<J: Beginning>(
     ensures room { OnOk result (HasRoom journal.new 0) }
     ensures journal { TellsSame journal.old journal.new }
 {
-    let number = journal.trace().steps().len() as u64;
+    let number = journal.step_count();
     journal.reserve(0)?;
     let told = copy_of(alloc, &event)?;
     let copy = answer.clone()?;

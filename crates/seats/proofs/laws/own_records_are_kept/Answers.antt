@@ -1,4 +1,4 @@
-use Rattle.std.proofs.Common.{◌≡◌, ◌++◌, List, sym, subst, ◌∙◌}
+use Rattle.std.proofs.Common.{◌≡◌, List, sym, subst, ◌∙◌}
 use Rattle.ballots.specs.declared.record.Record.{Record}
 use Rattle.histories.specs.Following.{Seat, IsUp, at_first}
 use Rattle.histories.specs.Following as following

@@ -8,7 +8,7 @@ use Rattle.seats.proofs.seat.Seat.read.Goals as goal
 
 pub returns-in-Ok : goal.returns-in-Ok
 returns-in-Ok g c =
-    let view : RunningSeat g.row.S.Denot = the_view g.row.S g.row.J g.S.Stable g.J.Beginning g.J.Naming c.self.inside in
+    let view : RunningSeat g.row.S.Denot = the_view g.row.S g.row.J g.row.M g.S.Stable g.J.Beginning g.J.Naming g.M.Retention c.self.inside in
     let here = sym (ap (λ o. option_map (λ node. node.now) o) c.in-Some.is) ∙ c.node.ensures in (
       refl,
       subst (λ (s : RunningSeat g.row.S.Denot). IsFoundBy s (record { query = c.args.query; answer = c.in-Ok.answer })) c.self.view_is
@@ -20,7 +20,7 @@ returns-in-Ok g c =
 
 pub returns-in-Err : goal.returns-in-Err
 returns-in-Err g c =
-    let view : RunningSeat g.row.S.Denot = the_view g.row.S g.row.J g.S.Stable g.J.Beginning g.J.Naming c.self.inside in
+    let view : RunningSeat g.row.S.Denot = the_view g.row.S g.row.J g.row.M g.S.Stable g.J.Beginning g.J.Naming g.M.Retention c.self.inside in
     let here = sym (ap (λ o. option_map (λ node. node.now) o) c.in-Some.is) ∙ c.node.ensures in (
       c.in-Err.ensures.0,
       subst (λ (s : RunningSeat g.row.S.Denot). IsDown s → ⊥) c.self.view_is (is_up view c.in-Some.node.now here),

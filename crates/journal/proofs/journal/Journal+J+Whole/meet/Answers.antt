@@ -1,9 +1,9 @@
-use Rattle.std.proofs.Common.{List, subst, sym}
+use Rattle.std.proofs.Common.{subst, sym}
 use Rattle.schedule_runner.specs.Told.{config_of, steps_of}
 use Rattle.schedule_runner.specs.Traced.{Traced, history_of}
 use Rattle.journal.specs.Journaled.{seats_in}
 use Rattle.journal.proofs.Worth.{KeepsPromises, are_worth}
-use Rattle.journal.proofs.journal.Journal.meet.Goals as goal
+use Rattle.journal.proofs.journal.Journal+J+Whole.meet.Goals as goal
 
 pub returns-then-is_told-clause-worth : goal.returns-then-is_told-clause-worth
 returns-then-is_told-clause-worth g c = λ both before precedes.

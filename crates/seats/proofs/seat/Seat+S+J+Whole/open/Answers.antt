@@ -1,4 +1,4 @@
-use Rattle.std.proofs.Common.{◌≡◌, List, [], refl, sym, ap, subst, ◌∙◌}
+use Rattle.std.proofs.Common.{◌≡◌, List, [], sym, ap, subst, ◌∙◌}
 use Rattle.std.specs.Option.{IfSome}
 use Rattle.agreement_rules.specs.Views.{started_with}
 use Rattle.histories.specs.Following.{Seat, IsUp}
@@ -6,7 +6,7 @@ use Rattle.histories.specs.Owning.{Entry, OwnReaches}
 use Rattle.node_seats.specs.State.{SeatState, IsPlaced, Stands}
 use Rattle.schedule_runner.specs.Told.{config_of}
 use Rattle.journal.specs.Journaled.{seats_in}
-use Rattle.seats.proofs.seat.Seat.open.Goals as goal
+use Rattle.seats.proofs.seat.Seat+S+J+Whole.open.Goals as goal
 
 pub invariant_of-result : goal.invariant_of-result
 invariant_of-result g c =
@@ -18,9 +18,10 @@ invariant_of-result g c =
         record {
           config_is = config ∙ c.in-Some.ensures.value;
           placed = subst (λ o. IfSome o (λ (s : SeatState g.row.S.Denot). IsPlaced s)) c.in-Some-2.is c.in_ok-node.ensures.placed;
-          led = subst (λ (es : List Entry). OwnReaches (config_of c.args.config) (seats_in g.J.Beginning.start c.args.me) es (IsUp (started_with []))) (sym c.new-2.ensures.items) (sym (ap (λ (begun : List Seat). seats_in begun c.args.me) c.requires.start));
+          led = subst (λ (es : List Entry). OwnReaches (config_of c.args.config) (seats_in g.J.Beginning.start c.args.me) es (IsUp (started_with []))) (sym c.held.ensures.entries) (sym (ap (λ (begun : List Seat). seats_in begun c.args.me) c.requires.start));
           stands = subst (λ o. IfSome o (λ (s : SeatState g.row.S.Denot). Stands s (IsUp (started_with [])))) c.in-Some-2.is c.in_ok-node.ensures.stands;
         },
       ),
       tt,
+      c.held.ensures.keeps,
     )
