@@ -1,27 +1,27 @@
 //! A cluster.
 
 use crate::locks::Locks;
-use seats::{Beginning, Journal, Seat};
+use seats::{Beginning, Journal, Retention, Seat, Whole};
 use stable_records::Stable;
 use std::marker::Brand;
 use std::sync::{Mutex, Wait};
 
 /// The seats of the nodes of one configuration, and their journal, each behind a lock.
 #[derive(Drop)]
-pub struct Cluster<const N: usize, S: Stable + Drop, J: Beginning = Brand> {
-    seats: [Mutex<Seat<S, J>>; N],
-    journal: Mutex<Journal<J>>,
+pub struct Cluster<const N: usize, S: Stable + Drop, J: Beginning = Brand, M: Retention = Whole> {
+    seats: [Mutex<Seat<S, J, M>>; N],
+    journal: Mutex<Journal<J, M>>,
 }
 
-impl<const N: usize, S: Stable + Drop, J: Beginning> Cluster<N, S, J> {
+impl<const N: usize, S: Stable + Drop, J: Beginning, M: Retention> Cluster<N, S, J, M> {
     /// The cluster of these nodes, each at the place of its number and behind its lock, which nobody holds; `None` where one
     /// stands elsewhere, is down, or does not agree with the journal, or where the configuration has another number of members
     /// than there are seats.
     pub fn new<R: Wait>(
         rt: &R,
-        seats: [Mutex<Seat<S, J>>; N],
-        journal: Journal<J>,
-    ) -> Option<Cluster<N, S, J>> {
+        seats: [Mutex<Seat<S, J, M>>; N],
+        journal: Journal<J, M>,
+    ) -> Option<Cluster<N, S, J, M>> {
         if usize::from(journal.config().members.count()) != N || !are_placed(rt, &seats, &journal) {
             return None;
         }
@@ -33,27 +33,27 @@ impl<const N: usize, S: Stable + Drop, J: Beginning> Cluster<N, S, J> {
 
     /// The seat of the node of this number, `None` where there is no such node. Whoever holds its lock may take the
     /// journal's, and no other seat's.
-    pub fn seat(&self, node: usize) -> Option<&Mutex<Seat<S, J>>> {
+    pub fn seat(&self, node: usize) -> Option<&Mutex<Seat<S, J, M>>> {
         self.seats.get(node)
     }
 
     /// The journal. Whoever holds its lock takes no other.
-    pub fn journal(&self) -> &Mutex<Journal<J>> {
+    pub fn journal(&self) -> &Mutex<Journal<J, M>> {
         &self.journal
     }
 
     /// The locks that the calls of this node take, `None` where there is no such node.
-    pub(crate) fn locks(&self, node: usize) -> Option<Locks<'_, S, J>> {
+    pub(crate) fn locks(&self, node: usize) -> Option<Locks<'_, S, J, M>> {
         let seat = self.seats.get(node)?;
         Some(Locks::new(node, seat, &self.journal))
     }
 }
 
 // Whether each seat is that of the node of its place, is up, and agrees with the journal.
-fn are_placed<R: Wait, S: Stable + Drop, J: Beginning>(
+fn are_placed<R: Wait, S: Stable + Drop, J: Beginning, M: Retention>(
     rt: &R,
-    seats: &[Mutex<Seat<S, J>>],
-    journal: &Journal<J>,
+    seats: &[Mutex<Seat<S, J, M>>],
+    journal: &Journal<J, M>,
 ) -> bool {
     for (place, seat) in seats.iter().enumerate() {
         let seat = seat.lock(rt);

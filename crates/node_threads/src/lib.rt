@@ -31,6 +31,7 @@ pub use gate::{Gate, OpenGate};
 pub use node_work::{LONGEST_WAIT_MILLISECONDS, LOOK_MILLISECONDS, Note, Pace};
 pub use running::{Pending, Running};
 pub use seats::{
-    Beginning, Found, Journal, OwnEntry, Prepared, Query, Receipt, Seat, SeatFault, SeatInput,
+    Beginning, Found, Journal, OwnEntry, Prepared, Query, Receipt, Recent, Retention, Seat,
+    SeatFault, SeatInput, Whole,
 };
 pub use steps::{Settled, Taken};

@@ -12,7 +12,7 @@ use crate::steps::{Settled, Taken};
 use ballots::Message;
 use node_core::Refusal;
 use node_events::EventResult;
-use seats::{Beginning, Journal, Prepared, Query, Receipt, Seat, SeatFault, SeatInput};
+use seats::{Beginning, Journal, Prepared, Query, Receipt, Retention, Seat, SeatFault, SeatInput};
 use stable_records::Stable;
 use std::alloc::AllocError;
 use std::sync::{Mutex, Wait};
@@ -22,19 +22,19 @@ use uploads::Upload;
 /// The locks that the calls of one node take: always its seat's first, and then the journal's. Between the two each call
 /// passes its gate.
 #[derive(Drop)]
-pub(crate) struct Locks<'a, S: Stable + Drop, J: Beginning> {
+pub(crate) struct Locks<'a, S: Stable + Drop, J: Beginning, M: Retention> {
     node: usize,
-    seat: &'a Mutex<Seat<S, J>>,
-    journal: &'a Mutex<Journal<J>>,
+    seat: &'a Mutex<Seat<S, J, M>>,
+    journal: &'a Mutex<Journal<J, M>>,
 }
 
-impl<'a, S: Stable + Drop, J: Beginning> Locks<'a, S, J> {
+impl<'a, S: Stable + Drop, J: Beginning, M: Retention> Locks<'a, S, J, M> {
     /// The locks of the node of this number.
     pub(crate) fn new(
         node: usize,
-        seat: &'a Mutex<Seat<S, J>>,
-        journal: &'a Mutex<Journal<J>>,
-    ) -> Locks<'a, S, J> {
+        seat: &'a Mutex<Seat<S, J, M>>,
+        journal: &'a Mutex<Journal<J, M>>,
+    ) -> Locks<'a, S, J, M> {
         Locks {
             node,
             seat,
@@ -85,7 +85,7 @@ impl<'a, S: Stable + Drop, J: Beginning> Locks<'a, S, J> {
         &self,
         rt: &R,
         gate: &G,
-        seat: &Seat<S, J>,
+        seat: &Seat<S, J, M>,
         query: Query,
     ) -> Result<Receipt, SeatFault>
         ensures { IfOk result (λ receipt. (uploads : List Uploaded) × AnswersQuery uploads query receipt.answer) }
@@ -135,9 +135,9 @@ impl<'a, S: Stable + Drop, J: Beginning> Locks<'a, S, J> {
 }
 
 /// A copy of the journal's message of this number; [`SeatFault::NotSent`] where none was sent.
-pub(crate) fn message_in<R: Wait, J: Beginning>(
+pub(crate) fn message_in<R: Wait, J: Beginning, M: Retention>(
     rt: &R,
-    journal: &Mutex<Journal<J>>,
+    journal: &Mutex<Journal<J, M>>,
     number: u64,
 ) -> Result<Message, SeatFault> {
     let journal = journal.lock(rt);
@@ -152,17 +152,17 @@ pub(crate) fn message_in<R: Wait, J: Beginning>(
 }
 
 // Does what was prepared, and tells the numbers of the messages that went out.
-fn take_prepared<S: Stable + Drop, J: Beginning>(
-    seat: &mut Seat<S, J>,
-    journal: &mut Journal<J>,
+fn take_prepared<S: Stable + Drop, J: Beginning, M: Retention>(
+    seat: &mut Seat<S, J, M>,
+    journal: &mut Journal<J, M>,
     prepared: Prepared,
 ) -> Result<Taken, SeatFault>
     requires { IsPreparedFor seat.old prepared }
     ensures { IfOk result (IsTold prepared.input) }
 {
-    let first = journal.trace().sent().len() as u64;
+    let first = journal.sent_count();
     let receipt = seat.take(journal, prepared)?;
-    let next = journal.trace().sent().len() as u64;
+    let next = journal.sent_count();
     Ok(Taken {
         receipt,
         sent: first..next,

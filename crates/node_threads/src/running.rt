@@ -14,7 +14,7 @@ use crate::workplace::NodeWorkplace;
 use crossbeam_channel::{Receiver, bounded, unbounded};
 use node_core::Refusal;
 use node_work::{Note, PutId, end_each, end_of, look_at_each};
-use seats::{Beginning, Receipt, SeatFault, SeatInput};
+use seats::{Beginning, Receipt, Retention, SeatFault, SeatInput, Whole};
 use stable_records::Stable;
 use std::alloc::{AllocError, Global};
 use std::ops::Range;
@@ -44,21 +44,33 @@ impl Pending {
 
 /// A cluster whose nodes have a worker each.
 #[derive(Drop)]
-pub struct Running<const N: usize, S: Stable + Drop, J: Beginning, G: Gate + Drop> {
+pub struct Running<
+    const N: usize,
+    S: Stable + Drop,
+    J: Beginning,
+    G: Gate + Drop,
+    M: Retention = Whole,
+> {
     alloc: Global,
-    cluster: Cluster<N, S, J>,
+    cluster: Cluster<N, S, J, M>,
     gate: G,
     desks: Vec<Desk>,
     is_stopping: AtomicBool,
 }
 
-impl<const N: usize, S: Stable + Drop, J: Beginning, G: Gate + Drop> Running<N, S, J, G> {
+impl<const N: usize, S: Stable + Drop, J: Beginning, G: Gate + Drop, M: Retention> Running<
+    N,
+    S,
+    J,
+    G,
+    M,
+> {
     /// The cluster with nothing waiting, and what the worker of each node reads. [`AllocError`] says that memory was refused.
     pub fn new(
         alloc: Global,
-        cluster: Cluster<N, S, J>,
+        cluster: Cluster<N, S, J, M>,
         gate: G,
-    ) -> Result<(Running<N, S, J, G>, Vec<Receiver<Note>>), AllocError> {
+    ) -> Result<(Running<N, S, J, G, M>, Vec<Receiver<Note>>), AllocError> {
         let mut desks = Vec::new(alloc);
         let mut receivers = Vec::new(alloc);
         for _ in 0..N {
@@ -77,7 +89,7 @@ impl<const N: usize, S: Stable + Drop, J: Beginning, G: Gate + Drop> Running<N, 
     }
 
     /// The cluster.
-    pub fn cluster(&self) -> &Cluster<N, S, J> {
+    pub fn cluster(&self) -> &Cluster<N, S, J, M> {
         &self.cluster
     }
 
@@ -91,7 +103,7 @@ impl<const N: usize, S: Stable + Drop, J: Beginning, G: Gate + Drop> Running<N, 
         &'a self,
         rt: &'a R,
         node: usize,
-    ) -> Option<NodeWorkplace<'a, N, R, S, J, G>> {
+    ) -> Option<NodeWorkplace<'a, N, R, S, J, G, M>> {
         let locks = self.cluster.locks(node)?;
         let desk = self.desks.get(node)?;
         Some(NodeWorkplace::new(rt, &self.gate, locks, desk, &self.desks))

@@ -17,7 +17,7 @@ use crate::locks::message_in;
 use ballots::Message;
 use node_core::Refusal;
 use node_events::EventResult;
-use seats::{Beginning, Query, Receipt, SeatFault, SeatInput};
+use seats::{Beginning, Query, Receipt, Retention, SeatFault, SeatInput};
 use stable_records::Stable;
 use std::alloc::AllocError;
 use std::ops::Range;
@@ -44,7 +44,7 @@ pub struct Settled {
     pub receipt: Receipt,
 }
 
-impl<const N: usize, S: Stable + Drop, J: Beginning> Cluster<N, S, J> {
+impl<const N: usize, S: Stable + Drop, J: Beginning, M: Retention> Cluster<N, S, J, M> {
     /// Hands an input to the node: its record is kept, the node does what is due, and that is entered.
     ///
     /// The faults are those of `Seat::prepare` and `Seat::take`; [`SeatFault::Down`] also where there is no such node.

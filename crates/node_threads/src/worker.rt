@@ -5,12 +5,18 @@ use crate::running::Running;
 use crate::stopwatch::Stopwatch;
 use crossbeam_channel::{Receiver, RecvTimeoutError};
 use node_work::{LOOK_MILLISECONDS, Next, Note, Pace, step};
-use seats::Beginning;
+use seats::{Beginning, Retention};
 use stable_records::Stable;
 use std::sync::Wait;
 use std::time::{Clock, Duration};
 
-impl<const N: usize, S: Stable + Drop, J: Beginning, G: Gate + Drop> Running<N, S, J, G> {
+impl<const N: usize, S: Stable + Drop, J: Beginning, G: Gate + Drop, M: Retention> Running<
+    N,
+    S,
+    J,
+    G,
+    M,
+> {
     /// Does the work of this node, one [`step`] after the other, until it is told to stop or nobody is left who could tell it:
     /// hands it each message that was sent, tells all others of those that it sends, gives it a tick when one is due, and ends
     /// the puts whose outcome is known. Returns at once where there is no such node.

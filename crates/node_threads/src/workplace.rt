@@ -11,7 +11,7 @@ use crate::locks::Locks;
 use crate::steps::{Settled, Taken};
 use ballots::Message;
 use node_work::{End, Fault, Input, Note, PutId, Sent, Workplace};
-use seats::{Beginning, SeatFault, SeatInput};
+use seats::{Beginning, Retention, SeatFault, SeatInput};
 use stable_records::Stable;
 use std::sync::Wait;
 
@@ -28,30 +28,32 @@ pub(crate) struct NodeWorkplace<
     S: Stable + Drop,
     J: Beginning,
     G: Gate,
+    M: Retention,
 > {
     rt: &'a R,
     gate: &'a G,
-    locks: Locks<'a, S, J>,
+    locks: Locks<'a, S, J, M>,
     desk: &'a Desk,
     desks: &'a [Desk],
 }
 
-impl<'a, const N: usize, R: Wait, S: Stable + Drop, J: Beginning, G: Gate> NodeWorkplace<
+impl<
     'a,
-    N,
-    R,
-    S,
-    J,
-    G,
-> {
+    const N: usize,
+    R: Wait,
+    S: Stable + Drop,
+    J: Beginning,
+    G: Gate,
+    M: Retention,
+> NodeWorkplace<'a, N, R, S, J, G, M> {
     /// The workplace of the node of these locks and this desk.
     pub(crate) fn new(
         rt: &'a R,
         gate: &'a G,
-        locks: Locks<'a, S, J>,
+        locks: Locks<'a, S, J, M>,
         desk: &'a Desk,
         desks: &'a [Desk],
-    ) -> NodeWorkplace<'a, N, R, S, J, G> {
+    ) -> NodeWorkplace<'a, N, R, S, J, G, M> {
         NodeWorkplace {
             rt,
             gate,
@@ -62,8 +64,8 @@ impl<'a, const N: usize, R: Wait, S: Stable + Drop, J: Beginning, G: Gate> NodeW
     }
 }
 
-impl<'a, const N: usize, R: Wait, S: Stable + Drop, J: Beginning, G: Gate> Workplace
-    for NodeWorkplace<'a, N, R, S, J, G> {
+impl<'a, const N: usize, R: Wait, S: Stable + Drop, J: Beginning, G: Gate, M: Retention> Workplace
+    for NodeWorkplace<'a, N, R, S, J, G, M> {
     type Settled = Settled;
 
     ghost nodes = { N };
