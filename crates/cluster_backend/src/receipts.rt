@@ -1,9 +1,9 @@
 //! The receipts of answers.
 
 ghost use Rattle.std.specs.Prelude.{◌↔◌, All, IsTrue};
-ghost use Rattle.journal.specs.Receipts.{IsReceiptOf};
+ghost use Rattle.cluster_backend.specs.Held.{IsHeldReceipt};
 
-use seats::{Beginning, Journal, Receipt};
+use seats::{Beginning, Journal, Receipt, Retention};
 use std::alloc::Global;
 use std::sync::{Mutex, Wait};
 
@@ -48,10 +48,14 @@ impl AllReceipts {
         }
     }
 
-    /// Whether the journal confirms each receipt that was kept, and none was lost for want of memory.
-    pub fn are_confirmed<R: Wait, J: Beginning>(&self, rt: &R, journal: &Journal<J>) -> bool {
+    /// Whether the journal holds the entry of each receipt that was kept, and none was lost for want of memory.
+    pub fn are_confirmed<R: Wait, J: Beginning, M: Retention>(
+        &self,
+        rt: &R,
+        journal: &Journal<J, M>,
+    ) -> bool {
         let kept = self.kept.lock(rt);
-        !kept.is_short && all_confirm(journal, &kept.receipts)
+        !kept.is_short && all_are_held(journal, &kept.receipts)
     }
 }
 
@@ -64,9 +68,20 @@ impl Receipts for AllReceipts {
     }
 }
 
-/// Whether the journal confirms all of these receipts: each is of one of its entries.
-pub fn all_confirm<J: Beginning>(journal: &Journal<J>, receipts: &[Receipt]) -> bool
-    ensures { IsTrue result ↔ All (λ receipt. IsReceiptOf journal.now.trace receipt) receipts.now }
+/// Whether the journal holds the entries of all of these receipts. One that forgets holds none.
+pub fn all_are_held<J: Beginning, M: Retention>(
+    journal: &Journal<J, M>,
+    receipts: &[Receipt],
+) -> bool
+    ensures { IsTrue result ↔ All (IsHeldReceipt journal.now) receipts.now }
 {
-    receipts.iter().all(|receipt| journal.confirm(receipt))
+    receipts.iter().all(|receipt| is_held(journal, receipt))
+}
+
+// Whether the journal holds the entry of this receipt.
+#[tactic(auto, unfolding(crate::specs::Held::IsHeldReceipt))]
+fn is_held<J: Beginning, M: Retention>(journal: &Journal<J, M>, receipt: &Receipt) -> bool
+    ensures { IsTrue result ↔ IsHeldReceipt journal.now receipt.now }
+{
+    journal.holds(receipt)
 }

@@ -11,7 +11,7 @@ ghost use Rattle.cluster_backend.specs.Backing.{AreAgreed, HasTables, IsAnswered
 use crate::nodes::Nodes;
 use flight_calls::TableDescription;
 use node_core::{Node, Refusal};
-use node_threads::{Beginning, Gate, Pending, Query, Receipt, Running, Seat, SeatFault};
+use node_threads::{Beginning, Gate, Pending, Query, Receipt, Retention, Running, Seat, SeatFault};
 use stable_records::Stable;
 use std::alloc::{AllocError, Global};
 use std::sync::Wait;
@@ -19,7 +19,8 @@ use table_versions::TableInfo;
 use table_versions::laws::tables_have_effective_uploads;
 use uploads::Upload;
 
-impl<const N: usize, S: Stable + Drop, J: Beginning, G: Gate + Drop> Nodes for Running<N, S, J, G> {
+impl<const N: usize, S: Stable + Drop, J: Beginning, G: Gate + Drop, M: Retention> Nodes
+    for Running<N, S, J, G, M> {
     ghost entered = { λ node query answer. IsAnswered query answer };
 
     ghost holds = { λ node uploads. AreAgreed uploads };
@@ -80,8 +81,8 @@ impl<const N: usize, S: Stable + Drop, J: Beginning, G: Gate + Drop> Nodes for R
 }
 
 // The latest version of a table at this seat.
-fn latest_at<S: Stable + Drop, J: Beginning>(
-    seat: &Seat<S, J>,
+fn latest_at<S: Stable + Drop, J: Beginning, M: Retention>(
+    seat: &Seat<S, J, M>,
     table: &str,
 ) -> Result<Option<TableInfo>, SeatFault>
     ensures { IfOk result (λ info. (uploads : List Uploaded) × AreAgreed uploads
@@ -94,9 +95,9 @@ fn latest_at<S: Stable + Drop, J: Beginning>(
 }
 
 // The latest version of each table at this seat.
-fn tables_at<S: Stable + Drop, J: Beginning>(
+fn tables_at<S: Stable + Drop, J: Beginning, M: Retention>(
     alloc: Global,
-    seat: &Seat<S, J>,
+    seat: &Seat<S, J, M>,
     locations: &[String],
 ) -> Result<Vec<TableDescription>, SeatFault>
     ensures { IfOk result (λ all. (uploads : List Uploaded) × AreAgreed uploads
