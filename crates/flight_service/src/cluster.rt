@@ -2,11 +2,13 @@
 //!
 //! What makes the seats of a cluster is written for one kind of store each time, since the size of an array of seats has to be known.
 
-ghost use Rattle.std.specs.Prelude.{◌≡◌, []};
+ghost use Rattle.std.specs.Prelude.{◌≡◌, [], IfOk};
 
 use crate::fault::{ServiceFault, store_fault};
 use ballots::{Members, NodeId};
-use cluster_backend::{Beginning, Cluster, Journal, Note, OpenGate, OwnEntry, Running, Seat};
+use cluster_backend::{
+    Beginning, Cluster, Journal, Note, OpenGate, OwnEntry, Recent, Retention, Running, Seat, Whole,
+};
 use crossbeam_channel::Receiver;
 use growing_log::Opened;
 use schedule_runner::{Config, MAX_JOURNAL_ENTRIES, MAX_SLOTS};
@@ -16,7 +18,10 @@ use std::hash::RandomState;
 use std::sync::{Mutex, Wait};
 
 /// So many nodes that run, and what the worker of each reads.
-pub type Started<const N: usize, S, J> = (Running<N, S, J, OpenGate>, Vec<Receiver<Note>>);
+pub type Started<const N: usize, S, J, M = Whole> = (
+    Running<N, S, J, OpenGate, M>,
+    Vec<Receiver<Note>>,
+);
 
 /// The configuration of so many nodes, with as many slots and entries of the journal as there may be. [`ServiceFault::Members`] says that
 /// there can't be so many nodes.
@@ -29,6 +34,30 @@ pub fn config_of(count: u8) -> Result<Config, ServiceFault> {
         slot_limit: MAX_SLOTS,
         journal_limit: MAX_JOURNAL_ENTRIES,
     })
+}
+
+// The seat of the node of this number, over its store, which is to have no records.
+fn seat_without_entries<S: Stable + Drop, J: Beginning>(
+    alloc: Global,
+    hashing: RandomState,
+    number: u8,
+    config: Config,
+    store: S,
+) -> Result<Seat<S, J>, ServiceFault>
+    requires { J.start ≡ [] }
+    ensures { IfOk result (λ seat. seat.own ≡ []) }
+{
+    let Some(me) = NodeId::new(number) else {
+        return Err(ServiceFault::Members);
+    };
+    if !config.is_within_limits() || !config.members.have(me) {
+        return Err(ServiceFault::Members);
+    }
+    match Seat::open(alloc, hashing, me, config, store) {
+        Ok(Some(seat)) => Ok(seat),
+        Ok(None) => Err(ServiceFault::OldRecords),
+        Err(fault) => Err(store_fault(fault)),
+    }
 }
 
 /// The node of this number, with nothing, over its store, which is to have no records: a journal lives as long as its process, and it says
@@ -46,26 +75,36 @@ pub fn open_seat<S: Stable + Drop, J: Beginning>(
 ) -> Result<Mutex<Seat<S, J>>, ServiceFault>
     requires { J.start ≡ [] }
 {
-    let Some(me) = NodeId::new(number) else {
-        return Err(ServiceFault::Members);
-    };
-    if !config.is_within_limits() || !config.members.have(me) {
-        return Err(ServiceFault::Members);
+    match seat_without_entries(alloc, hashing, number, config, store) {
+        Ok(seat) => Ok(Mutex::new(seat)),
+        Err(fault) => Err(fault),
     }
-    match Seat::open(alloc, hashing, me, config, store) {
-        Ok(Some(seat)) => Ok(Mutex::new(seat)),
-        Ok(None) => Err(ServiceFault::OldRecords),
-        Err(fault) => Err(store_fault(fault)),
+}
+
+/// As [`open_seat`], of a node whose journal forgets.
+pub fn open_counting_seat<S: Stable + Drop, J: Beginning>(
+    alloc: Global,
+    hashing: RandomState,
+    number: u8,
+    config: Config,
+    store: S,
+    journal: &Journal<J, Recent>,
+) -> Result<Mutex<Seat<S, J, Recent>>, ServiceFault>
+    requires { J.start ≡ [] }
+{
+    match seat_without_entries(alloc, hashing, number, config, store) {
+        Ok(seat) => Ok(Mutex::new(seat.counting(journal))),
+        Err(fault) => Err(fault),
     }
 }
 
 /// The cluster of these nodes, and what the worker of each reads. [`ServiceFault::Members`] says that they are none.
-pub fn start_nodes<R: Wait, S: Stable + Drop, J: Beginning, const N: usize>(
+pub fn start_nodes<R: Wait, S: Stable + Drop, J: Beginning, M: Retention, const N: usize>(
     rt: &R,
     alloc: Global,
-    seats: [Mutex<Seat<S, J>>; N],
-    journal: Journal<J>,
-) -> Result<Started<N, S, J>, ServiceFault> {
+    seats: [Mutex<Seat<S, J, M>>; N],
+    journal: Journal<J, M>,
+) -> Result<Started<N, S, J, M>, ServiceFault> {
     let Some(cluster) = Cluster::new(rt, seats, journal) else {
         return Err(ServiceFault::Members);
     };

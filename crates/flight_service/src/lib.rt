@@ -25,10 +25,12 @@ mod service;
 mod timely;
 mod works;
 
-pub use cluster::{Started, config_of, five_nodes, open_seat, start_nodes, three_nodes};
+pub use cluster::{
+    Started, config_of, five_nodes, open_counting_seat, open_seat, start_nodes, three_nodes,
+};
 pub use cluster_backend::{
     AllReceipts, Beginning, Cluster, ClusterBackend, Gate, Journal, NoReceipts, Nodes, Note,
-    OpenGate, OwnEntry, Running, Seat, SeatFault, SeatInput,
+    OpenGate, OwnEntry, Recent, Retention, Running, Seat, SeatFault, SeatInput, Whole,
 };
 pub use connection::{SILENCE_SECONDS, serve_connection};
 pub use fault::ServiceFault;

@@ -3,7 +3,9 @@
 use crate::fault::ServiceFault;
 use crate::service::Service;
 use ballots::NodeId;
-use cluster_backend::{AllReceipts, Beginning, Gate, Nodes, Note, Pace, Receipts, Running};
+use cluster_backend::{
+    AllReceipts, Beginning, Gate, Nodes, Note, Pace, Receipts, Retention, Running,
+};
 use crossbeam_channel::Receiver;
 use stable_records::Stable;
 use std::alloc::{AllocError, Global};
@@ -20,7 +22,8 @@ pub trait Works: Nodes + Send + Sync {
     /// Tells all workers to stop.
     fn stop<R: Wait>(&self, rt: &R);
 
-    /// Whether the nodes' journal confirms each receipt that was kept, and none was lost for want of memory.
+    /// Whether the nodes' journal holds the entry of each receipt that was kept, and none was lost for want of memory. A journal
+    /// that forgets holds none.
     fn confirm_all<R: Wait>(&self, rt: &R, receipts: &AllReceipts) -> bool;
 }
 
@@ -29,7 +32,8 @@ impl<
     S: Stable + Drop + Send,
     J: Beginning + Send + Sync,
     G: Gate + Drop + Send + Sync,
-> Works for Running<N, S, J, G> {
+    M: Retention + Send + Sync,
+> Works for Running<N, S, J, G, M> {
     fn work<R: Wait + Clock>(&self, rt: &R, node: usize, notes: &Receiver<Note>) {
         let members = self.cluster().journal().lock(rt).config().members;
         let Ok(number) = u8::try_from(node) else {
