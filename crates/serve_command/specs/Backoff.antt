@@ -1,6 +1,6 @@
 -- When a node that is down is started again: a second after it went down, and then after twice as long each time, up to a minute. The
 -- times are this service's own.
-use Rattle.std.specs.Prelude.{◌≡◌, ◌↔◌, ℕ, ◌+◌, ◌*◌, ◌<◌, ◌≤◌, min, Bool, true, false, IsTrue}
+use Rattle.std.specs.Prelude.{◌≡◌, ◌↔◌, ◌+◌, ◌*◌, ◌<◌, ◌≤◌, min, Bool, true, false, IsTrue}
 use Rattle.serve_command.specs.declared.backoff.Backoff.{Backoff}
 
 -- a second more in which the node stood: the next wait is the first one again where it has stood for a minute

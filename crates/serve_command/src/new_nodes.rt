@@ -5,8 +5,8 @@ ghost use Rattle.std.specs.Prelude.{◌≡◌, []};
 use crate::fault::{ServeFault, fault_of};
 use crate::stores::FileStore;
 use flight_service::{
-    Beginning, Config, Journal, OwnEntry, Seat, ServiceFault, Started, config_of, open_seat,
-    start_nodes,
+    Beginning, Config, Journal, OwnEntry, Recent, Seat, ServiceFault, Started, config_of,
+    open_counting_seat, start_nodes,
 };
 use growing_log::Opened;
 use std::alloc::Global;
@@ -20,13 +20,14 @@ fn seat<J: Beginning>(
     number: u8,
     config: Config,
     stores: &mut Vec<FileStore>,
-) -> Result<Mutex<Seat<FileStore, J>>, ServeFault>
+    journal: &Journal<J, Recent>,
+) -> Result<Mutex<Seat<FileStore, J, Recent>>, ServeFault>
     requires { J.start ≡ [] }
 {
     let Some(store) = stores.pop() else {
         return Err(ServeFault::Members);
     };
-    match open_seat(alloc, hashing, number, config, store) {
+    match open_counting_seat(alloc, hashing, number, config, store, journal) {
         Ok(seat) => Ok(seat),
         Err(fault) => Err(fault_of(number, fault)),
     }
@@ -48,6 +49,23 @@ pub(crate) fn started<T: Drop>(started: Result<T, ServiceFault>) -> Result<T, Se
     }
 }
 
+/// The journal of a server's nodes: it forgets, so that it is never full, and its nodes' own entries have this log.
+pub(crate) fn journal_of<J: Beginning>(
+    alloc: Global,
+    config: &Config,
+    log: Opened<OwnEntry>,
+) -> Result<Journal<J, Recent>, ServeFault>
+    requires { log ≡ J.book }
+{
+    if !config.is_within_limits() {
+        return Err(ServeFault::Members);
+    }
+    match Journal::recent(alloc, *config, log) {
+        Ok(journal) => Ok(journal),
+        Err(_) => Err(ServeFault::OutOfMemory),
+    }
+}
+
 /// Three nodes over these stores, the last node's first.
 pub(crate) fn three_nodes<R: Wait, J: Beginning>(
     rt: &R,
@@ -55,21 +73,18 @@ pub(crate) fn three_nodes<R: Wait, J: Beginning>(
     hashing: RandomState,
     stores: Vec<FileStore>,
     log: Opened<OwnEntry>,
-) -> Result<Started<3, FileStore, J>, ServeFault>
+) -> Result<Started<3, FileStore, J, Recent>, ServeFault>
     requires named { log ≡ J.book }
     requires start { J.start ≡ [] }
 {
     let mut stores = stores;
     let config = configured(3)?;
+    let journal = journal_of(alloc, &config, log)?;
     let seats = [
-        seat(alloc, hashing, 0, config, &mut stores)?,
-        seat(alloc, hashing, 1, config, &mut stores)?,
-        seat(alloc, hashing, 2, config, &mut stores)?,
+        seat(alloc, hashing, 0, config, &mut stores, &journal)?,
+        seat(alloc, hashing, 1, config, &mut stores, &journal)?,
+        seat(alloc, hashing, 2, config, &mut stores, &journal)?,
     ];
-    if !config.is_within_limits() {
-        return Err(ServeFault::Members);
-    }
-    let journal = Journal::with_log(alloc, config, log);
     started(start_nodes(rt, alloc, seats, journal))
 }
 
@@ -80,22 +95,19 @@ pub(crate) fn five_nodes<R: Wait, J: Beginning>(
     hashing: RandomState,
     stores: Vec<FileStore>,
     log: Opened<OwnEntry>,
-) -> Result<Started<5, FileStore, J>, ServeFault>
+) -> Result<Started<5, FileStore, J, Recent>, ServeFault>
     requires named { log ≡ J.book }
     requires start { J.start ≡ [] }
 {
     let mut stores = stores;
     let config = configured(5)?;
+    let journal = journal_of(alloc, &config, log)?;
     let seats = [
-        seat(alloc, hashing, 0, config, &mut stores)?,
-        seat(alloc, hashing, 1, config, &mut stores)?,
-        seat(alloc, hashing, 2, config, &mut stores)?,
-        seat(alloc, hashing, 3, config, &mut stores)?,
-        seat(alloc, hashing, 4, config, &mut stores)?,
+        seat(alloc, hashing, 0, config, &mut stores, &journal)?,
+        seat(alloc, hashing, 1, config, &mut stores, &journal)?,
+        seat(alloc, hashing, 2, config, &mut stores, &journal)?,
+        seat(alloc, hashing, 3, config, &mut stores, &journal)?,
+        seat(alloc, hashing, 4, config, &mut stores, &journal)?,
     ];
-    if !config.is_within_limits() {
-        return Err(ServeFault::Members);
-    }
-    let journal = Journal::with_log(alloc, config, log);
     started(start_nodes(rt, alloc, seats, journal))
 }

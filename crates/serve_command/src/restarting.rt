@@ -14,8 +14,7 @@ use crate::stores::FileStore;
 use agreement::Config as Agreed;
 use ballots::{Message, NodeId};
 use chosen_records::ChosenFault;
-use flight_service::{Beginning, Config, Journal, OwnEntry, Seat, Started, start_nodes};
-use growing_log::Opened;
+use flight_service::{Beginning, Config, Journal, Recent, Seat, Started, start_nodes};
 use node_seats::Seat as NodeSeat;
 use resumed_nodes::laws::members_go_on;
 use resumed_nodes::{ReopenFault, chosen_by, hear_next, reopen_next};
@@ -192,37 +191,33 @@ pub(crate) fn restart<R: Clock + Eprint>(
 // The seat of the last of these nodes.
 fn begun<J: Beginning>(
     alloc: Global,
-    config: Config,
+    config: &Config,
     nodes: &mut FileNodes,
-) -> Result<Mutex<Seat<FileStore, J>>, ServeFault>
-    requires { AreAtStart config J.start nodes.old.items }
-    ensures { AreAtStart config J.start nodes.new.items }
+    journal: &Journal<J, Recent>,
+) -> Result<Mutex<Seat<FileStore, J, Recent>>, ServeFault>
+    requires { AreAtStart config.now J.start nodes.old.items }
+    ensures { AreAtStart config.now J.start nodes.new.items }
 {
     match nodes.pop() {
-        Some(node) => Ok(Mutex::new(Seat::begin(alloc, config, node))),
+        Some(node) => Ok(Mutex::new(Seat::begin(alloc, *config, node).counting(journal))),
         None => Err(ServeFault::Members),
     }
 }
 
-/// Three nodes that have started again, and whose journal begins where they stand.
+/// Three nodes that have started again, with a journal without an entry that begins where they stand.
 pub(crate) fn three_again<R: Wait, J: Beginning>(
     rt: &R,
     alloc: Global,
-    config: Config,
+    config: &Config,
     nodes: FileNodes,
-    log: Opened<OwnEntry>,
-) -> Result<Started<3, FileStore, J>, ServeFault>
-    requires named { log ≡ J.book }
-    requires start { AreAtStart config J.start nodes.items }
+    journal: Journal<J, Recent>,
+) -> Result<Started<3, FileStore, J, Recent>, ServeFault>
+    requires { AreAtStart config.now J.start nodes.items }
 {
     let mut nodes = nodes;
-    let two = begun(alloc, config, &mut nodes)?;
-    let one = begun(alloc, config, &mut nodes)?;
-    let zero = begun(alloc, config, &mut nodes)?;
-    if !config.is_within_limits() {
-        return Err(ServeFault::Members);
-    }
-    let journal = Journal::with_log(alloc, config, log);
+    let two = begun(alloc, config, &mut nodes, &journal)?;
+    let one = begun(alloc, config, &mut nodes, &journal)?;
+    let zero = begun(alloc, config, &mut nodes, &journal)?;
     started(start_nodes(rt, alloc, [zero, one, two], journal))
 }
 
@@ -230,22 +225,17 @@ pub(crate) fn three_again<R: Wait, J: Beginning>(
 pub(crate) fn five_again<R: Wait, J: Beginning>(
     rt: &R,
     alloc: Global,
-    config: Config,
+    config: &Config,
     nodes: FileNodes,
-    log: Opened<OwnEntry>,
-) -> Result<Started<5, FileStore, J>, ServeFault>
-    requires named { log ≡ J.book }
-    requires start { AreAtStart config J.start nodes.items }
+    journal: Journal<J, Recent>,
+) -> Result<Started<5, FileStore, J, Recent>, ServeFault>
+    requires { AreAtStart config.now J.start nodes.items }
 {
     let mut nodes = nodes;
-    let four = begun(alloc, config, &mut nodes)?;
-    let three = begun(alloc, config, &mut nodes)?;
-    let two = begun(alloc, config, &mut nodes)?;
-    let one = begun(alloc, config, &mut nodes)?;
-    let zero = begun(alloc, config, &mut nodes)?;
-    if !config.is_within_limits() {
-        return Err(ServeFault::Members);
-    }
-    let journal = Journal::with_log(alloc, config, log);
+    let four = begun(alloc, config, &mut nodes, &journal)?;
+    let three = begun(alloc, config, &mut nodes, &journal)?;
+    let two = begun(alloc, config, &mut nodes, &journal)?;
+    let one = begun(alloc, config, &mut nodes, &journal)?;
+    let zero = begun(alloc, config, &mut nodes, &journal)?;
     started(start_nodes(rt, alloc, [zero, one, two, three, four], journal))
 }

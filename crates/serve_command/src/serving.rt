@@ -11,7 +11,7 @@ ghost use Rattle.serve_command.specs.Addresses.{addresses_text};
 use crate::addresses::tell_addresses;
 use crate::advice::advise;
 use crate::fault::{ServeFault, fault_of, folder_fault};
-use crate::new_nodes::{configured, five_nodes, three_nodes};
+use crate::new_nodes::{configured, five_nodes, journal_of, three_nodes};
 use crate::restarting::{FileNodes, five_again, restart, three_again};
 use crate::status::{FAILURE, SUCCESS};
 use crate::stores::{FileStore, stores_over};
@@ -416,7 +416,14 @@ fn serve_three_again<
         × Appends (W.contents w.old) (W.contents w.new) written) }
 {
     drop(told);
-    match three_again::<R, J>(&rt, alloc, config, old, log) {
+    let journal = match journal_of::<J>(alloc, &config, log) {
+        Ok(journal) => journal,
+        Err(fault) => {
+            drop(old);
+            return Err(fault);
+        }
+    };
+    match three_again::<R, J>(&rt, alloc, &config, old, journal) {
         Ok((nodes, notes)) => serve_nodes(rt, alloc, nodes, notes, first_port, 3, place, w),
         Err(fault) => Err(fault),
     }
@@ -454,7 +461,14 @@ fn serve_five_again<
         × Appends (W.contents w.old) (W.contents w.new) written) }
 {
     drop(told);
-    match five_again::<R, J>(&rt, alloc, config, old, log) {
+    let journal = match journal_of::<J>(alloc, &config, log) {
+        Ok(journal) => journal,
+        Err(fault) => {
+            drop(old);
+            return Err(fault);
+        }
+    };
+    match five_again::<R, J>(&rt, alloc, &config, old, journal) {
         Ok((nodes, notes)) => serve_nodes(rt, alloc, nodes, notes, first_port, 5, place, w),
         Err(fault) => Err(fault),
     }

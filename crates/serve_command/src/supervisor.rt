@@ -3,7 +3,7 @@
 use crate::backoff::Backoff;
 use crate::fault::ServeFault;
 use crossbeam_channel::{Receiver, RecvTimeoutError, Sender, unbounded};
-use flight_service::{Beginning, Gate, NoReceipts, Running, Service, Works};
+use flight_service::{Beginning, Gate, NoReceipts, Retention, Running, Service, Works};
 use stable_records::Stable;
 use std::alloc::Global;
 use std::io::Eprint;
@@ -28,7 +28,8 @@ impl<
     S: Stable + Drop + Send,
     J: Beginning + Send + Sync,
     G: Gate + Drop + Send + Sync,
-> Restarts for Running<N, S, J, G> {
+    M: Retention + Send + Sync,
+> Restarts for Running<N, S, J, G, M> {
     fn is_down<R: Wait>(&self, rt: &R, node: usize) -> bool {
         match self.cluster().seat(node) {
             Some(seat) => seat.lock(rt).node().is_err(),
