@@ -1,7 +1,8 @@
 //! Journals and seats of callers that pick no name: their nodes start with nothing, so the journal is a history by itself, and
 //! what is proved of it is said of its own steps and messages, with nothing before them.
 
-ghost use Rattle.std.specs.Prelude.{◌≡◌, ◌↔◌, List, IsTrue};
+ghost use Rattle.std.specs.Prelude.{◌≡◌, ◌≤◌, ◌↔◌, List, IsTrue, length, slice_get};
+ghost use Rattle.std.specs.Option.{option_map};
 ghost use Rattle.ballots.specs.declared.value.Value.{Value as Decided};
 ghost use Rattle.agreement_rules.specs.Views.{Views, HasPrefix};
 ghost use Rattle.lawful_histories.specs.Lawful.{IsLawful};
@@ -12,6 +13,7 @@ ghost use Rattle.schedule_runner.specs.Traced.{history_of};
 ghost use Rattle.seats.specs.State.{Agrees, IsLedTo};
 ghost use Rattle.seats.specs.Steps.{IsDown};
 
+use ballots::Message;
 use joined_histories::laws::nothing_precedes_the_start;
 use journal::Journal;
 use journal::laws::whole_journals_agree;
@@ -32,6 +34,22 @@ pub fn steps_of(journal: &Journal) -> &Trace
     journal.trace()
 }
 
+/// Whether a message of this number was sent, and which: one that holds all of its steps has each.
+pub fn message_of(journal: &Journal, number: u64) -> Option<&Message>
+    ensures { option_map (λ message. message.now) result ≡ slice_get journal.now.trace.sent number }
+{
+    journal.starts_as_named();
+    journal.message(number)
+}
+
+/// Whether it has as many steps as its configuration allows, where it holds all of them.
+pub fn is_full(journal: &Journal) -> bool
+    ensures { IsTrue result ↔ (journal.now.trace.config.journal_limit ≤ length journal.now.trace.steps) }
+{
+    journal.starts_as_named();
+    journal.is_full()
+}
+
 /// Whether the journal is of the same configuration and has just the entries of this node that the seat has. Then the node is up
 /// exactly where the journal shows that it runs, and its prefix is what the journal shows that it has learned.
 pub fn is_shown<S: Stable + Drop>(seat: &Seat<S>, journal: &Journal) -> bool
@@ -45,5 +63,6 @@ pub fn is_shown<S: Stable + Drop>(seat: &Seat<S>, journal: &Journal) -> bool
 {
     nothing_precedes_the_start();
     journal.starts_as_named();
+    seat.keeps_as_named();
     seat.agrees(journal)
 }

@@ -21,6 +21,8 @@ mod long;
 #[cfg(test)]
 mod receipts;
 #[cfg(test)]
+mod recent;
+#[cfg(test)]
 mod refused_memory;
 #[cfg(test)]
 mod runs;

@@ -6,7 +6,7 @@ use ballots::{Members, NodeId};
 use growing_log::Opened;
 use header_types::Schema;
 use schedule_runner::Config;
-use seats::{Beginning, Journal, OwnEntry, Query, Receipt, Seat, SeatFault, SeatInput};
+use seats::{Beginning, Journal, OwnEntry, Query, Receipt, Retention, Seat, SeatFault, SeatInput};
 use stable_records::{MemoryStable, Stable};
 use std::alloc::Global;
 use std::hash::RandomState;
@@ -102,9 +102,9 @@ fn told(given: Result<Receipt, SeatFault>) -> Gave {
 }
 
 /// Prepares an input, and takes it.
-pub(crate) fn take_in<S: Stable + Drop, J: Beginning>(
-    seat: &mut Seat<S, J>,
-    journal: &mut Journal<J>,
+pub(crate) fn take_in<S: Stable + Drop, J: Beginning, M: Retention>(
+    seat: &mut Seat<S, J, M>,
+    journal: &mut Journal<J, M>,
     input: SeatInput,
 ) -> Result<Receipt, SeatFault> {
     let prepared = seat.prepare(input)?;
@@ -112,9 +112,9 @@ pub(crate) fn take_in<S: Stable + Drop, J: Beginning>(
 }
 
 /// Reads an answer, and serves it.
-pub(crate) fn serve_in<S: Stable + Drop, J: Beginning>(
-    seat: &mut Seat<S, J>,
-    journal: &mut Journal<J>,
+pub(crate) fn serve_in<S: Stable + Drop, J: Beginning, M: Retention>(
+    seat: &mut Seat<S, J, M>,
+    journal: &mut Journal<J, M>,
     query: Query,
 ) -> Result<Receipt, SeatFault> {
     let found = seat.read(query)?;
@@ -122,18 +122,18 @@ pub(crate) fn serve_in<S: Stable + Drop, J: Beginning>(
 }
 
 /// Takes an input.
-pub(crate) fn take<S: Stable + Drop, J: Beginning>(
-    seat: &mut Seat<S, J>,
-    journal: &mut Journal<J>,
+pub(crate) fn take<S: Stable + Drop, J: Beginning, M: Retention>(
+    seat: &mut Seat<S, J, M>,
+    journal: &mut Journal<J, M>,
     input: SeatInput,
 ) -> Gave {
     told(take_in(seat, journal, input))
 }
 
 /// Takes the message of this number.
-pub(crate) fn deliver<S: Stable + Drop, J: Beginning>(
-    seat: &mut Seat<S, J>,
-    journal: &mut Journal<J>,
+pub(crate) fn deliver<S: Stable + Drop, J: Beginning, M: Retention>(
+    seat: &mut Seat<S, J, M>,
+    journal: &mut Journal<J, M>,
     number: u64,
 ) -> Result<Gave, Fail> {
     let message = journal.message(number).ok_or("no message")?.clone()?;
@@ -141,18 +141,18 @@ pub(crate) fn deliver<S: Stable + Drop, J: Beginning>(
 }
 
 /// Serves an answer.
-pub(crate) fn serve<S: Stable + Drop, J: Beginning>(
-    seat: &mut Seat<S, J>,
-    journal: &mut Journal<J>,
+pub(crate) fn serve<S: Stable + Drop, J: Beginning, M: Retention>(
+    seat: &mut Seat<S, J, M>,
+    journal: &mut Journal<J, M>,
     query: Query,
 ) -> Gave {
     told(serve_in(seat, journal, query))
 }
 
 /// Starts a node again.
-pub(crate) fn restart<S: Stable + Drop, J: Beginning>(
-    seat: &mut Seat<S, J>,
-    journal: &mut Journal<J>,
+pub(crate) fn restart<S: Stable + Drop, J: Beginning, M: Retention>(
+    seat: &mut Seat<S, J, M>,
+    journal: &mut Journal<J, M>,
 ) -> Gave {
     told(seat.restart(journal))
 }

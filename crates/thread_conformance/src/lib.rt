@@ -15,6 +15,8 @@ mod full;
 #[cfg(test)]
 mod made;
 #[cfg(test)]
+mod recent;
+#[cfg(test)]
 mod refused_memory;
 #[cfg(test)]
 mod steps;

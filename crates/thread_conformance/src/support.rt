@@ -7,7 +7,8 @@ use crossbeam_channel::Receiver;
 use growing_log::Opened;
 use header_types::Schema;
 use node_threads::{
-    Beginning, Cluster, Gate, Journal, Note, OpenGate, OwnEntry, Pending, Running, Seat, SeatFault,
+    Beginning, Cluster, Gate, Journal, Note, OpenGate, OwnEntry, Pending, Retention, Running, Seat,
+    SeatFault,
 };
 use schedule_runner::Config;
 use stable_records::{FailingStable, MemoryStable, Stable, StoreFault};
@@ -123,10 +124,10 @@ pub(crate) fn three_that_fail<R: Wait, J: Beginning>(
 }
 
 /// Hands an upload of this number to the node, where it waits.
-pub(crate) fn put<R: Wait, S: Stable + Drop, J: Beginning>(
+pub(crate) fn put<R: Wait, S: Stable + Drop, J: Beginning, M: Retention>(
     rt: &R,
     alloc: Global,
-    nodes: &Running<3, S, J, OpenGate>,
+    nodes: &Running<3, S, J, OpenGate, M>,
     node: usize,
     number: u64,
 ) -> Result<Pending, Why> {
@@ -149,9 +150,9 @@ pub(crate) fn ends_as<R: Wait>(rt: &R, pending: &Pending, fault: SeatFault) -> R
 }
 
 /// Hands each message from this number on to each node, until no more are sent.
-pub(crate) fn deliver_from<R: Wait, S: Stable + Drop, J: Beginning>(
+pub(crate) fn deliver_from<R: Wait, S: Stable + Drop, J: Beginning, M: Retention>(
     rt: &R,
-    nodes: &Running<3, S, J, OpenGate>,
+    nodes: &Running<3, S, J, OpenGate, M>,
     first: u64,
 ) -> Result<(), Why> {
     for number in first..MANY {
