@@ -7,16 +7,19 @@ It starts `PROGRAM serve` (crates/flightd/out/flightd, which the gate builds) wi
 processes that make their request once and change its upload's id alone, and call the nodes in turn. For each tenth of the uploads it
 prints puts a second, how long a put took the server's processors, and what the server then holds in memory; and at the end what the last
 tenth cost to the first, and the middle one of the last three to that of the first three, which is to be within 1.2. Where a put is refused
-it says why, and ends with what came before: a journal has 1,000,000 entries, of which a put takes 28 where nodes don't compete for a slot.
+it says why, and ends with what came before.
 
 Records are kept in memory (/dev/shm), where a sync costs nothing, so that a disk does not hide what grows; where there is no such folder, in
 one for temporary files. It takes a few minutes. PROGRAM may be bench/plain_cluster.rs too, which has no such limit.
 
-Seen of flightd, on four processors that nothing else used, until the journal was full:
+Seen of flightd with 60,000 uploads, on four processors that a dozen other tasks shared:
 
-              puts a second    ms of processors a put   MiB at the end   last beside the first, in time and in that of processors   uploads
-  1 caller     2,365 to 2,659            0.30 to 0.34             368   1.06, 1.08                                                 35,713
-  16 callers   3,511 to 3,562            0.43 to 0.44             229   1.01, 1.03                                                 14,631
+              puts a second    ms of processors a put   MiB at the end   middle of the last beside the first, in time and in that of processors
+  1 caller       280 to 493              0.40 to 0.58              197   1.49, 1.09
+  16 callers   1,998 to 2,999            0.39 to 0.56              220   0.90, 0.99
+
+When its journal still held each step, on processors that nothing else used, one caller made 2,365 to 2,659 puts a second and sixteen 3,511 to
+3,562, until it was full: behind 35,713 puts with 368 MiB, and behind 14,631 with 229 MiB.
 
 Seen of bench/plain_cluster.rs, on four processors that a dozen other tasks shared, with 10,000 uploads:
 
