@@ -10,7 +10,7 @@ tenth cost to the first, and the middle one of the last three to that of the fir
 it says why, and ends with what came before.
 
 Records are kept in memory (/dev/shm), where a sync costs nothing, so that a disk does not hide what grows; where there is no such folder, in
-one for temporary files. It takes a few minutes. PROGRAM may be bench/plain_cluster.rs too, which has no such limit.
+one for temporary files. It takes a few minutes. PROGRAM may be bench/plain_cluster.rs too.
 
 Seen of flightd with 60,000 uploads, on four processors that a dozen other tasks shared:
 
