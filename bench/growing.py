@@ -5,9 +5,9 @@
 
 It starts `PROGRAM serve` (crates/flightd/out/flightd, which the gate builds) with three nodes for each number of callers. Callers are
 processes that make their request once and change its upload's id alone, and call the nodes in turn. For each tenth of the uploads it
-prints puts a second, how long a put took the server's processors, and what the server then holds in memory; and at the end what the last
-tenth cost to the first, and the middle one of the last three to that of the first three, which is to be within 1.2. Where a put is refused
-it says why, and ends with what came before.
+prints puts a second, the middle, the 99th percentile and the longest of the times that a put took, how long it took the server's
+processors, and what the server then holds in memory; and at the end what the last tenth cost to the first, and the middle one of the last
+three to that of the first three, which is to be within 1.2. Where a put is refused it says why, and ends with what came before.
 
 Records are kept in memory (/dev/shm), where a sync costs nothing, so that a disk does not hide what grows; where there is no such folder, in
 one for temporary files. It takes a few minutes. PROGRAM may be bench/plain_cluster.rs too.
@@ -68,16 +68,17 @@ def take_turn(left):
         return left.value >= 0
 
 
-def put_many(port, left, done, faults):
-    """Puts uploads, one after the other, as long as some are left, and counts them; or tells why one was refused."""
+def put_many(port, left, done, times, faults):
+    """Puts uploads, one after the other, as long as some are left, counts them and tells how long each took; or why one was refused."""
     blank = bytes(16)
     request = request_of(lambda client: client.put("rows", {"row": [1]}, schema={"row": "int64"}, id=blank))
     front, back = request.split(blank.hex().encode())
     try:
         while take_turn(left):
-            name = secrets.token_bytes(16)
+            name, start = secrets.token_bytes(16), time.perf_counter()
             put(port, front + name.hex().encode() + back, name)
             with done.get_lock():
+                times[done.value] = time.perf_counter() - start
                 done.value += 1
     except (OSError, felzoren.Refused, felzoren.BadAnswer) as fault:
         faults.put(f"{type(fault).__name__} {fault}")
@@ -90,7 +91,13 @@ def reaches(done, goal, callers):
     return done.value >= goal
 
 
-def watch(process, done, callers, uploads):
+def late_in(times):
+    """The middle of these times, their 99th percentile and the longest, in milliseconds."""
+    times = sorted(times)
+    return tuple(1000 * times[min(len(times) - 1, int(part * len(times)))] for part in (0.5, 0.99, 1))
+
+
+def watch(process, done, times, callers, uploads):
     """Prints a line for each tenth, once it is done, and gives what a put cost in it: seconds, and those of the server's processors."""
     costs, count, before, used = [], 0, time.perf_counter(), look(process).seconds
     for step in range(1, STEPS + 1):
@@ -98,9 +105,14 @@ def watch(process, done, callers, uploads):
             break
         now, found, more = time.perf_counter(), look(process), done.value - count
         costs.append(((now - before) / more, (found.seconds - used) / more))
-        count, before, used = done.value, now, found.seconds
+        middle, late, longest = late_in(times[count : count + more])
+        count, before, used = count + more, now, found.seconds
         rate, memory = 1 / costs[-1][0], found.now / 2**20
-        print(f"  {count:,}: {rate:,.0f} puts a second, {1000 * costs[-1][1]:.2f} ms of processors a put, {memory:,.0f} MiB", flush=True)
+        print(
+            f"  {count:,}: {rate:,.0f} puts a second, {middle:.2f}, {late:.1f} and {longest:.0f} ms, "
+            f"{1000 * costs[-1][1]:.2f} ms of processors a put, {memory:,.0f} MiB",
+            flush=True,
+        )
     return costs
 
 
@@ -114,15 +126,16 @@ def grow(program, count, uploads):
     """So many uploads by so many callers."""
     print(f"{count} {'caller' if count == 1 else 'callers'}", flush=True)
     left, done, faults = multiprocessing.Value("q", uploads), multiprocessing.Value("q", 0), multiprocessing.Queue()
+    times = multiprocessing.Array("d", uploads, lock=False)
     with tempfile.TemporaryDirectory(dir=MEMORY if os.path.isdir(MEMORY) else None) as folder:
         process, _, port = started(program, NODES, folder)
         try:
             print(f"  at the start: {look(process).now / 2**20:,.0f} MiB")
-            words = [(port + number % NODES, left, done, faults) for number in range(count)]
+            words = [(port + number % NODES, left, done, times, faults) for number in range(count)]
             callers = [multiprocessing.Process(target=put_many, args=it) for it in words]
             for caller in callers:
                 caller.start()
-            costs = watch(process, done, callers, uploads)
+            costs = watch(process, done, times, callers, uploads)
             for caller in callers:
                 caller.join()
             if done.value < uploads:

@@ -53,10 +53,10 @@ starts nowhere config journal config_is sent_is steps_are recovered_is = (
 )
 
 -- likewise of steps that are kept, whichever log the journal knows
-pub starts_kept : StartsNowhere → (config : RunConfig) (start : List Seat) (kept : Kept) (steps : Recalled) (log : Option (List Entry)) → kept.recalled ≡ steps
-    → Tells steps.trace config [] [] → steps.recovered ≡ [] → HasFollowed (journaled start kept log)
-starts_kept nowhere config start kept steps log is tells none =
-    starts nowhere config (journaled start kept log)
+pub starts_kept : StartsNowhere → (config : RunConfig) (start : List Seat) (kept : Kept) (steps : Recalled) (log outrun : Option (List Entry)) → kept.recalled ≡ steps
+    → Tells steps.trace config [] [] → steps.recovered ≡ [] → HasFollowed (journaled start kept log outrun)
+starts_kept nowhere config start kept steps log outrun is tells none =
+    starts nowhere config (journaled start kept log outrun)
     (ap (λ (r : Recalled). r.trace.config) is ∙ tells.config_is)
     (ap (λ (r : Recalled). r.trace.sent) is ∙ tells.sent_is)
     (ap (λ (r : Recalled). r.trace.steps) is ∙ tells.steps_are)

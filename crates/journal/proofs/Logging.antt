@@ -1,5 +1,6 @@
 -- The log of all nodes' own entries, beside a journal that grows.
-use Rattle.std.proofs.Common.{◌≡◌, ℕ, ◌<◌, ◌==◌, ◌&&◌, not, Bool, true, false, if◌then◌else◌, Option, None, Some, List, [], ◌∷◌, ◌++◌, refl, sym, ap, subst, ◌∙◌}
+use Rattle.std.proofs.Common.{◌≡◌, ◌⊎◌, inl, inr, ℕ, ◌<◌, ◌≤◌, ◌^◌, ◌==◌, ◌&&◌, not, Bool, true, false, if◌then◌else◌, Option, None, Some, List, [], ◌∷◌, ◌++◌, length, refl, sym, ap, subst, ◌∙◌}
+use mathlib.Core.List.{IsPrefix}
 use Rattle.std.specs.Option.{IfSome}
 use Rattle.std.proofs.lemmas.List.{append-nil}
 use Rattle.std.proofs.lemmas.List.Elements.{filter-append}
@@ -10,7 +11,7 @@ use Rattle.schedule_runner.specs.declared.config.Config.{Config}
 use Rattle.schedule_runner.specs.declared.step.Step.{Step}
 use Rattle.schedule_runner.specs.Told.{event_of, step_of, steps_of}
 use Rattle.journal.specs.Journaled.{Journaled, TellsSame, HasEntry, own_in}
-use Rattle.journal.specs.Logged.{own_of, HasLogged, IsLonger, own_entry}
+use Rattle.journal.specs.Logged.{own_of, HasLogged, GoesOn, with_entry, own_entry}
 
 -- nothing is logged of a journal without a step
 pub nothing_logged : (journal : Journaled) (log : List Entry) → journal.trace.steps ≡ [] → log ≡ [] → HasLogged log journal
@@ -79,29 +80,42 @@ some_none : (a : Entry) → Some a ≡ None → ⊥
 some_none a is = cc
 
 -- the log keeps up with the journal
-pub logged_on : (old new : Journaled) (step : Step) (more : List Message) (was asked : Bool) (progress : Option (List Entry)) (mine : Option Entry) (now : List Entry)
-    → is_question (event_of step.event) ≡ asked → HasEntry old step more was new → Grown old new step was → IfSome progress (λ log. HasLogged log old)
-    → mine ≡ own_entry old step more was → IsLonger progress mine now → HasLogged now new
-logged_on old new step more was true progress None now question entered grown has is longer =
-    question_logged old new step was now entered.trace.config_is grown question (subst (λ (p : Option (List Entry)). IfSome p (λ log. HasLogged log old)) longer has)
-logged_on old new step more was true progress (Some entry) now question entered grown has is longer =
+pub logged_on : (old new : Journaled) (step : Step) (more : List Message) (was asked : Bool) (log : List Entry) (mine : Option Entry)
+    → is_question (event_of step.event) ≡ asked → HasEntry old step more was new → Grown old new step was → HasLogged log old
+    → mine ≡ own_entry old step more was → HasLogged (with_entry log mine) new
+logged_on old new step more was true log None question entered grown has is =
+    question_logged old new step was log entered.trace.config_is grown question has
+logged_on old new step more was true log (Some entry) question entered grown has is =
     absurd (some_none entry (is ∙ ap (λ (b : Bool). if b then None else Some (entry_of (old.trace.sent ++ more) (step_of step) was)) question))
-logged_on old new step more was false progress None now question entered grown has is longer =
+logged_on old new step more was false log None question entered grown has is =
     absurd (some_none (entry_of (old.trace.sent ++ more) (step_of step) was)
     (sym (is ∙ ap (λ (b : Bool). if b then None else Some (entry_of (old.trace.sent ++ more) (step_of step) was)) question)))
-logged_on old new step more was false progress (Some entry) now question entered grown has is longer =
-    let log = longer.0 in
-    let before = subst (λ (p : Option (List Entry)). IfSome p (λ l. HasLogged l old)) longer.1 has in
+logged_on old new step more was false log (Some entry) question entered grown has is =
     let one : entry ≡ entry_of new.trace.sent (step_of step) was =
     some_same entry (entry_of (old.trace.sent ++ more) (step_of step) was)
     (is ∙ ap (λ (b : Bool). if b then None else Some (entry_of (old.trace.sent ++ more) (step_of step) was)) question)
     ∙ ap (λ (ms : List Message). entry_of ms (step_of step) was) (sym entered.trace.sent_is) in
-    subst (λ (es : List Entry). HasLogged es new) (sym (longer.2 ∙ ap (λ (e : Entry). log ++ e ∷ []) one))
-    (entry_logged old new step was log entered.trace.config_is grown question before)
+    subst (λ (es : List Entry). HasLogged es new) (sym (ap (λ (e : Entry). log ++ e ∷ []) one))
+    (entry_logged old new step was log entered.trace.config_is grown question has)
 
-pub logged_some : (old new : Journaled) (step : Step) (more : List Message) (was : Bool) (progress : Option (List Entry)) (mine : Option Entry) (now : Option (List Entry))
-    → HasEntry old step more was new → Grown old new step was → IfSome progress (λ log. HasLogged log old)
-    → mine ≡ own_entry old step more was → IfSome now (IsLonger progress mine) → IfSome now (λ log. HasLogged log new)
-logged_some old new step more was progress mine None entered grown has is longer = tt
-logged_some old new step more was progress mine (Some log) entered grown has is longer =
-    logged_on old new step more was (is_question (event_of step.event)) progress mine log refl entered grown has is longer
+pub logged_some : (old new : Journaled) (step : Step) (more : List Message) (was : Bool) (log outrun : Option (List Entry)) (mine : Option Entry) (log_now outrun_now : Option (List Entry))
+    → HasEntry old step more was new → Grown old new step was → IfSome log (λ l. HasLogged l old)
+    → mine ≡ own_entry old step more was → GoesOn log outrun mine log_now outrun_now → IfSome log_now (λ l. HasLogged l new)
+logged_some old new step more was None outrun mine log_now outrun_now entered grown has is goes =
+    subst (λ (o : Option (List Entry)). IfSome o (λ l. HasLogged l new)) (sym goes.0) tt
+logged_some old new step more was (Some log) outrun mine log_now outrun_now entered grown has is (inl stays) =
+    subst (λ (o : Option (List Entry)). IfSome o (λ l. HasLogged l new)) (sym stays.0)
+    (logged_on old new step more was (is_question (event_of step.event)) log mine refl entered grown has is)
+logged_some old new step more was (Some log) outrun mine log_now outrun_now entered grown has is (inr gone) =
+    subst (λ (o : Option (List Entry)). IfSome o (λ l. HasLogged l new)) (sym gone.0) tt
+
+-- ---- a log that is known no longer
+
+none_some : (log : List Entry) → None ≡ Some log → ⊥
+none_some log is = cc
+
+pub gone_on : (log : List Entry) (outrun seen : Option (List Entry)) (more : Option Entry) → GoesOn (Some log) outrun more None seen
+    → (now : List Entry) × (seen ≡ Some now) × IsPrefix log now × ((length log < length now) ⊎ (2 ^ 62 ≤ length log))
+gone_on log outrun seen more (inl stays) = absurd (none_some (with_entry log more) stays.0)
+gone_on log outrun None more (inr gone) = absurd gone.1
+gone_on log outrun (Some now) more (inr gone) = (now, refl, gone.1.0, gone.1.1)

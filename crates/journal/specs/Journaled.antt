@@ -30,10 +30,12 @@ pub record Journaled : Type 0 where
   pub forgotten : ℕ
   -- the log of all nodes' own entries, where it knows it
   pub log : Option (List Entry)
+  -- how far that log has been seen to go on without it, once it has
+  pub outrun : Option (List Entry)
 
--- what a journal is seen to be that keeps these steps and knows this log
-abbrev pub journaled : List Seat → Kept → Option (List Entry) → Journaled
-journaled start kept log = record {
+-- what a journal is seen to be that keeps these steps, knows this log, and has seen it go on so far
+abbrev pub journaled : List Seat → Kept → (log outrun : Option (List Entry)) → Journaled
+journaled start kept log outrun = record {
   start = start;
   trace = kept.recalled.trace;
   recovered = kept.recalled.recovered;
@@ -41,6 +43,7 @@ journaled start kept log = record {
   whole = kept.whole;
   forgotten = kept.recalled.forgotten;
   log = log;
+  outrun = outrun;
 }
 
 -- each step followed by the nodes' rules from the start and those before, and they left the nodes so or so
@@ -55,6 +58,7 @@ pub record TellsSame (old new : Journaled) : Type 0 where
   pub whole_is : new.whole ≡ old.whole
   pub forgotten_is : new.forgotten ≡ old.forgotten
   pub log_is : new.log ≡ old.log
+  pub outrun_is : new.outrun ≡ old.outrun
 
 -- there is room for one step more, and for so many messages
 abbrev pub HasRoom : Journaled → ℕ → Type 0

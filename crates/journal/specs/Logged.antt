@@ -1,5 +1,6 @@
 -- The own entries of all nodes in one log, in the order in which they were entered. Logs are this service's own.
-use Rattle.std.specs.Prelude.{◌≡◌, ℕ, ◌<◌, ◌==◌, if◌then◌else◌, Bool, Option, None, Some, List, [], ◌∷◌, ◌++◌, length, slice_index_or}
+use Rattle.std.specs.Prelude.{◌≡◌, ◌⊎◌, ℕ, ◌<◌, ◌≤◌, ◌^◌, ◌==◌, if◌then◌else◌, Bool, Option, None, Some, IsSome, List, [], ◌∷◌, ◌++◌, length, slice_index_or}
+use mathlib.Core.List.{IsPrefix}
 use Rattle.std.specs.List.{filter}
 use Rattle.ballots.specs.Limits.{max_members}
 use Rattle.ballots.specs.declared.message.Message.{Message}
@@ -27,6 +28,22 @@ own_entry journal step more recovered =
     if is_question (event_of step.event) then None else Some (entry_of (journal.trace.sent ++ more) (step_of step) recovered)
 
 -- a log with this entry more, if there is one
-abbrev pub IsLonger : Option (List Entry) → Option Entry → List Entry → Type 0
-IsLonger was None now = was ≡ Some now
-IsLonger was (Some entry) now = (log : List Entry) × (was ≡ Some log) × (now ≡ log ++ entry ∷ [])
+abbrev pub with_entry : List Entry → Option Entry → List Entry
+with_entry log None = log
+with_entry log (Some entry) = log ++ entry ∷ []
+
+-- The log has been seen to go on without whoever knew it to be so far; or it had as many entries as a log has at most.
+abbrev pub HasGoneOn : List Entry → Option (List Entry) → Type 0
+HasGoneOn log None = ⊥
+HasGoneOn log (Some seen) = IsPrefix log seen × ((length log < length seen) ⊎ (2 ^ 62 ≤ length log))
+
+-- What is known of a log after an entry, if there was one to add, and of how far it was seen to go on. It has this entry more; or it
+-- stands no longer where it was known to stand, and has been seen to go on.
+abbrev pub GoesOn : (log outrun : Option (List Entry)) → Option Entry → (log_now outrun_now : Option (List Entry)) → Type 0
+GoesOn None outrun more log_now outrun_now = (log_now ≡ None) × (outrun_now ≡ outrun)
+GoesOn (Some log) outrun more log_now outrun_now =
+    ((log_now ≡ Some (with_entry log more)) × (outrun_now ≡ outrun)) ⊎ ((log_now ≡ None) × HasGoneOn log outrun_now)
+
+-- It knows the log still, if it did; or has seen it go on.
+abbrev pub KeepsLog : (old new : Journaled) → Type 0
+KeepsLog old new = (log : List Entry) → old.log ≡ Some log → IsSome new.log ⊎ HasGoneOn log new.outrun

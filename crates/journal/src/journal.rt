@@ -11,7 +11,7 @@ ghost use Rattle.schedule_runner.specs.Told.{config_of};
 ghost use Rattle.schedule_runner.specs.Traced.{Tells, history_of};
 ghost use Rattle.journal.specs.Recalled.{held_at};
 ghost use Rattle.journal.specs.Journaled.{seats_in, own_in, IsFull, HasFollowed, HasRoom, TellsSame, HasEntry, MayEnter, EntersOwn};
-ghost use Rattle.journal.specs.Logged.{HasLogged, IsLonger, own_entry};
+ghost use Rattle.journal.specs.Logged.{HasLogged, GoesOn, own_entry};
 ghost use Rattle.journal.specs.Receipts.{IsReceiptOf, AreWorth};
 
 use crate::beginning::Beginning;
@@ -50,6 +50,8 @@ use std::marker::{Brand, Model, PhantomData};
 pub struct Journal<J: Beginning = Brand, M: Retention = Whole> {
     kept: Kept,
     progress: Option<Progress<J>>,
+    /// How far the log has been seen to go on without this journal, once it has.
+    outrun: Option<Reached<OwnEntry, J>>,
     of: PhantomData<M>,
 }
 
@@ -61,10 +63,10 @@ impl<J: Beginning, M: Retention> Model for Journal<J, M> {
 
     ghost Value = { Journaled };
 
-    ghost view = { λ j. journaled J.start j.kept j.progress };
+    ghost view = { λ j. journaled J.start j.kept j.progress j.outrun };
 
-    ghost invariant = { λ j. HasFollowed (journaled J.start j.kept j.progress)
-        × IfSome j.progress (λ log. HasLogged log (journaled J.start j.kept j.progress))
+    ghost invariant = { λ j. HasFollowed (journaled J.start j.kept j.progress j.outrun)
+        × IfSome j.progress (λ log. HasLogged log (journaled J.start j.kept j.progress j.outrun))
         × (j.kept.whole ≡ M.whole) };
 }
 
@@ -81,6 +83,7 @@ impl<J: Beginning> Journal<J, Whole> {
         Journal {
             kept: Kept::whole(WholeSteps::new(alloc, config)),
             progress: None,
+            outrun: None,
             of: PhantomData,
         }
     }
@@ -99,6 +102,7 @@ impl<J: Beginning> Journal<J, Whole> {
         Journal {
             kept: Kept::whole(WholeSteps::new(alloc, config)),
             progress: Some(Progress::new(head, reached)),
+            outrun: None,
             of: PhantomData,
         }
     }
@@ -176,6 +180,7 @@ impl<J: Beginning> Journal<J, Recent> {
         Ok(Journal {
             kept: Kept::recent(steps),
             progress: Some(Progress::new(head, reached)),
+            outrun: None,
             of: PhantomData,
         })
     }
@@ -307,19 +312,26 @@ impl<J: Beginning, M: Retention> Journal<J, M> {
     /// entries leave it, the node of the event gives that by its rules; with this entry they leave it as it is then. Of a
     /// restart `recovered` says whether the node had back the record that was due where it went down. `own` is what the
     /// node has as its own entry of it; a question has none. It takes no memory.
+    ///
+    /// The log, where the journal knows it, has the node's own entry more. Only where it was seen to go on without the journal,
+    /// or has 2^62 entries, does the journal know it no longer.
     pub fn enter(&mut self, step: Step, more: Vec<Message>, recovered: bool, own: Option<&OwnEntry>)
         requires room { HasRoom self.old (vec_len more) }
         requires follows { MayEnter self.old step more.items recovered }
         requires own { option_map (λ entry. entry.now) own ≡ own_entry self.old step more.items recovered }
         ensures entry { HasEntry self.old step more.items recovered self.new }
         ensures own { EntersOwn self.old step more.items recovered self.new }
+        ensures log { GoesOn self.old.log self.old.outrun (own_entry self.old step more.items recovered)
+            self.new.log self.new.outrun }
     {
         a_member_steps_alone();
         own_entries_decide_the_node();
         own_entries_leave_the_node();
         own_entries_grow();
         self.kept.push(step, more, recovered);
-        self.progress = with_own(self.progress.take(), own);
+        let (progress, outrun) = with_own(self.progress.take(), self.outrun.take(), own);
+        self.progress = progress;
+        self.outrun = outrun;
     }
 }
 
@@ -333,12 +345,22 @@ fn is_told(trace: &Trace, receipt: &Receipt) -> bool
     }
 }
 
-// The log with an entry more, if there is one to add; none where it had come further.
-fn with_own<J: Naming>(progress: Option<Progress<J>>, own: Option<&OwnEntry>) -> Option<Progress<J>>
-    ensures { IfSome result (IsLonger progress (option_map (λ entry. entry.now) own.entry)) }
+// The log with an entry more, if there is one to add, and how far it was seen to go on, where it has.
+fn with_own<J: Naming>(
+    progress: Option<Progress<J>>,
+    outrun: Option<Reached<OwnEntry, J>>,
+    own: Option<&OwnEntry>,
+) -> (Option<Progress<J>>, Option<Reached<OwnEntry, J>>)
+    ensures { GoesOn progress outrun (option_map (λ entry. entry.now) own.entry) result.0 result.1 }
 {
-    match own {
-        Some(entry) => progress?.with(entry),
-        None => progress,
+    let Some(entry) = own else {
+        return (progress, outrun);
+    };
+    let Some(known) = progress else {
+        return (None, outrun);
+    };
+    match known.with(entry) {
+        Ok(more) => (Some(more), outrun),
+        Err(seen) => (None, Some(seen)),
     }
 }

@@ -1,4 +1,4 @@
-//! The steps of a journal, as far as it remembers them.
+//! The steps of a journal, as far as it retains them.
 
 ghost use Rattle.std.specs.Prelude.{◌≡◌, ◌↔◌, ℕ, Bool, IsTrue, IsSome, List, ◌∷◌, ◌++◌, [], true, false, length, OnOk, vec_len};
 ghost use Rattle.std.specs.Option.{IfSome, option_map};

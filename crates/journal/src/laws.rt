@@ -1,6 +1,7 @@
 //! Laws of journals and receipts.
 
-ghost use Rattle.std.specs.Prelude.{◌≡◌, ℕ, ◌<◌, ◌≤◌, List, [], false, slice_get, Some};
+ghost use Rattle.std.specs.Prelude.{◌≡◌, ◌⊎◌, ℕ, ◌<◌, ◌≤◌, ◌^◌, List, [], false, length, slice_get, Option, Some, None};
+ghost use mathlib.Core.List.{IsPrefix};
 ghost use Rattle.lawful_histories.specs.Lawful.{IsLawful};
 ghost use Rattle.table_types.specs.Uploads.{Upload as Uploaded};
 ghost use Rattle.table_types.specs.Ticket.{TableVersion};
@@ -8,12 +9,14 @@ ghost use Rattle.histories.specs.Texts.{IsTextOf};
 ghost use Rattle.schedule_runner.specs.declared.step.Step.{Step as StepSpec};
 ghost use Rattle.histories.specs.History.{History};
 ghost use Rattle.histories.specs.Following.{Follows};
+ghost use Rattle.histories.specs.Owning.{Entry};
 ghost use Rattle.safe_histories.specs.Safe.{IsSafe};
 ghost use Rattle.joined_histories.specs.Joined.{Precedes};
 ghost use Rattle.schedule_runner.specs.Told.{config_of};
 ghost use Rattle.schedule_runner.specs.Traced.{Traced, history_of};
 ghost use Rattle.journal.specs.declared.receipt.Receipt.{Receipt as ReceiptSpec};
 ghost use Rattle.journal.specs.Journaled.{seats_in, Journaled, HasFollowed};
+ghost use Rattle.journal.specs.Logged.{GoesOn};
 ghost use Rattle.journal.specs.Receipts.{IsReceiptOf, AreWorth, IsFresh};
 
 use joined_histories::laws::{fresh_tails_answer, tails_are_safe};
@@ -21,8 +24,9 @@ use node_events::laws::telling_loses_nothing;
 use safe_histories::laws::replicas_agree;
 
 /// Any two receipts of one journal are worth this, whichever threads got them and whenever, and whatever history left the
-/// nodes as the journal has them at its start: two answers to one ticket have equal bytes; and an upload that one tells to be applied as a version stands once, at that version's place, in the
-/// other's answer to a ticket of its table for that version or a later one.
+/// nodes as the journal has them at its start: two answers to one ticket have equal bytes; and an upload that one tells to be
+/// applied as a version stands once, at that version's place, in the other's answer to a ticket of its table for that version or
+/// a later one.
 pub fn receipts_are_worth_their_answers()
     ensures { (journal : Journaled) (before : History) (one other : ReceiptSpec) → HasFollowed journal
         → Precedes (config_of journal.trace.config) (seats_in journal.start) before
@@ -56,3 +60,11 @@ pub fn whole_journals_agree()
 {
     replicas_agree();
 }
+
+/// Behind an entry a journal knows its log no longer only where it has seen it go on: what it has seen begins with the log that it
+/// knew, and is longer, unless that was as long as a log can be.
+pub fn a_log_is_lost_only_where_it_goes_on()
+    ensures { (log : List Entry) (outrun seen : Option (List Entry)) (more : Option Entry)
+        → GoesOn (Some log) outrun more None seen
+        → (now : List Entry) × (seen ≡ Some now) × IsPrefix log now × ((length log < length now) ⊎ (2 ^ 62 ≤ length log)) }
+{}

@@ -1,8 +1,7 @@
 //! How far the log of all nodes' own entries has come.
 
-ghost use Rattle.std.specs.Prelude.{◌≡◌, [], ◌∷◌, ◌++◌, length};
-ghost use Rattle.std.specs.Option.{IfSome};
-ghost use Rattle.journal.specs.Logged.{own_of};
+ghost use Rattle.std.specs.Prelude.{◌≡◌, [], ◌∷◌, ◌++◌, Some, length, IfErr, IfOk};
+ghost use Rattle.journal.specs.Logged.{own_of, HasGoneOn};
 
 use crate::own::OwnEntry;
 use ballots::{MAX_MEMBERS, NodeId};
@@ -56,23 +55,26 @@ impl<J: Naming> Progress<J> {
         self.counts[usize::from(node.number())]
     }
 
-    /// The log with an entry more, if it stood where this knows it to stand.
-    pub(crate) fn with(self, entry: &OwnEntry) -> Option<Progress<J>>
-        ensures { IfSome result (λ more. more ≡ self ++ entry.now ∷ []) }
+    /// The log with an entry more; or how far it has come, where it does not stand where this knows it to stand, or has as many
+    /// entries as a log has at most.
+    pub(crate) fn with(self, entry: &OwnEntry) -> Result<Progress<J>, Reached<OwnEntry, J>>
+        ensures more { IfOk result (λ more. more ≡ self ++ entry.now ∷ []) }
+        ensures gone_on { IfErr result (λ seen. HasGoneOn self (Some seen)) }
     {
         let Progress {
             head,
             reached,
             mut counts,
         } = self;
-        let Ok(more) = head.append(&reached, entry) else {
-            return None;
+        let more = match head.append(&reached, entry) {
+            Ok(more) => more,
+            Err(seen) => return Err(seen),
         };
         let node = entry.step.event.node();
         if node < u64::from(MAX_MEMBERS) {
             counts[node as usize] += 1;
         }
-        Some(Progress {
+        Ok(Progress {
             head,
             reached: more,
             counts,

@@ -27,8 +27,9 @@ use std::io::Write;
 /// them for which some node accepted something. Place k has the files of node k of `folder`. docs/FORMATS.md has the lines.
 ///
 /// A fault's line goes to `e`: `flightd: Damaged` where a node's file means no records, or such that do not fit their sums;
-/// `flightd: Foreign` where the files have two values at one ballot of a slot, `flightd: Members` where there are 0 or more than 7, `flightd: OutOfMemory` where memory is refused, and
-/// `flightd: Io` where `w` fails. A second line says which file it is. Where these can't be written, the status alone tells.
+/// `flightd: Foreign` where the files have two values at one ballot of a slot, `flightd: Members` where there are 0 or more than 7,
+/// `flightd: OutOfMemory` where memory is refused, and `flightd: Io` where `w` fails. A second line says which file it is. Where these
+/// can't be written, the status alone tells.
 pub fn folder_run<W: Write, E: Write>(
     alloc: Global,
     hashing: RandomState,

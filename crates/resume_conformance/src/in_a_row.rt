@@ -4,6 +4,7 @@ use crate::rows::Row;
 use std::alloc::Global;
 use std::hash::RandomState;
 use std::test::Fail;
+use std::thread::Threads;
 
 /// How many runs are tried.
 const RUNS: u64 = 24;
@@ -36,7 +37,8 @@ impl Sums {
 }
 
 // So many processes in a row. At the start of each but the first each node has lost so many records.
-fn in_a_row(
+fn in_a_row<R: Threads + Sync>(
+    rt: &R,
     alloc: Global,
     hashing: RandomState,
     run: u64,
@@ -46,14 +48,20 @@ fn in_a_row(
     let mut row = Row::new(alloc, hashing, run)?;
     row.run()?;
     for _ in 1..processes {
-        row.go_on(lost)?;
+        row.go_on(rt, lost)?;
         row.run()?;
     }
     Ok(row)
 }
 
 // What happened in the rows of so many processes, where each node has lost so many records at each start.
-fn summed(alloc: Global, hashing: RandomState, processes: u64, lost: usize) -> Result<Sums, Fail> {
+fn summed<R: Threads + Sync>(
+    rt: &R,
+    alloc: Global,
+    hashing: RandomState,
+    processes: u64,
+    lost: usize,
+) -> Result<Sums, Fail> {
     let mut sums = Sums {
         sent: 0,
         unlawful: 0,
@@ -64,7 +72,7 @@ fn summed(alloc: Global, hashing: RandomState, processes: u64, lost: usize) -> R
         decided_later: 0,
     };
     for run in 0..RUNS {
-        let row = in_a_row(alloc, hashing, run, processes, lost)?;
+        let row = in_a_row(rt, alloc, hashing, run, processes, lost)?;
         sums.add(&row)?;
     }
     Ok(sums)
@@ -72,14 +80,14 @@ fn summed(alloc: Global, hashing: RandomState, processes: u64, lost: usize) -> R
 
 #[test]
 fn a_first_process_acknowledges_uploads(rt: HostRuntime) -> Result<(), Fail> {
-    let one = summed(rt.alloc(), RandomState::new(&rt)?, 1, 0)?;
+    let one = summed(&rt, rt.alloc(), RandomState::new(&rt)?, 1, 0)?;
     assert!(rt; one.unlawful == 0 && one.acknowledged > 30);
     Ok(())
 }
 
 #[test]
 fn three_processes_in_a_row_keep_the_rules_as_one_history(rt: HostRuntime) -> Result<(), Fail> {
-    let three = summed(rt.alloc(), RandomState::new(&rt)?, 3, 0)?;
+    let three = summed(&rt, rt.alloc(), RandomState::new(&rt)?, 3, 0)?;
     assert!(rt; three.unlawful == 0 && three.sent > 3_000);
     // What was acknowledged is told by each node as soon as it has started.
     assert!(rt; three.untold == 0 && three.acknowledged > 100);
@@ -90,7 +98,7 @@ fn three_processes_in_a_row_keep_the_rules_as_one_history(rt: HostRuntime) -> Re
 
 #[test]
 fn nodes_that_lost_their_last_records_break_the_rules(rt: HostRuntime) -> Result<(), Fail> {
-    let two = summed(rt.alloc(), RandomState::new(&rt)?, 2, 1)?;
+    let two = summed(&rt, rt.alloc(), RandomState::new(&rt)?, 2, 1)?;
     assert!(rt; two.unlawful > 4);
     Ok(())
 }

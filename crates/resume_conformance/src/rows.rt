@@ -9,6 +9,7 @@ use lawful_histories::are_lawful;
 use std::alloc::Global;
 use std::hash::RandomState;
 use std::test::Fail;
+use std::thread::Threads;
 
 /// Processes in a row, of which the last one runs or has ended.
 #[derive(Drop)]
@@ -93,8 +94,8 @@ impl Row {
     }
 
     /// The next process starts over what each node of the last one kept, without so many records.
-    pub(crate) fn go_on(&mut self, lost: usize) -> Result<(), Fail> {
-        let started = started_over(self.alloc, self.hashing, self.process.nodes(), lost)?;
+    pub(crate) fn go_on<R: Threads + Sync>(&mut self, rt: &R, lost: usize) -> Result<(), Fail> {
+        let started = started_over(rt, self.alloc, self.hashing, self.process.nodes(), lost)?;
         if started.is_undecided {
             self.undecided = self.undecided.saturating_add(1);
         }

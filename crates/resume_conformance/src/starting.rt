@@ -1,16 +1,18 @@
 //! How the nodes of a process start.
 
 ghost use Rattle.std.specs.Prelude.{◌≡◌, [], length, IfOk};
-ghost use Rattle.resumed_nodes.specs.Starting.{AreStarted};
+ghost use Rattle.std.specs.List.{All};
+ghost use Rattle.resumed_nodes.specs.Starting.{AreStarted, MayBeTold};
 
 use agreement::Config;
 use ballots::{Members, Message, NodeId, Record};
 use node_seats::Seat;
-use resumed_nodes::{chosen_by, hear_next, reopen_next};
+use resumed_nodes::{chosen_by, hear_together, reopen_next};
 use stable_records::{MemoryStable, Stable};
 use std::alloc::Global;
 use std::hash::RandomState;
 use std::test::Fail;
+use std::thread::Threads;
 
 /// More slots than the rows fill.
 const SLOTS: u32 = 1_000;
@@ -100,29 +102,26 @@ fn reopened(
     Ok(nodes)
 }
 
-// The three nodes hear what was chosen, which is told here.
-fn hear(
+// The messages that tell what was chosen.
+fn told_by(
     alloc: Global,
     config: Config,
-    nodes: &mut [Seat<MemoryStable>],
+    nodes: &[Seat<MemoryStable>],
 ) -> Result<Vec<Message>, Fail>
-    requires members { config.members ≡ 3 }
-    requires three { length nodes.old ≡ 3 }
-    requires started { AreStarted config [] nodes.old }
+    requires three { (config.members ≡ 3) × (length nodes.now ≡ 3) }
+    requires started { AreStarted config [] nodes.now }
+    ensures { IfOk result (λ told. All (MayBeTold config) told.items) }
 {
-    let told = match chosen_by(alloc, config, nodes) {
-        Ok(told) => told,
-        Err(_) => return Err(Fail::from("nothing is told")),
-    };
-    for number in 0..3 {
-        hear_next(config, nodes, number, told.as_slice())?;
+    match chosen_by(alloc, config, nodes) {
+        Ok(told) => Ok(told),
+        Err(_) => Err(Fail::from("nothing is told")),
     }
-    Ok(told)
 }
 
 /// Three nodes that go on over what these ones kept, and have heard what was chosen. Against the rules, each has lost so many
 /// of its last records.
-pub(crate) fn started_over(
+pub(crate) fn started_over<R: Threads + Sync>(
+    rt: &R,
     alloc: Global,
     hashing: RandomState,
     before: &[Seat<MemoryStable>],
@@ -130,8 +129,10 @@ pub(crate) fn started_over(
 ) -> Result<Started, Fail> {
     let members = Members::new(3).ok_or("no members")?;
     let config = Config::new(members, SLOTS).ok_or("no config")?;
-    let mut nodes = Box::new(alloc, reopened(alloc, hashing, config, before, lost)?)?;
-    let told = hear(alloc, config, nodes.as_mut_slice())?;
+    let opened = reopened(alloc, hashing, config, before, lost)?;
+    let told = told_by(alloc, config, opened.as_slice())?;
+    let heard = hear_together(rt, alloc, config, opened, told.as_slice())?;
+    let nodes = Box::new(alloc, heard)?;
     let is_undecided = nodes
         .iter()
         .any(|node| leaves_undecided(node.records(), told.as_slice()));

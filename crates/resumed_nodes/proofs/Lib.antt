@@ -1,4 +1,6 @@
 mod Told
+mod Each
+mod Refusing
 pub mod Taking
 pub mod Members
 pub mod Restarted

@@ -1,8 +1,8 @@
 -- Nodes that start again, one after the other.
-use Rattle.std.proofs.Common.{◌≡◌, ℕ, zero, suc, ◌+◌, ◌<◌, arith, inl, inr, Bool, None, Some, Result, Ok, Err, OnOk, IfOk, List, [], ◌∷◌, ◌++◌, length, map, slice_get, slice_index_or, slice_set, refl, sym, ap, subst, ◌∙◌}
+use Rattle.std.proofs.Common.{◌≡◌, ℕ, zero, suc, ◌+◌, ◌<◌, arith, inl, inr, Bool, None, Some, Result, Ok, Err, OnOk, IfOk, List, [], ◌∷◌, ◌++◌, length, map, slice_get, slice_index_or, refl, sym, ap, subst, ◌∙◌}
 use Rattle.std.specs.List.{All, Contains}
 use Rattle.std.proofs.lemmas.Bool.{cases_lt}
-use Rattle.std.proofs.lemmas.List.{length-map, length_push, length-set, get_or_push, get_or_append_left, get_or-set_same, get_or-set_other}
+use Rattle.std.proofs.lemmas.List.{length-map, length_push, get_or_push, get_or_append_left}
 use Rattle.std.proofs.lemmas.List.Elements.{All-contains, All-from_recursion}
 use Rattle.ballots.specs.declared.record.Record.{Record}
 use Rattle.ballots.specs.declared.record.Record.TheVariants.{Accepted as HasAccepted}
@@ -21,7 +21,7 @@ use Rattle.node_core.specs.State.{IsRecordOf}
 use Rattle.node_seats.specs.State.{SeatState, IsPlaced, StandsUp}
 use Rattle.resumed_nodes.specs.Heard.{heard, starts_of}
 use Rattle.resumed_nodes.specs.Hearing.{HasHeard}
-use Rattle.resumed_nodes.specs.Starting.{IsStarted, AreStarted, HaveHeard, MayBeTold, HaveBack, GoesOn, records_of}
+use Rattle.resumed_nodes.specs.Starting.{IsStarted, AreStarted, HasHeardAgain, MayBeTold, HaveBack, GoesOn, records_of}
 
 none_is_some : {X : Type 0} (x : X) → None ≡ Some x → ⊥
 none_is_some x same = cc
@@ -57,9 +57,9 @@ module _ {S : Type 0} (config : Config) where
             (subst (IsStarted config [] (length nodes)) (sym (get_or_push nodes last d (length nodes) refl)) behind)
       ]
 
-  -- ---- the next one hears
+  -- ---- one of them hears
 
-  module _ (told : List Message) (number : ℕ) (nodes : List (SeatState S)) (was after : SeatState S) where
+  module _ (told : List Message) (number : ℕ) (was after : SeatState S) where
     pub has_started : IsStarted config [] number was → HasHeard was after (started_with was.records) told (heard was.records told) → IsStarted config told number after
     has_started is has = record {
       me_is = has.me_is ∙ is.me_is;
@@ -72,22 +72,34 @@ module _ {S : Type 0} (config : Config) where
           (subst (λ (c : Config). Hears c was.me (started_with was.records) told (heard was.records told)) is.config_is has.hears));
     }
 
-    pub heard_next : number < length nodes → HaveHeard config told number nodes → IsStarted config told number after
-        → HaveHeard config told (number + 1) (slice_set nodes number after)
-    heard_next within have is = record {
-      heard = λ k d inside below. elim (cases_lt k number) as (λ _. IsStarted config told k (slice_index_or (slice_set nodes number after) k d)) [
-        | inl before ↦
-            subst (IsStarted config told k) (sym (get_or-set_other nodes number k after d (λ same. absurd (omega (arith, before, same)))))
-            (have.heard k d (omega (arith, inside, length-set nodes number after)) before)
-        | inr past ↦
-            let here : number ≡ k = omega (arith, past, below) in
-            subst (λ (n : ℕ). IsStarted config told n (slice_index_or (slice_set nodes number after) n d)) here
-            (subst (IsStarted config told number) (sym (get_or-set_same nodes number after d within)) is)
-      ];
-      others = λ k d inside past.
-          subst (IsStarted config [] k) (sym (get_or-set_other nodes number k after d (λ same. absurd (omega (arith, past, same)))))
-          (have.others k d (omega (arith, inside, length-set nodes number after)) (omega (arith, past)));
-    }
+  -- ---- all hear
+
+  pub job_started : (nodes : List (SeatState S)) → AreStarted config [] nodes → (i : ℕ) (node : SeatState S) → i < length nodes → node ≡ slice_index_or nodes i node
+      → IsStarted config [] node.me node
+  job_started nodes started i node within is =
+      let at = subst (λ (n : SeatState S). IsStarted config [] i n) (sym is) (started i node within) in
+      subst (λ (number : ℕ). IsStarted config [] number node) (sym at.me_is) at
+
+  same_records : (nodes heard : List (SeatState S)) → length heard ≡ length nodes
+      → ((number : ℕ) (d : SeatState S) → number < length nodes → (slice_index_or heard number d).records ≡ (slice_index_or nodes number d).records)
+      → records_of heard ≡ records_of nodes
+  same_records [] [] len each = refl
+  same_records [] (new ∷ heard) len each = absurd (omega (arith, len))
+  same_records (old ∷ nodes) [] len each = absurd (omega (arith, len))
+  same_records (old ∷ nodes) (new ∷ heard) len each =
+      let first : new.records ≡ old.records = each 0 old (omega arith) in
+      let rest = same_records nodes heard (omega (arith, len)) (λ number d within. each (suc number) d (omega (arith, within))) in
+      ap (λ (rs : List Record). rs ∷ records_of heard) first ∙ ap (λ (all : List (List Record)). old.records ∷ all) rest
+
+  module _ (told : List Message) (nodes heard : List (SeatState S)) (started : AreStarted config [] nodes) (len : length heard ≡ length nodes)
+      (each : (number : ℕ) (d : SeatState S) → number < length nodes → HasHeardAgain config told (slice_index_or nodes number d) (slice_index_or heard number d)) where
+    pub all_started : AreStarted config told heard
+    all_started number d within =
+        let inside : number < length nodes = omega (arith, within, len) in
+        subst (λ (n : ℕ). IsStarted config told n (slice_index_or heard number d)) (started number d inside).me_is (each number d inside).0
+
+    pub all_records : records_of heard ≡ records_of nodes
+    all_records = same_records nodes heard len (λ number d within. (each number d within).1)
 
   -- ---- all of them
 

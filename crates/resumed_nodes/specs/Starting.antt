@@ -37,13 +37,9 @@ abbrev pub AreStarted : {S : Type 0} → Config → List Message → List (SeatS
 AreStarted config told nodes =
     (number : ℕ) (d : SeatState _) → number < length nodes → IsStarted config told number (slice_index_or nodes number d)
 
--- so many of them have heard the messages, and the others nothing yet
-pub record HaveHeard {S : Type 0} (config : Config) (told : List Message) (count : ℕ) (nodes : List (SeatState S))
-    : Type 0 where
-  pub heard : (number : ℕ) (d : SeatState S) → number < length nodes → number < count
-      → IsStarted config told number (slice_index_or nodes number d)
-  pub others : (number : ℕ) (d : SeatState S) → number < length nodes → count ≤ number
-      → IsStarted config [] number (slice_index_or nodes number d)
+-- the node that was there has heard the messages, and has the records that it had
+abbrev pub HasHeardAgain : {S : Type 0} → Config → List Message → (old new : SeatState S) → Type 0
+HasHeardAgain config told old new = IsStarted config told old.me new × (new.records ≡ old.records)
 
 -- the records of each
 abbrev pub records_of : {S : Type 0} → List (SeatState S) → List (List Record)

@@ -1,21 +1,24 @@
 //! Messages that a node hears again.
 
-ghost use Rattle.std.specs.Prelude.{◌≡◌, ◌<◌, ◌+◌, ◌↔◌, IsTrue, length, List, OnErr, OnOk};
+ghost use Rattle.std.specs.Prelude.{◌≡◌, ◌↔◌, [], IfOk, IsTrue, List, Ok, length, map};
 ghost use Rattle.std.specs.List.{All};
 ghost use Rattle.ballots.specs.declared.record.Record.{Record as Held};
 ghost use Rattle.agreement_rules.specs.Views.{Views, started_with};
 ghost use Rattle.resumed_histories.specs.StartingOver.{TellsOfAValue};
 ghost use Rattle.node_seats.specs.State.{IsPlaced, StandsUp};
-ghost use Rattle.resumed_nodes.specs.Starting.{HaveHeard, MayBeTold, records_of};
+ghost use Rattle.resumed_nodes.specs.declared.fault.HearFault.TheVariants.{OutOfMemory};
+ghost use Rattle.resumed_nodes.specs.Starting.{AreStarted, HasHeardAgain, IsStarted, MayBeTold, records_of};
 ghost use Rattle.resumed_nodes.specs.Hearing.{HearAnswers, HearLeaves, IsHearFaultFor, HearAllAnswers};
 
 use crate::fault::HearFault;
+use crate::pushing::push;
 use ballots::{Body, Message};
 use node_core::{Config, Input};
 use node_events::Reason;
 use node_seats::Seat;
 use stable_records::Stable;
-use std::alloc::AllocError;
+use std::alloc::{AllocError, Global};
+use std::thread::{Threads, map_vec};
 
 /// Hands the node, which is up, a message again that tells which value was accepted or decided: its learner is told,
 /// and it has seen the message's round (Lamport, *Paxos Made Simple*, sections 2.3 and 2.5). Nothing is kept or sent.
@@ -98,27 +101,76 @@ pub fn hear_all<S: Stable + Drop>(seat: &mut Seat<S>, told: &[Message]) -> Resul
     Ok(())
 }
 
-/// Hands these messages to the next of the nodes that start again, which is at the place of its number, once those before it
-/// have heard them. It has then learned what they tell, as these have. The messages are such as [`chosen_by`] gives.
+// Hands these messages to a node that was started with its records, and gives it back.
+fn hear_own<S: Stable + Drop>(
+    config: Config,
+    node: Seat<S>,
+    told: &[Message],
+) -> Result<Seat<S>, AllocError>
+    requires started { IsStarted config [] node.me node }
+    requires may { All (MayBeTold config) told.now }
+    ensures { IfOk result (HasHeardAgain config told.now node) }
+{
+    let mut node = node;
+    match hear_all(&mut node, told) {
+        Ok(()) => Ok(node),
+        Err(fault) => {
+            drop(node);
+            Err(refused(fault))
+        }
+    }
+}
+
+// The one fault of a node that hears what it may be told.
+fn refused(fault: HearFault) -> AllocError
+    requires { fault ≡ OutOfMemory }
+{
+    match fault {
+        HearFault::OutOfMemory => AllocError,
+        _ => unreachable!(),
+    }
+}
+
+/// Hands these messages to nodes that have started again, each at the place of its number, and in a thread of its own where one can
+/// be made: each has then learned what they tell, and has the records that it had. The messages are such as [`chosen_by`] gives.
 ///
-/// [`AllocError`] says that memory was refused; the node has then heard a beginning of the messages.
+/// [`AllocError`] says that memory was refused; the nodes are let go then.
 ///
 /// [`chosen_by`]: crate::chosen_by
-pub fn hear_next<S: Stable + Drop>(
+#[tactic(auto, using(crate::proofs::Restarted::job_started))]
+pub fn hear_together<R: Threads + Sync, S: Stable + Drop + Send>(
+    rt: &R,
+    alloc: Global,
     config: Config,
-    nodes: &mut [Seat<S>],
-    number: usize,
+    nodes: Vec<Seat<S>>,
     told: &[Message],
-) -> Result<(), AllocError>
-    requires within { number < length nodes.old }
-    requires heard { HaveHeard config told.now number nodes.old }
+) -> Result<Vec<Seat<S>>, AllocError>
+    requires started { AreStarted config [] nodes.items }
     requires may { All (MayBeTold config) told.now }
-    ensures heard { OnOk result (HaveHeard config told.now (number + 1) nodes.new) }
-    ensures records { OnOk result (records_of nodes.new ≡ records_of nodes.old) }
+    ensures heard { IfOk result (λ heard. AreStarted config told.now heard.items) }
+    ensures records { IfOk result (λ heard. records_of heard.items ≡ records_of nodes.items) }
+    ensures all { IfOk result (λ heard. length heard.items ≡ length nodes.items) }
 {
-    match hear_all(&mut nodes[number], told) {
-        Ok(()) => Ok(()),
-        Err(HearFault::OutOfMemory) => Err(AllocError),
-        Err(_) => unreachable!(),
+    let hear = |node: Seat<S>| -> Result<Seat<S>, AllocError>
+        requires { IsStarted config [] node.me node × All (MayBeTold config) told.now }
+        ensures { IfOk result (HasHeardAgain config told.entry.now node) }
+    { hear_own(config, node, told) };
+    all_ok(alloc, map_vec(rt, nodes, &hear)?)
+}
+
+// All nodes, where each has heard the messages.
+fn all_ok<S: Stable + Drop>(
+    alloc: Global,
+    results: Vec<Result<Seat<S>, AllocError>>,
+) -> Result<Vec<Seat<S>>, AllocError>
+    ensures { IfOk result (λ nodes. map (λ node. Ok node) nodes.items ≡ results.items) }
+{
+    let mut nodes = Vec::with_capacity(alloc, results.len())?;
+    for heard in results {
+        match heard {
+            Ok(node) => push(&mut nodes, node)?,
+            Err(_) => return Err(AllocError),
+        }
     }
+    Ok(nodes)
 }

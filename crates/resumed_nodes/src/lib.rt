@@ -8,7 +8,7 @@
 //! ```text
 //! reopen_next(alloc, hashing, me, config, &mut nodes, store)?;   // each node in turn: up, with its records and nothing else
 //! let told = chosen_by(alloc, config, nodes.as_slice())?;        // what a majority of them recorded
-//! hear_next(config, nodes.as_mut_slice(), 0, told.as_slice())?;  // each in turn has learned it; nothing is kept or sent
+//! let nodes = hear_together(rt, alloc, config, nodes, told.as_slice())?;   // each has learned it; nothing is kept or sent
 //! ```
 //!
 //! By the law `members_go_on` the history of an earlier process precedes nodes that have started so.
@@ -18,11 +18,12 @@ mod choosing;
 mod fault;
 mod hearing;
 pub mod laws;
+mod pushing;
 mod starting;
 
 pub use choosing::chosen_by;
 pub use fault::{HearFault, ReopenFault};
-pub use hearing::{hear, hear_all, hear_next};
+pub use hearing::{hear, hear_all, hear_together};
 pub use starting::reopen_next;
 
 #[cfg(test)]

@@ -7,6 +7,7 @@ ghost use Rattle.resumed_nodes.specs.declared.fault.ReopenFault.TheVariants.{Out
 ghost use Rattle.resumed_nodes.specs.Starting.{AddsNode, AreOwn, AreStarted, IsOwn, IsReopenFaultFor, ReopenFails};
 
 use crate::fault::ReopenFault;
+use crate::pushing::push;
 use ballots::{NodeId, Record};
 use node_core::{Config, OpenFault};
 use node_seats::Seat;
@@ -47,22 +48,8 @@ pub fn reopen_next<S: Stable + Drop>(
         drop(node);
         return Err(ReopenFault::AnotherNode);
     }
-    push(nodes, node)
-}
-
-// Puts a node behind the others.
-fn push<S: Stable + Drop>(nodes: &mut Vec<Seat<S>>, node: Seat<S>) -> Result<(), ReopenFault>
-    ensures added { OnOk result (nodes.new.items ≡ nodes.old.items ++ node ∷ []) }
-    ensures same { OnErr result (nodes.new.items ≡ nodes.old.items) }
-    ensures fault { IfErr result (λ fault. fault ≡ OutOfMemory) }
-{
-    match nodes.push(node) {
-        Ok(()) => Ok(()),
-        Err(refused) => {
-            drop(refused);
-            Err(ReopenFault::OutOfMemory)
-        }
-    }
+    push(nodes, node)?;
+    Ok(())
 }
 
 // Why a node was not opened over its store.

@@ -7,6 +7,7 @@ use stable_records::{MemoryStable, Stable};
 use std::alloc::Global;
 use std::hash::RandomState;
 use std::test::*;
+use std::thread::Threads;
 
 // Node 0 of three, with five thousand slots and no records.
 fn seat(alloc: Global, hashing: RandomState) -> Result<Box<Seat<MemoryStable>>, Fail> {
@@ -139,7 +140,11 @@ fn records_of_others_are_refused(rt: HostRuntime) -> Result<(), Fail> {
 }
 
 // Three nodes that start again, of which the first accepted at one slot less.
-fn three(alloc: Global, hashing: RandomState) -> Result<Box<Vec<Seat<MemoryStable>>>, Fail> {
+fn three<R: Threads + Sync>(
+    rt: &R,
+    alloc: Global,
+    hashing: RandomState,
+) -> Result<Box<Vec<Seat<MemoryStable>>>, Fail> {
     let members = Members::new(3).ok_or("no members")?;
     let config = Config::new(members, 5_000).ok_or("no config")?;
     let mut nodes = Vec::new(alloc);
@@ -154,15 +159,13 @@ fn three(alloc: Global, hashing: RandomState) -> Result<Box<Vec<Seat<MemoryStabl
         Ok(told) => told,
         Err(_) => return Err(Fail::from("nothing is told")),
     };
-    for number in 0..3 {
-        hear_next(config, nodes.as_mut_slice(), number, told.as_slice())?;
-    }
+    let nodes = hear_together(rt, alloc, config, nodes, told.as_slice())?;
     Ok(Box::new(alloc, nodes)?)
 }
 
 #[test]
 fn all_have_learned_what_was_chosen(rt: HostRuntime) -> Result<(), Fail> {
-    let mut nodes = three(rt.alloc(), RandomState::new(&rt)?)?;
+    let mut nodes = three(&rt, rt.alloc(), RandomState::new(&rt)?)?;
     for node in nodes.iter_mut() {
         assert!(rt; tells_from(node, 2_999)? == 1);
         assert!(rt; tells_from(node, 3_000)? == 0);

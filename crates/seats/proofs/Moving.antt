@@ -27,7 +27,7 @@ use Rattle.seats.proofs.Leading.{still_agrees}
 -- ---- a journal that tells the same
 
 pub same_journal : (journal : Journaled) → TellsSame journal journal
-same_journal journal = record { start_is = refl; trace = record { config_is = refl; sent_is = refl; steps_are = refl }; recovered_is = refl; whole_is = refl; forgotten_is = refl; log_is = refl }
+same_journal journal = record { start_is = refl; trace = record { config_is = refl; sent_is = refl; steps_are = refl }; recovered_is = refl; whole_is = refl; forgotten_is = refl; log_is = refl; outrun_is = refl }
 
 tell_as : {S : Type 0} (seat : RunningSeat S) (before mid : Journaled) → TellsSame before mid → CanTell seat before → CanTell seat mid
 tell_as seat before mid same (inl both) = inl (both.0, subst (λ (b : Bool). IsTrue b) (sym same.whole_is) both.1)

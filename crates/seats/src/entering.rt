@@ -4,7 +4,7 @@ ghost use Rattle.std.specs.Prelude.{◌≡◌, ℕ, ◌+◌, ◌≤◌, ◌<◌,
 ghost use Rattle.std.specs.Option.{IfSome};
 ghost use Rattle.node_events.specs.declared.event.Event.{Event as EventSpec};
 ghost use Rattle.journal.specs.Journaled.{HasRoom, MayEnter, HasEntry, EntersOwn};
-ghost use Rattle.journal.specs.Logged.{own_entry};
+ghost use Rattle.journal.specs.Logged.{KeepsLog, own_entry};
 ghost use Rattle.seats.specs.Inputs.{event_at, given_for, handed_by, IsCutAt};
 ghost use Rattle.seats.specs.Entries.{AreCopies, done_step, done_entry, cut_step, cut_entry};
 ghost use Rattle.seats.specs.Steps.{TellsEntry};
@@ -131,6 +131,7 @@ pub(crate) fn enter_done<J: Beginning, M: Retention>(
         (given_for input (length journal.old.trace.sent) (vec_len copies.sends)) result }
     ensures others { EntersOwn journal.old
         (done_step me input (length journal.old.trace.sent) (vec_len copies.sends)) copies.sends.items false journal.new }
+    ensures log { KeepsLog journal.old journal.new }
 {
     let Copies {
         entered,
@@ -185,6 +186,7 @@ pub(crate) fn enter_cut<J: Beginning, M: Retention>(
         × (own.new.entries ≡ own.old.entries ++ cut_entry cut input ∷ [])
         × HasEntry journal.old (cut_step cut) [] false journal.new
         × EntersOwn journal.old (cut_step cut) [] false journal.new }
+    ensures log { KeepsLog journal.old journal.new }
 {
     let Some(cut) = cut_for(me, &input) else {
         unreachable!();

@@ -4,6 +4,7 @@ ghost use Rattle.std.specs.Prelude.{◌≡◌, ◌<◌, ◌∷◌, ◌++◌, [],
 ghost use Rattle.node_events.specs.declared.event.Event.TheVariants.{Restart};
 ghost use Rattle.node_events.specs.declared.event_result.EventResult.TheVariants.{Done};
 ghost use Rattle.journal.specs.Journaled.{HasRoom, MayEnter, HasEntry, EntersOwn};
+ghost use Rattle.journal.specs.Logged.{KeepsLog};
 ghost use Rattle.seats.specs.Entries.{restart_step, restart_entry};
 ghost use Rattle.seats.specs.Steps.{TellsEntry, Counts, RestartGives, OthersAgree, IsFaultOf};
 
@@ -28,11 +29,14 @@ impl<S: Stable + Drop, J: Beginning, M: Retention> Seat<S, J, M> {
     /// records, or its want of memory; [`SeatFault::Lost`] where other records were recalled than were kept so far;
     /// [`SeatFault::Refused`] where memory was refused. None of them changes the node or the journal.
     ///
+    /// The journal knows its log still, if it did, unless it has seen it go on without it.
+    ///
     /// It takes time with the number of the journal's entries.
     pub fn restart(&mut self, journal: &mut Journal<J, M>) -> Result<Receipt, SeatFault>
         ensures gives { RestartGives self.old self.new journal.old journal.new result }
         ensures counted { Counts S.tells result (S.faults self.old.node.store) (S.faults self.new.node.store) }
         ensures others { OthersAgree self.old.node.me journal.old journal.new }
+        ensures log { KeepsLog journal.old journal.new }
     {
         self.is_open(journal)?;
         let (alloc, me) = (self.alloc, self.me);
@@ -76,6 +80,7 @@ fn enter_restart<J: Beginning, M: Retention>(
     ensures entry { HasEntry journal.old (restart_step me) [] recovered journal.new }
     ensures told { TellsEntry journal.old (Restart me) Done result }
     ensures others { EntersOwn journal.old (restart_step me) [] recovered journal.new }
+    ensures log { KeepsLog journal.old journal.new }
 {
     let node = u64::from(me.number());
     let number = journal.step_count();

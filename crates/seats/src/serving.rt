@@ -3,6 +3,7 @@
 ghost use Rattle.std.specs.Prelude.{◌≡◌, List, IfOk, OnOk, length};
 ghost use Rattle.table_types.specs.Uploads.{Upload as Uploaded};
 ghost use Rattle.journal.specs.Journaled.{HasRoom, TellsSame};
+ghost use Rattle.journal.specs.Logged.{KeepsLog};
 ghost use Rattle.seats.specs.Steps.{asked_at, AnswersQuery, IsFoundBy, ServeGives, OthersAgree};
 
 use crate::fault::SeatFault;
@@ -33,7 +34,7 @@ impl<S: Stable + Drop, J: Beginning, M: Retention> Seat<S, J, M> {
     ///
     /// The first of these faults is told that stands, memory apart: [`SeatFault::Strange`] exactly where the seat is not
     /// seen to agree with the journal; [`SeatFault::JournalFull`]. These, and [`SeatFault::Refused`] where memory was refused,
-    /// change nothing.
+    /// change nothing. The journal knows its log still, if it did, unless it has seen it go on without it.
     ///
     /// It takes time with the number of the journal's entries.
     pub fn serve(&self, journal: &mut Journal<J, M>, found: Found) -> Result<Receipt, SeatFault>
@@ -42,6 +43,7 @@ impl<S: Stable + Drop, J: Beginning, M: Retention> Seat<S, J, M> {
         ensures answers { IfOk result (λ receipt. (uploads : List Uploaded)
             × AnswersQuery uploads found.query receipt.answer) }
         ensures others { OthersAgree self.now.node.me journal.old journal.new }
+        ensures log { KeepsLog journal.old journal.new }
     {
         self.is_open(journal)?;
         let Found { query, answer } = found;

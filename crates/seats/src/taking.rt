@@ -2,6 +2,7 @@
 
 ghost use Rattle.std.specs.Prelude.{◌≡◌, ◌↔◌, ◌<◌, IfOk, OnOk, IsTrue, length};
 ghost use Rattle.journal.specs.Journaled.{HasRoom, TellsSame};
+ghost use Rattle.journal.specs.Logged.{KeepsLog};
 ghost use Rattle.seats.specs.Entries.{AreCopies};
 ghost use Rattle.seats.specs.Inputs.{IsHeldIn};
 ghost use Rattle.seats.specs.OwnLists.{LastsAsBefore};
@@ -66,6 +67,8 @@ impl<S: Stable + Drop, J: Beginning, M: Retention> Seat<S, J, M> {
     /// memory was refused, change nothing. [`SeatFault::Store`] is the store's fault in keeping the record, or its want of
     /// memory: the node is down then, and one entry says that it went down in the midst.
     ///
+    /// The journal knows its log still, if it did, unless it has seen it go on without it.
+    ///
     /// It takes time with the number of the journal's entries.
     pub fn take(
         &mut self,
@@ -76,6 +79,7 @@ impl<S: Stable + Drop, J: Beginning, M: Retention> Seat<S, J, M> {
         ensures gives { TakeGives self.old self.new journal.old journal.new prepared result }
         ensures counted { Counts S.tells result (S.faults self.old.node.store) (S.faults self.new.node.store) }
         ensures others { OthersAgree self.old.node.me journal.old journal.new }
+        ensures log { KeepsLog journal.old journal.new }
     {
         self.admits(journal, &prepared.input)?;
         let Prepared { input, plan } = prepared;

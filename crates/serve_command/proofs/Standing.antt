@@ -11,23 +11,13 @@ use Rattle.schedule_runner.specs.Told.{config_of}
 use Rattle.journal.specs.Journaled.{seats_in}
 use Rattle.seats.specs.State.{StandsSo}
 use Rattle.resumed_nodes.specs.Heard.{heard, starts_of}
-use Rattle.resumed_nodes.specs.Starting.{AreStarted, HaveHeard, records_of}
+use Rattle.resumed_nodes.specs.Starting.{AreStarted, records_of}
 use Rattle.serve_command.specs.Restarting.{IsAtStart, AreAtStart}
 
--- ---- one after the other hears
+-- ---- none of them
 
 pub none_started : {S : Type 0} (config : Agreed) (told : List Message) → AreStarted {S = S} config told []
 none_started config told number d within = absurd (omega (arith, within))
-
-pub none_heard : {S : Type 0} (config : Agreed) (told : List Message) (nodes : List (SeatState S)) → AreStarted config [] nodes → HaveHeard config told 0 nodes
-none_heard config told nodes started = record {
-  heard = λ number d within below. absurd (omega (arith, below));
-  others = λ number d within past. started number d within;
-}
-
-pub all_heard : {S : Type 0} (config : Agreed) (told : List Message) (count : ℕ) (nodes : List (SeatState S)) → length nodes ≤ count → HaveHeard config told count nodes
-    → AreStarted config told nodes
-all_heard config told count nodes all have number d within = have.heard number d within (omega (arith, all, within))
 
 -- ---- where they stand
 

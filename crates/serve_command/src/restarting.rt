@@ -17,12 +17,13 @@ use chosen_records::ChosenFault;
 use flight_service::{Beginning, Config, Journal, Recent, Seat, Started, start_nodes};
 use node_seats::Seat as NodeSeat;
 use resumed_nodes::laws::members_go_on;
-use resumed_nodes::{ReopenFault, chosen_by, hear_next, reopen_next};
+use resumed_nodes::{ReopenFault, chosen_by, hear_together, reopen_next};
 use stable_records::StoreFault;
 use std::alloc::Global;
 use std::hash::RandomState;
 use std::io::Eprint;
 use std::sync::{Mutex, Wait};
+use std::thread::Threads;
 use std::time::Clock;
 
 /// The nodes of a cluster that have started again, each over the records in its file.
@@ -114,29 +115,10 @@ fn chosen(alloc: Global, agreed: Agreed, nodes: &FileNodes) -> Result<Vec<Messag
     }
 }
 
-// Has each node hear what was chosen.
-fn have_hear<R: Clock + Eprint>(
-    agreed: Agreed,
-    nodes: &mut [NodeSeat<FileStore>],
-    told: &[Message],
-    progress: &mut Progress<'_, R>,
-) -> Result<(), ServeFault>
-    requires started { AreStarted agreed [] nodes.old }
-    requires may { All (MayBeTold agreed) told.now }
-    ensures heard { OnOk result (AreStarted agreed told.now nodes.new) }
-    ensures records { OnOk result (records_of nodes.new ≡ records_of nodes.old) }
-{
-    for number in 0..nodes.len() {
-        if hear_next(agreed, nodes, number, told).is_err() {
-            return Err(ServeFault::OutOfMemory);
-        }
-        progress.tell(number, "has learned what was decided");
-    }
-    Ok(())
-}
-
-// The nodes, once each has heard what was chosen.
-fn heard<R: Clock + Eprint>(
+// The nodes, once each has heard what was chosen, all at once.
+fn heard<R: Threads + Clock + Eprint + Sync>(
+    rt: &R,
+    alloc: Global,
     agreed: Agreed,
     nodes: FileNodes,
     told: &[Message],
@@ -148,20 +130,19 @@ fn heard<R: Clock + Eprint>(
     ensures records { IfOk result (λ heard. records_of heard.items ≡ records_of nodes.items) }
     ensures all { IfOk result (λ heard. length heard.items ≡ length nodes.items) }
 {
-    let mut nodes = nodes;
-    match have_hear(agreed, nodes.as_mut_slice(), told, progress) {
-        Ok(()) => Ok(nodes),
-        Err(fault) => {
-            drop(nodes);
-            Err(fault)
-        }
+    let Ok(nodes) = hear_together(rt, alloc, agreed, nodes, told) else {
+        return Err(ServeFault::OutOfMemory);
+    };
+    for number in 0..nodes.len() {
+        progress.tell(number, "has learned what was decided");
     }
+    Ok(nodes)
 }
 
 /// The nodes over these stores, the last node's first, each with the records in its file, once they have heard what these say
 /// was chosen; and the messages that told them so. Whatever history left the nodes with these records, some history precedes
 /// them as they stand then, in which clients did the same and were answered the same.
-pub(crate) fn restart<R: Clock + Eprint>(
+pub(crate) fn restart<R: Threads + Clock + Eprint + Sync>(
     rt: &R,
     alloc: Global,
     hashing: RandomState,
@@ -182,7 +163,7 @@ pub(crate) fn restart<R: Clock + Eprint>(
             return Err(fault);
         }
     };
-    match heard(agreed, nodes, told.as_slice(), &mut progress) {
+    match heard(rt, alloc, agreed, nodes, told.as_slice(), &mut progress) {
         Ok(nodes) => Ok((nodes, told)),
         Err(fault) => Err(fault),
     }

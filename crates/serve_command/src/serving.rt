@@ -58,6 +58,7 @@ pub fn serve_run<
         + Alloc<A = Global>
         + Copy
         + Send
+        + Sync
         + 'static,
     W: Write,
     E: Write,
@@ -104,6 +105,7 @@ fn serve_from<
         + Alloc<A = Global>
         + Copy
         + Send
+        + Sync
         + 'static,
     W: Write,
 >(
@@ -297,6 +299,7 @@ pub fn serve_again<
         + Files<File = File>
         + Copy
         + Send
+        + Sync
         + 'static,
     W: Write,
 >(

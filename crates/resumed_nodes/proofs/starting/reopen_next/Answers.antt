@@ -1,6 +1,6 @@
 use Rattle.std.proofs.Common.{◌≡◌, [], Bool, true, false, IsTrue, length, sym, subst, ◌∙◌}
 use Rattle.resumed_nodes.specs.Starting.{AreOwn, AreStarted}
-use Rattle.resumed_nodes.proofs.Restarted.{on_ok, one_more, opened}
+use Rattle.resumed_nodes.proofs.Restarted.{one_more, opened}
 use Rattle.resumed_nodes.proofs.starting.reopen_next.Goals as goal
 
 not_both : (b : Bool) → b ≡ false → IsTrue b → ⊥
@@ -16,18 +16,16 @@ returns-then-not-are_own-clause-fault g c = (
 )
 
 pub returns-clause-added : goal.returns-clause-added
-returns-clause-added g c =
-    on_ok c.push.result (λ behind. record {
-      node = c.in-Ok.node;
-      behind = behind;
-      found = c.in-Ok.ensures.found;
-      own = subst (AreOwn c.args.me) c.records.ensures (c.are_own.ensures.0 c.if-not-are_own.false);
-    })
-    c.push.ensures.added
+returns-clause-added g c = record {
+  node = c.in-Ok.node;
+  behind = c.in_ok-push.ensures.added;
+  found = c.in-Ok.ensures.found;
+  own = subst (AreOwn c.args.me) c.records.ensures (c.are_own.ensures.0 c.if-not-are_own.false);
+}
 
 pub returns-clause-started : goal.returns-clause-started
 returns-clause-started g c =
     let nodes = c.args.nodes.now.items in
     let node = c.in-Ok.node in
     let is = opened c.args.config (length nodes) node (c.in-Ok.ensures.me ∙ sym c.requires.next) c.in-Ok.ensures.config c.in-Ok.ensures.placed c.in-Ok.ensures.stands in
-    on_ok c.push.result (λ behind. subst (AreStarted c.args.config []) (sym behind) (one_more c.args.config nodes node c.requires.started is)) c.push.ensures.added
+    subst (AreStarted c.args.config []) (sym c.in_ok-push.ensures.added) (one_more c.args.config nodes node c.requires.started is)
