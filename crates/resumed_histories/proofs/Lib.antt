@@ -3,4 +3,5 @@ mod Starting
 mod Sending
 mod Finding
 mod Accepting
+mod Recorded
 pub mod Outlasting

@@ -1,6 +1,6 @@
 //! Laws of nodes that all start again.
 
-ghost use Rattle.std.specs.Prelude.{◌≡◌, ◌⊎◌, ℕ, ◌<◌, ◌≤◌, Bool, true, Some, List, ◌++◌};
+ghost use Rattle.std.specs.Prelude.{◌≡◌, ◌⊎◌, ℕ, ◌<◌, ◌≤◌, Bool, true, Some, List, ◌++◌, slice_get};
 ghost use Rattle.std.specs.List.{Contains};
 ghost use Rattle.ballots.specs.Message.{message};
 ghost use Rattle.ballots.specs.declared.acceptance.Acceptance.{Acceptance};
@@ -9,6 +9,7 @@ ghost use Rattle.ballots.specs.declared.record.Record.TheVariants.{Accepted as H
 ghost use Rattle.ballots.specs.declared.message.Message.{Message};
 ghost use Rattle.ballots.specs.declared.message.Body.TheVariants.{Accepted};
 ghost use Rattle.agreement_rules.specs.Views.{Config};
+ghost use Rattle.agreement_rules.specs.Keeping.{record_of};
 ghost use Rattle.histories.specs.History.{Step, History};
 ghost use Rattle.table_types.specs.Uploads.{Upload};
 ghost use Rattle.table_types.specs.Tables.{applied};
@@ -19,7 +20,7 @@ ghost use Rattle.histories.specs.Following.{Seat, IsDown, recovered_in, Reaches,
 ghost use Rattle.histories.specs.Keeping.{records_in};
 ghost use Rattle.safe_histories.specs.Safe.{IsStep, StandsIn};
 ghost use Rattle.joined_histories.specs.Joined.{Precedes};
-ghost use Rattle.cut_histories.specs.Settling.{of_clients};
+ghost use Rattle.cut_histories.specs.Settling.{is_of_a_client, of_clients};
 ghost use Rattle.resumed_histories.specs.StartingOver.{StartsOver, StartsOrHands, IsRecorded};
 ghost use Rattle.resumed_histories.specs.Finding.{WasFound};
 
@@ -59,6 +60,25 @@ pub fn accepted_records_were_sent()
     records_are_kept();
     replies_are_its_own();
 }
+
+/// The record that stands behind a message which a member sent is among those that the history leaves it (Lamport, *Paxos
+/// Made Simple*, section 2.5): of an Accepted the acceptance, of a Promise the promise, of a Prepare the begin of its
+/// attempt.
+pub fn what_was_sent_is_recorded()
+    ensures { (config : Config) (sent : List Message) (steps : List Step) (recovered : List Bool) (seats : ℕ → Seat)
+        (m : Message) (kept : Record) → m.sender < config.members → Reaches config sent steps recovered seats
+        → Contains sent m → record_of m ≡ Some kept → Contains (records_in (seats m.sender)) kept }
+{
+    records_are_kept();
+    replies_are_its_own();
+}
+
+/// Where clients did the same in two histories, and were answered the same, each of these steps stands in both.
+pub fn what_clients_did_stands()
+    ensures { (other steps : List Step) → of_clients other ≡ of_clients steps → (place : ℕ) (step : Step)
+        → is_of_a_client step.event ≡ true → slice_get steps place ≡ Some step
+        → (at : ℕ) × (slice_get other at ≡ Some step) }
+{}
 
 /// Where a history left the nodes so, and all members start again with their records and hear again acceptances that are
 /// among these, some history precedes nodes that start as these have started, in which clients did the same and were

@@ -4,3 +4,5 @@ mod Refusing
 pub mod Taking
 pub mod Members
 pub mod Restarted
+pub mod Learned
+pub mod Knowing

@@ -29,7 +29,7 @@ strangers_stay config sent node outside (s ∷ steps) (f ∷ found) seats last n
 
 -- ---- where the list has a node
 
-there : {X Y : Type 0} (f : X → Y) (xs : List X) (node : ℕ) (d : Y) → node < length xs → (x : X) × (slice_get xs node ≡ Some x) × (slice_index_or (map f xs) node d ≡ f x)
+pub there : {X Y : Type 0} (f : X → Y) (xs : List X) (node : ℕ) (d : Y) → node < length xs → (x : X) × (slice_get xs node ≡ Some x) × (slice_index_or (map f xs) node d ≡ f x)
 there f [] node d within = absurd (omega (arith, within))
 there f (x ∷ xs) zero d within = (x, refl, refl)
 there f (x ∷ xs) (suc node) d within = there f xs node d (omega (arith, within))

@@ -1,3 +1,4 @@
 pub mod Heard
 pub mod Hearing
 pub mod Starting
+pub mod Knowing

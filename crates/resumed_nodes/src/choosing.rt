@@ -1,12 +1,11 @@
 //! What the records of all nodes say was chosen.
 
-ghost use Rattle.std.specs.Prelude.{◌≡◌, ℕ, [], length, map, IfErr, IfOk};
+ghost use Rattle.std.specs.Prelude.{◌≡◌, [], length, map, IfErr, IfOk};
 ghost use Rattle.std.specs.List.{All};
 ghost use Rattle.std.specs.List.Sorted.{IsNonDecreasingBy};
-ghost use Rattle.ballots.specs.Ballot.{Ballot as Pair};
-ghost use Rattle.ballots.specs.declared.value.Value.{Value as Held};
-ghost use Rattle.chosen_records.specs.Chosen.{IsChosenAt, IsRecorded, IsToldChosen, TellsChosen, TellsDiffer};
+ghost use Rattle.chosen_records.specs.Chosen.{IsRecorded, TellsChosen, TellsDiffer};
 ghost use Rattle.resumed_nodes.specs.Starting.{AreStarted, MayBeTold, records_of};
+ghost use Rattle.resumed_nodes.specs.Knowing.{TellsAll};
 
 use ballots::{Message, OutOfMemory, Record};
 use chosen_records::{ChosenFault, chosen_again};
@@ -31,8 +30,7 @@ pub fn chosen_by<S: Stable + Drop>(
     ensures recorded { IfOk result (λ told. All (IsRecorded (records_of nodes.now)) told.items) }
     ensures may { IfOk result (λ told. All (MayBeTold config) told.items) }
     ensures only { IfOk result (λ told. All (TellsChosen config.members (records_of nodes.now)) told.items) }
-    ensures chosen { IfOk result (λ told. (slot : ℕ) (ballot : Pair) (value : Held)
-        → IsChosenAt config.members (records_of nodes.now) slot ballot value → IsToldChosen config.members told.items slot) }
+    ensures chosen { IfOk result (λ told. TellsAll config (records_of nodes.now) told.items) }
     ensures rising { IfOk result (λ told. IsNonDecreasingBy (λ message. message.slot) told.items) }
     ensures differ { IfErr result (TellsDiffer (records_of nodes.now)) }
 {

@@ -13,9 +13,19 @@ ghost use Rattle.chosen_records.specs.Chosen.{IsRecorded};
 ghost use Rattle.node_seats.specs.State.{SeatState};
 ghost use Rattle.resumed_nodes.specs.Heard.{heard, starts_of};
 ghost use Rattle.resumed_nodes.specs.Starting.{AreStarted, GoesOn, records_of};
+ghost use Rattle.resumed_nodes.specs.Knowing.{TellsAll, KnowsAcknowledged};
 
-use resumed_histories::laws::a_process_may_start_over;
+use lawful_histories::laws::lawful_by_messages;
+use learner::laws::learned_is_decided_or_chosen;
+use resumed_histories::laws::{
+    a_process_may_start_over, what_clients_did_stands, what_was_sent_is_recorded,
+};
+use safe_histories::laws::{
+    prefix_is_shown, prefixes_begin_one_another, replicas_agree, running_is_shown,
+    running_members_answer, texts_have_one_list_of_uploads,
+};
 use stable_records::Stable;
+use table_types::laws::{tables_grow, uploads_count_once, uploads_have_one_encoding};
 
 /// A node that starts with these records and hears these messages has one thing then, whichever node it is.
 pub fn what_is_heard_is_one()
@@ -45,4 +55,29 @@ pub fn members_go_on<S: Stable>()
 {
     members_have_started_over();
     a_process_may_start_over();
+}
+
+/// Members that have all started again so, and have heard of each slot of which a majority of them recorded an acceptance
+/// at one ballot, know at once all that was acknowledged in whatever history left them with these records (Lamport, *Paxos
+/// Made Simple*, sections 2.3 and 2.5): an upload that was told to be applied as a version is applied as that version at
+/// each of them, and they have that version. [`chosen_by`](crate::chosen_by) gives such messages.
+pub fn members_know_what_was_acknowledged<S: Stable>()
+    ensures { (config : Config) (nodes : List (SeatState S)) (told : List Message)
+        → length nodes ≡ config.members → AreStarted config told nodes → All (IsRecorded (records_of nodes)) told
+        → TellsAll config (records_of nodes) told → KnowsAcknowledged config (records_of nodes) told }
+{
+    members_go_on::<S>();
+    what_clients_did_stands();
+    what_was_sent_is_recorded();
+    replicas_agree();
+    lawful_by_messages();
+    running_is_shown();
+    running_members_answer();
+    prefix_is_shown();
+    prefixes_begin_one_another();
+    learned_is_decided_or_chosen();
+    uploads_have_one_encoding();
+    texts_have_one_list_of_uploads();
+    tables_grow();
+    uploads_count_once();
 }
