@@ -5,6 +5,7 @@ ghost use Rattle.std.specs.List.{All};
 ghost use Rattle.chosen_records.specs.Chosen.{IsRecorded};
 ghost use Rattle.schedule_runner.specs.Told.{config_of};
 ghost use Rattle.resumed_nodes.specs.Starting.{AreStarted, GoesOn, MayBeTold, records_of};
+ghost use Rattle.resumed_nodes.specs.Knowing.{KnowsAcknowledged, TellsAll};
 ghost use Rattle.serve_command.specs.Restarting.{AreAtStart};
 
 use crate::fault::ServeFault;
@@ -16,8 +17,9 @@ use ballots::{Message, NodeId};
 use chosen_records::ChosenFault;
 use flight_service::{Beginning, Config, Journal, Recent, Seat, Started, start_nodes};
 use node_seats::Seat as NodeSeat;
-use resumed_nodes::laws::members_go_on;
+use resumed_nodes::laws::{members_go_on, members_know_what_was_acknowledged};
 use resumed_nodes::{ReopenFault, chosen_by, hear_together, reopen_next};
+use shared_values::HeldValues;
 use stable_records::StoreFault;
 use std::alloc::Global;
 use std::hash::RandomState;
@@ -50,7 +52,20 @@ fn reopen_fault(node: u8, fault: ReopenFault) -> ServeFault {
     }
 }
 
-// Starts the next node again, over the last of the stores.
+// The values that the last of these nodes has in memory. Where there is none, or memory for their places is refused, there are
+// no values: the next node then has its own.
+fn held_by_last(alloc: Global, nodes: &FileNodes) -> HeldValues {
+    match nodes.as_slice().last() {
+        Some(node) => match HeldValues::of(alloc, node.records()) {
+            Ok(held) => held,
+            Err(_) => HeldValues::none(alloc),
+        },
+        None => HeldValues::none(alloc),
+    }
+}
+
+// Starts the next node again, over the last of the stores. Where its records have the values of the node before it, it shares
+// them, so that the values of all nodes take the memory of one.
 fn restart_next(
     alloc: Global,
     hashing: RandomState,
@@ -62,7 +77,7 @@ fn restart_next(
     ensures { OnOk result (AreStarted agreed [] nodes.new.items) }
 {
     let number = nodes.len();
-    let (Ok(node), Some(store)) = (u8::try_from(number), stores.pop()) else {
+    let (Ok(node), Some(mut store)) = (u8::try_from(number), stores.pop()) else {
         return Err(ServeFault::Members);
     };
     let Some(me) = NodeId::new(node) else {
@@ -73,6 +88,7 @@ fn restart_next(
         drop(store);
         return Err(ServeFault::Members);
     }
+    store.hold(held_by_last(alloc, nodes));
     match reopen_next(alloc, hashing, me, agreed, nodes, store) {
         Ok(()) => Ok(()),
         Err(fault) => Err(reopen_fault(node, fault)),
@@ -104,6 +120,7 @@ fn chosen(alloc: Global, agreed: Agreed, nodes: &FileNodes) -> Result<Vec<Messag
     ensures all { IfOk result (λ told. length nodes.now.items ≡ agreed.members) }
     ensures may { IfOk result (λ told. All (MayBeTold agreed) told.items) }
     ensures recorded { IfOk result (λ told. All (IsRecorded (records_of nodes.now.items)) told.items) }
+    ensures chosen { IfOk result (λ told. TellsAll agreed (records_of nodes.now.items) told.items) }
 {
     if nodes.len() != usize::from(agreed.members().count()) {
         return Err(ServeFault::Members);
@@ -141,7 +158,8 @@ fn heard<R: Threads + Clock + Eprint + Sync>(
 
 /// The nodes over these stores, the last node's first, each with the records in its file, once they have heard what these say
 /// was chosen; and the messages that told them so. Whatever history left the nodes with these records, some history precedes
-/// them as they stand then, in which clients did the same and were answered the same.
+/// them as they stand then, in which clients did the same and were answered the same; and each upload that was told there to be
+/// applied as a version is applied as that version at each of them at once.
 pub(crate) fn restart<R: Threads + Clock + Eprint + Sync>(
     rt: &R,
     alloc: Global,
@@ -151,8 +169,11 @@ pub(crate) fn restart<R: Threads + Clock + Eprint + Sync>(
 ) -> Result<(FileNodes, Vec<Message>), ServeFault>
     ensures started { IfOk result (λ found. AreStarted (config_of config.now) found.1.items found.0.items) }
     ensures goes_on { IfOk result (λ found. GoesOn (config_of config.now) (records_of found.0.items) found.1.items) }
+    ensures knows { IfOk result (λ found.
+        KnowsAcknowledged (config_of config.now) (records_of found.0.items) found.1.items) }
 {
     members_go_on::<FileStore>();
+    members_know_what_was_acknowledged::<FileStore>();
     let agreed = agreed_by(config)?;
     let mut progress = Progress::new(rt);
     let nodes = restarted(alloc, hashing, agreed, stores, &mut progress)?;

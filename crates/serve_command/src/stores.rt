@@ -4,10 +4,12 @@ use crate::fault::ServeFault;
 use disk_records::DiskStable;
 use file_disk::FileDisk;
 use record_sums::SummedStable;
+use shared_values::{HeldValues, SharingStable};
 use std::alloc::Global;
 
-/// The store of a node: its records in one file, and the sum of each in another.
-pub type FileStore = SummedStable<DiskStable<FileDisk>, FileDisk>;
+/// The store of a node: its records in one file, and the sum of each in another. Its recall can share values that another node
+/// has in memory already.
+pub type FileStore = SharingStable<SummedStable<DiskStable<FileDisk>, FileDisk>>;
 
 // The store over the last of these files.
 fn store(
@@ -22,7 +24,8 @@ fn store(
         drop(records);
         return Err(ServeFault::Members);
     };
-    Ok(SummedStable::new(alloc, DiskStable::new(alloc, records), sums))
+    let summed = SummedStable::new(alloc, DiskStable::new(alloc, records), sums);
+    Ok(SharingStable::new(summed, HeldValues::none(alloc)))
 }
 
 /// The stores over the files of so many nodes, in their order.
