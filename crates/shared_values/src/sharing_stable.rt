@@ -1,8 +1,7 @@
 //! A store whose records share the values of others.
 
 ghost use Rattle.std.specs.Prelude.{◌≡◌, IsTrue, OnOk};
-ghost use Rattle.stable_records.specs.Found.{Found};
-ghost use Rattle.stable_records.specs.Calls.{CountsFault, ReadyAfterKeep, ReadyAfterRecall, Keeps, Recalls, LeftInKeep};
+ghost use Rattle.stable_records.specs.Calls.{CountsFault, ReadyAfterRecall, Recalls};
 ghost use Rattle.stable_records.specs.Moments.{AnyCrashLeaves};
 ghost use Rattle.shared_values.specs.Held.{HoldsNone};
 
@@ -52,7 +51,7 @@ impl<S: Stable> SharingStable<S> {
 }
 
 impl<S: Stable> Stable for SharingStable<S> {
-    ghost use Rattle.shared_values.specs.SharingStable.{store_of, held_of};
+    ghost use Rattle.shared_values.specs.SharingStable.{held_of};
 
     ghost tells = { S.tells };
 
