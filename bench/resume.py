@@ -7,6 +7,9 @@ A server takes one upload, and its record is written COUNT times into the files 
 if a cluster had taken as many: 100,000 where nothing is said. With BYTES the uploads have a column of texts of as many bytes together. Then a
 server goes on over these files: the seconds until it has told its addresses, those that `cat` takes for the files, and the most memory that it
 held. Each node has to report all versions at once.
+
+Seen of three nodes, on four processors: 100,000 uploads of 542 bytes served after 4.9 and 5.0 s, with at most 382 MiB held; 70 of 15 MB after
+25.9 and 27.8 s, where `cat` took 1.3 s, with at most 4,066 MiB. When each node still held its own values and heard alone it was 489 and 6,015 MiB.
 """
 import struct
 import subprocess
