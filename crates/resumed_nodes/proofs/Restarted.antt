@@ -1,5 +1,5 @@
 -- Nodes that start again, one after the other.
-use Rattle.std.proofs.Common.{◌≡◌, ℕ, zero, suc, ◌+◌, ◌<◌, arith, inl, inr, Bool, None, Some, Result, Ok, Err, OnOk, IfOk, List, [], ◌∷◌, ◌++◌, length, map, slice_get, slice_index_or, refl, sym, ap, subst, ◌∙◌}
+use Rattle.std.proofs.Common.{◌≡◌, ℕ, zero, suc, ◌<◌, arith, inl, inr, Bool, None, Some, Result, Ok, Err, IfOk, List, [], ◌∷◌, ◌++◌, length, map, slice_get, slice_index_or, refl, sym, ap, subst, ◌∙◌}
 use Rattle.std.specs.List.{All, Contains}
 use Rattle.std.proofs.lemmas.Bool.{cases_lt}
 use Rattle.std.proofs.lemmas.List.{length-map, length_push, get_or_push, get_or_append_left}
@@ -176,10 +176,6 @@ go_on starts_over may_start config nodes told count started recorded left before
     (each_hears config nodes told started left found back))
 
 -- ---- by cases of an answer
-
-pub on_ok : {V E : Type 0} {A B : Type 0} (result : Result V E) → (A → B) → OnOk result A → OnOk result B
-on_ok (Ok value) gives has = gives has
-on_ok (Err fault) gives has = tt
 
 pub may_all : {S V E : Type 0} (config : Config) (nodes : List (SeatState S)) (items : V → List Message) (result : Result V E) → length nodes ≡ config.members
     → AreStarted config [] nodes → IfOk result (λ told. All (IsRecorded (records_of nodes)) (items told)) → IfOk result (λ told. All (MayBeTold config) (items told))

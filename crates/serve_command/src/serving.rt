@@ -36,9 +36,10 @@ use std::time::Clock;
 
 /// `flightd serve`: serves a cluster of 3 or 5 nodes, node k at the port of 127.0.0.1 that is k more than the first, until it
 /// is ended from outside. Once all ports are open a line for each node goes to `w`, which is flushed ([`tell_addresses`]).
-/// `hashing` has the random keys that keep look-ups fast whatever names clients choose. Node k keeps its records in the file `node-k.rec`
-/// of `folder`, which is made where it is missing, and has the name `id` where it is new. Where `is_resumed` says so, the nodes go on over the records that an earlier
-/// server left there, and have learned at once what these say was chosen; else no file may have records yet.
+/// `hashing` has the random keys that keep look-ups fast whatever names clients choose. Node k keeps its records in the file
+/// `node-k.rec` of `folder`, which is made where it is missing, and has the name `id` where it is new. Where `is_resumed` says so, the
+/// nodes go on over the records that an earlier server left there, and have learned at once what these say was chosen; else no file
+/// may have records yet.
 ///
 /// A fault's line goes to `e`: `flightd: Bind` where a port can't be had, `flightd: Members` where the cluster would have
 /// another number of nodes, `flightd: Open` where the folder or a file can't be opened or made, `flightd: Locked` where another
