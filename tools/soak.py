@@ -382,13 +382,14 @@ class Round:
             self.compare_rows(table, info.ticket.version)
 
     def compare_old(self):
-        """What any server before this one was heard of, once this one has started: all nodes tell of that, and of the same version, and serve it
-        at once; and uploads that are put again are told their versions."""
+        """What any server before this one was heard of, once this one has started: each node tells of that at once, and serves it with the bytes
+        that it had; and uploads that are put again are told their versions. A put that had no answer may be decided only now: then a node may
+        tell of a later version before another one does, and all come to tell the same."""
         for table in [it for it in TABLES if self.old[it]]:
-            infos = [self.client(node).info(table) for node in range(self.nodes)]
-            want(infos, [infos[0]] * self.nodes)
-            self.check_info(0, infos[0], self.old[table])
-            self.old[table] = infos[0].ticket.version
+            for node in range(self.nodes):
+                self.check_info(node, self.client(node).info(table), self.old[table])
+                self.compare(node, table, self.old[table])
+            self.old[table] = self.agreed_info(table, self.old[table]).ticket.version
             for node in range(self.nodes):
                 self.compare(node, table, self.old[table])
         for upload in self.drawn.sample(self.kept, min(len(self.kept), MOST_AGAIN)):
