@@ -366,6 +366,7 @@ def selftest():
 
 
 def main():
+    """Runs the command that the words of the program name. Returns the status."""
     signal.signal(signal.SIGPIPE, signal.SIG_DFL)
     words = sys.argv[1:]
     if words in (["--check"], ["--selftest"]):

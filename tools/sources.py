@@ -186,14 +186,17 @@ class Reader:
         return Item(kind, name, public, self.file, line, comment_above(self.text, at, "///"))
 
     def use(self, found, _head, _after):
+        """A `use`, with the paths that it names."""
         at = found.start()
         tree = self.text[found.start(2) : self.mask.index(";", at)]
         return self.base("use", "", found.group(1) == "pub ", at)._replace(names=tuple(use_paths(tree)))
 
     def module(self, found, _head, _after):
+        """A `mod`."""
         return self.base("mod", found.group(2), found.group(1) == "pub ", found.start())
 
     def function(self, found, head, _after):
+        """A function with its signature, without the comments in it, and its clauses."""
         clauses, first = clauses_of(self.text, self.mask, found.end(), head)
         signature = dedented(self.text, found.start(), first).rstrip()
         if clauses:
@@ -202,6 +205,7 @@ class Reader:
         return base._replace(signature=signature, clauses=clauses)
 
     def type(self, found, head, after):
+        """A type, constant or trait: what it names, or the members of a trait."""
         base = self.base(found.group(2), found.group(3), found.group(1) == "pub ", found.start())
         body = self.mask[head:after]
         names = tuple(re.findall(r"[A-Za-z_]\w*", body)) if base.kind in ("struct", "enum") else ()
@@ -211,6 +215,7 @@ class Reader:
         return base._replace(signature=signature, **self.members(head, after))
 
     def block(self, found, head, after):
+        """An `impl`: its kind is that of the trait, its name that of the type."""
         signature = re.sub(r"\s+", " ", self.text[found.start() : head].strip())
         kind, name = impl_of(signature)
         return self.base(kind, name, False, found.start())._replace(signature=signature, **self.members(head, after))
