@@ -9,20 +9,17 @@ round.
 
 import json
 import sys
+from pathlib import Path
+
+sys.dont_write_bytecode = True
+sys.path.append(str(Path(__file__).resolve().parent.parent / "tools"))
+
+from wire_model import bytes_field, number_field
 
 MEMBERS = 3
 SLOTS = int(sys.argv[2]) if len(sys.argv) > 2 else 10
 PREPARE, PROMISE, ACCEPT, ACCEPTED, DECIDED = 1, 2, 4, 5, 7
 KIND, SENDER, SLOT, ROUND, NODE, SECOND_ROUND, SECOND_NODE, VALUE = 1, 2, 3, 5, 6, 7, 8, 9
-
-
-def varint(number):
-    out = bytearray()
-    while number >= 128:
-        out.append(number & 127 | 128)
-        number >>= 7
-    out.append(number)
-    return bytes(out)
 
 
 def message(kind, sender, slot, ballot=None, reported=None, value=b""):
@@ -31,9 +28,9 @@ def message(kind, sender, slot, ballot=None, reported=None, value=b""):
         numbers += [(ROUND, ballot[0]), (NODE, ballot[1])]
     if reported:
         numbers += [(SECOND_ROUND, reported[0]), (SECOND_NODE, reported[1])]
-    out = b"".join(varint(field << 3) + varint(number) for field, number in numbers if number)
+    out = b"".join(number_field(field, number) for field, number in numbers if number)
     if value:
-        out += varint(VALUE << 3 | 2) + varint(len(value)) + value
+        out += bytes_field(VALUE, value)
     return out.hex()
 
 

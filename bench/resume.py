@@ -20,8 +20,8 @@ from pathlib import Path
 
 sys.path.insert(0, str(Path(__file__).resolve().parent.parent / "tools"))
 
-from folder_model import fields_of
 from servers import PROGRAM, felzoren, look, records_in, server, started, want
+from wire_model import bytes_field, number_field, values_by_number
 
 NODES = 3
 ROWS = [{"shop": "Bern", "sold": 3}, {"shop": "Zürich", "sold": None}]
@@ -33,19 +33,12 @@ def rows_of(size):
     return ROWS if not size else [{"text": "x" * min(TEXT_BYTES, size - at)} for at in range(0, size, TEXT_BYTES)]
 
 
-def varint(value):
-    found = b""
-    while value > 0x7F:
-        found, value = found + bytes([value & 0x7F | 0x80]), value >> 7
-    return found + bytes([value])
-
-
 def template_of(program, size):
     """The bytes of an upload, and its id."""
     with tempfile.TemporaryDirectory() as folder:
         with server(program, NODES, folder) as (clients, _):
             ack = clients[0].put("resumed", rows_of(size))
-        records = [fields_of(it) for it in records_in(f"{folder}/node-0.rec")]
+        records = [values_by_number(it) for it in records_in(f"{folder}/node-0.rec")]
     return next(it[5] for it in records if 5 in it), bytes.fromhex(ack.id)
 
 
@@ -55,7 +48,7 @@ def write_files(folder, count, upload, name):
     with open(f"{folder}/node-0.rec", "wb") as file:
         for slot in range(count):
             value = upload[:at] + struct.pack(">QQ", 7, slot) + upload[at + len(name) :]
-            record = b"\x08\x03" + (b"\x10" + varint(slot) if slot else b"") + b"\x18\x01\x2a" + varint(len(value)) + value
+            record = number_field(1, 3) + (number_field(2, slot) if slot else b"") + number_field(3, 1) + bytes_field(5, value)
             file.write(b"\x01" + struct.pack("<I", len(record)) + record)
         file.write(b"\x00")
     for number in range(1, NODES):

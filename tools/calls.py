@@ -13,7 +13,7 @@ from batches import bytes_of, spelled
 from calls_model import DESCRIPTOR, METHODS, PATH, SERVICE, Service, Unjudged
 from tables import A, POOL, ROW, TAGGED, TEXTS, id_of, numbers, schema
 from tables_model import Upload, schema_text, ticket_text, upload_of
-from wire_model import bytes_field, encoding, number_field
+from wire_model import END, bytes_field, encoding, frame, number_field
 
 CRATES = Path(__file__).resolve().parent.parent / "crates"
 DATA = CRATES / "call_stories" / "data"
@@ -37,10 +37,6 @@ ELSEWHERE = "The notation is that of rows.txt. Made by tools/calls.py, and not b
 # ---- stories, told as the program tells them
 
 
-def framed(flag, payload):
-    return bytes([flag]) + len(payload).to_bytes(4, "big") + payload
-
-
 class Story:
     def __init__(self):
         self.named, self.service = {"empty": b""}, Service(0, [])
@@ -59,13 +55,13 @@ class Story:
 
     def part(self, word):
         if word == "end":
-            return framed(0x80, b"")
+            return frame(END, b"")
         if word.startswith("/"):
-            return framed(0, SERVICE + word[1:].encode())
+            return frame(0, SERVICE + word[1:].encode())
         if word.startswith("+"):
             return self.named[word[1:]]
         count, _, name = word.rpartition("*")
-        return int(count or 1) * framed(0, self.named[name])
+        return int(count or 1) * frame(0, self.named[name])
 
     def text(self, words):
         return b"".join(map(self.part, words.split()))
@@ -197,7 +193,7 @@ def faults():
     lines = ["# Each refusal of a call at least once, with what is left unread behind it, and what clients do beyond what is asked.",
              f"# {ELSEWHERE}", "", "# Messages of calls that are refused, and of some that are not.", *commands]
     lines += [f"bytes {name} {spelled(text)}".rstrip() for name, text in bad.items()]
-    raw = {"flag1": b"\1\0\0\0\0", "flag2": b"\2\0\0\0\0", "toolong": b"\0\0\x40\0\1", "endfull": b"\x80\0\0\0\1x", "front": b"\0\0", "path": framed(0, b"/x.Y/DoGet")}
+    raw = {"flag1": b"\1\0\0\0\0", "flag2": b"\2\0\0\0\0", "toolong": b"\0\0\x40\0\1", "endfull": b"\x80\0\0\0\1x", "front": b"\0\0", "path": frame(0, b"/x.Y/DoGet")}
     lines += [f"bytes {name} {spelled(text)}" for name, text in raw.items()]
     lines += ["", "# Frames: a service that takes five uploads.", f"new 5 {LOCATIONS[0]}", "call", "call end", "call +endfull", "call +front",
               "call +path", "call /Handshake end", "call /DoGet", "call /DoGet +flag1 end", "call /DoGet +flag2 end", "call /DoGet +toolong end",
@@ -297,7 +293,7 @@ def answered_over_pipes(text):
     service, out = Service(1_000_000, LOCATIONS), b""
     while text:
         messages, status, name, text = service.serve(text)
-        out += b"".join(framed(0, it) for it in messages) + framed(0x80, bytes([status]) + name.encode())
+        out += b"".join(frame(0, it) for it in messages) + frame(END, bytes([status]) + name.encode())
     return out
 
 

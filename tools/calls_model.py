@@ -6,7 +6,7 @@ Headers are those of headers_model.py. Which fault is told of a header or a mess
 import headers_model
 from batch_model import Head, meaning
 from tables_model import MOST_BATCHES, Upload, answer, effective, is_table_name, latest, outcome, table_names, ticket_of, ticket_text, type_in
-from wire_model import DATA_MESSAGE, DESCRIPTOR, INFO, MAX_FRAME_PAYLOAD, TICKET, Faults, bytes_field, encoding, meant_inside, number_field
+from wire_model import DATA_MESSAGE, DESCRIPTOR, INFO, TICKET, BadFrame, Faults, bytes_field, encoding, frame_at, meant_inside, number_field
 
 SERVICE = b"/arrow.flight.protocol.FlightService/"
 METHODS = (b"GetFlightInfo", b"GetSchema", b"ListFlights", b"DoGet", b"DoPut")
@@ -39,22 +39,17 @@ class Unjudged(Exception):
 # ---- frames, and messages
 
 
-def frame_at(text):
-    """The flag and the payload of the frame at the front, and what stands behind it."""
+def next_frame(text):
+    """Whether the frame at the front is the end of the call, its payload, and what follows it."""
     if not text:
         raise Refusal("NoEnd", b"")
-    if len(text) < 5:
-        raise Refusal("Truncated", b"")
-    flag, length, rest = text[0], int.from_bytes(text[1:5], "big"), text[5:]
-    if flag not in (0, 0x80):
-        raise Refusal("Compressed" if flag == 1 else "BadFlag", rest)
-    if length > MAX_FRAME_PAYLOAD:
-        raise Refusal("TooLong", rest)
-    if len(rest) < length:
-        raise Refusal("Truncated", b"")
-    if flag and length:
-        raise Refusal("BadFlag", rest[length:])
-    return bool(flag), rest[:length], rest[length:]
+    try:
+        flag, payload, rest = frame_at(text)
+    except BadFrame as fault:
+        raise Refusal(fault.name, fault.rest) from None
+    if flag and payload:
+        raise Refusal("BadFlag", rest)
+    return bool(flag), payload, rest
 
 
 def meant(text, table, left):
@@ -102,11 +97,11 @@ ASKED = {b"GetFlightInfo": table_asked, b"GetSchema": table_asked, b"ListFlights
 
 def one_message(method, text):
     """What the one message of a method asks for, and what stands behind its end."""
-    is_end, message, text = frame_at(text)
+    is_end, message, text = next_frame(text)
     if is_end:
         raise Refusal("MessageCount", text)
     asked = ASKED[method](message, text)
-    is_end, _, text = frame_at(text)
+    is_end, _, text = next_frame(text)
     if not is_end:
         raise Refusal("MessageCount", text)
     return asked, text
@@ -170,13 +165,13 @@ def addition(schema, batches, text, left):
 
 def upload_asked(text):
     """The upload of the messages, and what stands behind their end."""
-    is_end, message, text = frame_at(text)
+    is_end, message, text = next_frame(text)
     if is_end:
         raise Refusal("NoSchema", text)
     table, name, schema = opening(message, text)
     batches = []
     for count in range(2, MOST_FRAMES + 2):
-        is_end, message, text = frame_at(text)
+        is_end, message, text = next_frame(text)
         if is_end:
             upload = Upload(table, name, schema, batches)
             if not upload.is_taken():
@@ -190,7 +185,7 @@ def upload_asked(text):
 
 def call_asked(text):
     """The method, what it asks for, and what stands behind the call."""
-    is_end, path, text = frame_at(text)
+    is_end, path, text = next_frame(text)
     if is_end or not path.startswith(SERVICE):
         raise Refusal("BadPath", text)
     method = path.removeprefix(SERVICE)

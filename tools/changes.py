@@ -3,6 +3,8 @@ written again with right lengths."""
 import json
 import re
 
+from wire_model import joined, varint
+
 # An input is no longer than this.
 MOST_BYTES = 1 << 16
 EDGES = (0, 1, 2, 3, 6, 7, 8, 127, 128, 255, 256, 999_999, 1_000_000, 4_000_000_000, 1 << 31, (1 << 32) + 1, (1 << 53) + 1, (1 << 64) - 1, 1 << 64)
@@ -14,15 +16,6 @@ def number(draw):
 
 def signed(draw):
     return draw.choice((1, 1, 1, -1)) * number(draw)
-
-
-def varint(value):
-    """The number in base 128, also one of more than 64 bits."""
-    text = bytearray()
-    while value > 127:
-        text.append(value & 127 | 128)
-        value >>= 7
-    return bytes(text) + bytes([value])
 
 
 def bytes_changed(draw, text):
@@ -70,7 +63,7 @@ def fields_in(text):
         end = key + 1
         while end < min(len(text), key + 10) and text[end] > 127:
             end += 1
-        length = sum((it & 127) << 7 * place for place, it in enumerate(text[key + 1 : end + 1])) if text[at] & 7 else 0
+        length = joined(text[key + 1 : end + 1]) if text[at] & 7 else 0
         if end + 1 + length > len(text):
             break
         found.append((text[at : key + 1], text[key + 1 : end + 1], text[end + 1 : end + 1 + length]))

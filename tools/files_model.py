@@ -11,7 +11,7 @@ from paxos_model import HEAD, IN_MESSAGE, IN_RECORD, KINDS, MESSAGE, RECORD, Slo
 from paxos_model import may_follow, parts_of, promisers, was_proposed
 from runs_model import Run
 from tables_model import MOST_BATCHES, is_table_name
-from wire_model import MAX_FRAME_PAYLOAD, Faults
+from wire_model import BadFrame, Faults, frame, frame_at
 
 MOST_SLOTS, MOST_MEMBERS, MOST_TICK, MOST_LEVELS = 1_000_000, 7, 255, 60
 
@@ -244,18 +244,13 @@ def records(file):
 
 def payload_at(text):
     """The payload of the frame at the front, and what stands behind it."""
-    if len(text) < 5:
-        raise Faults("Truncated")
-    flag, length = text[0], int.from_bytes(text[1:5], "big")
-    if flag not in (0, 0x80):
-        raise Faults("Compressed" if flag == 1 else "BadFlag")
-    if length > MAX_FRAME_PAYLOAD:
-        raise Faults("TooLong")
-    if len(text) < 5 + length:
-        raise Faults("Truncated")
+    try:
+        flag, payload, rest = frame_at(text)
+    except BadFrame as fault:
+        raise Faults(fault.name) from None
     if flag:
         raise Faults("BadFlag")
-    return text[5 : 5 + length], text[5 + length :]
+    return payload, rest
 
 
 def reply(slot, parts):
@@ -282,7 +277,7 @@ def acceptor(text):
             parts = parts_of(payload, MESSAGE, HEAD, IN_MESSAGE)
             if KINDS[parts["kind"]] in ("Prepare", "Accept"):
                 answer = encoding(MESSAGE, reply(slots.setdefault(parts["slot"], Slot()), parts))
-                output += b"\0" + len(answer).to_bytes(4, "big") + answer
+                output += frame(0, answer)
             count += 1
     except Faults as faults:
         return 1, output, [f"flightd: frame {count}: {it}\n" for it in sorted(faults.names)]

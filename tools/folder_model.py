@@ -6,6 +6,7 @@ from collections import defaultdict
 from pathlib import Path
 
 from servers import records_in
+from wire_model import values_by_number
 
 ENTRY_BYTES = 24
 BEGAN, PROMISED, ACCEPTED = 1, 2, 3
@@ -21,32 +22,9 @@ def entries_of(records):
     return b"".join(entry_of(number, record) for number, record in enumerate(records))
 
 
-def varint(text, at):
-    """A number of seven bits a byte, the lowest first, and the place behind it."""
-    value, shift = 0, 0
-    while True:
-        byte = text[at]
-        value, shift, at = value | (byte & 0x7F) << shift, shift + 7, at + 1
-        if byte < 0x80:
-            return value, at
-
-
-def fields_of(text):
-    """What each field of a message has, by its number: a number, or bytes."""
-    at, found = 0, {}
-    while at < len(text):
-        key, at = varint(text, at)
-        if key & 7 == 0:
-            found[key >> 3], at = varint(text, at)
-        else:
-            size, at = varint(text, at)
-            found[key >> 3], at = text[at : at + size], at + size
-    return found
-
-
 def accepted_by(records):
     """What a node's records say that it accepted: slot, ballot and value, which is None where it is a Noop."""
-    for record in map(fields_of, records):
+    for record in map(values_by_number, records):
         if record.get(1) == ACCEPTED:
             yield record.get(2, 0), (record.get(3, 0), record.get(4, 0)), record.get(5)
 
@@ -66,7 +44,7 @@ def tables_of(values):
     ids = defaultdict(dict)
     for value in values:
         if value is not None:
-            upload = fields_of(value)
+            upload = values_by_number(value)
             ids[upload[1].decode()][upload[2]] = True
     return {table: len(names) for table, names in ids.items()}
 

@@ -13,6 +13,8 @@ import sys
 import tempfile
 from pathlib import Path
 
+from wire_model import frame, number_field
+
 TOP = Path(__file__).resolve().parent.parent
 ROWS = TOP / "tools" / "program"
 EXAMPLES = TOP / "examples"
@@ -90,8 +92,8 @@ def conversations(program):
 
 
 def frame_of(kind, slot):
-    """The frame of a message of this kind, about ballot (1, 0) and a slot of two digits to the base 128."""
-    return bytes([0, 0, 0, 0, 7, 8, kind, 0x18, slot % 128 | 128, slot // 128, 0x28, 1])
+    """The frame of a message of this kind, about ballot (1, 0) and a slot."""
+    return frame(0, number_field(1, kind) + number_field(3, slot) + number_field(5, 1))
 
 
 def frames(program):

@@ -23,7 +23,7 @@ import canonical
 from batch_model import canonical as canonical_batch
 from batch_model import type_of
 from paxos_model import MAX_ROUND, is_majority, may_follow
-from wire_model import bytes_field, number_field
+from wire_model import bytes_field, frame, number_field
 
 EXAMPLES = TOP / "examples"
 MOST_LEFT, MOST_ASKED = 7, 16
@@ -71,7 +71,7 @@ class Upload:
 def answer(uploads):
     """The frames of a version with these uploads."""
     messages = [bytes_field(2, schema_text(uploads[0].name))] + [it for upload in uploads for it in upload.messages()]
-    return b"".join(b"\0" + len(it).to_bytes(4, "big") + it for it in messages)
+    return b"".join(frame(0, it) for it in messages)
 
 
 def effective(uploads, table):

@@ -17,6 +17,7 @@ import time
 from runs_model import Run, Upload
 from stories import answers_of, programs
 from tellers.run import bytes_in, told_steps
+from wire_model import values_by_number
 
 # how many orders are drawn of one upload, and of two, and of how many two nodes and more answer
 ORDERS, ANSWERED = 10_000, 30
@@ -57,7 +58,7 @@ class Told:
     @property
     def sent(self):
         """The fields of each message."""
-        return [fields(bytes_in(it)) for it in self.texts]
+        return [values_by_number(bytes_in(it)) for it in self.texts]
 
     def is_lawful(self):
         return self.judged == "lawful"
@@ -80,27 +81,6 @@ class Told:
         """What was told of uploads, in order."""
         gave = [it.partition(" ")[2] for it in told_steps(self.steps)]
         return [it for it in gave if it.partition(" ")[0] in ("applied", "unknown", "conflict", "mismatch")]
-
-
-def fields(text):
-    """The numbers and bytes of a message by their fields' numbers, none of them twice."""
-    found, place = {}, 0
-
-    def number():
-        nonlocal place
-        value, shift = 0, 0
-        while text[place] > 127:
-            value, place, shift = value | (text[place] & 127) << shift, place + 1, shift + 7
-        place += 1
-        return value | text[place - 1] << shift
-
-    while place < len(text):
-        key = number()
-        value = number()
-        if key % 8 == 2:
-            value, place = text[place : place + value], place + value
-        found[key // 8] = value
-    return found
 
 
 def requests_of(members, slots, uploads, events):

@@ -17,7 +17,7 @@ import canonical
 from batch_model import Head, Type, meaning
 from batch_model import canonical as written_batch
 from make import TYPES, Refused, kind
-from wire_model import Faults, bytes_field, fields_of, number_field
+from wire_model import Faults, bytes_field, fields_of, frame, number_field
 
 MOST_BATCHES, MOST_BYTES, MOST_SERVED = 1024, 1 << 24, 1 << 22
 
@@ -241,17 +241,13 @@ def outcome(uploads, upload):
     return f"Applied({1 + ids.index(upload.id)})" if upload.id in ids else "SchemaMismatch"
 
 
-def framed(message):
-    return b"\0" + len(message).to_bytes(4, "big") + message
-
-
 def answer(uploads, table, version):
     """The frames of a version of a table, None where there is none such."""
     counted = effective(uploads, table)
     if not 1 <= version <= len(counted):
         return None
     schema = bytes_field(2, counted[0].schema_text)
-    return [framed(it) for it in [schema, *(it for upload in counted[:version] for it in upload.messages())]]
+    return [frame(0, it) for it in [schema, *(it for upload in counted[:version] for it in upload.messages())]]
 
 
 def latest(uploads, table):

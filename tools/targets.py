@@ -13,7 +13,7 @@ from runs_model import Upload as RunUpload
 from tables import POOL
 from tables_model import Upload, ticket_text, type_in, upload_of
 from tellers.batch import field_of
-from wire_model import Faults, bytes_field
+from wire_model import END, Faults, bytes_field, frame
 
 ID = "000102030405060708090a0b0c0d0e0f"
 TYPE_WORDS = FLAT + NESTED
@@ -229,7 +229,7 @@ class TableTarget(Target):
 
 def frames(*payloads):
     """The frames of a call, its end behind them."""
-    return b"".join(b"\0" + len(it).to_bytes(4, "big") + it for it in payloads) + b"\x80\0\0\0\0"
+    return b"".join(frame(0, it) for it in payloads) + frame(END, b"")
 
 
 PATH = b"/arrow.flight.protocol.FlightService/"

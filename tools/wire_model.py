@@ -1,7 +1,8 @@
 #!/usr/bin/env python3
 """A model of numbered fields, frames and messages of Arrow Flight, and the stories that it tells of them: every short text over a few
 telling pieces, with what stands there. It is written from the standards (Protocol Buffers, "Encoding"; gRPC over HTTP/2,
-"Length-Prefixed-Message"; Apache Arrow, "Flight.proto") and not from the code.
+"Length-Prefixed-Message"; Apache Arrow, "Flight.proto") and not from the code. The other tools read and write numbers, fields and frames
+by the functions of this module.
 
     tools/wire_model.py [--check]
 
@@ -14,6 +15,8 @@ from pathlib import Path
 DATA = Path(__file__).resolve().parent.parent / "crates" / "wire_stories" / "data"
 MAX_FIELD_NUMBER = 2**29 - 1
 MAX_FRAME_PAYLOAD = 4 * 1024 * 1024
+# The flag of the frame that ends a call.
+END = 0x80
 
 
 class Faults(Exception):
@@ -22,6 +25,14 @@ class Faults(Exception):
     def __init__(self, *names):
         super().__init__()
         self.names = set(names)
+
+
+class BadFrame(Exception):
+    """The name of the fault of a frame, and what was not read of the text."""
+
+    def __init__(self, name, rest):
+        super().__init__(name)
+        self.name, self.rest = name, rest
 
 
 def hexadecimal(text):
@@ -37,15 +48,27 @@ def varint(number):
     return bytes([it | 128 for it in groups[:-1]] + groups[-1:])
 
 
-def number_at(text):
-    """The number at the front, of at most ten bytes and 64 bits, and what stands behind it."""
-    for place, byte in enumerate(text[:10]):
+def joined(groups):
+    """The number of these bytes, each with seven bits of it, the lowest first."""
+    return sum((it & 127) << 7 * at for at, it in enumerate(groups))
+
+
+def number_from(text, place):
+    """The number at a place, of at most ten bytes and 64 bits, and the place after it."""
+    groups = text[place : place + 10]
+    for count, byte in enumerate(groups, 1):
         if byte < 128:
-            number = sum((it & 127) << 7 * at for at, it in enumerate(text[: place + 1]))
+            number = joined(groups[:count])
             if number >= 2**64:
                 raise Faults("BadVarint")
-            return number, text[place + 1 :]
-    raise Faults("CutShort" if len(text) < 10 else "BadVarint")
+            return number, place + count
+    raise Faults("CutShort" if len(groups) < 10 else "BadVarint")
+
+
+def number_at(text):
+    """The number at the front, and what stands behind it."""
+    number, place = number_from(text, 0)
+    return number, text[place:]
 
 
 def counted_at(text, count):
@@ -103,6 +126,19 @@ def fields_of(text):
     return fields
 
 
+def values_by_number(text):
+    """The value of each field of a message by its number, a number or bytes, and of repeated fields the last. The text is not copied for
+    each field, and wire types of eight and four bytes are not expected."""
+    place, found = 0, {}
+    while place < len(text):
+        key, place = number_from(text, place)
+        value, place = number_from(text, place)
+        if key & 7 == 2:
+            value, place = text[place : place + value], place + value
+        found[key >> 3] = value
+    return found
+
+
 def told(command, call, text):
     """The command with the text, and the lines that the call gives of it; or the fault that stands there, or that one of them is told
     where there are several."""
@@ -139,20 +175,50 @@ def told_front(text):
 # ---- frames
 
 
+def frame(flag, payload):
+    """A frame: the flag, the length of the payload in four bytes, the most significant first, and the payload."""
+    return bytes([flag]) + len(payload).to_bytes(4, "big") + payload
+
+
+def head_of(text):
+    """The flag and the length of the frame whose head the text begins with."""
+    return text[0], int.from_bytes(text[1:5], "big")
+
+
+def frame_at(text):
+    """The flag and the payload of the frame at the front, and what follows it. Raises BadFrame."""
+    if len(text) < 5:
+        raise BadFrame("Truncated", b"")
+    (flag, length), rest = head_of(text), text[5:]
+    if flag not in (0, END):
+        raise BadFrame("Compressed" if flag == 1 else "BadFlag", rest)
+    if length > MAX_FRAME_PAYLOAD:
+        raise BadFrame("TooLong", rest)
+    if len(rest) < length:
+        raise BadFrame("Truncated", b"")
+    return flag, rest[:length], rest[length:]
+
+
+def whole_frames(text):
+    """The flags and payloads of the whole frames that a text begins with, whatever the flags and lengths are, and what follows them."""
+    found = []
+    while len(text) >= 5:
+        flag, length = head_of(text)
+        if len(text) < 5 + length:
+            break
+        found, text = [*found, (flag, text[5 : 5 + length])], text[5 + length :]
+    return found, text
+
+
 def told_frames(text):
     """The frames one after the other, and how they end."""
     if not text:
         return ["no more"]
-    if len(text) < 5:
-        return ["Truncated, left -"]
-    flag, length, rest = text[0], int.from_bytes(text[1:5], "big"), text[5:]
-    if flag not in (0, 0x80):
-        return [f"{'Compressed' if flag == 1 else 'BadFlag'}, left {hexadecimal(rest)}"]
-    if length > MAX_FRAME_PAYLOAD:
-        return [f"TooLong, left {hexadecimal(rest)}"]
-    if len(rest) < length:
-        return ["Truncated, left -"]
-    return [f"flag {flag}, payload {hexadecimal(rest[:length])}", *told_frames(rest[length:])]
+    try:
+        flag, payload, rest = frame_at(text)
+    except BadFrame as fault:
+        return [f"{fault.name}, left {hexadecimal(fault.rest)}"]
+    return [f"flag {flag}, payload {hexadecimal(payload)}", *told_frames(rest)]
 
 
 # ---- messages of Arrow Flight: of each field its number, its name and what it is, an embedded message by its own fields

@@ -2,25 +2,12 @@
 import hashlib
 
 from batches import bytes_of, spelled
+from wire_model import END, frame, whole_frames
 
 SERVICE = "/arrow.flight.protocol.FlightService/"
-MESSAGE, END = 0, 128
+MESSAGE = 0
 # the most bytes of a message that are told one by one
 MOST_TOLD = 400
-
-
-def frame(flag, payload):
-    """A frame: a flag, the length of the payload in four bytes, the most significant first, and the payload (gRPC, "gRPC over
-    HTTP2", "Length-Prefixed-Message")."""
-    return bytes([flag]) + len(payload).to_bytes(4, "big") + payload
-
-
-def frames_of(text):
-    """The flags and payloads of the frames that bytes begin with, and what stands behind these."""
-    frames = []
-    while len(text) >= 5 and len(text) >= (end := 5 + int.from_bytes(text[1:5], "big")):
-        frames, text = [*frames, (text[0], text[5:end])], text[end:]
-    return frames, text
 
 
 def trailer(payload):
@@ -38,14 +25,14 @@ def told_message(payload):
 
 
 def told_frames(text):
-    frames, rest = frames_of(text)
+    frames, rest = whole_frames(text)
     lines = [told_message(payload) if flag == MESSAGE else f"trailer {trailer(payload)}" for flag, payload in frames]
     return lines + ["cut"] * bool(rest)
 
 
 def refusal(text):
     """The trailer of an answer that is a trailer alone."""
-    frames, rest = frames_of(text)
+    frames, rest = whole_frames(text)
     if not rest and len(frames) == 1 and frames[0][0] == END:
         return trailer(frames[0][1])
     return "another answer"

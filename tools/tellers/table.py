@@ -2,6 +2,7 @@
 import hashlib
 
 from batches import bytes_of, spelled
+from wire_model import frame, whole_frames
 
 
 def word(text):
@@ -19,15 +20,11 @@ def md5(text):
 
 
 def frames_of(text):
-    """The frames of an answer. A frame has a flag, the length of its payload in four bytes, the most significant first, and
-    the payload (gRPC, "gRPC over HTTP2", "Length-Prefixed-Message")."""
-    frames = []
-    while text:
-        end = 5 + int.from_bytes(text[1:5], "big")
-        if len(text) < end:
-            raise ValueError("an answer ends in a frame")
-        frames, text = [*frames, text[:end]], text[end:]
-    return frames
+    """The frames of an answer, which has nothing else."""
+    frames, rest = whole_frames(text)
+    if rest:
+        raise ValueError("an answer ends in a frame")
+    return [frame(flag, payload) for flag, payload in frames]
 
 
 def told_frames(answer):

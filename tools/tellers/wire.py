@@ -1,6 +1,6 @@
 """Tells stories of the wire: frames, numbered fields, and the messages of Arrow Flight."""
 from repeated import tell_each
-from wire_model import DATA_MESSAGE, DESCRIPTOR, ENDPOINT, INFO, KINDS, LOCATION, TICKET, bytes_field, shown
+from wire_model import DATA_MESSAGE, DESCRIPTOR, ENDPOINT, INFO, KINDS, LOCATION, TICKET, bytes_field, frame, shown
 
 MESSAGES = {
     "descriptor": DESCRIPTOR,
@@ -88,8 +88,8 @@ def payload_of(length):
 
 
 def frame_of(flag, length):
-    """A frame of such a payload (gRPC over HTTP/2, "Length-Prefixed-Message")."""
-    return bytes([flag]) + length.to_bytes(4, "big") + payload_of(length)
+    """A frame of such a payload."""
+    return frame(flag, payload_of(length))
 
 
 def frames_lines(answer):
@@ -103,16 +103,16 @@ READINGS = {"frames": frames_lines, "fields": fields_lines, "front": front_lines
 
 def tell_long_frame(flag, length):
     """Whether a frame of so long a payload is written as it has to be, and that is read as its flag and its payload."""
-    payload, frame = payload_of(length).hex() or "-", frame_of(flag, length).hex()
-    written, read = yield [f"frame {flag} {payload}", f"frames {frame}"]
+    payload, framed = payload_of(length).hex() or "-", frame_of(flag, length).hex()
+    written, read = yield [f"frame {flag} {payload}", f"frames {framed}"]
     is_read = read == f"{flag} {payload} NoMore -"
-    return ["written" if written == frame else "written otherwise", "read back" if is_read else "read otherwise"]
+    return ["written" if written == framed else "written otherwise", "read back" if is_read else "read otherwise"]
 
 
 def tell_cut_frame(flag, length):
     """Such a frame without its last byte, without its last two, and with another behind it whose flag is none."""
-    frame = frame_of(flag, length).hex()
-    *cuts, behind = yield [f"frames {frame[:-2]}", f"frames {frame[:-4]}", f"frames {frame}020000000007"]
+    framed = frame_of(flag, length).hex()
+    *cuts, behind = yield [f"frames {framed[:-2]}", f"frames {framed[:-4]}", f"frames {framed}020000000007"]
     return [*(line for it in cuts for line in frames_lines(it)), *frames_lines(behind)[1:]]
 
 
