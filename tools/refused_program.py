@@ -36,7 +36,7 @@ import time
 from pathlib import Path
 from typing import NamedTuple
 
-from servers import CALL_SECONDS, LEARN_SECONDS, PROGRAM, TOP, Wrong, felzoren, free_port, records_in, reset, want
+from servers import CALL_SECONDS, LEARN_SECONDS, PROGRAM, TOP, Wrong, addresses, felzoren, free_port, records_in, reset, want
 
 SOURCE = TOP / "tools" / "refused.c"
 SCRIPT = TOP / "examples" / "scripts" / "first_upload.json"
@@ -232,7 +232,7 @@ def serve(refusing, at):
     """How a server ends, or serves, where the thing of this number is refused."""
     with tempfile.TemporaryDirectory() as folder:
         port = free_port(NODES)
-        due = [f"node {number} at 127.0.0.1:{port + number}\n" for number in range(NODES)]
+        due = addresses(port, NODES)
         process = refusing.start(["serve", "--data", folder, "--port", port], at)
         watch = threading.Timer(RUN_SECONDS, process.kill)
         watch.start()

@@ -1,5 +1,5 @@
-"""Starts servers, speaks to their nodes by the library in clients/python, and looks at them from outside: what tools/serving.py,
-kills.py, soak.py, harm.py and hostile.py and the benches of servers share."""
+"""Starts servers, speaks to their nodes by the library in clients/python, and looks at them from outside: what the tools and the benches
+that start a server share."""
 import contextlib
 import os
 import random
@@ -80,13 +80,18 @@ def without_progress(told):
     return PROGRESS.sub("", told)
 
 
+def addresses(port, nodes):
+    """The lines by which a server reports the addresses of so many nodes, of which the first has this port."""
+    return [f"node {number} at 127.0.0.1:{port + number}\n" for number in range(nodes)]
+
+
 def started(program, nodes, folder, limit=None, resumed=False):
     """A server of so many nodes with their records in this folder, its clients, and the port of its first node. It goes on over the records
     that stand there, where it is resumed."""
     port = free_port(nodes)
     words = [program, "serve", "--nodes", str(nodes), "--port", str(port), "--data", folder, *(["--resume"] if resumed else [])]
     process = subprocess.Popen(words, stdout=subprocess.PIPE, stderr=subprocess.PIPE, text=True, preexec_fn=limit)
-    lines = [f"node {number} at 127.0.0.1:{port + number}\n" for number in range(nodes)]
+    lines = addresses(port, nodes)
     found = [process.stdout.readline() for _ in lines]
     if found != lines:
         process.kill()

@@ -36,7 +36,7 @@ import threading
 import time
 from pathlib import Path
 
-from servers import CALL_SECONDS, LEARN_SECONDS, MOST_CONNECTIONS, PROGRAM, TOP, Wrong, felzoren, file_limit, free_port, got, learned
+from servers import CALL_SECONDS, LEARN_SECONDS, MOST_CONNECTIONS, PROGRAM, TOP, Wrong, addresses, felzoren, file_limit, free_port, got, learned
 from folder_model import missing_sums, report_of
 from servers import limited, records_in, records_of, request_of, reset, server, started, want, without_progress
 
@@ -201,7 +201,7 @@ def into_nothing(words):
 def lost_addresses(program):
     """Where the nodes are served can't be written, or not all of it: a beginning of the lines stands there."""
     port = free_port(3)
-    lines = "".join(f"node {number} at 127.0.0.1:{port + number}\n" for number in range(3))
+    lines = "".join(addresses(port, 3))
     with tempfile.TemporaryDirectory() as folder:
         words = [program, "serve", "--port", str(port), "--data", folder]
         want(list(into_nothing(words)), [(1, "flightd: Io\n")] * 3)
@@ -232,7 +232,7 @@ def starts(program, size):
     with tempfile.TemporaryDirectory() as folder:
         port = free_port(3)
         words = [program, "serve", "--port", str(port), "--data", folder]
-        lines = "".join(f"node {number} at 127.0.0.1:{port + number}\n" for number in range(3))
+        lines = "".join(addresses(port, 3))
         with subprocess.Popen(words, stdout=subprocess.PIPE, stderr=subprocess.PIPE, text=True, preexec_fn=with_memory(size)) as process:
             told_of = "".join(process.stdout.readline() for _ in range(3))
             process.terminate()
