@@ -17,7 +17,7 @@ At the end a table has of each target how many inputs ran, how many blocks they 
 how many ended by a signal, did not end, were answered otherwise than the model says, or cost too much, and the dearest one. An input costs too
 much where it takes more of the processor than LEAST_SECONDS and SECONDS_A_BYTE for each byte that is read or written, or holds more memory than
 LEAST_HELD and HELD_A_BYTE for each. Each such input is printed, and then the status is 1; so it is where a program is not built.
-Each run draws others."""
+Each run draws others. It needs x86-64, cc and objdump (GNU binutils)."""
 import collections
 import contextlib
 import importlib

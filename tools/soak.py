@@ -3,6 +3,7 @@
 gate.
 
     tools/soak.py [MINUTES] [PROGRAM] [--seed SEED] [--round NUMBER]
+    tools/soak.py [MINUTES] [PROGRAM] [--seed SEED] --kills COUNT
 
 In rounds until MINUTES (60) are over it starts `PROGRAM serve` (crates/flightd/out/flightd) with three nodes or five over a new folder.
 Four to 32 callers put uploads of several types and sizes to a few tables at all nodes, get versions at other nodes than those that they
@@ -24,6 +25,14 @@ for byte, at its version. The next round has a new folder.
 Behind every other round the next of the tests runs that play the nodes in threads, by its full name: those that
 cluster_conformance_tests and thread_conformance_tests list, which are looked for each time beside PROGRAM and where the gate builds
 them. They compare each receipt with the journal, and judge the messages of nodes that are started again under load.
+
+With --kills it kills COUNT servers in place of the rounds, or as many as MINUTES allow; each takes a second or two. A server of three nodes
+or five starts over a new folder, two callers a node put uploads, one after the other, and the server is killed (SIGKILL) up to KILL_SECONDS
+after it has reported its addresses. `PROGRAM records` must print each file as records. Each upload that was acknowledged must be in the files
+of most nodes, the files of sums must be those of the records, and `PROGRAM records` of the folder must report what tools/folder_model.py reads
+there. A server without `--resume` must refuse the folder. Two servers with `--resume` then start over it, one after the other: each node must
+serve every acknowledged upload at once, at its version, the same version must be the answer to an upload that is put again, a new upload must
+make the next version, and records may only be added to the files. The first fault ends it.
 
 Round NUMBER is drawn from SEED and its number alone: with --round it is played again, by itself. Threads and disks keep their own times.
 It prints a line a round, with what was wrong in it, and at the end a table. The records of a round in which something was wrong are left
@@ -47,6 +56,7 @@ import time
 from pathlib import Path
 
 from servers import CALL_SECONDS, LEARN_SECONDS, PROGRAM, TOP, Wrong, felzoren, learned, look, records_in, reset, started, want, without_progress
+from serving import killed
 from felzoren import bytes_field, data_message, descriptor, schema_header
 
 TESTS = ("cluster_conformance", "thread_conformance")
@@ -63,6 +73,8 @@ ENDINGS = {"kill -9": signal.SIGKILL, "SIGTERM": signal.SIGTERM, "callers end": 
 BUDGETS = (8 << 20, 32 << 20, 128 << 20)
 # So many faults of a round are printed, and so often ports are looked for.
 MOST_FAULTS, STARTS = 5, 5
+# The longest time after which a server is killed that is started to be killed, and after how many of these a line is printed.
+KILL_SECONDS, KILLS_A_LINE = 2.0, 20
 
 # `PROGRAM records` shows 32 bytes of an upload, which have the id behind a table's name of at most 12.
 TABLES = {
@@ -638,18 +650,55 @@ class Sums:
             print(f"  {fault}")
 
 
-def main():
+def count_records(program, files):
+    """How many records the program prints of these files. Raises Wrong where it reports a fault of one."""
+    count = 0
+    for file in files:
+        ran = subprocess.run([program, "records", file], capture_output=True, text=True, timeout=CALL_SECONDS, check=False)
+        want((ran.returncode, ran.stderr), (0, ""))
+        count += len(ran.stdout.splitlines())
+    return count
+
+
+def kill_servers(program, seed, most, end):
+    """Kills up to so many servers before the end, each over a folder of its own, and says what they acknowledged. Raises Wrong at the first
+    fault."""
+    drawn, count, uploads, records = random.Random(seed), 0, 0, []
+
+    def tell():
+        print(f"{count} servers were killed: {uploads} uploads were acknowledged and served again, {sum(records)} records, "
+              f"{2 * count} starts over them", flush=True)
+
+    while count < most and time.monotonic() < end:
+        nodes, seconds = drawn.choice((3, 5)), drawn.uniform(0, KILL_SECONDS)
+        uploads += killed(program, nodes, seconds, lambda files: records.append(count_records(program, files)), least=0)
+        count += 1
+        if count % KILLS_A_LINE == 0:
+            tell()
+    if count % KILLS_A_LINE:
+        tell()
+
+
+def parse_words():
     parser = argparse.ArgumentParser(description="Restarts and kills servers under load, and looks at what stands.")
     parser.add_argument("minutes", nargs="?", type=float, default=60)
     parser.add_argument("program", nargs="?", default=str(PROGRAM))
     parser.add_argument("--seed", type=int, default=secrets.randbits(32))
-    parser.add_argument("--round", type=int)
-    words = parser.parse_args()
+    choice = parser.add_mutually_exclusive_group()
+    choice.add_argument("--round", type=int)
+    choice.add_argument("--kills", type=int, metavar="COUNT")
+    return parser.parse_args()
+
+
+def main():
+    words = parse_words()
     print(f"seed {words.seed}", flush=True)
+    end, number = time.monotonic() + 60 * words.minutes, 0
+    if words.kills is not None:
+        return kill_servers(words.program, words.seed, words.kills, end)
     sums = Sums()
     if words.round is not None:
         sums.add(play_round(words.program, words.seed, words.round))
-    end, number = time.monotonic() + 60 * words.minutes, 0
     while words.round is None and time.monotonic() < end:
         sums.add(play_round(words.program, words.seed, number))
         tests = list(tests_beside(words.program)) if number % TEST_ROUNDS == 0 else []
@@ -662,4 +711,7 @@ def main():
 
 
 if __name__ == "__main__":
-    sys.exit(main())
+    try:
+        sys.exit(main())
+    except (Wrong, OSError, felzoren.Refused, felzoren.BadAnswer, subprocess.TimeoutExpired) as error:
+        sys.exit(f"tools/soak.py: {error}")
