@@ -12,7 +12,6 @@ Seen with 300,000 gets by four callers, on four processors that a dozen other ta
 middle, 8.1 ms at the 99th percentile and 20 ms at most, and 3.5 MiB throughout."""
 import argparse
 import multiprocessing
-import os
 import socket
 import sys
 import tempfile
@@ -23,10 +22,9 @@ TOP = Path(__file__).resolve().parent.parent
 sys.dont_write_bytecode = True
 sys.path += [str(TOP / "clients" / "python"), str(TOP / "tools")]
 
-from servers import CALL_SECONDS, PROGRAM, look, request_of, started
+from servers import CALL_SECONDS, MEMORY, PROGRAM, look, request_of, started
 
 NODES, STEPS = 3, 10
-MEMORY = "/dev/shm"
 
 
 def get(port, request):
@@ -73,7 +71,7 @@ def main():
     parser.add_argument("program", nargs="?", default=str(PROGRAM))
     words = parser.parse_args()
     request = request_of(lambda client: client.get("rows", version=1))
-    with tempfile.TemporaryDirectory(dir=MEMORY if os.path.isdir(MEMORY) else None) as folder:
+    with tempfile.TemporaryDirectory(dir=MEMORY) as folder:
         process, clients, port = started(words.program, NODES, folder)
         try:
             clients[0].put("rows", {"row": [1]}, schema={"row": "int64"})

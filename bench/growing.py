@@ -30,7 +30,6 @@ Seen of bench/plain_cluster.rs, on four processors that a dozen other tasks shar
 import argparse
 import io
 import multiprocessing
-import os
 import secrets
 import socket
 import statistics
@@ -44,10 +43,9 @@ sys.dont_write_bytecode = True
 sys.path += [str(TOP / "clients" / "python"), str(TOP / "tools")]
 
 import felzoren
-from servers import PROGRAM, look, request_of, started
+from servers import MEMORY, PROGRAM, look, request_of, started
 
 CALLERS, NODES, STEPS, SOME, PUT_SECONDS = (1, 16), 3, 10, 3, 600
-MEMORY = "/dev/shm"
 LOOK_SECONDS = 0.02
 
 
@@ -104,6 +102,8 @@ def watch(process, done, times, callers, uploads):
         if not reaches(done, uploads * step // STEPS, callers):
             break
         now, found, more = time.perf_counter(), look(process), done.value - count
+        if more == 0:
+            continue
         costs.append(((now - before) / more, (found.seconds - used) / more))
         middle, late, longest = late_in(times[count : count + more])
         count, before, used = count + more, now, found.seconds
@@ -127,7 +127,7 @@ def grow(program, count, uploads):
     print(f"{count} {'caller' if count == 1 else 'callers'}", flush=True)
     left, done, faults = multiprocessing.Value("q", uploads), multiprocessing.Value("q", 0), multiprocessing.Queue()
     times = multiprocessing.Array("d", uploads, lock=False)
-    with tempfile.TemporaryDirectory(dir=MEMORY if os.path.isdir(MEMORY) else None) as folder:
+    with tempfile.TemporaryDirectory(dir=MEMORY) as folder:
         process, _, port = started(program, NODES, folder)
         try:
             print(f"  at the start: {look(process).now / 2**20:,.0f} MiB")

@@ -17,27 +17,13 @@ import hashlib
 import struct
 import subprocess
 import sys
-from pathlib import Path
 
-TOP = Path(__file__).resolve().parent.parent
-sys.dont_write_bytecode = True
-sys.path.append(str(TOP / "clients" / "python"))
-
-import felzoren
+from servers import TOP, Wrong, felzoren, want
 from felzoren import BadAnswer, Field, Refused, Schema, Ticket
 from felzoren import bytes_field, data_message, descriptor, frame, number_field, schema_header, write_batch
 
 PROGRAM = TOP / "crates" / "call_server" / "out" / "call_server"
 LOCATIONS = [f"plain+tcp://127.0.0.1:{port}" for port in (42000, 42001, 42002)]
-
-
-class Wrong(Exception):
-    """What came is not what has to come."""
-
-
-def want(found, wanted):
-    if found != wanted:
-        raise Wrong(f"{found!r} in place of {wanted!r}")
 
 
 # ---- the server, and calls that the library does not make

@@ -22,6 +22,8 @@ sys.path.append(str(TOP / "clients" / "python"))
 import felzoren
 
 PROGRAM = TOP / "crates" / "flightd" / "out" / "flightd"
+# A folder in memory, where a sync costs nothing, as far as there is one.
+MEMORY = "/dev/shm" if os.path.isdir("/dev/shm") else None
 # How long a call may take, in seconds, and for how long a version is waited for at a node that has not learned it.
 CALL_SECONDS, LEARN_SECONDS = 30, 30
 # A node serves so many calls at once; others wait until one of these ends.
