@@ -10,6 +10,8 @@ import re
 import sys
 from pathlib import Path
 
+from toolbox import show_help
+
 TOP = Path(__file__).resolve().parent.parent
 PAGE = TOP / "docs" / "ARCHITECTURE.md"
 FIRST = "<!-- The table below is made by tools/architecture.py. -->"
@@ -93,4 +95,5 @@ def main():
 
 
 if __name__ == "__main__":
+    show_help(__doc__)
     sys.exit(main())

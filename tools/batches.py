@@ -12,6 +12,7 @@ import textwrap
 from pathlib import Path
 
 from batch_model import WAYS, Head, canonical, kinds, lay_out, meaning, type_of, whole_tree, width
+from toolbox import show_help
 
 DATA = Path(__file__).resolve().parent.parent / "crates" / "batch_stories" / "data"
 BY_HAND = ("examples.txt", "borders.txt", "heads.txt")
@@ -428,4 +429,5 @@ def main():
 
 
 if __name__ == "__main__":
+    show_help(__doc__)
     sys.exit(main())

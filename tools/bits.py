@@ -8,6 +8,7 @@ from pathlib import Path
 
 from batch_model import type_of, width
 from batches import FLAT, NESTED
+from toolbox import show_help
 
 DATA = Path(__file__).resolve().parent.parent / "crates" / "batch_stories" / "data"
 RUN_BYTES = bytes([0b1010_0110, 0xFF, 0x00, 0x81, 0b0011_1101])
@@ -125,4 +126,5 @@ def main():
 
 
 if __name__ == "__main__":
+    show_help(__doc__)
     sys.exit(main())

@@ -17,6 +17,8 @@ import sys
 import time
 from pathlib import Path
 
+from toolbox import show_help
+
 TOP = Path(__file__).resolve().parent.parent
 PROGRAM = "flightd"
 # The memory that one check may take, in bytes.
@@ -235,4 +237,5 @@ def main():
 
 
 if __name__ == "__main__":
+    show_help(__doc__)
     sys.exit(main())

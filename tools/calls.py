@@ -13,6 +13,7 @@ from batches import bytes_of, spelled
 from calls_model import DESCRIPTOR, METHODS, PATH, SERVICE, Service, Unjudged
 from tables import A, POOL, ROW, TAGGED, TEXTS, id_of, numbers, schema
 from tables_model import Upload, schema_text, ticket_text, upload_of
+from toolbox import show_help
 from wire_model import END, bytes_field, encoding, frame, number_field
 
 CRATES = Path(__file__).resolve().parent.parent / "crates"
@@ -315,4 +316,5 @@ def main():
 
 
 if __name__ == "__main__":
+    show_help(__doc__)
     sys.exit(main())

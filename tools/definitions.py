@@ -14,6 +14,8 @@ import re
 import sys
 from pathlib import Path
 
+from toolbox import show_help
+
 TOP = Path(__file__).resolve().parent.parent
 PAGE = TOP / "docs" / "DEFINITIONS.md"
 DEFINED = re.compile(r"^\s*(?:(?:abbrev|unfoldable)\s+)?pub (?:record |data )?([^\s:(]+)")
@@ -188,4 +190,5 @@ def main():
 
 
 if __name__ == "__main__":
+    show_help(__doc__)
     sys.exit(main())

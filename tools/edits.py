@@ -33,6 +33,8 @@ import sys
 import tempfile
 from pathlib import Path
 
+from toolbox import show_help
+
 TOP = Path(__file__).resolve().parent.parent
 REFUSED = TOP / "edits-refused.txt"
 HEAD = "# Of each edit the checksum of what it was refused for: its crate's sources and definitions, comments aside, and itself.\n"
@@ -442,4 +444,5 @@ def main():
 
 
 if __name__ == "__main__":
+    show_help(__doc__)
     sys.exit(main())

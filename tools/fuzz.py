@@ -37,6 +37,7 @@ from files_model import COMMANDS
 from reached import PROGRAM_ROWS, TOLD, TOP, Unjudged, file_row, plain
 from repeated import ended
 from targets import targets
+from toolbox import show_help
 
 LEAST_SECONDS, SECONDS_A_BYTE = 0.03, 1e-6
 LEAST_HELD, HELD_A_BYTE = 16 << 20, 64
@@ -425,6 +426,7 @@ def main(seconds=60, folder=TOP, *names):
 
 
 if __name__ == "__main__":
+    show_help(__doc__)
     try:
         sys.exit(main(*[float(it) for it in sys.argv[1:2]], *sys.argv[2:]))
     except OSError as error:

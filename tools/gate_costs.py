@@ -26,6 +26,8 @@ import tempfile
 import time
 from pathlib import Path
 
+from toolbox import show_help
+
 TOP = Path(__file__).resolve().parent.parent
 PAGE = TOP / "docs" / "TESTS.md"
 FIRST = "<!-- The table below is made by tools/gate_costs.py. -->"
@@ -244,4 +246,5 @@ def main():
 
 
 if __name__ == "__main__":
+    show_help(__doc__)
     sys.exit(main())

@@ -15,6 +15,8 @@ import random
 import sys
 from pathlib import Path
 
+from toolbox import show_help
+
 ROWS = Path(__file__).resolve().parent.parent / "crates" / "work_conformance" / "src" / "pace_rows.rt"
 ME, MEMBERS, COUNT, LENGTH = 1, 3, 64, 14
 HEAD = """//! What may come to pass at a worker, and when a tick is due: rows that `tools/paces.py` draws.
@@ -135,4 +137,5 @@ def main(words):
 
 
 if __name__ == "__main__":
+    show_help(__doc__)
     sys.exit(main(sys.argv[1:]))

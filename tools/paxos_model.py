@@ -12,6 +12,7 @@ import random
 import sys
 from pathlib import Path
 
+from toolbox import show_help
 from wire_model import Faults, bytes_field, file_of, number_field, put, rows, split, varint
 
 DATA = Path(__file__).resolve().parent.parent / "crates" / "paxos_stories" / "data"
@@ -491,4 +492,5 @@ def stories():
 
 
 if __name__ == "__main__":
+    show_help(__doc__)
     sys.exit(put(DATA, stories(), "--check" in sys.argv[1:]))

@@ -21,6 +21,7 @@ import sys
 from servers import TOP, Wrong, felzoren, want
 from felzoren import BadAnswer, Field, Refused, Schema, Ticket
 from felzoren import bytes_field, data_message, descriptor, frame, number_field, schema_header, write_batch
+from toolbox import show_help
 
 PROGRAM = TOP / "crates" / "call_server" / "out" / "call_server"
 LOCATIONS = [f"plain+tcp://127.0.0.1:{port}" for port in (42000, 42001, 42002)]
@@ -256,6 +257,7 @@ def make_calls(words, program=PROGRAM):
 
 
 if __name__ == "__main__":
+    show_help(__doc__)
     if sys.argv[1:2] in (["put"], ["get"]):
         make_calls(sys.argv[1:])
     else:

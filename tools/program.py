@@ -13,6 +13,7 @@ import sys
 import tempfile
 from pathlib import Path
 
+from toolbox import show_help
 from wire_model import frame, number_field
 
 TOP = Path(__file__).resolve().parent.parent
@@ -331,4 +332,5 @@ def main():
 
 
 if __name__ == "__main__":
+    show_help(__doc__)
     sys.exit(main())

@@ -23,6 +23,7 @@ from runs import digest, told_line
 from runs_model import Run, Upload
 from tables_model import upload_of
 from tellers.wire import MESSAGES
+from toolbox import show_help
 from wire_model import Faults, told, told_as, told_fields, told_frames, told_front
 
 TOP = Path(__file__).resolve().parent.parent
@@ -219,4 +220,5 @@ def main():
 
 
 if __name__ == "__main__":
+    show_help(__doc__)
     sys.exit(main())

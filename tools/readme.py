@@ -9,6 +9,8 @@ import subprocess
 import sys
 from pathlib import Path
 
+from toolbox import show_help
+
 TOP = Path(__file__).resolve().parent.parent
 GATE, SERVER = "./test", "./flightd serve"
 
@@ -75,4 +77,5 @@ def main():
 
 
 if __name__ == "__main__":
+    show_help(__doc__)
     sys.exit(main())

@@ -37,6 +37,7 @@ from pathlib import Path
 from typing import NamedTuple
 
 from servers import CALL_SECONDS, LEARN_SECONDS, PROGRAM, TOP, Wrong, addresses, felzoren, free_port, records_in, reset, want
+from toolbox import show_help
 
 SOURCE = TOP / "tools" / "refused.c"
 SCRIPT = TOP / "examples" / "scripts" / "first_upload.json"
@@ -376,6 +377,7 @@ def main(program):
 
 
 if __name__ == "__main__":
+    show_help(__doc__)
     try:
         main(sys.argv[1] if len(sys.argv) > 1 else str(PROGRAM))
     except (Wrong, OSError) as error:

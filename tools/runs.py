@@ -14,6 +14,7 @@ import stories
 from paxos_model import KINDS, MESSAGE, encoding
 from runs_model import drawn, is_lawful, lines_of, schedules
 from tellers.run import Teller
+from toolbox import show_help
 from wire_model import put
 
 CRATES = Path(__file__).resolve().parent.parent / "crates"
@@ -128,4 +129,5 @@ def main():
 
 
 if __name__ == "__main__":
+    show_help(__doc__)
     sys.exit(main())

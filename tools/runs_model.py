@@ -23,6 +23,7 @@ import canonical
 from batch_model import canonical as canonical_batch
 from batch_model import type_of
 from paxos_model import MAX_ROUND, is_majority, may_follow
+from toolbox import show_help
 from wire_model import bytes_field, frame, number_field
 
 EXAMPLES = TOP / "examples"
@@ -471,4 +472,5 @@ def main():
 
 
 if __name__ == "__main__":
+    show_help(__doc__)
     sys.exit(main())

@@ -39,6 +39,7 @@ from pathlib import Path
 from servers import CALL_SECONDS, LEARN_SECONDS, MOST_CONNECTIONS, PROGRAM, TOP, Wrong, addresses, felzoren, file_limit, free_port, got, learned
 from folder_model import missing_sums, report_of
 from servers import limited, records_in, records_of, request_of, reset, server, started, want, without_progress
+from toolbox import show_help
 
 # For how long an answer is held back: a call says nothing of itself for a second.
 HELD_SECONDS = 1.5
@@ -1006,6 +1007,7 @@ def main(program):
 
 
 if __name__ == "__main__":
+    show_help(__doc__)
     try:
         main(sys.argv[1] if len(sys.argv) > 1 else str(PROGRAM))
     except (Wrong, OSError, felzoren.Refused, felzoren.BadAnswer) as error:

@@ -16,6 +16,7 @@ import sys
 from pathlib import Path
 
 from repeated import ended
+from toolbox import show_help
 
 TOP = Path(__file__).resolve().parent.parent
 
@@ -98,4 +99,5 @@ def main():
 
 
 if __name__ == "__main__":
+    show_help(__doc__)
     sys.exit(main())

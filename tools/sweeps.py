@@ -17,6 +17,7 @@ import time
 from runs_model import Run, Upload
 from stories import answers_of, programs
 from tellers.run import bytes_in, told_steps
+from toolbox import show_help
 from wire_model import values_by_number
 
 # how many orders are drawn of one upload, and of two, and of how many two nodes and more answer
@@ -339,4 +340,5 @@ def main():
 
 
 if __name__ == "__main__":
+    show_help(__doc__)
     sys.exit(main())

@@ -12,6 +12,7 @@ from pathlib import Path
 
 from batches import bytes_of, spelled
 from tables_model import Upload, answer, effective, latest, outcome, table_names, ticket_of, ticket_text, upload_of
+from toolbox import show_help
 from wire_model import bytes_field, number_field, varint
 
 DATA = Path(__file__).resolve().parent.parent / "crates" / "table_stories" / "data"
@@ -334,4 +335,5 @@ def main():
 
 
 if __name__ == "__main__":
+    show_help(__doc__)
     sys.exit(main())

@@ -12,6 +12,8 @@ import itertools
 import sys
 from pathlib import Path
 
+from toolbox import show_help
+
 DATA = Path(__file__).resolve().parent.parent / "crates" / "wire_stories" / "data"
 MAX_FIELD_NUMBER = 2**29 - 1
 MAX_FRAME_PAYLOAD = 4 * 1024 * 1024
@@ -475,4 +477,5 @@ def put(folder, files, is_check):
 
 
 if __name__ == "__main__":
+    show_help(__doc__)
     sys.exit(put(DATA, stories(), "--check" in sys.argv[1:]))
