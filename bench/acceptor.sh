@@ -3,26 +3,24 @@
 # (bench/plain_acceptor.rs, rustc -O) on the same file, and prints the time of one frame by both, the best of five runs,
 # its instructions where valgrind is there, and the ratios. Then it shows that memory grows with the slots and not with
 # the frames: peak resident size for 1,000 and for 999,999 frames on ten slots.
-set -euo pipefail
-cd "$(dirname "${BASH_SOURCE[0]}")/.."
-work=$(mktemp -d)
-trap 'rm -rf "$work"' EXIT
+source "$(dirname "${BASH_SOURCE[0]}")/start.sh"
 rustc -O --edition 2021 -o "$work/plain" bench/plain_acceptor.rs
 ./flightd --version >"$work/version"
 
-"$work/plain" generate 200000 1000 >"$work/frames"
+timed=$(count_of 200000 1000)
+"$work/plain" generate "$timed" 1000 >"$work/frames"
 "$work/plain" <"$work/frames" >"$work/plain.answers"
 crates/flightd/out/flightd acceptor <"$work/frames" >"$work/flightd.answers"
 cmp "$work/plain.answers" "$work/flightd.answers" && echo "both give the same $(stat -c %s "$work/plain.answers") bytes"
-PYTHONPATH=bench python3 -B - "$work" <<'P'
+PYTHONPATH=bench python3 -B - "$work" "$timed" <<'P'
 import sys
 from timing import Cost, compared, cost, less
 
-work = sys.argv[1]
+work, frames = sys.argv[1:]
 
 def frame(words):
     whole, empty = cost(words, f"{work}/frames"), cost(words)
-    return less(whole, Cost(0, empty.instructions), 200_000)
+    return less(whole, Cost(0, empty.instructions), int(frames))
 
 print(compared("a frame", frame(["crates/flightd/out/flightd", "acceptor"]), frame([f"{work}/plain"]), "flightd"))
 P
@@ -39,7 +37,7 @@ peak() { # peak resident size in KiB, once every frame of the file is answered a
   wait "$pid"
   rm "$work/input"
 }
-for frames in 1000 999999; do
+for frames in $(counts_of 1000 999999); do
   "$work/plain" generate "$frames" 10 >"$work/frames"
   echo "$frames frames on ten slots: peak $(peak "$work/frames") KiB"
 done

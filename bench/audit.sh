@@ -3,10 +3,7 @@
 # 25,000 to 200,000 with ten of a slot. For each it prints the best time of five, the instructions where valgrind is
 # there, by what factors both grew as the messages doubled, and the peak resident size. The factor is at most about 4
 # over ten slots, since each message is held against those of its slot before it, and about 2 where slots grow in number.
-set -euo pipefail
-cd "$(dirname "${BASH_SOURCE[0]}")/.."
-work=$(mktemp -d)
-trap 'rm -rf "$work"' EXIT
+source "$(dirname "${BASH_SOURCE[0]}")/start.sh"
 ./flightd --version >"$work/version"
 flightd=crates/flightd/out/flightd
 
@@ -25,8 +22,8 @@ peak() { # peak resident size in KiB of an audit that is over but for its line, 
 }
 
 runs() { # the slots of each run, and the messages of each
-  for messages in 1000 2000 4000 8000; do echo "10 $messages"; done
-  for messages in 25000 50000 100000 200000; do echo "$((messages / 10)) $messages"; done
+  for messages in $(counts_of 1000 2000 4000 8000); do echo "10 $messages"; done
+  for messages in $(counts_of 25000 50000 100000 200000); do echo "$((messages / 10)) $messages"; done
 }
 
 runs | while read -r slots messages; do

@@ -21,7 +21,7 @@
 #
 # Of bodies of 4 MiB, plain numbers took 2.7 ms, deep lists 2.2 times as long, deep structs 2.6 times, all ones 0.6,
 # offsets that fall at the end 0.4, a text that ends badly 0.3, and hidden texts 2.3 times.
-cd "$(dirname "${BASH_SOURCE[0]}")/.."
+source "$(dirname "${BASH_SOURCE[0]}")/start.sh"
 source bench/programs.sh plain_batches
 
 batches="int64 int64-nulls utf8 utf8-nulls bool-nulls list struct-nulls wide"

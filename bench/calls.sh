@@ -27,10 +27,7 @@
 # nine times while an upload was decoded again when it was taken. Of the 110 million instructions of the replay (valgrind, an
 # earlier run) 64 are those of `run`; 16 read the file as one value of JSON and 5 let go of it, which alone makes 1.33; some 10
 # make the 500 uploads, and the others the events, and a line for each.
-set -euo pipefail
-cd "$(dirname "${BASH_SOURCE[0]}")/.."
-work=$(mktemp -d)
-trap 'rm -rf "$work"' EXIT
+source "$(dirname "${BASH_SOURCE[0]}")/start.sh"
 rustc -O --edition 2021 -o "$work/calls" bench/plain_calls.rs
 rustc -O --edition 2021 -o "$work/runs" bench/plain_runs.rs
 for program in "call_server" "flightd replay examples/no_loss.json" "flight_bench decode-data 0 /dev/null"; do
@@ -49,10 +46,11 @@ import json
 import os
 import subprocess
 import sys
+from timing import count_of, counts_of
 
 crates, work = sys.argv[1:]
 SERVER, PLAIN, MIB = f"{crates}/call_server/out/call_server", f"{work}/calls", 2**20
-UPLOADS, EVENTS, ANSWERED = 500, 20, 2_000_000
+UPLOADS, EVENTS, ANSWERED, RUNS = 500, 20, count_of(2_000_000, 1_000), count_of(5, 1)
 
 
 def generated(path, *calls):
@@ -78,7 +76,7 @@ def served(words, path, keep=None):
 
 def least(programs, path):
     """For each program the least processor time of five runs in turn, and the most that it held."""
-    runs = [[served(words, path) for words in programs] for _ in range(5)]
+    runs = [[served(words, path) for words in programs] for _ in range(RUNS)]
     return [(min(it[0] for it in of_one), max(it[1] for it in of_one)) for of_one in zip(*runs)]
 
 
@@ -104,7 +102,7 @@ files = {
     "info": generated(f"{work}/info", ("put", 1, 1, 3), ("info", 10_000)),
 }
 many = {}
-for count in (1_000, 10_000, 100_000):
+for count in counts_of(1_000, 10_000, 100_000):
     many[count] = [generated(f"{work}/{gets}-{count}", ("puts", count), *[("get", count)] * gets) for gets in (ANSWERED // count, 0)]
 for path in (*files.values(), small, many[1_000][0]):
     served([SERVER], path, f"{work}/ours"), served([PLAIN], path, f"{work}/theirs")
@@ -121,7 +119,7 @@ got = timed("DoGet of 64 MiB", 8, files["get"], files["put"], size)
 with open(answer, "rb") as whole, open(f"{work}/one", "wb") as one:
     whole.seek(of_gets - size)
     one.write(whole.read())
-copied = min(served([PLAIN, "copy", "8", f"{work}/one"], os.devnull)[0] for _ in range(5)) / 8
+copied = min(served([PLAIN, "copy", "8", f"{work}/one"], os.devnull)[0] for _ in range(RUNS)) / 8
 print(f"a raw copy of that answer: {copied * 1e6:,.1f} us ({size / MIB / copied:,.0f} MiB/s), DoGet at {copied / got:.2f} of its speed")
 timed("DoPut of 15 MiB", 8, files["large"], files["nothing"], 15 * MIB)
 timed("GetFlightInfo", 10_000, files["info"], small)
@@ -142,7 +140,7 @@ with open(f"{work}/schedule.json", "w") as out:
 with open(f"{work}/events", "wb") as out:
     out.write(subprocess.run([f"{work}/runs", "generate", "3", str(UPLOADS), "1", "3"], stdout=subprocess.PIPE, check=True).stdout)
 replay, bench = f"{crates}/flightd/out/flightd", f"{crates}/flight_bench/out/flight_bench"
-least_of = lambda words: min(served(words, os.devnull)[0] for _ in range(9))
+least_of = lambda words: min(served(words, os.devnull)[0] for _ in range(count_of(9, 1)))
 replayed = least_of([replay, "replay", f"{work}/schedule.json"])
 ran = (least_of([bench, "run-events", "11", f"{work}/events"]) - least_of([bench, "run-events", "1", f"{work}/events"])) / 10
 print(f"replay of {UPLOADS * EVENTS:,} events: {replayed * 1e3:,.1f} ms, run itself {ran * 1e3:,.1f} ms, ratio {replayed / ran:.2f}")

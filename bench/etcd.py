@@ -22,8 +22,10 @@ sys.dont_write_bytecode = True
 sys.path.append(str(TOP / "tools"))
 
 from servers import free_port
+from timing import count_of, counts_of
+from toolbox import show_help
 
-CALLERS, PUTS, MEMBERS, START_SECONDS = (1, 16, 64), 1_280, 3, 30
+CALLERS, PUTS, MEMBERS, START_SECONDS = counts_of(1, 16, 64), count_of(1_280, 10), 3, 30
 
 
 def put(connection, key, value):
@@ -93,6 +95,7 @@ def puts(program, callers):
 
 
 if __name__ == "__main__":
+    show_help(__doc__)
     for callers in CALLERS:
         rate, middle, high = puts(sys.argv[1] if len(sys.argv) > 1 else "etcd", callers)
         print(f"{callers} callers: {rate:,.0f} puts a second; {middle:.1f} ms in the middle, {high:.1f} ms at 99 of 100", flush=True)

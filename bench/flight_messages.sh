@@ -5,7 +5,7 @@
 # of five runs of about a second without the time that an empty run takes, its instructions where valgrind is there, and
 # the ratios. First it shows that both programs write the same bytes, which are those of the file, and add up to the
 # same sums.
-cd "$(dirname "${BASH_SOURCE[0]}")/.."
+source "$(dirname "${BASH_SOURCE[0]}")/start.sh"
 source bench/programs.sh plain_messages
 
 for message in data info; do

@@ -23,6 +23,7 @@ sys.dont_write_bytecode = True
 sys.path += [str(TOP / "clients" / "python"), str(TOP / "tools")]
 
 from servers import CALL_SECONDS, MEMORY, PROGRAM, look, request_of, started
+from timing import count_of
 
 NODES, STEPS = 3, 10
 
@@ -66,8 +67,8 @@ def tenth(port, request, length, count, callers):
 
 def main():
     parser = argparse.ArgumentParser(description="Measures whether a server's memory stays as it is however many gets it answers.")
-    parser.add_argument("--gets", type=int, default=1_000_000)
-    parser.add_argument("--callers", type=int, default=4)
+    parser.add_argument("--gets", type=int, default=count_of(1_000_000, 20))
+    parser.add_argument("--callers", type=int, default=count_of(4, 2))
     parser.add_argument("program", nargs="?", default=str(PROGRAM))
     words = parser.parse_args()
     request = request_of(lambda client: client.get("rows", version=1))

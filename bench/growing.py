@@ -44,8 +44,9 @@ sys.path += [str(TOP / "clients" / "python"), str(TOP / "tools")]
 
 import felzoren
 from servers import MEMORY, PROGRAM, look, request_of, started
+from timing import count_of, counts_of
 
-CALLERS, NODES, STEPS, SOME, PUT_SECONDS = (1, 16), 3, 10, 3, 600
+CALLERS, NODES, STEPS, SOME, PUT_SECONDS = counts_of(1, 16), 3, 10, 3, 600
 LOOK_SECONDS = 0.02
 
 
@@ -152,7 +153,7 @@ def grow(program, count, uploads):
 
 def main():
     parser = argparse.ArgumentParser(description="Measures whether a put costs the same however many uploads a table has.")
-    parser.add_argument("--uploads", type=int, default=50_000)
+    parser.add_argument("--uploads", type=int, default=count_of(50_000, 20))
     parser.add_argument("program", nargs="?", default=str(PROGRAM))
     words = parser.parse_args()
     for count in CALLERS:

@@ -6,7 +6,7 @@
 # shows that both programs write the same bytes, which are those of the file, and add up to the same sums. Then it times
 # one reading of hostile texts of 4 MiB, the best of twenty, beside that of a plain text of that size: a schema with as
 # much as one may have, and zero bytes behind it.
-cd "$(dirname "${BASH_SOURCE[0]}")/.."
+source "$(dirname "${BASH_SOURCE[0]}")/start.sh"
 source bench/programs.sh plain_headers
 
 for header in flat deep; do

@@ -24,9 +24,11 @@ sys.path += [str(TOP / "clients" / "python"), str(TOP / "tools")]
 
 import felzoren
 from servers import CALL_SECONDS, PROGRAM, Wrong, got, look, request_of, reset, started, want
+from timing import count_of
+from toolbox import show_help
 
-CALLERS, SEED, TABLES, NODES = 200, 20261127, 4, 3
-QUIET_SECONDS = 5
+SECONDS, CALLERS, SEED, TABLES, NODES = count_of(60, 0.5), count_of(200, 20), 20261127, 4, 3
+QUIET_SECONDS = count_of(5, 0)
 
 
 class Load:
@@ -130,7 +132,8 @@ def main(seconds, program):
 
 
 if __name__ == "__main__":
+    show_help(__doc__)
     try:
-        main(float(sys.argv[1]) if len(sys.argv) > 1 else 60, sys.argv[2] if len(sys.argv) > 2 else str(PROGRAM))
+        main(float(sys.argv[1]) if len(sys.argv) > 1 else SECONDS, sys.argv[2] if len(sys.argv) > 2 else str(PROGRAM))
     except (Wrong, OSError, felzoren.Refused, felzoren.BadAnswer) as error:
         sys.exit(f"bench/load.py: {error}")

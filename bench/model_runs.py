@@ -11,6 +11,7 @@ sys.path.append(str(Path(__file__).resolve().parent.parent / "tools"))
 import json
 
 import runs_model
+from toolbox import show_help
 
 
 def told(run, events):
@@ -63,4 +64,5 @@ def main():
 
 
 if __name__ == "__main__":
+    show_help(__doc__)
     main()

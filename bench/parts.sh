@@ -6,10 +6,10 @@
 # of five runs of about a second without the time that an empty run takes, its instructions where valgrind is there,
 # and the ratios; the last of each part gives by what factor a call's time grew as there were a hundred times as many
 # slots. First it shows that the tallies of both agree.
-cd "$(dirname "${BASH_SOURCE[0]}")/.."
+source "$(dirname "${BASH_SOURCE[0]}")/start.sh"
 source bench/programs.sh plain_parts
 
-for slots in 1000 100000; do
+for slots in $(counts_of 1000 100000); do
   head -c "$slots" /dev/zero >"$work/$slots"
   for part in acceptor learner log; do
     agree "call-$part" 3 "$work/$slots"
@@ -19,7 +19,7 @@ echo "all tallies agree"
 
 PYTHONPATH=bench python3 -B - "$proved" "$plain" "$work" <<'P'
 import sys
-from timing import Cost, compared, less, one
+from timing import Cost, compared, counts_of, less, one
 
 proved, plain, work = sys.argv[1:]
 
@@ -28,10 +28,10 @@ def call(program, part, slots):  # what one call costs
 
 for part in ("acceptor", "learner", "log"):
     costs = {}
-    for slots in (1_000, 100_000):
+    for slots in counts_of(1_000, 100_000):
         costs[slots] = [call(program, part, slots) for program in (proved, plain)]
         print(compared(f"{part}, {slots:,} slots", *costs[slots]))
-    grown = [after.seconds / before.seconds for before, after in zip(costs[1_000], costs[100_000])]
+    grown = [after.seconds / before.seconds for before, after in zip(costs[1_000], costs[slots])]
     times = f"{grown[0]:.2f} times as long, in plain Rust {grown[1]:.2f} times"
-    print(f"{part}: from 1,000 to 100,000 slots a call takes {times}")
+    print(f"{part}: from 1,000 to {slots:,} slots a call takes {times}")
 P

@@ -1,9 +1,5 @@
-# To be sourced at the top of the repository, with the name of a plain program where there is one: builds it, has `flight_bench` as
-# the gate built it, or builds it where that is older than some source, and makes an empty folder, $work, for as long as the script
-# runs. The programs' paths are $plain and $proved then.
-set -euo pipefail
-work=$(mktemp -d)
-trap 'rm -rf "$work"' EXIT
+# To be sourced after start.sh, with the name of a plain program where there is one: builds it, has `flight_bench` as the gate built
+# it, or builds it where that is older than some source. The programs' paths are $plain and $proved then.
 plain=$work/plain
 proved=$PWD/crates/flight_bench/out/flight_bench
 if (($#)); then rustc -O --edition 2021 -o "$plain" "bench/$1.rs"; fi

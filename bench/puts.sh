@@ -23,10 +23,7 @@
 #          64           1,460 ( 33.7)  2,519 ( 18.3)   0.58     2,780 ( 15.3)
 #
 # On the disk both wait for it: the records of one node at a time are synced, as each is kept under the journal's lock.
-set -euo pipefail
-cd "$(dirname "${BASH_SOURCE[0]}")/.."
-work=$(mktemp -d)
-trap 'rm -rf "$work"' EXIT
+source "$(dirname "${BASH_SOURCE[0]}")/start.sh"
 rustc -O -C panic=abort --edition 2021 -o "$work/cluster" bench/plain_cluster.rs
 printf '#!/bin/sh\nexec "%s/cluster" "$@" --apart\n' "$work" >"$work/apart"
 chmod +x "$work/apart"
@@ -37,12 +34,13 @@ import sys
 import tempfile
 
 from serve import CALLERS, puts
+from timing import count_of
 
 program, work = sys.argv[1:]
-ROUNDS = 3
+ROUNDS = count_of(3, 1)
 PROGRAMS = {"flightd": program, "plain Rust": f"{work}/cluster", "plain Rust with records kept apart": f"{work}/apart"}
 # Where records are kept, and how many puts there are in a round.
-PLACES = ((tempfile.gettempdir(), 192), ("/dev/shm", 1_920))
+PLACES = ((tempfile.gettempdir(), count_of(192, max(CALLERS))), ("/dev/shm", count_of(1_920, max(CALLERS))))
 
 
 def in_turn(callers, count):

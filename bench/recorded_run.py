@@ -14,10 +14,10 @@ from pathlib import Path
 sys.dont_write_bytecode = True
 sys.path.append(str(Path(__file__).resolve().parent.parent / "tools"))
 
+from toolbox import show_help
 from wire_model import bytes_field, number_field
 
 MEMBERS = 3
-SLOTS = int(sys.argv[2]) if len(sys.argv) > 2 else 10
 PREPARE, PROMISE, ACCEPT, ACCEPTED, DECIDED = 1, 2, 4, 5, 7
 KIND, SENDER, SLOT, ROUND, NODE, SECOND_ROUND, SECOND_NODE, VALUE = 1, 2, 3, 5, 6, 7, 8, 9
 
@@ -48,10 +48,10 @@ def one_round(slot, number):
     yield message(DECIDED, leader, slot, value=value)
 
 
-def sent(count):
+def sent(count, slots):
     number = 1
     while True:
-        for slot in range(SLOTS):
+        for slot in range(slots):
             for text in one_round(slot, number):
                 if count == 0:
                     return
@@ -60,4 +60,10 @@ def sent(count):
         number += 1
 
 
-json.dump({"members": MEMBERS, "sent": list(sent(int(sys.argv[1])))}, sys.stdout, separators=(",", ":"))
+def main(count, slots=10):
+    json.dump({"members": MEMBERS, "sent": list(sent(int(count), int(slots)))}, sys.stdout, separators=(",", ":"))
+
+
+if __name__ == "__main__":
+    show_help(__doc__)
+    main(*sys.argv[1:3])

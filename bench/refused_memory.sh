@@ -5,16 +5,13 @@
 # proofs, and the 1,000th allocation of the program is refused; it begins with as many as its input has bytes.
 #
 # Its last line counts the runs with a refused call in which all was as promised, and those in which none was.
-set -euo pipefail
-cd "$(dirname "${BASH_SOURCE[0]}")/.."
-work=$(mktemp -d)
-trap 'rm -rf "$work"' EXIT
+source "$(dirname "${BASH_SOURCE[0]}")/start.sh"
 mkdir -p "$work/cases" "$work/crates/refused_memory/src"
 cp HANDLES crates.txt "$work"
 cp -a --reflink=auto crates/. "$work/crates"
 cp bench/refused_memory/main.rt.txt "$work/crates/refused_memory/src/main.rt"
 echo "refused_memory: ballots header_types uploads table_types node_core node_events schedule_runner stable_records seats" >>"$work/crates.txt"
-for ((before = 999; before >= 800; before -= ${1:-1})); do head -c "$before" /dev/zero >"$work/cases/$before"; done
+for ((before = 999; before >= 800; before -= $(count_of "${1:-1}" 1000))); do head -c "$before" /dev/zero >"$work/cases/$before"; done
 cd "$work/crates/refused_memory"
 rt try --steps 1 --fail-alloc 1000 --cases "$work/cases" </dev/null >"$work/said" 2>&1 || true
 tail -n 1 "$work/said"

@@ -21,9 +21,11 @@ from pathlib import Path
 sys.path.insert(0, str(Path(__file__).resolve().parent.parent / "tools"))
 
 from servers import PROGRAM, felzoren, look, records_in, server, started, want
+from timing import count_of
+from toolbox import show_help
 from wire_model import bytes_field, number_field, values_by_number
 
-NODES = 3
+NODES, COUNT = 3, count_of(100_000, 2)
 ROWS = [{"shop": "Bern", "sold": 3}, {"shop": "Zürich", "sold": None}]
 # The most bytes of one text of a row, as many rows are made.
 TEXT_BYTES = 1 << 16
@@ -76,4 +78,5 @@ def main(count, size, program=str(PROGRAM)):
 
 
 if __name__ == "__main__":
-    main(*(int(it) for it in (sys.argv[1:3] + ["100000", "0"][len(sys.argv[1:3]):])))
+    show_help(__doc__)
+    main(*map(int, sys.argv[1:3] + [COUNT, 0][len(sys.argv[1:3]) :]))

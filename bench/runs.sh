@@ -25,18 +25,18 @@
 # What is more than in plain Rust: of the 131,000 instructions of a small upload (plain Rust 74,000) 43,000 read it at
 # the three nodes (39,000), 10,000 find its parts again, 7,000 read its schema and its header once more, and 25,000
 # move plans and steps from one function to the next. An upload took 140 allocations, in plain Rust 102.
-cd "$(dirname "${BASH_SOURCE[0]}")/.."
+source "$(dirname "${BASH_SOURCE[0]}")/start.sh"
 source bench/programs.sh plain_runs
 
-python3 -B bench/model_runs.py "$plain" "$work/schedule" 200
+python3 -B bench/model_runs.py "$plain" "$work/schedule" "$(count_of 200 2)"
 "$plain" generate 3 0 1 3 >"$work/empty"
-for uploads in 100 1000 10000; do "$plain" generate 3 "$uploads" 1 3 >"$work/small-$uploads"; done
-for uploads in 100 1000; do "$plain" generate 3 "$uploads" 1 65536 >"$work/large-$uploads"; done
+for uploads in $(counts_of 100 1000 10000); do "$plain" generate 3 "$uploads" 1 3 >"$work/small-$uploads"; done
+for uploads in $(counts_of 100 1000); do "$plain" generate 3 "$uploads" 1 65536 >"$work/large-$uploads"; done
 for members in 1 2 4 5 7; do
   "$plain" generate "$members" 20 2 5 >"$work/members-$members"
   agree run-events 2 "$work/members-$members"
 done
-for file in small-100 small-1000 small-10000 large-100 large-1000; do
+for file in $(counts_of small-100 small-1000 small-10000) $(counts_of large-100 large-1000); do
   agree run-events 1 "$work/$file"
 done
 echo "all tallies agree"
@@ -45,11 +45,12 @@ PYTHONPATH=bench python3 -B - "$proved" "$plain" "$work" <<'P'
 import os
 import subprocess
 import sys
-from timing import Cost, compared, in_turn, less
+from timing import Cost, compared, counts_of, in_turn, less
 
 proved, plain, work = sys.argv[1:]
 EVENTS = 20  # for each upload, of three members
 NAMES = {"small": "a batch of three numbers", "large": "64 KiB"}
+COUNTS = {"small": counts_of(100, 1_000, 10_000), "large": counts_of(100, 1_000)}
 
 def timed(size, uploads):  # what one event costs both
     runs = in_turn([(proved, "run-events"), (plain, "run-events")], f"{work}/{size}-{uploads}")
@@ -63,7 +64,7 @@ def grown(before, after):  # how an event's cost grew, ours and in plain Rust
     counts = [after.instructions / before.instructions for before, after in zip(before, after)]
     return f"{line}; {counts[0]:.2f} times the instructions, in plain Rust {counts[1]:.2f} times"
 
-for size, counts in (("small", (100, 1_000, 10_000)), ("large", (100, 1_000))):
+for size, counts in COUNTS.items():
     took = {uploads: timed(size, uploads) for uploads in counts}
     for uploads, costs in took.items():
         print(compared(f"an event, {uploads:,} uploads of {NAMES[size]}", *costs))
@@ -74,7 +75,7 @@ def peak(program, path):  # bytes; a child that Python starts would count the me
     told = subprocess.run(words, stdout=subprocess.DEVNULL, stderr=subprocess.PIPE, check=True).stderr
     return int(told.split()[-1]) * 1024
 
-for size, counts in (("small", (100, 1_000, 10_000)), ("large", (100, 1_000))):
+for size, counts in COUNTS.items():
     for uploads in counts:
         path = f"{work}/{size}-{uploads}"
         file = os.path.getsize(path)

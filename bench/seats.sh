@@ -21,12 +21,12 @@
 # no cache holds the journal. What is more than in plain Rust is the node itself, whose run alone has 1.9 times plain Rust's
 # instructions (bench/runs.sh). Seats, their own lists and the journal took 183 bytes an entry beside a run of the same events, plain
 # Rust's 161.
-cd "$(dirname "${BASH_SOURCE[0]}")/.."
+source "$(dirname "${BASH_SOURCE[0]}")/start.sh"
 source bench/programs.sh plain_runs
 
 "$plain" generate 3 0 1 3 >"$work/empty"
-for uploads in 50 100 5000 49500; do "$plain" generate 3 "$uploads" 1 3 >"$work/$uploads"; done
-for uploads in 50 5000; do
+for uploads in $(counts_of 50 100 5000 49500); do "$plain" generate 3 "$uploads" 1 3 >"$work/$uploads"; done
+for uploads in $(counts_of 50 5000); do
   agree seat-events 2 "$work/$uploads"
   cmp "$work/plain.printed" <("$plain" run-events 2 "$work/$uploads")
 done
@@ -36,7 +36,7 @@ echo "all tallies agree"
 PYTHONPATH=bench python3 -B - "$proved" "$plain" "$work" <<'P'
 import subprocess
 import sys
-from timing import Cost, compared, in_turn, less
+from timing import Cost, compared, count_of, counts_of, in_turn, less
 
 proved, plain, work = sys.argv[1:]
 ENTRIES = 20  # for each upload, of three members; three questions at the end
@@ -45,13 +45,14 @@ def timed(uploads, words=("seat-events", "seat-events"), most=None):  # what one
     runs = in_turn([(proved, words[0]), (plain, words[1])], f"{work}/{uploads}", runs=5, most=most)
     return [less(run, Cost(0, 0), ENTRIES * uploads + 3) for run in runs]
 
-took = {uploads: timed(uploads, most=1 if uploads > 5000 else None) for uploads in (50, 5000, 49500)}
+took = {uploads: timed(uploads, most=1 if uploads > 5000 else None) for uploads in counts_of(50, 5000, 49500)}
 for uploads, costs in took.items():
     print(compared(f"an entry, {ENTRIES * uploads:,} entries", *costs))
 for name, program in ((0, "flight_bench"), (1, "plain Rust")):
-    first, second, last = (took[uploads][name].seconds for uploads in took)
-    print(f"{program}: an entry takes {second / first:.2f} times as long at 100,000 as at 1,000, {last / first:.2f} times at 990,000")
-for uploads in (50, 100):
+    first, *others = (took[uploads][name].seconds for uploads in took)
+    grown = [f"{seconds / first:.2f} times as long at {ENTRIES * uploads:,}" for uploads, seconds in zip([*took][1:], others)]
+    print(f"{program}: beside 1,000 entries an entry takes {', '.join(grown)}")
+for uploads in counts_of(50, 100):
     costs = timed(uploads, ("compare-events", "seat-events"))
     print(compared(f"an entry without a log, {ENTRIES * uploads:,} entries", *costs))
 
@@ -60,7 +61,7 @@ def peak(program, task, uploads):  # bytes; a child that Python starts would cou
     told = subprocess.run(words, stdout=subprocess.DEVNULL, stderr=subprocess.PIPE, check=True).stderr
     return int(told.split()[-1]) * 1024
 
-for uploads in (5000, 49500):
+for uploads in count_of((5000, 49500), (50,)):
     entries = ENTRIES * uploads
     for program, name in ((proved, "flight_bench"), (plain, "plain Rust")):
         alone, shared = peak(program, "run-events", uploads), peak(program, "seat-events", uploads)

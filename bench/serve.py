@@ -20,11 +20,13 @@ sys.path += [str(TOP / "clients" / "python"), str(TOP / "tools")]
 
 import felzoren
 from servers import CALL_SECONDS, PROGRAM, server
+from timing import count_of, counts_of
+from toolbox import show_help
 
-CALLERS, PUTS, PUT_SECONDS = (1, 16, 64), 1_280, 600
+CALLERS, PUTS, PUT_SECONDS = counts_of(1, 16, 64), count_of(1_280, 10), 600
 # Six uploads of some 11 MiB in frames below 4 MiB.
-UPLOADS, BATCHES, ROWS = 6, 3, 480_000
-GETS = 5
+UPLOADS, BATCHES, ROWS = 6, 3, count_of(480_000, 480)
+GETS = count_of(5, 1)
 
 
 def put_rows(port, caller, count, start, times):
@@ -116,4 +118,5 @@ def main(program):
 
 
 if __name__ == "__main__":
+    show_help(__doc__)
     main(sys.argv[1] if len(sys.argv) > 1 else str(PROGRAM))

@@ -3,13 +3,14 @@
 # ballots for the slot. Each promise reports the value, and all are kept. Prints the peak resident size for one promise
 # and for more, and what each further promise took. It ends with status 1 where a thousand promises take as much as one
 # more copy of the value would.
-cd "$(dirname "${BASH_SOURCE[0]}")/.."
+source "$(dirname "${BASH_SOURCE[0]}")/start.sh"
 source bench/programs.sh
 head -c 16777216 /dev/zero >"$work/value"
-python3 -B - "$proved" "$work/value" <<'P'
+PYTHONPATH=bench python3 -B - "$proved" "$work/value" <<'P'
 import os
 import subprocess
 import sys
+from timing import count_of
 
 proved, value = sys.argv[1:]
 
@@ -21,7 +22,7 @@ def peak(promises):  # KiB
         sys.exit(f"report-value {promises}: status {status}, {told}")
     return usage.ru_maxrss
 
-sizes = {promises: peak(promises) for promises in (1, 1_000, 1_000_000)}
+sizes = {promises: peak(promises) for promises in (1, 1_000, *count_of((1_000_000,), ()))}
 for promises, size in sizes.items():
     grown = (size - sizes[1]) * 1024 / max(promises - 1, 1)
     print(f"{promises:,} promises of a value of 16 MiB: peak {size:,} KiB, {grown:.0f} bytes for each further one")

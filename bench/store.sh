@@ -16,7 +16,7 @@
 #   keeps of 32 bytes, a second   10,809      10,802   0.99 (0.97 to 1.01)     9,313
 #   keeps of 64 KiB, a second      5,941       5,924   1.01 (0.96 to 1.03)     3,286
 #   recall of 100,000, ms           28.2        15.8   1.79 (the bytes alone 0.67)
-cd "$(dirname "${BASH_SOURCE[0]}")/.."
+source "$(dirname "${BASH_SOURCE[0]}")/start.sh"
 source bench/programs.sh plain_store
 
 # Each program keeps the file's records, and has written that file then.
@@ -46,10 +46,10 @@ import statistics
 import subprocess
 import sys
 import time
-from timing import compared, in_turn
+from timing import compared, count_of, in_turn
 
 proved, plain, work = sys.argv[1:]
-KEEPS, ROUNDS = 100, 40
+KEEPS, ROUNDS = count_of((100, 40), (2, 2))
 
 # Seconds of a run: by the clock, and of the processor.
 Time = collections.namedtuple("Time", "clock processor")

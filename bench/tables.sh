@@ -29,11 +29,11 @@
 #
 # Beside the uploads tables held as many bytes as uploads of 1 MiB have, as plain Rust does; of uploads of 344 bytes, of which
 # 189 are served, 1.6 over one table and 1.9 over a hundred (plain Rust 1.2 and 1.6).
-cd "$(dirname "${BASH_SOURCE[0]}")/.."
+source "$(dirname "${BASH_SOURCE[0]}")/start.sh"
 source bench/programs.sh plain_tables
 
 for tables in 1 100; do
-  for uploads in 1000 10000 100000; do
+  for uploads in $(counts_of 1000 10000 100000); do
     "$plain" generate "$uploads" "$tables" 1 3 >"$work/$uploads-$tables"
     agree take-uploads 1 "$work/$uploads-$tables"
   done
@@ -55,18 +55,18 @@ PYTHONPATH=bench python3 -B - "$proved" "$plain" "$work" <<'P'
 import os
 import subprocess
 import sys
-from timing import Cost, compared, in_turn, less
+from timing import Cost, compared, counts_of, in_turn, less
 
 proved, plain, work = sys.argv[1:]
 
 for tables in (1, 100):
     took = {}
-    for uploads in (1_000, 10_000, 100_000):
+    for uploads in counts_of(1_000, 10_000, 100_000):
         runs = in_turn([(proved, "take-uploads"), (plain, "take-uploads")], f"{work}/{uploads}-{tables}")
         took[uploads] = [less(run, Cost(0, 0), uploads) for run in runs]
         print(compared(f"take-uploads, {uploads:,} held, tables {tables}", *took[uploads]))
-    grown = [after.seconds / before.seconds for before, after in zip(took[1_000], took[100_000])]
-    print(f"from 1,000 to 100,000 held an upload takes {grown[0]:.2f} times as long, in plain Rust {grown[1]:.2f} times")
+    grown = [after.seconds / before.seconds for before, after in zip(took[1_000], took[uploads])]
+    print(f"from 1,000 to {uploads:,} held an upload takes {grown[0]:.2f} times as long, in plain Rust {grown[1]:.2f} times")
 
 for file in ("whole", "parted"):
     size = os.path.getsize(f"{work}/{file}") - 4
@@ -82,7 +82,7 @@ def peak(program, count, file):  # bytes
         sys.exit(f"hold-uploads {count}: status {status}")
     return usage.ru_maxrss * 1024
 
-for file, uploads in (("1000-100", 1_000), ("100000-1", 100_000), ("many-whole", 64), ("many-parted", 64)):
+for file, uploads in counts_of(("1000-100", 1_000), ("100000-1", 100_000), ("many-whole", 64), ("many-parted", 64)):
     path = f"{work}/{file}"
     size = os.path.getsize(path) - 4 * uploads
     least, most = (100, 200) if file == "1000-100" else (1, 3)

@@ -6,10 +6,22 @@ import shutil
 import subprocess
 import time
 
+# Whether the smallest counts are wanted, as a smoke test: then each program runs once, and no instructions are counted.
+SMALLEST = bool(os.environ.get("SMALLEST"))
 COUNTING = ["valgrind", "--tool=callgrind", "--callgrind-out-file=/dev/null"]
 
 # What something costs: seconds, and instructions or None.
 Cost = collections.namedtuple("Cost", "seconds instructions")
+
+
+def count_of(usual, smallest):
+    """The usual count, or the smallest one where that is wanted."""
+    return smallest if SMALLEST else usual
+
+
+def counts_of(*usual):
+    """All of these counts, or the first one where the smallest are wanted."""
+    return usual[:1] if SMALLEST else usual
 
 
 def run(words, file="/dev/null", check=True):
@@ -28,7 +40,7 @@ def seconds(words, file="/dev/null", check=True):
 
 def instructions(words, file="/dev/null", check=True):
     """The instructions of one run."""
-    if not shutil.which("valgrind"):
+    if SMALLEST or not shutil.which("valgrind"):
         return None
     return int(re.search(r"Collected : (\d+)", run(COUNTING + words, file, check))[1])
 
@@ -41,7 +53,7 @@ def less(whole, empty, count):
 
 def cost(words, file="/dev/null", runs=5, check=True):
     """What one run costs: the best time of some, and its instructions."""
-    best = min(seconds(words, file, check) for _ in range(runs))
+    best = min(seconds(words, file, check) for _ in range(count_of(runs, 1)))
     return Cost(best, instructions(words, file, check))
 
 
@@ -50,10 +62,10 @@ def one(program, task, file):
     empty run, and the instructions of fewer repetitions, less those of none."""
     words = lambda count: [program, task, str(count), file]
     count = 1
-    while (taken := seconds(words(count))) < 0.2:
+    while (taken := seconds(words(count))) < 0.2 and not SMALLEST:
         count *= 4
-    many, few = max(1, round(count / taken)), max(1, round(count / taken / 50))
-    best = lambda count: min(seconds(words(count)) for _ in range(5))
+    many, few = count_of((max(1, round(count / taken)), max(1, round(count / taken / 50))), (1, 1))
+    best = lambda count: min(seconds(words(count)) for _ in range(count_of(5, 1)))
     timed = less(Cost(best(many), None), Cost(best(0), None), many)
     counted = less(*(Cost(0, instructions(words(count))) for count in (few, 0)), few)
     return Cost(timed.seconds, counted.instructions)
@@ -73,9 +85,9 @@ def in_turn(tasks, file, runs=15, most=None):
     words = lambda task, count: [*task, str(count), file]
     taken = lambda task, count: processor_seconds(words(task, count))
     empty = {task: taken(task, 0) for task in tasks}
-    counts = {task: repetitions(lambda count: taken(task, count) - empty[task], most) for task in tasks}
+    counts = {task: repetitions(lambda count: taken(task, count) - empty[task], count_of(most, 1)) for task in tasks}
     best = dict.fromkeys(tasks, float("inf"))
-    for _ in range(runs):
+    for _ in range(count_of(runs, 1)):
         for task in tasks:
             empty[task] = min(empty[task], taken(task, 0))
             best[task] = min(best[task], taken(task, counts[task]))

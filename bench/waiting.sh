@@ -4,16 +4,13 @@
 # they are told apart by their encodings. For each it prints the least processor time of five runs, less that of as many
 # puts to a node that is no member, which are refused; what that is for a put; and by what factor it grew as the puts
 # doubled. The factor is about 2, since a put is looked up among those that wait, and not held against each.
-set -euo pipefail
-cd "$(dirname "${BASH_SOURCE[0]}")/.."
-work=$(mktemp -d)
-trap 'rm -rf "$work"' EXIT
+source "$(dirname "${BASH_SOURCE[0]}")/start.sh"
 ./flightd --version >"$work/version"
 
 PYTHONPATH=bench python3 -B - crates/flightd/out/flightd "$work/schedule" <<'P'
 import json
 import sys
-from timing import processor_seconds
+from timing import count_of, counts_of, processor_seconds
 
 flightd, schedule = sys.argv[1:]
 
@@ -23,11 +20,11 @@ def least(puts, named, node):  # the least time of so many puts to this node, ea
     events = [["put", node, put] for put in range(puts)]
     with open(schedule, "w", encoding="utf-8") as file:
         json.dump({"members": 1, "slot_limit": 1, "uploads": uploads, "events": events}, file)
-    return min(processor_seconds([flightd, "replay", schedule]) for _ in range(5))
+    return min(processor_seconds([flightd, "replay", schedule]) for _ in range(count_of(5, 1)))
 
 for names, named in (("names of their own", lambda put: put), ("one name", lambda put: 0)):
     before = None
-    for puts in (10_000, 20_000, 40_000, 80_000):
+    for puts in counts_of(10_000, 20_000, 40_000, 80_000):
         now = least(puts, named, 0) - least(puts, named, 1)
         grown = f", {now / before:.1f} times the half" if before else ""
         print(f"{puts:,} puts with {names}: {now:.3f} s, {now / puts * 1e6:.2f} us for each{grown}")

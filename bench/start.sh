@@ -1,0 +1,20 @@
+# To be sourced first by each bench that is a shell script. Prints the comment at the head of the bench and ends where its first word is
+# --help. Else it goes to the top of the repository, and makes an empty folder, $work, for as long as the bench runs.
+set -euo pipefail
+if [[ ${1-} == --help || ${1-} == -h ]]; then
+  awk 'NR > 1 { if (!/^#/) exit; sub(/^# ?/, ""); print }' "$0"
+  exit
+fi
+cd "$(dirname "${BASH_SOURCE[0]}")/.."
+work=$(mktemp -d)
+trap 'rm -rf "$work"' EXIT
+
+# The first of two counts, or the second where the smallest are wanted (SMALLEST, as bench/run sets it).
+count_of() {
+  if [ -n "${SMALLEST-}" ]; then echo "$2"; else echo "$1"; fi
+}
+
+# All of some counts, or the first where the smallest are wanted.
+counts_of() {
+  if [ -n "${SMALLEST-}" ]; then echo "$1"; else echo "$@"; fi
+}
