@@ -1,4 +1,4 @@
-// Streams the messages of one answer over loopback, and reads such streams, for bench/serve.sh: C++ of -O2, with no proofs.
+// Streams the messages of one answer over loopback, and reads such streams, for bench/stream.sh: C++ of -O2, with no proofs.
 //
 //   plain_stream raw FILE          serves the answer in FILE to each connection, from the first byte that comes, in a loop of send
 //   plain_stream grpc FILE         serves its messages by gRPC: Get gives messages of the same sizes, made by protoc

@@ -2,7 +2,7 @@
 # Measures how fast a server streams: DoGet of 64 MiB over loopback, beside a loop that sends the same bytes over a raw socket, and beside
 # gRPC in C++ (bench/plain_stream.cc, bench/plain_stream.proto), whose one server stream has messages of the same sizes as the frames.
 #
-#   bench/serve.sh [PROGRAM]
+#   bench/stream.sh [PROGRAM]
 #
 # It starts `PROGRAM serve` (crates/flightd/out/flightd, which the gate builds) with three nodes, and puts six uploads of three batches. All
 # servers are read by one program in C++, which looks at no byte but the heads of frames, in turn: five calls each in each of five rounds.
@@ -24,10 +24,7 @@
 #   gRPC's messages                2,043    1,501       34       44
 #   gRPC's bytes                   2,819    1,943       22       32
 #   gRPC's bytes in wide windows   3,181    2,298       22       28
-set -euo pipefail
-cd "$(dirname "${BASH_SOURCE[0]}")/.."
-work=$(mktemp -d)
-trap 'rm -rf "$work"' EXIT
+source "$(dirname "${BASH_SOURCE[0]}")/start.sh"
 protoc -I bench --cpp_out="$work" --grpc_out="$work" --plugin=protoc-gen-grpc="$(command -v grpc_cpp_plugin)" bench/plain_stream.proto
 # shellcheck disable=SC2046
 g++ -O2 -std=c++17 -I "$work" -o "$work/stream" bench/plain_stream.cc "$work"/*.cc $(pkg-config --cflags --libs grpc++ protobuf)
@@ -40,11 +37,12 @@ import statistics
 import subprocess
 import sys
 
-from growing import processor_seconds, started
 from serve import BATCHES, CALL_SECONDS, PUT_SECONDS, ROWS, UPLOADS, felzoren
+from servers import look, started
+from timing import count_of
 
 program, work = sys.argv[1:]
-STREAM, MIB, ROUNDS, CALLS = f"{work}/stream", 1 << 20, 5, 5
+STREAM, MIB, ROUNDS, CALLS = f"{work}/stream", 1 << 20, count_of(5, 1), count_of(5, 1)
 
 
 class Stream:
@@ -57,7 +55,7 @@ class Stream:
     def used(self):
         """What the server has used, and all readers so far."""
         readers = resource.getrusage(resource.RUSAGE_CHILDREN)
-        return processor_seconds(self.server), readers.ru_utime + readers.ru_stime
+        return look(self.server).seconds, readers.ru_utime + readers.ru_stime
 
     def call(self):
         """Some calls, each with a line of how many bytes its messages had, and how many seconds it took."""
@@ -120,7 +118,7 @@ with contextlib.ExitStack() as stack:
             stream.call()
 
 if len(counts := set().union(*(stream.counts for stream in streams))) > 1:
-    sys.exit(f"serve.sh: the streams have {sorted(counts)} bytes")
+    sys.exit(f"stream.sh: the streams have {sorted(counts)} bytes")
 for stream in streams:
     print(stream)
 for other in streams[1:]:
