@@ -5,7 +5,7 @@
 # the frames: peak resident size for 1,000 and for 999,999 frames on ten slots.
 source "$(dirname "${BASH_SOURCE[0]}")/start.sh"
 rustc -O --edition 2021 -o "$work/plain" bench/plain_acceptor.rs
-./flightd --version >"$work/version"
+build_flightd
 
 timed=$(count_of 200000 1000)
 "$work/plain" generate "$timed" 1000 >"$work/frames"

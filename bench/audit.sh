@@ -4,7 +4,7 @@
 # there, by what factors both grew as the messages doubled, and the peak resident size. The factor is at most about 4
 # over ten slots, since each message is held against those of its slot before it, and about 2 where slots grow in number.
 source "$(dirname "${BASH_SOURCE[0]}")/start.sh"
-./flightd --version >"$work/version"
+build_flightd
 flightd=crates/flightd/out/flightd
 
 peak() { # peak resident size in KiB of an audit that is over but for its line, which waits since the pipe is full

@@ -27,7 +27,7 @@ from servers import CALL_SECONDS, PROGRAM, Wrong, got, look, request_of, reset, 
 from timing import count_of
 from toolbox import show_help
 
-SECONDS, CALLERS, SEED, TABLES, NODES = count_of(60, 0.5), count_of(200, 20), 20261127, 4, 3
+SECONDS, CALLERS, SEED, TABLES, NODES = count_of(60, 2), count_of(200, 20), 20261127, 4, 3
 QUIET_SECONDS = count_of(5, 0)
 
 

@@ -51,7 +51,8 @@ for uploads, costs in took.items():
 for name, program in ((0, "flight_bench"), (1, "plain Rust")):
     first, *others = (took[uploads][name].seconds for uploads in took)
     grown = [f"{seconds / first:.2f} times as long at {ENTRIES * uploads:,}" for uploads, seconds in zip([*took][1:], others)]
-    print(f"{program}: beside 1,000 entries an entry takes {', '.join(grown)}")
+    if grown:
+        print(f"{program}: beside 1,000 entries an entry takes {', '.join(grown)}")
 for uploads in counts_of(50, 100):
     costs = timed(uploads, ("compare-events", "seat-events"))
     print(compared(f"an entry without a log, {ENTRIES * uploads:,} entries", *costs))

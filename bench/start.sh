@@ -9,6 +9,11 @@ cd "$(dirname "${BASH_SOURCE[0]}")/.."
 work=$(mktemp -d)
 trap 'rm -rf "$work"' EXIT
 
+# Builds the program where it is older than a source, as ./flightd does. With the smallest counts it is taken as it is.
+build_flightd() {
+  if [ -z "${SMALLEST-}" ]; then ./flightd --version >"$work/version"; fi
+}
+
 # The first of two counts, or the second where the smallest are wanted (SMALLEST, as bench/run sets it).
 count_of() {
   if [ -n "${SMALLEST-}" ]; then echo "$2"; else echo "$1"; fi

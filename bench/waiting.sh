@@ -5,7 +5,7 @@
 # puts to a node that is no member, which are refused; what that is for a put; and by what factor it grew as the puts
 # doubled. The factor is about 2, since a put is looked up among those that wait, and not held against each.
 source "$(dirname "${BASH_SOURCE[0]}")/start.sh"
-./flightd --version >"$work/version"
+build_flightd
 
 PYTHONPATH=bench python3 -B - crates/flightd/out/flightd "$work/schedule" <<'P'
 import json
