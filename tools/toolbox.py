@@ -1,7 +1,10 @@
 """The help of the tools, and what tools/run and bench/run share: what a script says of itself, and names that are near to a word."""
 import ast
+import concurrent.futures
 import difflib
+import os
 import re
+import subprocess
 import sys
 
 
@@ -23,6 +26,18 @@ def description_of(file):
 def first_sentence(text):
     """The first sentence of a text, in one line."""
     return re.split(r"(?<=\.) ", " ".join(text.split("\n\n")[0].split()))[0]
+
+
+def failed(calls, folder):
+    """Runs calls side by side in a folder, each a list of words under a name, and says which of them end with another status than 0, or
+    print nothing though --help is among their words."""
+    how = {"capture_output": True, "text": True, "check": False, "cwd": folder}
+    with concurrent.futures.ThreadPoolExecutor(os.cpu_count()) as pool:
+        running = {name: pool.submit(subprocess.run, words, **how) for name, words in calls.items()}
+    for name, words in calls.items():
+        ran = running[name].result()
+        if ran.returncode or "--help" in words and not ran.stdout.strip():
+            yield f"{name}: status {ran.returncode}: {ran.stderr.strip()[-400:]}"
 
 
 def unknown(program, kind, word, names):
