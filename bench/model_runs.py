@@ -8,8 +8,6 @@ from pathlib import Path
 sys.dont_write_bytecode = True
 sys.path.append(str(Path(__file__).resolve().parent.parent / "tools"))
 
-import json
-
 import runs_model
 from toolbox import show_help
 

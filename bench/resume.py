@@ -20,7 +20,7 @@ from pathlib import Path
 
 sys.path.insert(0, str(Path(__file__).resolve().parent.parent / "tools"))
 
-from servers import PROGRAM, felzoren, look, records_in, server, started, want
+from servers import PROGRAM, look, records_in, server, started, want
 from timing import count_of
 from toolbox import show_help
 from wire_model import bytes_field, number_field, values_by_number

@@ -9,7 +9,6 @@ socket as bytes that nobody looks at, beside as many bytes that another process 
 temporary files (TMPDIR), each synced before its node answers."""
 import multiprocessing
 import socket
-import subprocess
 import sys
 import time
 from pathlib import Path

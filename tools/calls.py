@@ -11,8 +11,8 @@ from pathlib import Path
 
 from batches import bytes_of, spelled
 from calls_model import DESCRIPTOR, METHODS, PATH, SERVICE, Service, Unjudged
-from tables import A, POOL, ROW, TAGGED, TEXTS, id_of, numbers, schema
-from tables_model import Upload, schema_text, ticket_text, upload_of
+from tables import A, POOL, ROW, TEXTS, id_of, numbers, schema
+from tables_model import Upload, ticket_text, upload_of
 from toolbox import show_help
 from wire_model import END, bytes_field, encoding, frame, number_field
 

@@ -24,7 +24,7 @@ from batch_model import canonical as canonical_batch
 from batch_model import type_of
 from paxos_model import MAX_ROUND, is_majority, may_follow
 from toolbox import show_help
-from wire_model import bytes_field, frame, number_field
+from wire_model import bytes_field, frame
 
 EXAMPLES = TOP / "examples"
 MOST_LEFT, MOST_ASKED = 7, 16
