@@ -1,4 +1,4 @@
-"""The help of the tools, and what tools/run and bench/run share: what a script says of itself, and names that are near to a word."""
+"""The help of the tools, and what tools/run and bench/run share: what a script says of itself, which calls fail, and names near a word."""
 import ast
 import concurrent.futures
 import difflib
