@@ -20,7 +20,7 @@ import sys
 import tempfile
 from pathlib import Path
 
-from servers import CALL_SECONDS, PROGRAM, TOP, Wrong, felzoren, free_port, server, want
+from servers import CALL_SECONDS, PROGRAM, TOP, Wrong, felzoren, free_port, serve_words, server, want
 from serving import begin_records, only_added, put_more, stands_at_once, texts_in
 
 SOURCE = TOP / "tools" / "killed.c"
@@ -41,8 +41,7 @@ class Killing:
         """Starts a server over a folder, which is killed at the call of this number, or ended once it says where its nodes are served: whether
         it was killed before."""
         more = {"LD_PRELOAD": str(self.library), "KILLED_TOLD": str(self.told), "KILLED_AT": str(at), "KILLED_PART": str(int(part))}
-        port = str(free_port(self.nodes))
-        words = [self.program, "serve", "--nodes", str(self.nodes), "--port", port, "--data", folder, "--resume"]
+        words = serve_words(self.program, self.nodes, free_port(self.nodes), folder, resumed=True)
         process = subprocess.Popen(words, stdout=subprocess.PIPE, stderr=subprocess.PIPE, text=True, env={**os.environ, **more})
         served = process.stdout.readline() != ""
         if served:

@@ -87,11 +87,16 @@ def addresses(port, nodes):
     return [f"node {number} at 127.0.0.1:{port + number}\n" for number in range(nodes)]
 
 
+def serve_words(program, nodes, port, folder, resumed=False):
+    """The words that start a server of so many nodes, the first at this port, with their records in this folder."""
+    return [program, "serve", "--nodes", str(nodes), "--port", str(port), "--data", folder, *["--resume"] * resumed]
+
+
 def started(program, nodes, folder, limit=None, resumed=False):
     """A server of so many nodes with their records in this folder, its clients, and the port of its first node. It goes on over the records
     that stand there, where it is resumed."""
     port = free_port(nodes)
-    words = [program, "serve", "--nodes", str(nodes), "--port", str(port), "--data", folder, *(["--resume"] if resumed else [])]
+    words = serve_words(program, nodes, port, folder, resumed)
     process = subprocess.Popen(words, stdout=subprocess.PIPE, stderr=subprocess.PIPE, text=True, preexec_fn=limit)
     lines = addresses(port, nodes)
     found = [process.stdout.readline() for _ in lines]

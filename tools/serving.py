@@ -38,7 +38,7 @@ from pathlib import Path
 
 from servers import CALL_SECONDS, LEARN_SECONDS, MOST_CONNECTIONS, PROGRAM, TOP, Wrong, addresses, felzoren, file_limit, free_port, got, learned
 from folder_model import missing_sums, report_of
-from servers import limited, records_in, records_of, request_of, reset, server, started, want, without_progress
+from servers import limited, records_in, records_of, request_of, reset, serve_words, server, started, want, without_progress
 from toolbox import show_help
 
 # For how long an answer is held back: a call says nothing of itself for a second.
@@ -160,8 +160,8 @@ def silent_peers(clients, port):
 def not_served(program, folder, name, says=None, nodes=3, resumed=False, port=None, limit=None):
     """A server with its records in this folder, which does not start and says why; where it is about the folder or a file, in a second line,
     which begins so."""
-    words = [program, "serve", "--nodes", str(nodes), "--port", str(port or free_port(nodes)), "--data", folder]
-    status, output, error = ended(words + ["--resume"] * resumed, limit=limit)
+    words = serve_words(program, nodes, port or free_port(nodes), folder, resumed)
+    status, output, error = ended(words, limit=limit)
     lines = (without_progress(error) if resumed else error).splitlines(keepends=True)
     found = lines[:1] + [line[: len(says)] for line in lines[1:]] if says else lines
     want((status, output, found, error[-1:]), (1, "", [f"flightd: {name}\n", *([says] if says else [])], "\n"))
