@@ -25,6 +25,7 @@ from typing import NamedTuple
 
 import definitions
 from sources import IMPL, TOP, Item, Reader
+from toolbox import show_help
 
 PAGE = TOP / "docs" / "PROOFS.md"
 SAMPLES = TOP / "tools" / "contracts"
@@ -368,6 +369,7 @@ def selftest():
 def main():
     """Runs the command that the words of the program name. Returns the status."""
     signal.signal(signal.SIGPIPE, signal.SIG_DFL)
+    show_help(__doc__)
     words = sys.argv[1:]
     if words in (["--check"], ["--selftest"]):
         return check() if words == ["--check"] else selftest()

@@ -17,6 +17,7 @@ import sys
 from pathlib import Path
 
 import build
+from toolbox import show_help
 
 TOP = build.TOP
 RELEASE = TOP / "release" / build.PROGRAM
@@ -117,9 +118,10 @@ def main(words):
         return compare()
     if words == ["--make"]:
         return make()
-    print(__doc__, end="", file=sys.stdout if words == ["--help"] else sys.stderr)
-    return 0 if words == ["--help"] else 2
+    print(__doc__, end="", file=sys.stderr)
+    return 2
 
 
 if __name__ == "__main__":
+    show_help(__doc__)
     sys.exit(main(sys.argv[1:]))
