@@ -1,10 +1,12 @@
 #!/usr/bin/env python3
 """Runs every command of README.md as it stands there, from the top of the repository, and compares what it prints with what the
-README shows. A server is ended once it has said where it is served; one that is started in the background, behind the commands of its
-block. ./test is the gate itself, and is not run again here. The first run proves and builds the program, which takes more than half an
-hour on four cores."""
+README shows. A server is ended once it has said where it is served; one that is started in the background, after the commands of its
+block. The folder of records that they make is removed, unless it was there before. ./test is the gate itself, and is not run again here.
+Where the program is not built and no release fits the sources, the first command proves and builds it, which takes more than half an hour
+on four cores."""
 import contextlib
 import re
+import shutil
 import subprocess
 import sys
 from pathlib import Path
@@ -12,7 +14,7 @@ from pathlib import Path
 from toolbox import show_help
 
 TOP = Path(__file__).resolve().parent.parent
-GATE, SERVER = "./test", "./flightd serve"
+GATE, SERVER, RECORDS = "./test", "./flightd serve ", TOP / "records"
 
 
 def blocks(text, kind):
@@ -56,23 +58,30 @@ def runs_as_shown(command, shown):
     return ran.stdout.splitlines() == shown
 
 
+def is_as_shown(command, shown, servers):
+    """Runs a command of README, and says whether it prints what is shown. One that is started in the background goes on until `servers`
+    is closed."""
+    if command.endswith(" &"):
+        return servers.enter_context(started(command[:-2], shown))
+    if command.startswith(SERVER):
+        with started(command, shown) as well:
+            return well
+    return runs_as_shown(command, shown)
+
+
 def main():
-    status = 0
+    status, had_records = 0, RECORDS.exists()
     with contextlib.ExitStack() as servers:
         for command, shown in commands((TOP / "README.md").read_text(encoding="utf-8")):
             if command is None:
                 servers.close()
             if command in (None, GATE):
                 continue
-            if command == SERVER:
-                with started(command, shown) as well:
-                    pass
-            elif command.endswith(" &"):
-                well = servers.enter_context(started(command[:-2], shown))
-            else:
-                well = runs_as_shown(command, shown)
+            well = is_as_shown(command, shown, servers)
             print(f"readme: {command}: {'as shown' if well else 'NOT AS SHOWN'}", flush=True)
             status |= not well
+    if not had_records:
+        shutil.rmtree(RECORDS, ignore_errors=True)
     return status
 
 
