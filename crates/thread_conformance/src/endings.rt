@@ -1,19 +1,20 @@
 //! What puts that wait are told where all of a node's end for a fault.
 
-ghost use Rattle.std.specs.Prelude.{◌≡◌, []};
-
-use crate::support::{
-    FailingNodes, NEVER, Why, check, config, ends_as, put, three_that_fail, told,
-};
+use crate::made::{ended_as, put};
+use crate::story::{Limits, NEVER, Story, told_of};
+use crate::support::{Why, check, told};
+use crate::tested::{Holding, Tested};
+use crossbeam_channel::Receiver;
 use growing_log::Opened;
 use node_core::Refusal;
-use node_threads::{Beginning, OwnEntry, SeatFault};
+use node_threads::{Note, SeatFault};
 use stable_records::StoreFault;
 use std::alloc::Global;
 use std::hash::RandomState;
 use std::marker::Brand;
 use std::sync::Wait;
 use std::test::Fail;
+use std::time::Clock;
 
 /// Faults, and what puts that wait are told of each, `None` where they wait on.
 const ENDS: [(SeatFault, Option<SeatFault>); 11] = [
@@ -46,10 +47,10 @@ const ENDS: [(SeatFault, Option<SeatFault>); 11] = [
 ];
 
 // A put at the first node, all of which end with this fault: it is told that, or waits on.
-fn one_ends<R: Wait, J: Beginning>(
+fn one_ends<R: Wait, C: Tested>(
     rt: &R,
     alloc: Global,
-    nodes: &FailingNodes<J>,
+    nodes: &C,
     number: u64,
     fault: SeatFault,
     wanted: Option<SeatFault>,
@@ -61,47 +62,48 @@ fn one_ends<R: Wait, J: Beginning>(
         "it waits, or waits no more",
     )?;
     nodes.end_all(rt, 0, SeatFault::Down);
-    check(!nodes.waits(rt, 0), "it waits behind its end")?;
-    ends_as(rt, &pending, wanted.unwrap_or(SeatFault::Down))
+    ended_as(rt, nodes, 0, &pending, wanted.unwrap_or(SeatFault::Down))
 }
 
-// Each fault ends the puts of its node alone.
-fn each_ends<R: Wait, J: Beginning>(
-    rt: &R,
-    alloc: Global,
-    nodes: &FailingNodes<J>,
-) -> Result<(), Why> {
-    let other = put(rt, alloc, nodes, 1, 1)?;
+// Every fault, one after the other.
+fn each_ends<R: Wait, C: Tested>(rt: &R, alloc: Global, nodes: &C) -> Result<(), Why> {
     let mut number: u64 = 2;
     for (fault, wanted) in &ENDS {
         one_ends(rt, alloc, nodes, number, *fault, *wanted)?;
         number = number.saturating_add(1);
     }
-    check(nodes.waits(rt, 1), "a put at another node ends")?;
-    nodes.end_all(rt, 1, SeatFault::JournalFull);
-    check(!nodes.waits(rt, 1), "it waits behind its end")?;
-    ends_as(rt, &other, SeatFault::JournalFull)
+    Ok(())
 }
 
-fn endings<R: Wait, J: Beginning>(
-    rt: &R,
-    alloc: Global,
-    hashing: RandomState,
-    log: Opened<OwnEntry>,
-) -> Result<(), Why>
-    requires named { log ≡ J.book }
-    requires start { J.start ≡ [] }
-{
-    let passed = (NEVER, NEVER, NEVER);
-    let config = config(10, 1000)?;
-    let (nodes, notes) = three_that_fail::<R, J>(rt, alloc, hashing, log, config, passed)?;
-    drop(notes);
-    let ended = each_ends(rt, alloc, &nodes);
-    drop(nodes);
-    ended
+/// Each fault ends the puts of its node alone.
+struct Endings;
+
+impl Story for Endings {
+    fn limits(&self) -> Limits {
+        Limits {
+            slots: 10,
+            entries: 1000,
+            passed: NEVER,
+        }
+    }
+
+    fn tell<R: Wait + Clock, C: Holding>(
+        &self,
+        rt: &R,
+        alloc: Global,
+        nodes: &C,
+        _notes: &[Receiver<Note>],
+    ) -> Result<(), Why> {
+        let other = put(rt, alloc, nodes, 1, 1)?;
+        each_ends(rt, alloc, nodes)?;
+        check(nodes.waits(rt, 1), "a put at another node ends")?;
+        nodes.end_all(rt, 1, SeatFault::JournalFull);
+        ended_as(rt, nodes, 1, &other, SeatFault::JournalFull)
+    }
 }
 
 #[test]
 fn puts_that_wait_are_told_why_they_end(rt: HostRuntime) -> Result<(), Fail> {
-    told(endings::<_, Brand>(&rt, rt.alloc(), RandomState::new(&rt)?, Opened::new()))
+    let (alloc, hashing) = (rt.alloc(), RandomState::new(&rt)?);
+    told(told_of::<_, Brand, _>(&rt, alloc, hashing, Opened::new(), &Endings))
 }

@@ -1,22 +1,24 @@
 //! Faults that change nothing: of inputs and messages that are none, of a journal that is another, of nodes that are
 //! not there.
 
-ghost use Rattle.std.specs.Prelude.{◌≡◌, []};
-
-use crate::made::{Call, Gave, decides, each_is_done, each_refuses, gives, refuses, what_stands};
-use crate::support::{
-    FailingNodes, NEVER, Why, check, config, ends_as, put, three_that_fail, told, upload,
+use crate::calls::{Call, Gave};
+use crate::made::{
+    decides, each_is_done, each_refuses, ended_as, gives, put, refuses, what_stands,
 };
+use crate::story::{Limits, NEVER, Story, told_of};
+use crate::support::{Why, check, told, upload};
+use crate::tested::{Holding, Tested};
+use crossbeam_channel::Receiver;
 use growing_log::Opened;
 use node_core::Refusal;
-use node_threads::{Beginning, Journal, OwnEntry, SeatFault};
+use node_threads::{Note, SeatFault};
 use stable_records::StoreFault;
 use std::alloc::Global;
 use std::hash::RandomState;
 use std::marker::Brand;
-use std::mem;
 use std::sync::Wait;
 use std::test::Fail;
+use std::time::Clock;
 
 /// A number that no message has.
 const LATE: u64 = 1000;
@@ -50,27 +52,8 @@ const WITHOUT_A_MESSAGE: [Call; 9] = [
     Call::RunningRestart,
 ];
 
-// What the journal's message of this number is answered with, `None` where there is a copy.
-fn no_message<R: Wait, J: Beginning>(
-    rt: &R,
-    nodes: &FailingNodes<J>,
-    number: u64,
-) -> Option<SeatFault> {
-    match nodes.cluster().message(rt, number) {
-        Ok(message) => {
-            drop(message);
-            None
-        }
-        Err(fault) => Some(fault),
-    }
-}
-
 // Messages that were not sent, and a tick that leaves too many slots, each beside one that is taken.
-fn looks_at_inputs<R: Wait, J: Beginning>(
-    rt: &R,
-    alloc: Global,
-    nodes: &FailingNodes<J>,
-) -> Result<(), Why> {
+fn looks_at_inputs<R: Wait, C: Tested>(rt: &R, alloc: Global, nodes: &C) -> Result<(), Why> {
     let not_sent = [
         Call::Deliver(LATE),
         Call::TakeFirst(LATE),
@@ -78,10 +61,10 @@ fn looks_at_inputs<R: Wait, J: Beginning>(
     ];
     each_refuses(rt, alloc, nodes, 1, &not_sent, SeatFault::NotSent)?;
     check(
-        no_message(rt, nodes, LATE) == Some(SeatFault::NotSent),
+        nodes.no_message(rt, LATE) == Some(SeatFault::NotSent),
         "a message that was not sent",
     )?;
-    check(no_message(rt, nodes, 0).is_none(), "no message")?;
+    check(nodes.no_message(rt, 0).is_none(), "no message")?;
     let out = SeatFault::Refused(Refusal::OutOfRange);
     refuses(rt, alloc, nodes, 1, Call::TakeTick(8), out)?;
     let sound = [
@@ -94,11 +77,7 @@ fn looks_at_inputs<R: Wait, J: Beginning>(
 }
 
 // Every call at a node that there is not.
-fn looks_for_a_node<R: Wait, J: Beginning>(
-    rt: &R,
-    alloc: Global,
-    nodes: &FailingNodes<J>,
-) -> Result<(), Why> {
+fn looks_for_a_node<R: Wait, C: Tested>(rt: &R, alloc: Global, nodes: &C) -> Result<(), Why> {
     each_refuses(rt, alloc, nodes, 3, &EACH, SeatFault::Down)?;
     let upload = upload(alloc, 1)?;
     let before = what_stands(rt, nodes, &upload)?;
@@ -112,70 +91,46 @@ fn looks_for_a_node<R: Wait, J: Beginning>(
     each_is_done(rt, alloc, nodes, 2, &EACH)
 }
 
-fn inputs<R: Wait, J: Beginning>(
-    rt: &R,
-    alloc: Global,
-    hashing: RandomState,
-    log: Opened<OwnEntry>,
-) -> Result<(), Why>
-    requires named { log ≡ J.book }
-    requires start { J.start ≡ [] }
-{
-    let passed = (NEVER, NEVER, NEVER);
-    let config = config(10, 1000)?;
-    let (nodes, notes) = three_that_fail::<R, J>(rt, alloc, hashing, log, config, passed)?;
-    drop(notes);
-    let decided = decides(rt, alloc, &nodes);
-    let inputs = looks_at_inputs(rt, alloc, &nodes);
-    let nowhere = looks_for_a_node(rt, alloc, &nodes);
-    drop(nodes);
-    decided?;
-    inputs?;
-    nowhere
+/// Inputs, messages and nodes that are none.
+struct Inputs;
+
+impl Story for Inputs {
+    fn limits(&self) -> Limits {
+        Limits {
+            slots: 10,
+            entries: 1000,
+            passed: NEVER,
+        }
+    }
+
+    fn tell<R: Wait + Clock, C: Holding>(
+        &self,
+        rt: &R,
+        alloc: Global,
+        nodes: &C,
+        _notes: &[Receiver<Note>],
+    ) -> Result<(), Why> {
+        decides(rt, alloc, nodes)?;
+        looks_at_inputs(rt, alloc, nodes)?;
+        looks_for_a_node(rt, alloc, nodes)
+    }
 }
 
 #[test]
 fn inputs_and_nodes_that_are_none_are_refused(rt: HostRuntime) -> Result<(), Fail> {
-    told(inputs::<_, Brand>(&rt, rt.alloc(), RandomState::new(&rt)?, Opened::new()))
-}
-
-// Puts another journal in the place of the one that is held, which it gives.
-fn put_in<J: Beginning>(held: &mut Journal<J>, other: Journal<J>) -> Journal<J> {
-    mem::replace(held, other)
-}
-
-// Puts another journal in the place of the nodes' own, which it gives.
-fn exchanged<R: Wait, J: Beginning>(
-    rt: &R,
-    nodes: &FailingNodes<J>,
-    other: Journal<J>,
-) -> Journal<J> {
-    let mut journal = nodes.cluster().journal().lock(rt);
-    put_in(&mut journal, other)
-}
-
-// A journal without an entry, of the same configuration.
-fn another_journal<J: Beginning>(alloc: Global) -> Result<Journal<J>, Why> {
-    let config = config(10, 1000)?;
-    if !config.is_within_limits() {
-        return Err("no configuration");
-    }
-    Ok(Journal::new(alloc, config))
+    let (alloc, hashing) = (rt.alloc(), RandomState::new(&rt)?);
+    told(told_of::<_, Brand, _>(&rt, alloc, hashing, Opened::new(), &Inputs))
 }
 
 // The first node has an entry, which another journal has not: it does nothing there, while a node without one answers.
-fn one_is_strange<R: Wait, J: Beginning>(
-    rt: &R,
-    alloc: Global,
-    nodes: &FailingNodes<J>,
-) -> Result<(), Why> {
+fn one_is_strange<R: Wait, C: Holding>(rt: &R, alloc: Global, nodes: &C) -> Result<(), Why> {
     gives(rt, alloc, nodes, 0, Call::TakePut(1), Gave::Done)?;
     let upload = upload(alloc, 1)?;
     let before = what_stands(rt, nodes, &upload)?;
-    let own = exchanged(rt, nodes, another_journal(alloc)?);
+    let own = nodes.exchanged(rt, C::another_journal(alloc)?);
     let refused = each_refuses(rt, alloc, nodes, 0, &WITHOUT_A_MESSAGE, SeatFault::Strange);
     let answered = gives(rt, alloc, nodes, 1, Call::Ask, Gave::Done);
-    drop(exchanged(rt, nodes, own));
+    drop(nodes.exchanged(rt, own));
     refused?;
     answered?;
     check(
@@ -185,46 +140,50 @@ fn one_is_strange<R: Wait, J: Beginning>(
 }
 
 // A put whose outcome is known waits at the first node, and ends as with a store's fault where its journal is another.
-fn a_put_is_strange<R: Wait, J: Beginning>(
-    rt: &R,
-    alloc: Global,
-    nodes: &FailingNodes<J>,
-) -> Result<(), Why> {
+fn a_put_is_strange<R: Wait, C: Holding>(rt: &R, alloc: Global, nodes: &C) -> Result<(), Why> {
     let pending = put(rt, alloc, nodes, 0, 1)?;
-    let own = exchanged(rt, nodes, another_journal(alloc)?);
+    let own = nodes.exchanged(rt, C::another_journal(alloc)?);
     let refused = refuses(rt, alloc, nodes, 0, Call::Settle(1), SeatFault::Strange);
     nodes.settle_all(rt, 0);
-    drop(exchanged(rt, nodes, own));
-    let waits = nodes.waits(rt, 0);
+    drop(nodes.exchanged(rt, own));
     refused?;
-    check(!waits, "it waits at another journal")?;
-    ends_as(rt, &pending, SeatFault::Store(StoreFault::Damaged))?;
+    ended_as(
+        rt,
+        nodes,
+        0,
+        &pending,
+        SeatFault::Store(StoreFault::Damaged),
+    )?;
     gives(rt, alloc, nodes, 0, Call::Settle(1), Gave::Done)
 }
 
-fn strange<R: Wait, J: Beginning>(
-    rt: &R,
-    alloc: Global,
-    hashing: RandomState,
-    log: Opened<OwnEntry>,
-) -> Result<(), Why>
-    requires named { log ≡ J.book }
-    requires start { J.start ≡ [] }
-{
-    let passed = (NEVER, NEVER, NEVER);
-    let config = config(10, 1000)?;
-    let (nodes, notes) = three_that_fail::<R, J>(rt, alloc, hashing, log, config, passed)?;
-    drop(notes);
-    let one = one_is_strange(rt, alloc, &nodes);
-    let decided = decides(rt, alloc, &nodes);
-    let settled = a_put_is_strange(rt, alloc, &nodes);
-    drop(nodes);
-    one?;
-    decided?;
-    settled
+/// The nodes have another journal for a while.
+struct Strange;
+
+impl Story for Strange {
+    fn limits(&self) -> Limits {
+        Limits {
+            slots: 10,
+            entries: 1000,
+            passed: NEVER,
+        }
+    }
+
+    fn tell<R: Wait + Clock, C: Holding>(
+        &self,
+        rt: &R,
+        alloc: Global,
+        nodes: &C,
+        _notes: &[Receiver<Note>],
+    ) -> Result<(), Why> {
+        one_is_strange(rt, alloc, nodes)?;
+        decides(rt, alloc, nodes)?;
+        a_put_is_strange(rt, alloc, nodes)
+    }
 }
 
 #[test]
 fn nodes_of_another_journal_are_strange(rt: HostRuntime) -> Result<(), Fail> {
-    told(strange::<_, Brand>(&rt, rt.alloc(), RandomState::new(&rt)?, Opened::new()))
+    let (alloc, hashing) = (rt.alloc(), RandomState::new(&rt)?);
+    told(told_of::<_, Brand, _>(&rt, alloc, hashing, Opened::new(), &Strange))
 }

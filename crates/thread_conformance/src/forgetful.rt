@@ -3,8 +3,11 @@
 ghost use Rattle.std.specs.Prelude.{◌≡◌, true, false, []};
 ghost use Rattle.thread_conformance.specs.Forgetful.{untold};
 
-use crate::made::{Call, Gave, each_is_done, each_refuses, gives};
-use crate::support::{Why, check, config, ends_as, had, put, seat, told};
+use crate::calls::{Call, Gave};
+use crate::made::{each_is_done, each_refuses, ended_as, gives, put};
+use crate::story::seat;
+use crate::support::{Why, check, config, had, told};
+use crate::tested::Tested;
 use ballots::Record;
 use growing_log::Opened;
 use node_threads::{Beginning, Cluster, Journal, OpenGate, OwnEntry, Running, SeatFault};
@@ -50,15 +53,13 @@ impl Stable for Forgetful {
     ghost only_now = { λ store found since. tt };
 }
 
-type ForgetfulNodes<J> = Running<3, Forgetful, J, OpenGate>;
-
 // Three nodes with such stores.
 fn three<R: Wait, J: Beginning>(
     rt: &R,
     alloc: Global,
     hashing: RandomState,
     log: Opened<OwnEntry>,
-) -> Result<ForgetfulNodes<J>, Why>
+) -> Result<Running<3, Forgetful, J, OpenGate>, Why>
     requires named { log ≡ J.book }
     requires start { J.start ≡ [] }
 {
@@ -80,11 +81,7 @@ fn three<R: Wait, J: Beginning>(
 
 // The first node has kept a record, and does not start again: it goes on, and its put waits on. One that has kept none
 // starts.
-fn forgets<R: Wait, J: Beginning>(
-    rt: &R,
-    alloc: Global,
-    nodes: &ForgetfulNodes<J>,
-) -> Result<(), Why> {
+fn forgets<R: Wait, C: Tested>(rt: &R, alloc: Global, nodes: &C) -> Result<(), Why> {
     let pending = put(rt, alloc, nodes, 0, 1)?;
     gives(rt, alloc, nodes, 0, Call::TakeTick(0), Gave::Done)?;
     let starts = [Call::Restart, Call::RunningRestart];
@@ -93,8 +90,13 @@ fn forgets<R: Wait, J: Beginning>(
     gives(rt, alloc, nodes, 0, Call::TakeInput, Gave::Done)?;
     check(nodes.waits(rt, 0), "a put ends at a node that stays")?;
     nodes.end_all(rt, 0, SeatFault::Lost);
-    check(!nodes.waits(rt, 0), "it waits behind its end")?;
-    ends_as(rt, &pending, SeatFault::Store(StoreFault::Damaged))
+    ended_as(
+        rt,
+        nodes,
+        0,
+        &pending,
+        SeatFault::Store(StoreFault::Damaged),
+    )
 }
 
 fn plays<R: Wait, J: Beginning>(

@@ -1,22 +1,22 @@
 //! Limits that are reached: a journal that is full, and slots that are spent.
 
-ghost use Rattle.std.specs.Prelude.{◌≡◌, []};
-
+use crate::calls::{Call, Gave};
 use crate::made::{
-    Call, Gave, decides, each_is_done, each_refuses, gives, made, refuses, what_stands,
+    decides, deliver_from, each_is_done, each_refuses, ended_as, gives, put, refuses, what_stands,
 };
-use crate::support::{
-    FailingNodes, NEVER, Why, check, config, deliver_from, ends_as, put, three_that_fail, told,
-    upload,
-};
+use crate::story::{Limits, NEVER, Story, told_of};
+use crate::support::{Why, check, told, upload};
+use crate::tested::{Holding, Tested};
+use crossbeam_channel::Receiver;
 use growing_log::Opened;
 use node_core::Refusal;
-use node_threads::{Beginning, OwnEntry, SeatFault};
+use node_threads::{Note, SeatFault};
 use std::alloc::Global;
 use std::hash::RandomState;
 use std::marker::Brand;
 use std::sync::Wait;
 use std::test::Fail;
+use std::time::Clock;
 
 const SPENT: SeatFault = SeatFault::Refused(Refusal::SlotsSpent);
 
@@ -51,9 +51,9 @@ const DONE: [Call; 10] = [
 ];
 
 // Asks the third node for its version, until the journal is full.
-fn fills<R: Wait, J: Beginning>(rt: &R, alloc: Global, nodes: &FailingNodes<J>) -> Result<(), Why> {
+fn fills<R: Wait, C: Tested>(rt: &R, alloc: Global, nodes: &C) -> Result<(), Why> {
     for _ in 0..100 {
-        match made(rt, alloc, nodes, 2, Call::Ask)? {
+        match nodes.make(rt, alloc, 2, Call::Ask)? {
             Gave::Done => {}
             gave => return check(
                 gave == Gave::Failed(SeatFault::JournalFull),
@@ -65,81 +65,71 @@ fn fills<R: Wait, J: Beginning>(rt: &R, alloc: Global, nodes: &FailingNodes<J>) 
 }
 
 // Every call that would be entered is refused at each node; what enters nothing is done.
-fn is_full<R: Wait, J: Beginning>(
-    rt: &R,
-    alloc: Global,
-    nodes: &FailingNodes<J>,
-) -> Result<(), Why> {
+fn is_full<R: Wait, C: Tested>(rt: &R, alloc: Global, nodes: &C) -> Result<(), Why> {
     let full = SeatFault::JournalFull;
     each_refuses(rt, alloc, nodes, 0, &ENTERED, full)?;
     each_refuses(rt, alloc, nodes, 1, &ENTERED, full)?;
     each_refuses(rt, alloc, nodes, 2, &ENTERED, full)?;
     gives(rt, alloc, nodes, 0, Call::Settle(2), Gave::Nothing)?;
     check(
-        nodes.cluster().message(rt, 0).is_ok(),
+        nodes.no_message(rt, 0).is_none(),
         "a full journal has no message",
     )
 }
 
-// Puts wait at two nodes as the journal is filled: the one whose outcome is known ends, since that can't be entered,
-// and the other waits on.
-fn a_journal_is_full<R: Wait, J: Beginning>(
-    rt: &R,
-    alloc: Global,
-    nodes: &FailingNodes<J>,
-) -> Result<(), Why> {
-    decides(rt, alloc, nodes)?;
-    let known = put(rt, alloc, nodes, 0, 1)?;
-    let unknown = put(rt, alloc, nodes, 1, 2)?;
-    fills(rt, alloc, nodes)?;
-    is_full(rt, alloc, nodes)?;
+// Puts that wait at two nodes are looked at where the journal is full, which does not grow: the one whose outcome is known
+// ends, since that can't be entered, and the other waits on.
+fn settles_nothing<R: Wait, C: Tested>(rt: &R, alloc: Global, nodes: &C) -> Result<(), Why> {
     let upload = upload(alloc, 1)?;
     let before = what_stands(rt, nodes, &upload)?;
     nodes.settle_all(rt, 0);
     nodes.settle_all(rt, 1);
     check(!nodes.waits(rt, 0), "it waits for an entry without room")?;
     check(nodes.waits(rt, 1), "what is not known ends")?;
-    ends_as(rt, &known, SeatFault::JournalFull)?;
     let after = what_stands(rt, nodes, &upload)?;
-    check(
-        before.entries == after.entries && before.messages == after.messages,
-        "a full journal grows",
-    )?;
-    nodes.end_all(rt, 1, SeatFault::JournalFull);
-    check(!nodes.waits(rt, 1), "it waits behind its end")?;
-    ends_as(rt, &unknown, SeatFault::JournalFull)
+    check(before.counts == after.counts, "a full journal grows")
 }
 
-fn full<R: Wait, J: Beginning>(
-    rt: &R,
-    alloc: Global,
-    hashing: RandomState,
-    log: Opened<OwnEntry>,
-) -> Result<(), Why>
-    requires named { log ≡ J.book }
-    requires start { J.start ≡ [] }
-{
-    let passed = (NEVER, NEVER, NEVER);
-    let config = config(10, 60)?;
-    let (nodes, notes) = three_that_fail::<R, J>(rt, alloc, hashing, log, config, passed)?;
-    drop(notes);
-    let done = a_journal_is_full(rt, alloc, &nodes);
-    drop(nodes);
-    done
+/// Puts wait at two nodes as the journal is filled, and are told that it is full.
+struct Full;
+
+impl Story for Full {
+    fn limits(&self) -> Limits {
+        Limits {
+            slots: 10,
+            entries: 60,
+            passed: NEVER,
+        }
+    }
+
+    fn tell<R: Wait + Clock, C: Holding>(
+        &self,
+        rt: &R,
+        alloc: Global,
+        nodes: &C,
+        _notes: &[Receiver<Note>],
+    ) -> Result<(), Why> {
+        decides(rt, alloc, nodes)?;
+        let known = put(rt, alloc, nodes, 0, 1)?;
+        let unknown = put(rt, alloc, nodes, 1, 2)?;
+        fills(rt, alloc, nodes)?;
+        is_full(rt, alloc, nodes)?;
+        settles_nothing(rt, alloc, nodes)?;
+        ended_as(rt, nodes, 0, &known, SeatFault::JournalFull)?;
+        nodes.end_all(rt, 1, SeatFault::JournalFull);
+        ended_as(rt, nodes, 1, &unknown, SeatFault::JournalFull)
+    }
 }
 
 #[test]
 fn a_full_journal_refuses_what_is_entered(rt: HostRuntime) -> Result<(), Fail> {
-    told(full::<_, Brand>(&rt, rt.alloc(), RandomState::new(&rt)?, Opened::new()))
+    let (alloc, hashing) = (rt.alloc(), RandomState::new(&rt)?);
+    told(told_of::<_, Brand, _>(&rt, alloc, hashing, Opened::new(), &Full))
 }
 
 // An upload waits at the second node as the only slot is decided for another: it and each new one are refused, and all
 // else is done.
-fn a_slot_is_spent<R: Wait, J: Beginning>(
-    rt: &R,
-    alloc: Global,
-    nodes: &FailingNodes<J>,
-) -> Result<(), Why> {
+fn a_slot_is_spent<R: Wait, C: Tested>(rt: &R, alloc: Global, nodes: &C) -> Result<(), Why> {
     let waiting = put(rt, alloc, nodes, 1, 2)?;
     decides(rt, alloc, nodes)?;
     let puts = [Call::TakePut(3), Call::Put(3)];
@@ -151,44 +141,44 @@ fn a_slot_is_spent<R: Wait, J: Beginning>(
     nodes.settle_all(rt, 1);
     check(nodes.waits(rt, 1), "what is not known ends")?;
     nodes.end_all(rt, 1, SPENT);
-    check(!nodes.waits(rt, 1), "it waits behind its end")?;
-    ends_as(rt, &waiting, SPENT)
+    ended_as(rt, nodes, 1, &waiting, SPENT)
 }
 
 // A node that starts again knows of no decision, so it takes an upload until it has learned one.
-fn starts_again<R: Wait, J: Beginning>(
-    rt: &R,
-    alloc: Global,
-    nodes: &FailingNodes<J>,
-) -> Result<(), Why> {
+fn starts_again<R: Wait, C: Tested>(rt: &R, alloc: Global, nodes: &C) -> Result<(), Why> {
     refuses(rt, alloc, nodes, 2, Call::Put(3), SPENT)?;
     let calls = [Call::Restart, Call::TakePut(3)];
     each_is_done(rt, alloc, nodes, 2, &calls)?;
-    deliver_from(rt, nodes, 0)?;
+    deliver_from(rt, alloc, nodes, 0)?;
     refuses(rt, alloc, nodes, 2, Call::Put(4), SPENT)
 }
 
-fn spent<R: Wait, J: Beginning>(
-    rt: &R,
-    alloc: Global,
-    hashing: RandomState,
-    log: Opened<OwnEntry>,
-) -> Result<(), Why>
-    requires named { log ≡ J.book }
-    requires start { J.start ≡ [] }
-{
-    let passed = (NEVER, NEVER, NEVER);
-    let config = config(1, 1000)?;
-    let (nodes, notes) = three_that_fail::<R, J>(rt, alloc, hashing, log, config, passed)?;
-    drop(notes);
-    let spent = a_slot_is_spent(rt, alloc, &nodes);
-    let started = starts_again(rt, alloc, &nodes);
-    drop(nodes);
-    spent?;
-    started
+/// The only slot is spent.
+struct Spent;
+
+impl Story for Spent {
+    fn limits(&self) -> Limits {
+        Limits {
+            slots: 1,
+            entries: 1000,
+            passed: NEVER,
+        }
+    }
+
+    fn tell<R: Wait + Clock, C: Holding>(
+        &self,
+        rt: &R,
+        alloc: Global,
+        nodes: &C,
+        _notes: &[Receiver<Note>],
+    ) -> Result<(), Why> {
+        a_slot_is_spent(rt, alloc, nodes)?;
+        starts_again(rt, alloc, nodes)
+    }
 }
 
 #[test]
 fn spent_slots_refuse_uploads(rt: HostRuntime) -> Result<(), Fail> {
-    told(spent::<_, Brand>(&rt, rt.alloc(), RandomState::new(&rt)?, Opened::new()))
+    let (alloc, hashing) = (rt.alloc(), RandomState::new(&rt)?);
+    told(told_of::<_, Brand, _>(&rt, alloc, hashing, Opened::new(), &Spent))
 }

@@ -1,13 +1,15 @@
-//! Three nodes whose journal forgets: they decide and serve, behind more entries than a journal that holds them may have.
+//! Three nodes whose journal forgets: they decide and serve, with more entries than a journal that holds them may have.
 
 ghost use Rattle.std.specs.Prelude.{◌≡◌, []};
 
-use crate::support::{Why, check, config, deliver_from, had, put, ticket, told};
+use crate::calls::{Call, Gave};
+use crate::made::{deliver_from, gives, put};
+use crate::steps::{receipt_of, served};
+use crate::support::{Why, check, config, had, told};
+use crate::tested::Tested;
 use ballots::NodeId;
 use growing_log::Opened;
-use node_threads::{
-    Beginning, Cluster, Journal, OpenGate, OwnEntry, Recent, Running, Seat, SeatInput,
-};
+use node_threads::{Beginning, Cluster, Journal, OpenGate, OwnEntry, Recent, Running, Seat};
 use schedule_runner::Config;
 use stable_records::{MemoryStable, StoreFault};
 use std::alloc::Global;
@@ -15,7 +17,6 @@ use std::hash::RandomState;
 use std::marker::Brand;
 use std::sync::{Mutex, Wait};
 use std::test::Fail;
-use table_versions::{Answer, Outcome};
 
 type ForgettingNodes<J> = Running<3, MemoryStable, J, OpenGate, Recent>;
 
@@ -66,62 +67,28 @@ fn three<R: Wait, J: Beginning>(
     Ok(nodes)
 }
 
-// The first version at this node.
-fn first_version<R: Wait, J: Beginning>(
-    rt: &R,
-    alloc: Global,
-    nodes: &ForgettingNodes<J>,
-    node: usize,
-) -> Result<Answer, Why> {
-    match nodes.get(rt, node, ticket(alloc, 1)?) {
-        Ok(Some((answer, receipt))) => {
-            drop(receipt);
-            Ok(answer)
-        }
-        _ => Err("no answer"),
-    }
-}
-
 // An upload is put at the first node, decided, and served by each.
-fn decides<R: Wait, J: Beginning>(
-    rt: &R,
-    alloc: Global,
-    nodes: &ForgettingNodes<J>,
-) -> Result<(), Why> {
+fn decides<R: Wait, C: Tested>(rt: &R, alloc: Global, nodes: &C) -> Result<(), Why> {
     let pending = put(rt, alloc, nodes, 0, 1)?;
-    match nodes.take_input(rt, 0, SeatInput::Tick(0)) {
-        Ok(taken) => drop(taken),
-        Err(_) => return Err("a tick is not taken"),
-    }
-    deliver_from(rt, nodes, 0)?;
+    gives(rt, alloc, nodes, 0, Call::TakeInput, Gave::Done)?;
+    deliver_from(rt, alloc, nodes, 0)?;
     nodes.settle_all(rt, 0);
-    let Ok(settled) = pending.wait(rt) else {
-        return Err("the put ends with a fault");
-    };
-    check(settled.outcome == Outcome::Applied(1), "another outcome")?;
-    let first = first_version(rt, alloc, nodes, 0)?;
-    let second = first_version(rt, alloc, nodes, 1)?;
-    let third = first_version(rt, alloc, nodes, 2)?;
-    check(first == second && second == third, "answers differ")
+    check(!nodes.waits(rt, 0), "it waits still")?;
+    drop(receipt_of(rt, &pending)?);
+    drop(served(rt, alloc, nodes)?);
+    Ok(())
 }
 
-// A node that starts again has what it learned once it is handed it again. By then there are more than three entries, and
-// none is held.
-fn starts_again<R: Wait, J: Beginning>(
-    rt: &R,
-    alloc: Global,
-    nodes: &ForgettingNodes<J>,
-) -> Result<(), Why> {
-    check(nodes.restart(rt, 2).is_ok(), "no restart")?;
-    check(
-        first_version(rt, alloc, nodes, 2).is_err(),
-        "it has a version",
-    )?;
-    deliver_from(rt, nodes, 0)?;
-    check(
-        first_version(rt, alloc, nodes, 2).is_ok(),
-        "it has no version",
-    )?;
+// A node that starts again has what it learned once it is handed it again.
+fn starts_again<R: Wait, C: Tested>(rt: &R, alloc: Global, nodes: &C) -> Result<(), Why> {
+    gives(rt, alloc, nodes, 2, Call::RunningRestart, Gave::Done)?;
+    gives(rt, alloc, nodes, 2, Call::RunningGet, Gave::Nothing)?;
+    deliver_from(rt, alloc, nodes, 0)?;
+    gives(rt, alloc, nodes, 2, Call::RunningGet, Gave::Done)
+}
+
+// There are more than three entries, and none is held.
+fn holds_none<R: Wait, J: Beginning>(rt: &R, nodes: &ForgettingNodes<J>) -> Result<(), Why> {
     let journal = nodes.cluster().journal().lock(rt);
     check(
         journal.step_count() > 3 && journal.steps().is_none() && !journal.is_full(),
@@ -141,9 +108,11 @@ fn plays<R: Wait, J: Beginning>(
     let nodes = three::<R, J>(rt, alloc, hashing, log)?;
     let decided = decides(rt, alloc, &nodes);
     let started = starts_again(rt, alloc, &nodes);
+    let held = holds_none(rt, &nodes);
     drop(nodes);
     decided?;
-    started
+    started?;
+    held
 }
 
 #[test]

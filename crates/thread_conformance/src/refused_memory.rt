@@ -1,20 +1,23 @@
-//! Calls of a cluster and of its running nodes that are refused memory, and then are made again: behind a refusal the
+//! Calls of a cluster and of its running nodes that are refused memory, and then are made again: after a refusal the
 //! journal and all nodes are as before, or there is the one entry of a node that went down, or that of a question.
 //! Run with every allocation refused in turn, the test ends as before or for want of memory.
 
-ghost use Rattle.std.specs.Prelude.{◌≡◌, []};
-
-use crate::made::{Call, Gave, Standing, at, is_cut, made, what_stands};
-use crate::support::{Nodes, Why, check, ends_as, three, told, upload};
+use crate::calls::{Call, Gave};
+use crate::made::{Standing, at, ended_as, has_one_entry_more, is_cut, what_stands};
+use crate::story::{Limits, NEVER, Story, told_of};
+use crate::support::{Why, check, told, upload};
+use crate::tested::{Holding, Tested};
+use crossbeam_channel::Receiver;
 use growing_log::Opened;
 use node_core::Refusal;
-use node_threads::{Beginning, OpenGate, OwnEntry, Pending, SeatFault};
+use node_threads::{Note, Pending, SeatFault};
 use stable_records::StoreFault;
 use std::alloc::Global;
 use std::hash::RandomState;
 use std::marker::Brand;
 use std::sync::Wait;
 use std::test::Fail;
+use std::time::Clock;
 use table_versions::Outcome;
 use uploads::Upload;
 
@@ -44,16 +47,15 @@ const CALLS: [(u64, Call); 19] = [
     (2, Call::RunningRestart),
 ];
 
-// Whether there is one entry more, and nothing else has changed.
+// Whether there is one entry more, and no node has changed.
 fn has_one_more(before: &Standing, after: &Standing) -> bool {
-    after.entries == before.entries.saturating_add(1)
-        && after.messages == before.messages
+    has_one_entry_more(before, after)
         && after.first == before.first
         && after.second == before.second
         && after.third == before.third
 }
 
-// Whether all stands as where memory was refused: a question is entered before its answer is copied.
+// Whether all is as where memory was refused: a question is entered before its answer is copied.
 fn stands(before: &Standing, after: &Standing, call: Call) -> bool {
     match call {
         Call::Get | Call::RunningGet => *before == *after || has_one_more(before, after),
@@ -61,10 +63,10 @@ fn stands(before: &Standing, after: &Standing, call: Call) -> bool {
     }
 }
 
-// Whether all stands as what a call gave says.
-fn is_promised<R: Wait, J: Beginning>(
+// Whether all is as what a call returned says.
+fn is_promised<R: Wait, C: Holding>(
     rt: &R,
-    nodes: &Nodes<J, OpenGate>,
+    nodes: &C,
     before: &Standing,
     after: &Standing,
     node: u64,
@@ -83,29 +85,29 @@ fn is_promised<R: Wait, J: Beginning>(
 }
 
 // Makes the call once. Whether it was done.
-fn make_once<R: Wait, J: Beginning>(
+fn make_once<R: Wait, C: Holding>(
     rt: &R,
     alloc: Global,
-    nodes: &Nodes<J, OpenGate>,
+    nodes: &C,
     upload: &Upload,
     node: u64,
     call: Call,
 ) -> Result<bool, Why> {
     let before = what_stands(rt, nodes, upload)?;
-    let gave = made(rt, alloc, nodes, node as usize, call)?;
+    let gave = nodes.make(rt, alloc, node as usize, call)?;
     let after = what_stands(rt, nodes, upload)?;
     check(
         is_promised(rt, nodes, &before, &after, node, call, gave),
-        "another answer, or something else stands",
+        "another answer, or something else has changed",
     )?;
     Ok(matches!(gave, Gave::Done | Gave::Nothing))
 }
 
-// Makes the call, and again where memory was refused; behind a restart where the node went down.
-fn make<R: Wait, J: Beginning>(
+// Makes the call, and again where memory was refused; after a restart where the node went down.
+fn make<R: Wait, C: Holding>(
     rt: &R,
     alloc: Global,
-    nodes: &Nodes<J, OpenGate>,
+    nodes: &C,
     upload: &Upload,
     node: u64,
     call: Call,
@@ -122,21 +124,18 @@ fn make<R: Wait, J: Beginning>(
 }
 
 // Whether the call hands over a message that was not sent, since a node went down.
-fn is_not_sent<R: Wait, J: Beginning>(rt: &R, nodes: &Nodes<J, OpenGate>, call: Call) -> bool {
+fn is_not_sent<R: Wait, C: Tested>(rt: &R, nodes: &C, call: Call) -> bool {
     match call {
-        Call::Deliver(number) => {
-            let journal = nodes.cluster().journal().lock(rt);
-            journal.message(number).is_none()
-        }
+        Call::Deliver(number) => number >= nodes.counts(rt).messages,
         _ => false,
     }
 }
 
 // Makes all calls.
-fn make_all<R: Wait, J: Beginning>(
+fn make_all<R: Wait, C: Holding>(
     rt: &R,
     alloc: Global,
-    nodes: &Nodes<J, OpenGate>,
+    nodes: &C,
     upload: &Upload,
 ) -> Result<(), Why> {
     for (node, call) in &CALLS {
@@ -147,12 +146,8 @@ fn make_all<R: Wait, J: Beginning>(
     Ok(())
 }
 
-// Puts the upload at the first node, and again where memory was refused: then nothing waits, and all stands as before.
-fn put_again<R: Wait, J: Beginning>(
-    rt: &R,
-    nodes: &Nodes<J, OpenGate>,
-    upload: &Upload,
-) -> Result<Pending, Why> {
+// Puts the upload at the first node, and again where memory was refused: then nothing waits, and all is as before.
+fn put_again<R: Wait, C: Tested>(rt: &R, nodes: &C, upload: &Upload) -> Result<Pending, Why> {
     for _ in 0..2 {
         let before = what_stands(rt, nodes, upload)?;
         match nodes.put(rt, 0, upload) {
@@ -171,9 +166,9 @@ fn put_again<R: Wait, J: Beginning>(
 
 // Ends the put, and looks again where memory was refused: it is told what became of its upload where the first node
 // knows that.
-fn ends<R: Wait, J: Beginning>(
+fn ends<R: Wait, C: Tested>(
     rt: &R,
-    nodes: &Nodes<J, OpenGate>,
+    nodes: &C,
     upload: &Upload,
     pending: &Pending,
 ) -> Result<(), Why> {
@@ -183,7 +178,7 @@ fn ends<R: Wait, J: Beginning>(
     check(nodes.waits(rt, 0) != known, "it waits, or waits no more")?;
     if !known {
         nodes.end_all(rt, 0, SeatFault::Down);
-        return ends_as(rt, pending, SeatFault::Down);
+        return ended_as(rt, nodes, 0, pending, SeatFault::Down);
     }
     let Ok(settled) = pending.wait(rt) else {
         return Err("what is known of the upload is not told");
@@ -191,28 +186,34 @@ fn ends<R: Wait, J: Beginning>(
     check(settled.outcome == Outcome::Applied(1), "another outcome")
 }
 
-fn plays<R: Wait, J: Beginning>(
-    rt: &R,
-    alloc: Global,
-    hashing: RandomState,
-    log: Opened<OwnEntry>,
-) -> Result<(), Why>
-    requires named { log ≡ J.book }
-    requires start { J.start ≡ [] }
-{
-    let upload = upload(alloc, 1)?;
-    let (nodes, notes) = three::<R, J, OpenGate>(rt, alloc, hashing, log, OpenGate)?;
-    drop(notes);
-    let pending = put_again(rt, &nodes, &upload)?;
-    let calls = make_all(rt, alloc, &nodes, &upload);
-    let ended = ends(rt, &nodes, &upload, &pending);
-    drop(pending);
-    drop(nodes);
-    calls?;
-    ended
+/// Each call is made, and again where memory was refused.
+struct Refused;
+
+impl Story for Refused {
+    fn limits(&self) -> Limits {
+        Limits {
+            slots: 1000,
+            entries: 1_000_000,
+            passed: NEVER,
+        }
+    }
+
+    fn tell<R: Wait + Clock, C: Holding>(
+        &self,
+        rt: &R,
+        alloc: Global,
+        nodes: &C,
+        _notes: &[Receiver<Note>],
+    ) -> Result<(), Why> {
+        let upload = upload(alloc, 1)?;
+        let pending = put_again(rt, nodes, &upload)?;
+        make_all(rt, alloc, nodes, &upload)?;
+        ends(rt, nodes, &upload, &pending)
+    }
 }
 
 #[test]
 fn each_call_of_running_nodes_is_made_again(rt: HostRuntime) -> Result<(), Fail> {
-    told(plays::<_, Brand>(&rt, rt.alloc(), RandomState::new(&rt)?, Opened::new()))
+    let (alloc, hashing) = (rt.alloc(), RandomState::new(&rt)?);
+    told(told_of::<_, Brand, _>(&rt, alloc, hashing, Opened::new(), &Refused))
 }

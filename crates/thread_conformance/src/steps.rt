@@ -1,138 +1,125 @@
 //! Three nodes, one step after the other: an upload that is put at one is served at each.
 
-ghost use Rattle.std.specs.Prelude.{◌≡◌, []};
-
-use crate::support::{Nodes, Why, check, deliver_from, members, put, three, ticket, told};
-use ballots::NodeId;
+use crate::calls::{Call, Gave};
+use crate::made::{deliver_from, ended_as, gives, put};
+use crate::story::{Limits, NEVER, Story, told_of};
+use crate::support::{Why, check, told};
+use crate::tested::{Holding, Tested};
 use crossbeam_channel::Receiver;
 use growing_log::Opened;
-use node_threads::{Beginning, Note, OpenGate, OwnEntry, Pace, Receipt, SeatFault, SeatInput};
-use schedule_runner::audit;
+use node_threads::{Note, Pending, Receipt, SeatFault};
 use std::alloc::Global;
 use std::hash::RandomState;
 use std::marker::Brand;
 use std::sync::Wait;
 use std::test::Fail;
 use std::time::Clock;
-use table_versions::{Answer, Outcome};
+use table_versions::Outcome;
 
-// The first version at this node.
-fn first_version<R: Wait, J: Beginning>(
-    rt: &R,
-    alloc: Global,
-    nodes: &Nodes<J, OpenGate>,
-    node: usize,
-) -> Result<(Answer, Receipt), Why> {
-    match nodes.get(rt, node, ticket(alloc, 1)?) {
-        Ok(Some(found)) => Ok(found),
-        _ => Err("no answer"),
-    }
-}
-
-// An upload is put, decided and served; every receipt stands in the journal, which is lawful.
-fn decides<R: Wait, J: Beginning>(
-    rt: &R,
-    alloc: Global,
-    nodes: &Nodes<J, OpenGate>,
-) -> Result<(), Why> {
-    let pending = put(rt, alloc, nodes, 0, 1)?;
+// The put is settled at the first node once its upload is decided, and no earlier.
+fn settles<R: Wait, C: Tested>(rt: &R, alloc: Global, nodes: &C) -> Result<(), Why> {
     check(nodes.waits(rt, 0) && !nodes.waits(rt, 1), "what waits")?;
     nodes.settle_all(rt, 0);
     check(nodes.waits(rt, 0), "it is settled before it is known")?;
-    match nodes.take_input(rt, 0, SeatInput::Tick(0)) {
-        Ok(taken) => drop(taken),
-        Err(_) => return Err("a tick is not taken"),
-    }
-    deliver_from(rt, nodes, 0)?;
+    gives(rt, alloc, nodes, 0, Call::TakeInput, Gave::Done)?;
+    deliver_from(rt, alloc, nodes, 0)?;
     nodes.settle_all(rt, 0);
-    check(!nodes.waits(rt, 0), "it waits still")?;
+    check(!nodes.waits(rt, 0), "it waits still")
+}
+
+/// The receipt of the put, which made the first version.
+pub(crate) fn receipt_of<R: Wait>(rt: &R, pending: &Pending) -> Result<Receipt, Why> {
     let Ok(settled) = pending.wait(rt) else {
         return Err("the put ends with a fault");
     };
     check(settled.outcome == Outcome::Applied(1), "another outcome")?;
-    let (first, got) = first_version(rt, alloc, nodes, 0)?;
-    let (second, got_too) = first_version(rt, alloc, nodes, 1)?;
-    let (third, _) = first_version(rt, alloc, nodes, 2)?;
+    Ok(settled.receipt)
+}
+
+/// All three nodes have the same first version, whose receipts the first two give.
+pub(crate) fn served<R: Wait, C: Tested>(
+    rt: &R,
+    alloc: Global,
+    nodes: &C,
+) -> Result<(Receipt, Receipt), Why> {
+    let (first, got) = nodes.first_version(rt, alloc, 0)?;
+    let (second, got_too) = nodes.first_version(rt, alloc, 1)?;
+    let (third, _) = nodes.first_version(rt, alloc, 2)?;
     check(first == second && second == third, "answers differ")?;
-    let journal = nodes.cluster().journal().lock(rt);
+    Ok((got, got_too))
+}
+
+// An upload is put, decided and served; every receipt is confirmed by the journal, which is lawful.
+fn decides<R: Wait, C: Holding>(rt: &R, alloc: Global, nodes: &C) -> Result<(), Why> {
+    let pending = put(rt, alloc, nodes, 0, 1)?;
+    settles(rt, alloc, nodes)?;
+    let settled = receipt_of(rt, &pending)?;
+    let (got, got_too) = served(rt, alloc, nodes)?;
     check(
-        journal.meet(&settled.receipt, &got),
+        nodes.meets(rt, &settled, &got),
         "a receipt is not confirmed",
     )?;
     check(
-        journal.meet(&settled.receipt, &got_too),
+        nodes.meets(rt, &settled, &got_too),
         "another is not confirmed",
     )?;
-    check(audit(journal.trace()), "what was sent is not lawful")
+    check(nodes.is_lawful(rt), "what was sent is not lawful")
 }
 
 // A node that starts again ends its puts, and has what it learned once it is handed it again.
-fn starts_again<R: Wait, J: Beginning>(
-    rt: &R,
-    alloc: Global,
-    nodes: &Nodes<J, OpenGate>,
-) -> Result<(), Why> {
+fn starts_again<R: Wait, C: Tested>(rt: &R, alloc: Global, nodes: &C) -> Result<(), Why> {
     let pending = put(rt, alloc, nodes, 2, 2)?;
-    check(nodes.restart(rt, 2).is_ok(), "no restart")?;
-    check(!nodes.waits(rt, 2), "it waits behind a restart")?;
-    check(
-        matches!(pending.wait(rt), Err(SeatFault::Down)),
-        "another end",
-    )?;
-    check(
-        first_version(rt, alloc, nodes, 2).is_err(),
-        "it has a version",
-    )?;
-    deliver_from(rt, nodes, 0)?;
-    check(
-        first_version(rt, alloc, nodes, 2).is_ok(),
-        "it has no version",
-    )?;
-    check(nodes.restart(rt, 3).is_err(), "a fourth node")
+    gives(rt, alloc, nodes, 2, Call::RunningRestart, Gave::Done)?;
+    ended_as(rt, nodes, 2, &pending, SeatFault::Down)?;
+    gives(rt, alloc, nodes, 2, Call::RunningGet, Gave::Nothing)?;
+    deliver_from(rt, alloc, nodes, 0)?;
+    gives(rt, alloc, nodes, 2, Call::RunningGet, Gave::Done)?;
+    let nowhere = Gave::Failed(SeatFault::Down);
+    gives(rt, alloc, nodes, 3, Call::RunningRestart, nowhere)
 }
 
 // The worker of a node at which an upload waits gives it a tick, and ends the put once it is told to stop.
-fn stops<R: Wait + Clock, J: Beginning>(
+fn stops<R: Wait + Clock, C: Holding>(
     rt: &R,
     alloc: Global,
-    nodes: &Nodes<J, OpenGate>,
+    nodes: &C,
     notes: &[Receiver<Note>],
 ) -> Result<(), Why> {
     let pending = put(rt, alloc, nodes, 1, 3)?;
-    let before = nodes.cluster().journal().lock(rt).trace().sent().len();
-    nodes.stop(rt);
-    let pace = Pace::new(NodeId::new(1).ok_or("no node")?, members()?);
-    nodes.work(rt, 1, pace, notes.get(1).ok_or("no notes")?);
-    let after = nodes.cluster().journal().lock(rt).trace().sent().len();
+    let before = nodes.counts(rt).messages;
+    nodes.works_to_its_end(rt, 1, notes.get(1).ok_or("no notes")?)?;
+    let after = nodes.counts(rt).messages;
     check(before < after, "no tick is given")?;
-    check(!nodes.waits(rt, 1), "it waits behind the end")?;
-    check(
-        matches!(pending.wait(rt), Err(SeatFault::Down)),
-        "another end",
-    )
+    ended_as(rt, nodes, 1, &pending, SeatFault::Down)
 }
 
-fn plays<R: Wait + Clock, J: Beginning>(
-    rt: &R,
-    alloc: Global,
-    hashing: RandomState,
-    log: Opened<OwnEntry>,
-) -> Result<(), Why>
-    requires named { log ≡ J.book }
-    requires start { J.start ≡ [] }
-{
-    let (nodes, notes) = three::<R, J, OpenGate>(rt, alloc, hashing, log, OpenGate)?;
-    let decided = decides(rt, alloc, &nodes);
-    let started = starts_again(rt, alloc, &nodes);
-    let stopped = stops(rt, alloc, &nodes, &notes);
-    drop(notes);
-    drop(nodes);
-    decided?;
-    started?;
-    stopped
+/// An upload is decided and served, a node starts again, and a worker stops.
+struct Steps;
+
+impl Story for Steps {
+    fn limits(&self) -> Limits {
+        Limits {
+            slots: 1000,
+            entries: 1_000_000,
+            passed: NEVER,
+        }
+    }
+
+    fn tell<R: Wait + Clock, C: Holding>(
+        &self,
+        rt: &R,
+        alloc: Global,
+        nodes: &C,
+        notes: &[Receiver<Note>],
+    ) -> Result<(), Why> {
+        decides(rt, alloc, nodes)?;
+        starts_again(rt, alloc, nodes)?;
+        stops(rt, alloc, nodes, notes)
+    }
 }
 
 #[test]
 fn an_upload_is_decided_and_served(rt: HostRuntime) -> Result<(), Fail> {
-    told(plays::<_, Brand>(&rt, rt.alloc(), RandomState::new(&rt)?, Opened::new()))
+    let (alloc, hashing) = (rt.alloc(), RandomState::new(&rt)?);
+    told(told_of::<_, Brand, _>(&rt, alloc, hashing, Opened::new(), &Steps))
 }
