@@ -7,8 +7,8 @@
 
 The program depends on the crates that `crates.txt` lists below it: on their `src/`, `specs/` and `proofs/`, on their lines of
 `crates.txt`, on `HANDLES`, and on the toolchain. `release/SOURCES` has one SHA-256 over all of these, the SHA-256 of the program, and
-the line by which the toolchain names itself. A build from equal sources by the same toolchain is equal byte for byte, in whatever
-folder. So anyone who proves the program here can compare: --compare has status 1 where sources agree and a byte differs.
+the line by which the toolchain names itself. Two builds from equal sources by the same toolchain, in two folders, were equal byte for
+byte. So anyone who proves the program here can compare: --compare has status 1 where sources agree and a byte differs.
 """
 import hashlib
 import shutil
