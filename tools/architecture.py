@@ -5,7 +5,8 @@ each with its crates, and of each crate the first paragraph of its `src/lib.rt` 
     tools/architecture.py [--check]
 
 With --check it changes nothing. It says whether the table is what it would make, whether each crate of crates.txt comes before
-those that use it, and whether each stands under the heading of a layer. The status is 1 where one of these is not so."""
+those that use it, whether each stands under the heading of a layer, and whether more than MOST_PATHS paths lead down from crates to those
+that they use. The status is 1 where one of these is not so."""
 import re
 import sys
 from pathlib import Path
@@ -16,6 +17,8 @@ TOP = Path(__file__).resolve().parent.parent
 PAGE = TOP / "docs" / "ARCHITECTURE.md"
 FIRST = "<!-- The table below is made by tools/architecture.py. -->"
 LAST = "<!-- The table above is made by tools/architecture.py. -->"
+# The gate reads the sources of a crate once for each path to it from each library above, and again once that library is proved.
+MOST_PATHS = 150_000
 HEADING = re.compile(r"# (?:Layer (\w+), (.*)|(Tests and benches))$")
 
 
@@ -79,6 +82,17 @@ def out_of_order(found):
     return wrong
 
 
+def too_many_paths(found):
+    """A line where too many paths lead down from libraries to the crates that they use, each library by itself counted as one."""
+    paths, libraries = {}, set()
+    for _, crates in found:
+        for crate, uses in crates.items():
+            paths[crate] = 1 + sum(paths.get(used, 0) for used in uses)
+            libraries.update(used for used in uses if used in paths)
+    total = sum(paths[crate] for crate in libraries)
+    return [f"crates.txt has {total:,} paths, more than {MOST_PATHS:,}: list a crate that passes others on"] if total > MOST_PATHS else []
+
+
 def main():
     found = layers()
     text = PAGE.read_text(encoding="utf-8")
@@ -86,7 +100,7 @@ def main():
     if sys.argv[1:] != ["--check"]:
         PAGE.write_text(made, encoding="utf-8")
         return 0
-    wrong = out_of_order(found)
+    wrong = out_of_order(found) + too_many_paths(found)
     if text != made:
         wrong.append("docs/ARCHITECTURE.md does not have the table that tools/architecture.py makes")
     for line in wrong:

@@ -73,7 +73,8 @@ class Crate:
         for item in self.modules.get(module, ()):
             if item.name == name and item.kind not in ("mod", "use"):
                 return item
-            known = [parts for parts, known in item.names if known == name] if item.kind == "use" else []
+            # A crate that is passed on under its own name is of another crate.
+            known = [parts for parts, known in item.names if known == name and parts != segments] if item.kind == "use" else []
             found = self.resolve(module, known[0]) if known else None
             if found:
                 return found

@@ -1,6 +1,6 @@
 #!/usr/bin/env python3
 """Draws what may come to pass at a node's worker, and says by a plain reading of the whole list when a tick is due and how many free
-slots it leaves: the rows of crates/work_conformance/src/pace_rows.rt.
+slots it leaves: the rows of crates/worker_conformance/src/pace_rows.rt.
 
     tools/paces.py --write      makes them
     tools/paces.py --check      says whether they differ
@@ -17,7 +17,7 @@ from pathlib import Path
 
 from toolbox import show_help
 
-ROWS = Path(__file__).resolve().parent.parent / "crates" / "work_conformance" / "src" / "pace_rows.rt"
+ROWS = Path(__file__).resolve().parent.parent / "crates" / "worker_conformance" / "src" / "pace_rows.rt"
 ME, MEMBERS, COUNT, LENGTH = 1, 3, 64, 14
 HEAD = """//! What may come to pass at a worker, and when a tick is due: rows that `tools/paces.py` draws.
 

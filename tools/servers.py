@@ -30,7 +30,8 @@ CALL_SECONDS, LEARN_SECONDS = 30, 30
 MOST_CONNECTIONS = 128
 # What a server says of its start over records, where that takes longer than a second, and of a node that was down.
 PROGRESS = re.compile(
-    r"^node \d (has its records|has learned what was decided|was down, and has started again|is down, and can't be started again yet)\n",
+    r"^node \d (has its records|has learned what was decided|was down, and has started again"
+    r"|is down, and can't be started again yet: [\w: ]+)\n",
     re.MULTILINE,
 )
 

@@ -13,8 +13,8 @@ use Rattle.ballots.specs.declared.fault.MessageFault.{MessageFault}
 use Rattle.ballots.specs.declared.fault.MessageFault.TheVariants.{OutOfMemory}
 use Rattle.ballots.specs.Message.{IsMessageText, IsFaultOf, HasUpload, canonical}
 use Rattle.acceptor.specs.Standing.{Standing}
-use Rattle.acceptor_command.specs.declared.fault.ServeFault.{ServeFault}
-use Rattle.acceptor_command.specs.declared.fault.ServeFault.TheVariants as faults
+use Rattle.acceptor_command.specs.declared.fault.AnswerFault.{AnswerFault}
+use Rattle.acceptor_command.specs.declared.fault.AnswerFault.TheVariants as faults
 use Rattle.acceptor_command.specs.Conversation.{Answers, AnswersBody, IsBodyGranted, IsGranted, IsRequest, reply_text}
 use Rattle.acceptor_command.specs.Serving.{Replies, PayloadFault, FrameEnds, FrontEnds, Ends, Sends, AnswersFrame, Steps}
 
@@ -72,7 +72,7 @@ module _ (now next : Standing) (f : Frame) (payload : List ℕ) (m : Message) (f
   replies : (reply : Message) → Answers now m (Some reply) next → Replies now f reply
   replies reply a = record { message = m; next = next; flag = flag; means = carried; answers = a }
 
-  sent : (r : Result (Unit {0}) ServeFault) (reply : Message) (old new : List ℕ) → Answers now m (Some reply) next → Sends r reply old new → AnswersFrame r now next f old new
+  sent : (r : Result (Unit {0}) AnswerFault) (reply : Message) (old new : List ℕ) → Answers now m (Some reply) next → Sends r reply old new → AnswersFrame r now next f old new
   sent (Ok done) reply old new a h =
       (reply_text (Some reply), record { message = m; reply = Some reply; flag = flag; means = carried; answers = a; out = refl }, h)
   sent (Err faults.AnswerTooLong) reply old new a h = (reply, replies reply a, h.0, h.1)
@@ -84,7 +84,7 @@ module _ (now next : Standing) (f : Frame) (payload : List ℕ) (m : Message) (f
   sent (Err faults.FrameLimit) reply old new a h = absurd h
 
   -- the reply goes out
-  pub answered_some : (r : Result (Unit {0}) ServeFault) (reply : Message) (old new : Option (List ℕ)) → Answers now m (Some reply) next → WhereKnown old new (Sends r reply) → WhereKnown old new (AnswersFrame r now next f)
+  pub answered_some : (r : Result (Unit {0}) AnswerFault) (reply : Message) (old new : Option (List ℕ)) → Answers now m (Some reply) next → WhereKnown old new (Sends r reply) → WhereKnown old new (AnswersFrame r now next f)
   answered_some r reply None new a h = tt
   answered_some r reply (Some old) None a h = absurd h
   answered_some r reply (Some old) (Some new) a h = sent r reply old new a h
@@ -107,10 +107,10 @@ whole_frame (Ok done) reply payload (Some xs) (Some ys) (Some zs) e same h k =
 -- ---- a frame that was read
 
 module _ (now : Standing) (f : Frame) (rest after old new : List ℕ) (front : rest ≡ frame_text f ++ after) where
-  front_ends : (fault : ServeFault) → FrameEnds fault now f old new → FrontEnds fault now rest after old new
+  front_ends : (fault : AnswerFault) → FrameEnds fault now f old new → FrontEnds fault now rest after old new
   front_ends fault ends = record { frame = f; front = front; ends = ends }
 
-  ends_front : (fault : ServeFault) → FrameEnds fault now f old new → Ends fault 0 now rest after old new
+  ends_front : (fault : AnswerFault) → FrameEnds fault now f old new → Ends fault 0 now rest after old new
   ends_front faults.EndFlag ends = front_ends faults.EndFlag ends
   ends_front (faults.Message fault) ends = front_ends (faults.Message fault) ends
   ends_front faults.AnswerTooLong ends = front_ends faults.AnswerTooLong ends
@@ -129,7 +129,7 @@ steps_on now next f (Some rest) (Some after) (Some old) None a b = absurd b
 steps_on now next f (Some rest) (Some after) (Some old) (Some new) a b = record { frame = f; text = b.0; front = a.1; turn = b.1; out = b.2 }
 
 -- the frame ended the run
-pub steps_out : (fault : ServeFault) (now next : Standing) (f : Frame) (rest after old new : Option (List ℕ)) → WhereKnown rest after (ReadsFrame (Ok (Some f))) → WhereKnown old new (AnswersFrame (Err fault) now next f)
+pub steps_out : (fault : AnswerFault) (now next : Standing) (f : Frame) (rest after old new : Option (List ℕ)) → WhereKnown rest after (ReadsFrame (Ok (Some f))) → WhereKnown old new (AnswersFrame (Err fault) now next f)
     → WhereKnown rest after (λ x y. WhereKnown old new (Steps (Err fault) now next x y))
 steps_out fault now next f None after old new a b = tt
 steps_out fault now next f (Some rest) None old new a b = absurd a

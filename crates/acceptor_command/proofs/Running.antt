@@ -5,8 +5,8 @@ use Rattle.std.proofs.lemmas.List.{length_push, flat_map_more}
 use Rattle.grpc_frames.specs.Frame.{Frame, frame_text}
 use Rattle.grpc_frames.specs.FrameFaults.{WhereKnown}
 use Rattle.acceptor.specs.Standing.{Standing, IsFresh}
-use Rattle.acceptor_command.specs.declared.fault.ServeFault.{ServeFault}
-use Rattle.acceptor_command.specs.declared.fault.ServeFault.TheVariants as faults
+use Rattle.acceptor_command.specs.declared.fault.AnswerFault.{AnswerFault}
+use Rattle.acceptor_command.specs.declared.fault.AnswerFault.TheVariants as faults
 use Rattle.acceptor_command.specs.Conversation.{Turn, Turns}
 use Rattle.acceptor_command.specs.Serving.{frame_limit, SoFar, FrontTurn, Steps, Ends, Serves}
 
@@ -41,7 +41,7 @@ so_far_more n now next text rest after old mid new h t =
 abbrev pub HasRun : ℕ → Standing → Option (List ℕ) → Option (List ℕ) → Option (List ℕ) → Option (List ℕ) → Type 0
 HasRun n now text rest old new = WhereKnown text rest (λ x y. WhereKnown old new (SoFar n now x y))
 
-abbrev pub HasStepped : Result Bool ServeFault → Standing → Standing → Option (List ℕ) → Option (List ℕ) → Option (List ℕ) → Option (List ℕ) → Type 0
+abbrev pub HasStepped : Result Bool AnswerFault → Standing → Standing → Option (List ℕ) → Option (List ℕ) → Option (List ℕ) → Option (List ℕ) → Type 0
 HasStepped r now next rest after old new = WhereKnown rest after (λ x y. WhereKnown old new (Steps r now next x y))
 
 pub run_starts : (now : Standing) (text held : Option (List ℕ)) → IsFresh now → HasRun 0 now text text held held
@@ -66,7 +66,7 @@ run_goes_on n now next (Some text) (Some rest) (Some after) (Some old) (Some mid
 
 -- ---- how a run ends
 
-abbrev pub HasEnded : Result (Unit {0}) (ℕ × ServeFault) → Option (List ℕ) → Option (List ℕ) → Option (List ℕ) → Option (List ℕ) → Type 0
+abbrev pub HasEnded : Result (Unit {0}) (ℕ × AnswerFault) → Option (List ℕ) → Option (List ℕ) → Option (List ℕ) → Option (List ℕ) → Type 0
 HasEnded r text rest old new = WhereKnown text rest (λ x y. WhereKnown old new (Serves r x y))
 
 pub run_is_over : (n : ℕ) (now next : Standing) (text rest after old mid new : Option (List ℕ)) → n < frame_limit → HasRun n now text rest old mid → HasStepped (Ok false) now next rest after mid new → HasEnded (Ok tt) text after old new
@@ -85,7 +85,7 @@ run_is_over n now next (Some text) (Some rest) (Some after) (Some old) (Some mid
       within = lt;
     }
 
-ends_at : (fault : ServeFault) (n : ℕ) (now : Standing) (rest after old new : List ℕ) → Ends fault 0 now rest after old new → Ends fault n now rest after old new
+ends_at : (fault : AnswerFault) (n : ℕ) (now : Standing) (rest after old new : List ℕ) → Ends fault 0 now rest after old new → Ends fault n now rest after old new
 ends_at faults.EndFlag n now rest after old new h = h
 ends_at (faults.Message fault) n now rest after old new h = h
 ends_at faults.AnswerTooLong n now rest after old new h = h
@@ -94,7 +94,7 @@ ends_at faults.OutOfMemory n now rest after old new h = h
 ends_at (faults.Frame fault) n now rest after old new h = h
 ends_at faults.FrameLimit n now rest after old new h = absurd (omega (arith, h.0))
 
-pub run_fails : (fault : ServeFault) (n : ℕ) (now next : Standing) (text rest after old mid new : Option (List ℕ)) → n < frame_limit → HasRun n now text rest old mid → HasStepped (Err fault) now next rest after mid new → HasEnded (Err (n, fault)) text after old new
+pub run_fails : (fault : AnswerFault) (n : ℕ) (now next : Standing) (text rest after old mid new : Option (List ℕ)) → n < frame_limit → HasRun n now text rest old mid → HasStepped (Err fault) now next rest after mid new → HasEnded (Err (n, fault)) text after old new
 run_fails fault n now next None rest after old mid new lt h t = tt
 run_fails fault n now next (Some text) None after old mid new lt h t = absurd h
 run_fails fault n now next (Some text) (Some rest) None old mid new lt h t = absurd t

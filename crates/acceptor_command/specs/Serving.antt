@@ -8,8 +8,8 @@ use Rattle.ballots.specs.declared.fault.MessageFault.{MessageFault}
 use Rattle.ballots.specs.declared.fault.MessageFault.TheVariants.{OutOfMemory}
 use Rattle.ballots.specs.Message.{IsMessageText, IsFaultOf, HasUpload, canonical}
 use Rattle.acceptor.specs.Standing.{Standing, IsFresh}
-use Rattle.acceptor_command.specs.declared.fault.ServeFault.{ServeFault}
-use Rattle.acceptor_command.specs.declared.fault.ServeFault.TheVariants as faults
+use Rattle.acceptor_command.specs.declared.fault.AnswerFault.{AnswerFault}
+use Rattle.acceptor_command.specs.declared.fault.AnswerFault.TheVariants as faults
 use Rattle.acceptor_command.specs.Conversation.{Answers, IsRequest, message_frame, Turn, Turns}
 
 -- the most frames that a run answers
@@ -42,7 +42,7 @@ PayloadFault payload fault =
 
 -- Why a frame ends a run, and what went out by then: nothing of a reply, but for a beginning of one where a write failed.
 -- Memory beside that for an upload is asked for only where the frame carries a Prepare or an Accept.
-abbrev pub FrameEnds : ServeFault → Standing → Frame → List ℕ → List ℕ → Type 0
+abbrev pub FrameEnds : AnswerFault → Standing → Frame → List ℕ → List ℕ → Type 0
 FrameEnds faults.EndFlag now f old new = (f.flag ≡ 128) × (new ≡ old)
 FrameEnds (faults.Message fault) now f old new = (f.flag ≡ 0) × PayloadFault f.payload fault × (new ≡ old)
 FrameEnds faults.AnswerTooLong now f old new =
@@ -56,14 +56,14 @@ FrameEnds (faults.Frame fault) now f old new = ⊥
 FrameEnds faults.FrameLimit now f old new = ⊥
 
 -- a frame stands at the front, which ends the run, and this is left behind it
-pub record FrontEnds (fault : ServeFault) (now : Standing) (rest after old new : List ℕ) : Type 0 where
+pub record FrontEnds (fault : AnswerFault) (now : Standing) (rest after old new : List ℕ) : Type 0 where
   pub frame : Frame
   pub front : rest ≡ frame_text frame ++ after
   pub ends : FrameEnds fault now frame old new
 
 -- Why a run ended where this was left, with n frames answered before; what the reader has left after that, and what went
 -- out for the next frame.
-abbrev pub Ends : ServeFault → ℕ → Standing → List ℕ → List ℕ → List ℕ → List ℕ → Type 0
+abbrev pub Ends : AnswerFault → ℕ → Standing → List ℕ → List ℕ → List ℕ → List ℕ → Type 0
 Ends (faults.Frame fault) n now rest after old new = FrameFaultStands fault rest × LeavesAfter fault rest after × (new ≡ old)
 Ends faults.FrameLimit n now rest after old new = (n ≡ frame_limit) × (after ≡ rest) × (new ≡ old)
 Ends faults.EndFlag n now rest after old new = FrontEnds faults.EndFlag now rest after old new
@@ -89,7 +89,7 @@ pub record ServesToTheEnd (text rest old new : List ℕ) : Type 0 where
   pub within : n < frame_limit
 
 -- The first n frames were answered, and then this is wrong. Every fault but that of too many frames comes before the limit.
-pub record ServesUpTo (n : ℕ) (fault : ServeFault) (text after old new : List ℕ) : Type 0 where
+pub record ServesUpTo (n : ℕ) (fault : AnswerFault) (text after old new : List ℕ) : Type 0 where
   pub now : Standing
   pub rest : List ℕ
   pub mid : List ℕ
@@ -98,7 +98,7 @@ pub record ServesUpTo (n : ℕ) (fault : ServeFault) (text after old new : List 
   pub within : (fault ≡ faults.FrameLimit) ⊎ (n < frame_limit)
 
 -- what a run over this text gives, with what is left of it, and what the writer held before and holds afterwards
-abbrev pub Serves : Result (Unit {0}) (ℕ × ServeFault) → List ℕ → List ℕ → List ℕ → List ℕ → Type 0
+abbrev pub Serves : Result (Unit {0}) (ℕ × AnswerFault) → List ℕ → List ℕ → List ℕ → List ℕ → Type 0
 Serves (Ok done) text rest old new = ServesToTheEnd text rest old new
 Serves (Err e) text rest old new = ServesUpTo e.0 e.1 text rest old new
 
@@ -110,13 +110,13 @@ pub record FrontTurn (now next : Standing) (rest after old new : List ℕ) : Typ
   pub turn : Turn now frame text next
   pub out : new ≡ old ++ text
 
-abbrev pub Steps : Result Bool ServeFault → Standing → Standing → List ℕ → List ℕ → List ℕ → List ℕ → Type 0
+abbrev pub Steps : Result Bool AnswerFault → Standing → Standing → List ℕ → List ℕ → List ℕ → List ℕ → Type 0
 Steps (Ok true) now next rest after old new = FrontTurn now next rest after old new
 Steps (Ok false) now next rest after old new = (rest ≡ []) × (after ≡ []) × (new ≡ old)
 Steps (Err fault) now next rest after old new = Ends fault 0 now rest after old new
 
 -- what sending a reply gives
-abbrev pub Sends : Result (Unit {0}) ServeFault → Message → List ℕ → List ℕ → Type 0
+abbrev pub Sends : Result (Unit {0}) AnswerFault → Message → List ℕ → List ℕ → Type 0
 Sends (Ok done) reply old new = new ≡ old ++ frame_text (message_frame reply)
 Sends (Err faults.AnswerTooLong) reply old new = (payload_limit < length (canonical reply)) × (new ≡ old)
 Sends (Err faults.Write) reply old new =
@@ -125,10 +125,10 @@ Sends (Err faults.OutOfMemory) reply old new = new ≡ old
 Sends (Err other) reply old new = ⊥
 
 -- what answering a frame gives
-abbrev pub AnswersFrame : Result (Unit {0}) ServeFault → Standing → Standing → Frame → List ℕ → List ℕ → Type 0
+abbrev pub AnswersFrame : Result (Unit {0}) AnswerFault → Standing → Standing → Frame → List ℕ → List ℕ → Type 0
 AnswersFrame (Ok done) now next f old new = (text : List ℕ) × Turn now f text next × (new ≡ old ++ text)
 AnswersFrame (Err fault) now next f old new = FrameEnds fault now f old new
 
 -- after some frames some fault ended the run
 abbrev pub ServesUpToSome : List ℕ → List ℕ → List ℕ → List ℕ → Type 0
-ServesUpToSome text rest old new = (n : ℕ) × (fault : ServeFault) × ServesUpTo n fault text rest old new
+ServesUpToSome text rest old new = (n : ℕ) × (fault : AnswerFault) × ServesUpTo n fault text rest old new

@@ -6,7 +6,7 @@ use thiserror::Error;
 
 /// What ended a run. It is printed by the innermost fault's name.
 #[derive(Clone, Copy, Debug, PartialEq, Eq, Error)]
-pub enum ServeFault {
+pub enum AnswerFault {
     /// The next frame could not be read.
     #[error("{0}")]
     Frame(FrameFault),

@@ -7,8 +7,8 @@ ghost use Rattle.ballots.specs.declared.message.Body.TheVariants.{Ask};
 ghost use Rattle.ballots.specs.declared.fault.MessageFault.TheVariants.{OutOfMemory};
 ghost use Rattle.ballots.specs.Message.{IsMessageText};
 ghost use Rattle.acceptor.specs.Standing.{Standing, IsSame};
-ghost use Rattle.acceptor_command.specs.declared.fault.ServeFault.{ServeFault as Ending};
-ghost use Rattle.acceptor_command.specs.declared.fault.ServeFault.TheVariants as faults;
+ghost use Rattle.acceptor_command.specs.declared.fault.AnswerFault.{AnswerFault as Ending};
+ghost use Rattle.acceptor_command.specs.declared.fault.AnswerFault.TheVariants as faults;
 ghost use Rattle.acceptor_command.specs.Conversation.{Answers, IsReplyTo, own_number};
 ghost use Rattle.acceptor_command.specs.Serving.{FrameEnds, frame_limit};
 

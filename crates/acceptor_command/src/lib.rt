@@ -12,6 +12,6 @@ mod serving;
 mod status;
 
 pub use answering::{NODE, reply_to};
-pub use fault::ServeFault;
+pub use fault::AnswerFault;
 pub use serving::{FRAME_LIMIT, acceptor_run, answer_frames};
 pub use status::{FAILURE, SUCCESS};

@@ -8,7 +8,7 @@ ghost use Rattle.acceptor.specs.AcceptorState.{standing};
 ghost use Rattle.acceptor_command.specs.Serving.{Sends, AnswersFrame, Steps, Serves, ServesToTheEnd, ServesUpToSome};
 
 use crate::answering::reply_to;
-use crate::fault::ServeFault;
+use crate::fault::AnswerFault;
 use crate::status::{FAILURE, SUCCESS};
 use acceptor::Acceptor;
 use ballots::Message;
@@ -64,7 +64,7 @@ pub fn answer_frames<R: Read, W: Write>(
     alloc: Global,
     r: &mut R,
     w: &mut W,
-) -> Result<(), (u32, ServeFault)>
+) -> Result<(), (u32, AnswerFault)>
     ensures { WhereKnown (R.remaining r.old) (R.remaining r.new)
         (λ text rest. WhereKnown (W.contents w.old) (W.contents w.new) (Serves result text rest)) }
 {
@@ -76,7 +76,7 @@ pub fn answer_frames<R: Read, W: Write>(
             Err(fault) => return Err((number, fault)),
         }
     }
-    Err((FRAME_LIMIT, ServeFault::FrameLimit))
+    Err((FRAME_LIMIT, AnswerFault::FrameLimit))
 }
 
 // Answers the next frame, and says whether there was one.
@@ -85,7 +85,7 @@ fn answer_next<R: Read, W: Write>(
     acceptor: &mut Acceptor,
     r: &mut R,
     w: &mut W,
-) -> Result<bool, ServeFault>
+) -> Result<bool, AnswerFault>
     ensures { WhereKnown (R.remaining r.old) (R.remaining r.new)
         (λ rest after. WhereKnown (W.contents w.old) (W.contents w.new)
         (Steps result (standing acceptor.old) (standing acceptor.new) rest after)) }
@@ -96,7 +96,7 @@ fn answer_next<R: Read, W: Write>(
             answer_frame(alloc, acceptor, &frame, w)?;
             Ok(true)
         }
-        Err(fault) => Err(ServeFault::Frame(fault)),
+        Err(fault) => Err(AnswerFault::Frame(fault)),
     }
 }
 
@@ -105,42 +105,42 @@ fn answer_frame<W: Write>(
     acceptor: &mut Acceptor,
     frame: &Frame,
     w: &mut W,
-) -> Result<(), ServeFault>
+) -> Result<(), AnswerFault>
     requires { IsFlag frame.now.flag }
     ensures { WhereKnown (W.contents w.old) (W.contents w.new)
         (AnswersFrame result (standing acceptor.old) (standing acceptor.new) frame.now) }
 {
     if frame.flag == END_FLAG {
-        return Err(ServeFault::EndFlag);
+        return Err(AnswerFault::EndFlag);
     }
     let message = match Message::decode(alloc, &frame.payload) {
         Ok(message) => message,
-        Err(fault) => return Err(ServeFault::Message(fault)),
+        Err(fault) => return Err(AnswerFault::Message(fault)),
     };
     match reply_to(acceptor, message) {
         Ok(None) => Ok(()),
         Ok(Some(reply)) => send(alloc, &reply, w),
-        Err(_) => Err(ServeFault::OutOfMemory),
+        Err(_) => Err(AnswerFault::OutOfMemory),
     }
 }
 
-fn send<W: Write>(alloc: Global, reply: &Message, w: &mut W) -> Result<(), ServeFault>
+fn send<W: Write>(alloc: Global, reply: &Message, w: &mut W) -> Result<(), AnswerFault>
     ensures { WhereKnown (W.contents w.old) (W.contents w.new) (Sends result reply.now) }
 {
     let Ok(mut text) = Vec::with_capacity(alloc, ANSWER_ROOM) else {
-        return Err(ServeFault::OutOfMemory);
+        return Err(AnswerFault::OutOfMemory);
     };
     if reply.encode(&mut text).is_err() {
-        return Err(ServeFault::OutOfMemory);
+        return Err(AnswerFault::OutOfMemory);
     }
     if text.len() > MAX_FRAME_PAYLOAD {
-        return Err(ServeFault::AnswerTooLong);
+        return Err(AnswerFault::AnswerTooLong);
     }
     if write_frame(w, MESSAGE_FLAG, &text).is_err() {
-        return Err(ServeFault::Write);
+        return Err(AnswerFault::Write);
     }
     if w.flush().is_err() {
-        return Err(ServeFault::Write);
+        return Err(AnswerFault::Write);
     }
     Ok(())
 }

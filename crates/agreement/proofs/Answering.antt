@@ -16,7 +16,7 @@ use Rattle.agreement_rules.specs.Views.{Views, with_seen_round, HasPrefix}
 use Rattle.agreement_rules.specs.Due.{Plan, IsMessageOf, round_in}
 use Rattle.agreement.specs.declared.step.Change.{Change}
 use Rattle.agreement.specs.declared.step.Change.TheVariants.{Nothing, Answered}
-use Rattle.agreement.specs.declared.step.Step.{Step}
+use Rattle.agreement.specs.declared.step.AgreementStep.{AgreementStep as Step}
 use Rattle.agreement.specs.State.{AgreementState}
 use Rattle.agreement.specs.Step.{Sends, BodyGives, StepIsDue, MessageGives, kept_of, left_by, learner_calls_with, Grows, plan_of}
 

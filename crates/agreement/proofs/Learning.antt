@@ -17,7 +17,7 @@ use Rattle.decided_log.specs.LogState.{LogState, decided_at}
 use Rattle.agreement_rules.specs.Views.{Config, Views}
 use Rattle.agreement.specs.declared.step.Change.{Change}
 use Rattle.agreement.specs.declared.step.Change.TheVariants.{Accepted, Decided}
-use Rattle.agreement.specs.declared.step.Step.{Step}
+use Rattle.agreement.specs.declared.step.AgreementStep.{AgreementStep as Step}
 use Rattle.agreement.specs.State.{AgreementState, Has}
 use Rattle.agreement.specs.Step.{Gains, Grows, StepIsDue, StaysAsItWas, HasRoomForLearned, CanCountVote, CanLearn, learner_calls_with}
 use Rattle.agreement.proofs.Answering.{plan_is}

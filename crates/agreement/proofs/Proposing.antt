@@ -16,7 +16,7 @@ use Rattle.decided_log.specs.LogState.{decided_at}
 use Rattle.agreement_rules.specs.Views.{Views, with_seen_round, HasPrefix}
 use Rattle.agreement_rules.specs.Due.{accept_of, AsksAt}
 use Rattle.agreement.specs.declared.step.Change.TheVariants.{Nothing, Promised, Refused}
-use Rattle.agreement.specs.declared.step.Step.{Step}
+use Rattle.agreement.specs.declared.step.AgreementStep.{AgreementStep as Step}
 use Rattle.agreement.specs.State.{AgreementState, Has}
 use Rattle.agreement.specs.Step.{Sends, StepIsDue, AskGives, plan_of}
 use Rattle.agreement.proofs.Answering.{plan_is, grows_nothing}

@@ -21,7 +21,7 @@ use Rattle.agreement_rules.specs.Due.{Plan, PartIsDue, AimIsDue, AsksAt, IsMessa
 use Rattle.agreement_rules.specs.Due as due
 use Rattle.agreement.specs.declared.refusal.Refusal.{Refusal}
 use Rattle.agreement.specs.declared.refusal.Refusal.TheVariants.{OutOfRange, SlotsSpent, RoundsSpent, OutOfMemory}
-use Rattle.agreement.specs.declared.step.Step.{Step}
+use Rattle.agreement.specs.declared.step.AgreementStep.{AgreementStep as Step}
 use Rattle.agreement.specs.declared.step.Change.{Change}
 use Rattle.agreement.specs.declared.step.Change.TheVariants.{Nothing, Answered, Began, Promised, Refused, Accepted, Decided}
 use Rattle.agreement.specs.State.{AgreementState, Has}

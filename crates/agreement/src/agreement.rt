@@ -14,8 +14,8 @@ ghost use Rattle.agreement.specs.declared.step.Change.TheVariants.{Began, Promis
 ghost use Rattle.agreement.specs.State.{Has};
 ghost use Rattle.agreement.specs.Step.{left_by, HasRoomForLearned, CanTake, CanCountVote, CanLearn};
 
-use crate::config::Config;
-use crate::step::{Change, Step};
+use crate::config::AgreementConfig;
+use crate::step::{AgreementStep, Change};
 use acceptor::laws::applied_is_restored;
 use acceptor::{Acceptor, highest_begun_round};
 use ballots::{Acceptance, Ballot, NodeId, OutOfMemory, Record, Slot, Value};
@@ -30,7 +30,7 @@ use std::marker::Model;
 pub struct Agreement {
     pub(crate) alloc: Global,
     pub(crate) me: NodeId,
-    pub(crate) config: Config,
+    pub(crate) config: AgreementConfig,
     pub(crate) seen_round: u32,
     pub(crate) acceptor: Acceptor,
     pub(crate) proposer: Proposer,
@@ -66,7 +66,7 @@ impl Agreement {
     pub fn open(
         alloc: Global,
         me: NodeId,
-        config: Config,
+        config: AgreementConfig,
         records: &[Record],
     ) -> Result<Agreement, OutOfMemory>
         ensures stands { IfOk result (λ node. Has node (started_with records.now)) }
@@ -90,7 +90,7 @@ impl Agreement {
     }
 
     /// Takes a step that was decided, and no memory.
-    pub fn commit(&mut self, step: Step)
+    pub fn commit(&mut self, step: AgreementStep)
         requires { CanTake self.old step.change }
         ensures stands { (views : Views) → Has self.old views
             → Has self.new (left_by views step.seen_round step.change) }

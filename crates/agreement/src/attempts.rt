@@ -13,14 +13,14 @@ ghost use Rattle.agreement.specs.Step.{Sends, AttemptGives, CanTake};
 use crate::agreement::Agreement;
 use crate::refusal::Refusal;
 use crate::replies::sending;
-use crate::step::{Change, Step};
+use crate::step::{AgreementStep, Change};
 use ballots::{Ballot, Body, Message, Record, Slot, Value};
 
 impl Agreement {
     /// Begins an attempt to have the value chosen for the slot, at the node's next ballot, with a record of it and a
     /// Prepare (section 2.2, phase 1a). [`Refusal::SlotsSpent`] exactly where there is no such slot, else
     /// [`Refusal::RoundsSpent`] exactly where no round is left; nothing changes before the step is taken.
-    pub fn plan_attempt(&self, slot: Slot, candidate: Value) -> Result<Step, Refusal>
+    pub fn plan_attempt(&self, slot: Slot, candidate: Value) -> Result<AgreementStep, Refusal>
         ensures gives { AttemptGives self.now slot candidate result }
         ensures grows { IfOk result (λ step. step.grown.items ≡ []) }
         ensures can { IfOk result (λ step. CanTake self.now step.change) }
@@ -45,7 +45,12 @@ impl Agreement {
     }
 
     // The attempt at this ballot.
-    fn attempt_at(&self, slot: Slot, candidate: Value, ballot: Ballot) -> Result<Step, Refusal>
+    fn attempt_at(
+        &self,
+        slot: Slot,
+        candidate: Value,
+        ballot: Ballot,
+    ) -> Result<AgreementStep, Refusal>
         ensures sends { IfOk result (λ step. Sends step (message self.now.me slot (body.Prepare ballot) ∷ [])
             self.now.seen_round (Began slot candidate ballot (kept_as.Began ballot))) }
         ensures memory { IfErr result (λ fault. fault ≡ refusal.OutOfMemory) }

@@ -11,12 +11,12 @@ pub const MAX_SLOTS: u32 = 1_000_000;
 
 /// What all nodes agree on before they start: how many they are, and for how many slots they choose values.
 #[derive(Clone, Copy, Debug, PartialEq, Eq)]
-pub struct Config {
+pub struct AgreementConfig {
     members: Members,
     slot_limit: u32,
 }
 
-impl Model for Config {
+impl Model for AgreementConfig {
     ghost use Rattle.agreement_rules.specs.Views.{Config};
     ghost use Rattle.agreement.specs.Limits.{IsSlotLimit};
 
@@ -29,14 +29,14 @@ impl Model for Config {
     ghost inverse = { λ c. record { members = c.members; slot_limit = c.slot_limit } };
 }
 
-impl Config {
+impl AgreementConfig {
     /// These members, for so many slots: `None` exactly where that is none, or more than [`MAX_SLOTS`].
-    pub fn new(members: Members, slot_limit: u32) -> Option<Config>
+    pub fn new(members: Members, slot_limit: u32) -> Option<AgreementConfig>
         ensures within { IsSome result ↔ IsSlotLimit slot_limit }
         ensures value { IfSome result (λ config. config ≡ record { members = members; slot_limit = slot_limit }) }
     {
         if 0 < slot_limit && slot_limit <= MAX_SLOTS {
-            Some(Config {
+            Some(AgreementConfig {
                 members,
                 slot_limit,
             })

@@ -16,7 +16,7 @@ ghost use Rattle.agreement.specs.State.{Has};
 ghost use Rattle.agreement.specs.Step.{Gains, Grows, HasRoomForLearned, StepIsDue, IsReady, StaysAsItWas};
 
 use crate::agreement::Agreement;
-use crate::step::{Change, Step};
+use crate::step::{AgreementStep, Change};
 use ballots::{Acceptance, NodeId, OutOfMemory, Slot, Value};
 use decided_log::DecidedLog;
 use learner::laws::{a_call_adds_to_its_slot, states_are_what_was_learned};
@@ -32,7 +32,7 @@ impl Agreement {
         sender: NodeId,
         slot: Slot,
         acceptance: Acceptance,
-    ) -> Result<Step, OutOfMemory>
+    ) -> Result<AgreementStep, OutOfMemory>
         requires { slot < self.old.config.slot_limit }
         ensures gives { IfOk result (StepIsDue self.old seen_round sender slot (body.Accepted acceptance)) }
         ensures ready { IfOk result (IsReady self.old self.new) }
@@ -59,7 +59,7 @@ impl Agreement {
         seen_round: u32,
         slot: Slot,
         value: Value,
-    ) -> Result<Step, OutOfMemory>
+    ) -> Result<AgreementStep, OutOfMemory>
         requires { slot < self.old.config.slot_limit }
         ensures gives { IfOk result
             (λ step. (sender : ℕ) → StepIsDue self.old seen_round sender slot (body.Decided value) step) }
@@ -152,10 +152,10 @@ fn gain(
 }
 
 // A step that sends nothing, and grows the prefix by these values.
-fn gaining(alloc: Global, grown: Vec<Value>, seen_round: u32, change: Change) -> Step
+fn gaining(alloc: Global, grown: Vec<Value>, seen_round: u32, change: Change) -> AgreementStep
     ensures { Gains result grown.items seen_round change }
 {
-    Step {
+    AgreementStep {
         sends: Vec::new(alloc),
         grown,
         seen_round,

@@ -8,7 +8,7 @@ ghost use Rattle.agreement_rules.specs.Views.{Views, IsFree, HasPrefix, HasGap};
 ghost use Rattle.agreement.specs.State.{Has};
 
 use crate::agreement::Agreement;
-use crate::config::Config;
+use crate::config::AgreementConfig;
 use ballots::{NodeId, Slot, Value};
 use decided_log::laws::prefixes_are_one;
 use learner::laws::states_are_what_was_learned;
@@ -22,7 +22,7 @@ impl Agreement {
     }
 
     /// How many members agree, and for how many slots.
-    pub fn config(&self) -> Config
+    pub fn config(&self) -> AgreementConfig
         ensures { result ≡ self.now.config }
     {
         self.config

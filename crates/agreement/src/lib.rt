@@ -12,7 +12,7 @@
 //! send(messages);                                               // those of the step
 //! ```
 //!
-//! All nodes are opened with one [`Config`], what they agree on before they start, which is made once. Here are attempts
+//! All nodes are opened with one [`AgreementConfig`], what they agree on before they start, which is made once. Here are attempts
 //! and questions, what is due to each of the seven bodies of messages, where each change leaves a node, and what it has
 //! learned.
 #![tactic(auto)]
@@ -31,6 +31,6 @@ mod replies;
 mod step;
 
 pub use agreement::Agreement;
-pub use config::{Config, MAX_SLOTS};
+pub use config::{AgreementConfig, MAX_SLOTS};
 pub use refusal::Refusal;
-pub use step::{Change, Step};
+pub use step::{AgreementStep, Change};

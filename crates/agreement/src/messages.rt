@@ -7,14 +7,14 @@ ghost use Rattle.agreement.specs.Step.{StepIsDue, MessageGives, IsReady, StaysAs
 use crate::agreement::Agreement;
 use crate::range::greatest_round;
 use crate::refusal::Refusal;
-use crate::step::Step;
+use crate::step::AgreementStep;
 use ballots::{Body, Message, NodeId, OutOfMemory, Slot};
 
 impl Agreement {
     /// What is due to a message (section 2): [`Refusal::OutOfRange`] exactly where its sender, its slot or the node of a
     /// ballot in it is none of the configuration's, else the reply to its body of a node that has seen its greatest
     /// round. Room is made; what the node stands by stays as it was, also where memory is refused.
-    pub fn plan_message(&mut self, message: Message) -> Result<Step, Refusal>
+    pub fn plan_message(&mut self, message: Message) -> Result<AgreementStep, Refusal>
         ensures gives { MessageGives self.old message result }
         ensures ready { IfOk result (IsReady self.old self.new) }
         ensures err { OnErr result (StaysAsItWas self.old self.new) }
@@ -35,7 +35,7 @@ impl Agreement {
         sender: NodeId,
         slot: Slot,
         body: Body,
-    ) -> Result<Step, OutOfMemory>
+    ) -> Result<AgreementStep, OutOfMemory>
         requires { slot < self.old.config.slot_limit }
         ensures gives { IfOk result (StepIsDue self.old seen_round sender slot body) }
         ensures ready { IfOk result (IsReady self.old self.new) }

@@ -9,16 +9,16 @@ ghost use Rattle.agreement.specs.Step.{Sends, StepIsDue, CanTake};
 
 use crate::agreement::Agreement;
 use crate::replies::sending;
-use crate::step::{Change, Step};
+use crate::step::{AgreementStep, Change};
 use ballots::{Acceptance, Ballot, Body, Message, NodeId, OutOfMemory, Slot, Value};
 use learner::laws::states_are_what_was_learned;
 use std::alloc::Global;
 
 // A step that sends these messages.
-fn step_with(alloc: Global, sends: Vec<Message>, seen_round: u32, change: Change) -> Step
+fn step_with(alloc: Global, sends: Vec<Message>, seen_round: u32, change: Change) -> AgreementStep
     ensures { Sends result sends.items seen_round change }
 {
-    Step {
+    AgreementStep {
         sends,
         grown: Vec::new(alloc),
         seen_round,
@@ -27,7 +27,7 @@ fn step_with(alloc: Global, sends: Vec<Message>, seen_round: u32, change: Change
 }
 
 // A step that sends nothing.
-pub(crate) fn quiet(alloc: Global, seen_round: u32, change: Change) -> Step
+pub(crate) fn quiet(alloc: Global, seen_round: u32, change: Change) -> AgreementStep
     ensures { Sends result [] seen_round change }
 {
     step_with(alloc, Vec::new(alloc), seen_round, change)
@@ -40,7 +40,7 @@ fn sending_accept(
     accept: Option<(Slot, Ballot, Value)>,
     seen_round: u32,
     change: Change,
-) -> Result<Step, OutOfMemory>
+) -> Result<AgreementStep, OutOfMemory>
     ensures { IfOk result (λ step. Sends step (accept_of me accept) seen_round change) }
 {
     match accept {
@@ -67,7 +67,7 @@ impl Agreement {
         slot: Slot,
         ballot: Ballot,
         report: Option<Acceptance>,
-    ) -> Result<Step, OutOfMemory>
+    ) -> Result<AgreementStep, OutOfMemory>
         ensures gives { IfOk result (StepIsDue self.now seen_round sender slot (body.Promise ballot report)) }
         ensures can { IfOk result (λ step. CanTake self.now step.change) }
     {
@@ -82,7 +82,7 @@ impl Agreement {
     }
 
     /// What is due to a Nack: it ends the attempt that it refuses, and nothing goes out.
-    pub fn reply_to_nack(&self, seen_round: u32, slot: Slot, ballot: Ballot) -> Step
+    pub fn reply_to_nack(&self, seen_round: u32, slot: Slot, ballot: Ballot) -> AgreementStep
         ensures gives { (sender : ℕ) (promised : Pair)
             → StepIsDue self.now seen_round sender slot (body.Nack ballot promised) result }
         ensures can { CanTake self.now result.change }
@@ -91,7 +91,7 @@ impl Agreement {
     }
 
     /// What is due to an Ask: a Decided for each slot of the prefix from this one on, sixteen at most (section 2.3).
-    pub fn reply_to_ask(&self, seen_round: u32, slot: Slot) -> Result<Step, OutOfMemory>
+    pub fn reply_to_ask(&self, seen_round: u32, slot: Slot) -> Result<AgreementStep, OutOfMemory>
         ensures gives { IfOk result (λ step. (sender : ℕ) → StepIsDue self.now seen_round sender slot body.Ask step) }
         ensures can { IfOk result (λ step. CanTake self.now step.change) }
     {

@@ -12,13 +12,13 @@ ghost use Rattle.agreement.specs.Step.{Sends, AskGives, CanTake};
 use crate::agreement::Agreement;
 use crate::proposals::quiet;
 use crate::replies::sending;
-use crate::step::{Change, Step};
+use crate::step::{AgreementStep, Change};
 use ballots::{Body, Message, OutOfMemory, Slot};
 
 impl Agreement {
     /// Asks for what is decided from the first free slot on (section 2.3), or does nothing where every slot has learned a
     /// value. Memory can be refused only where there is such a slot.
-    pub fn plan_question(&self) -> Result<Step, OutOfMemory>
+    pub fn plan_question(&self) -> Result<AgreementStep, OutOfMemory>
         ensures gives { IfOk result (AskGives self.now) }
         ensures grows { IfOk result (λ step. step.grown.items ≡ []) }
         ensures can { IfOk result (λ step. CanTake self.now step.change) }
@@ -32,7 +32,7 @@ impl Agreement {
     }
 
     // Asks for what is decided from this slot on.
-    fn ask_from(&self, slot: Slot) -> Result<Step, OutOfMemory>
+    fn ask_from(&self, slot: Slot) -> Result<AgreementStep, OutOfMemory>
         ensures { IfOk result (λ step.
             Sends step (message self.now.me slot body.Ask ∷ []) self.now.seen_round Nothing) }
     {

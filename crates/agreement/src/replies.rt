@@ -9,7 +9,7 @@ ghost use Rattle.agreement.specs.declared.step.Change.TheVariants.{Nothing};
 ghost use Rattle.agreement.specs.Step.{Sends, StepIsDue, IsReady, StaysAsItWas};
 
 use crate::agreement::Agreement;
-use crate::step::{Change, Step};
+use crate::step::{AgreementStep, Change};
 use acceptor::Acceptor;
 use ballots::{Acceptance, Ballot, Body, Message, NodeId, OutOfMemory, Record, Slot};
 use std::alloc::Global;
@@ -20,12 +20,12 @@ pub(crate) fn sending(
     message: Message,
     seen_round: u32,
     change: Change,
-) -> Result<Step, OutOfMemory>
+) -> Result<AgreementStep, OutOfMemory>
     ensures { IfOk result (λ step. Sends step (message ∷ []) seen_round change) }
 {
     let mut sends = Vec::new(alloc);
     sends.push(message)?;
-    Ok(Step {
+    Ok(AgreementStep {
         sends,
         grown: Vec::new(alloc),
         seen_round,
@@ -52,7 +52,7 @@ impl Agreement {
         seen_round: u32,
         slot: Slot,
         ballot: Ballot,
-    ) -> Result<Step, OutOfMemory>
+    ) -> Result<AgreementStep, OutOfMemory>
         ensures gives { IfOk result
             (λ step. (sender : ℕ) → StepIsDue self.old seen_round sender slot (body.Prepare ballot) step) }
         ensures ready { IfOk result (IsReady self.old self.new) }
@@ -76,7 +76,7 @@ impl Agreement {
         seen_round: u32,
         slot: Slot,
         proposal: Acceptance,
-    ) -> Result<Step, OutOfMemory>
+    ) -> Result<AgreementStep, OutOfMemory>
         ensures gives { IfOk result
             (λ step. (sender : ℕ) → StepIsDue self.old seen_round sender slot (body.Accept proposal) step) }
         ensures ready { IfOk result (IsReady self.old self.new) }
@@ -92,7 +92,12 @@ impl Agreement {
         }
     }
 
-    fn promise(&mut self, seen_round: u32, slot: Slot, ballot: Ballot) -> Result<Step, OutOfMemory>
+    fn promise(
+        &mut self,
+        seen_round: u32,
+        slot: Slot,
+        ballot: Ballot,
+    ) -> Result<AgreementStep, OutOfMemory>
         requires { IsAbove ballot (promised_at self.old.acceptor slot) }
         ensures gives { IfOk result
             (λ step. (sender : ℕ) → StepIsDue self.old seen_round sender slot (body.Prepare ballot) step) }
@@ -117,7 +122,7 @@ impl Agreement {
         seen_round: u32,
         slot: Slot,
         proposal: Acceptance,
-    ) -> Result<Step, OutOfMemory>
+    ) -> Result<AgreementStep, OutOfMemory>
         requires { IsAtLeast proposal.ballot (promised_at self.old.acceptor slot) }
         ensures gives { IfOk result
             (λ step. (sender : ℕ) → StepIsDue self.old seen_round sender slot (body.Accept proposal) step) }
@@ -144,7 +149,7 @@ impl Agreement {
         slot: Slot,
         ballot: Ballot,
         promised: Ballot,
-    ) -> Result<Step, OutOfMemory>
+    ) -> Result<AgreementStep, OutOfMemory>
         ensures { IfOk result (λ step.
             Sends step (message self.now.me slot (body.Nack ballot promised) ∷ []) seen_round Nothing) }
     {

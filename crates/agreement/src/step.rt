@@ -66,7 +66,7 @@ pub enum Change {
 
 /// A step that is decided and not yet taken.
 #[derive(Debug, Drop)]
-pub struct Step {
+pub struct AgreementStep {
     /// The messages that go out after it is taken.
     pub sends: Vec<Message>,
     /// The values by which the prefix grows.
@@ -77,7 +77,7 @@ pub struct Step {
     pub change: Change,
 }
 
-impl Step {
+impl AgreementStep {
     /// The record that is kept before the step is taken, if there is one.
     pub fn kept(&self) -> Option<&Record>
         ensures { option_map (λ kept. kept.now) result ≡ kept_of self.now.change }

@@ -13,7 +13,7 @@ use crate::status::{FAILURE, SUCCESS};
 use crate::trace_file::{TraceFault, TraceFlaw, read_trace};
 use ballots::{Members, Message};
 use breach_words::explanation;
-use lawful_histories::Trace;
+use lawful_histories::SentMessages;
 use run_breaches::{Breach, first_breach_by_slot};
 use std::alloc::{AllocError, Global};
 use std::io::Write;
@@ -90,7 +90,11 @@ pub fn explain_file<W: Write>(alloc: Global, file: &[u8], w: &mut W) -> Result<b
     }
 }
 
-fn explain_trace<W: Write>(alloc: Global, trace: &Trace, w: &mut W) -> Result<bool, ExplainFault>
+fn explain_trace<W: Write>(
+    alloc: Global,
+    trace: &SentMessages,
+    w: &mut W,
+) -> Result<bool, ExplainFault>
     ensures { RunTold (members_of trace.now) (sent_of trace.now) result (W.contents w.old) (W.contents w.new) }
 {
     let verdict = verdict_on(alloc, trace.members(), trace.sent())?;

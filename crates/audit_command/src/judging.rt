@@ -11,7 +11,7 @@ ghost use Rattle.audit_command.specs.declared.judging.AuditFault.TheVariants.{Io
 use crate::status::{FAILURE, SUCCESS};
 use crate::trace_file::{TraceFault, read_trace};
 use grpc_frames::transfer::put;
-use lawful_histories::Trace;
+use lawful_histories::SentMessages;
 use run_breaches::are_lawful_by_slot;
 use std::alloc::Global;
 use std::io::Write;
@@ -95,7 +95,7 @@ pub fn audit_file<W: Write>(alloc: Global, file: &[u8], w: &mut W) -> Result<boo
     Ok(is_lawful)
 }
 
-fn is_lawful(alloc: Global, trace: &Trace) -> Result<bool, AuditFault>
+fn is_lawful(alloc: Global, trace: &SentMessages) -> Result<bool, AuditFault>
     ensures judged { IfOk result (λ lawful. IsTrue lawful ↔ IsLawful (members_of trace.now) (sent_of trace.now)) }
     ensures memory { IfErr result (λ fault. fault ≡ OutOfMemory) }
 {

@@ -16,7 +16,7 @@ ghost use Rattle.audit_command.specs.TraceFile.{MeansTrace, SpellsMessage, IsMes
 
 use ballots::{MAX_MEMBERS, Members, Message, MessageFault};
 use hex::FromHexError;
-use lawful_histories::Trace;
+use lawful_histories::SentMessages;
 use serde_json::Value;
 use std::alloc::Global;
 use std::str::from_utf8;
@@ -80,7 +80,7 @@ pub enum MessageFlaw {
 /// sending. Other members of the object are passed over, and of two members of one name the last one counts. Any other
 /// file is a [`TraceFault::BadTrace`], with what is wrong. The only other fault is [`TraceFault::OutOfMemory`], and only of a file that is
 /// UTF-8: what else is wrong with a text shows once it is read, which takes memory.
-pub fn read_trace(alloc: Global, file: &[u8]) -> Result<Trace, TraceFault>
+pub fn read_trace(alloc: Global, file: &[u8]) -> Result<SentMessages, TraceFault>
     ensures read { IfOk result (λ trace. MeansTrace file.now (members_of trace) (sent_of trace)) }
     ensures only { (members : ℕ) (sent : List Meant) → MeansTrace file.now members sent
         → MatchResult result (λ trace. (members_of trace ≡ members) × (sent_of trace ≡ sent)) (λ fault. fault ≡ OutOfMemory) }
@@ -93,7 +93,7 @@ pub fn read_trace(alloc: Global, file: &[u8]) -> Result<Trace, TraceFault>
         return Err(TraceFault::BadTrace(TraceFlaw::Sent));
     };
     let sent = messages_of(alloc, items)?;
-    Ok(Trace::new(members, sent))
+    Ok(SentMessages::new(members, sent))
 }
 
 fn value_of(alloc: Global, file: &[u8]) -> Result<Value, TraceFault>

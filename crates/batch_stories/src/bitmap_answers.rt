@@ -2,7 +2,7 @@
 
 use bitmaps::{Bitmap, bit, count_zeros};
 use std::alloc::Global;
-use story_requests::{Answer, RequestFault, Words};
+use story_requests::{RequestFault, Response, Words};
 
 /// Where a run may begin at most, and how many bits it may have.
 const MOST_BITS: u64 = 1 << 32;
@@ -55,7 +55,7 @@ fn look(bitmap: &Bitmap, index: usize) -> char {
     }
 }
 
-fn put_looks(alloc: Global, bitmap: &Bitmap, answer: &mut Answer) -> Result<(), RequestFault> {
+fn put_looks(alloc: Global, bitmap: &Bitmap, answer: &mut Response) -> Result<(), RequestFault> {
     let mut looks = String::new(alloc);
     for index in 0..bitmap.len().saturating_add(10) {
         looks.push(look(bitmap, index))?;
@@ -64,7 +64,7 @@ fn put_looks(alloc: Global, bitmap: &Bitmap, answer: &mut Answer) -> Result<(), 
 }
 
 // Whether a copy is equal until a bit is put behind it; and the bytes that it leaves.
-fn put_copy(bitmap: &Bitmap, answer: &mut Answer) -> Result<(), RequestFault> {
+fn put_copy(bitmap: &Bitmap, answer: &mut Response) -> Result<(), RequestFault> {
     let mut copy = bitmap.clone()?;
     let is_equal = copy == *bitmap;
     copy.push(false)?;
@@ -77,7 +77,7 @@ fn put_copy(bitmap: &Bitmap, answer: &mut Answer) -> Result<(), RequestFault> {
     answer.bytes(&bitmap.clone()?.into_bytes())
 }
 
-fn put_bitmap(alloc: Global, bitmap: &Bitmap, answer: &mut Answer) -> Result<(), RequestFault> {
+fn put_bitmap(alloc: Global, bitmap: &Bitmap, answer: &mut Response) -> Result<(), RequestFault> {
     let len = bitmap.len();
     answer.word(if bitmap.is_empty() { "empty" } else { "filled" })?;
     answer.number(len as u64)?;
@@ -92,7 +92,7 @@ fn put_bitmap(alloc: Global, bitmap: &Bitmap, answer: &mut Answer) -> Result<(),
 pub(crate) fn answer_bitmap(
     alloc: Global,
     words: &mut Words<'_>,
-    answer: &mut Answer,
+    answer: &mut Response,
 ) -> Result<(), RequestFault> {
     let steps = words.number()?;
     let mut bitmap = Bitmap::new(alloc);
@@ -106,7 +106,7 @@ fn put_zeros(
     bytes: &[u8],
     start: u64,
     count: u64,
-    answer: &mut Answer,
+    answer: &mut Response,
 ) -> Result<(), RequestFault> {
     if start > MOST_BITS || count > MOST_BITS {
         return Err(RequestFault::BadRequest);
@@ -118,7 +118,7 @@ fn put_zeros(
 pub(crate) fn answer_zeros(
     alloc: Global,
     words: &mut Words<'_>,
-    answer: &mut Answer,
+    answer: &mut Response,
 ) -> Result<(), RequestFault> {
     let bytes = words.bytes(alloc)?;
     let start = words.number()?;

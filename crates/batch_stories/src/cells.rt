@@ -1,10 +1,10 @@
 //! Cells of columns, as words.
 
 use batch_columns::Column;
-use story_requests::{Answer, RequestFault};
+use story_requests::{RequestFault, Response};
 
 // `null`, `true`, `false`, the bytes, or `inside` where the cell has others.
-fn put_cell(column: &Column, row: usize, answer: &mut Answer) -> Result<(), RequestFault> {
+fn put_cell(column: &Column, row: usize, answer: &mut Response) -> Result<(), RequestFault> {
     if column.is_null(row) != Some(false) {
         return answer.word("null");
     }
@@ -18,7 +18,7 @@ fn put_cell(column: &Column, row: usize, answer: &mut Answer) -> Result<(), Requ
 }
 
 // How many cells there are, and each; and the bytes of buffer 1, offsets or values.
-fn put_cells(column: &Column, answer: &mut Answer) -> Result<(), RequestFault> {
+fn put_cells(column: &Column, answer: &mut Response) -> Result<(), RequestFault> {
     answer.number(column.len() as u64)?;
     for row in 0..column.len() {
         put_cell(column, row, answer)?;
@@ -30,7 +30,7 @@ fn put_cells(column: &Column, answer: &mut Answer) -> Result<(), RequestFault> {
 pub(crate) fn put_columns(
     columns: &[Column],
     levels: usize,
-    answer: &mut Answer,
+    answer: &mut Response,
 ) -> Result<(), RequestFault> {
     answer.number(columns.len() as u64)?;
     for column in columns {

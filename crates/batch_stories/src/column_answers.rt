@@ -2,7 +2,7 @@
 
 use batch_columns::Column;
 use std::alloc::{AllocError, Global};
-use story_requests::{Answer, RequestFault, Words};
+use story_requests::{RequestFault, Response, Words};
 
 fn cells(alloc: Global, digits: &str) -> Result<Vec<Option<bool>>, AllocError> {
     let mut cells = Vec::new(alloc);
@@ -30,7 +30,7 @@ fn look(column: &Column, row: usize) -> char {
     }
 }
 
-fn put_looks(alloc: Global, column: &Column, answer: &mut Answer) -> Result<(), RequestFault> {
+fn put_looks(alloc: Global, column: &Column, answer: &mut Response) -> Result<(), RequestFault> {
     let mut looks = String::new(alloc);
     for row in 0..column.len().saturating_add(3) {
         looks.push(look(column, row))?;
@@ -38,7 +38,7 @@ fn put_looks(alloc: Global, column: &Column, answer: &mut Answer) -> Result<(), 
     answer.word(looks.as_str())
 }
 
-fn put_column(alloc: Global, column: &Column, answer: &mut Answer) -> Result<(), RequestFault> {
+fn put_column(alloc: Global, column: &Column, answer: &mut Response) -> Result<(), RequestFault> {
     let layout = column.layout();
     let shown = format!(in alloc; "{layout:?}")?;
     answer.word(shown.as_str())?;
@@ -56,7 +56,7 @@ fn put_column(alloc: Global, column: &Column, answer: &mut Answer) -> Result<(),
 pub(crate) fn answer_bits(
     alloc: Global,
     words: &mut Words<'_>,
-    answer: &mut Answer,
+    answer: &mut Response,
 ) -> Result<(), RequestFault> {
     let cells = cells(alloc, words.next())?;
     let column = Column::from_bits(alloc, &cells)?;
@@ -67,7 +67,7 @@ pub(crate) fn answer_bits(
 pub(crate) fn answer_nulls(
     alloc: Global,
     words: &mut Words<'_>,
-    answer: &mut Answer,
+    answer: &mut Response,
 ) -> Result<(), RequestFault> {
     let count = words.number()?;
     let column = Column::nulls(alloc, count as usize);

@@ -4,9 +4,9 @@ use crate::reading::header_of;
 use batch_columns::layout_of;
 use flatbuf_meta::{Field, Header, MAX_DEPTH};
 use std::alloc::Global;
-use story_requests::{Answer, RequestFault, Words};
+use story_requests::{RequestFault, Response, Words};
 
-fn put_layout(alloc: Global, field: &Field, answer: &mut Answer) -> Result<(), RequestFault> {
+fn put_layout(alloc: Global, field: &Field, answer: &mut Response) -> Result<(), RequestFault> {
     let layout = layout_of(&field.ty);
     let shown = format!(in alloc; "{layout:?}")?;
     answer.bytes(shown.as_bytes())
@@ -17,7 +17,7 @@ fn put_layouts(
     alloc: Global,
     fields: &[Field],
     levels: usize,
-    answer: &mut Answer,
+    answer: &mut Response,
 ) -> Result<(), RequestFault> {
     answer.number(fields.len() as u64)?;
     for field in fields {
@@ -34,7 +34,7 @@ fn put_layouts(
 pub(crate) fn answer_layouts(
     alloc: Global,
     words: &mut Words<'_>,
-    answer: &mut Answer,
+    answer: &mut Response,
 ) -> Result<(), RequestFault> {
     match header_of(alloc, words)? {
         Header::Schema(schema) => put_layouts(alloc, &schema.fields, MAX_DEPTH, answer),

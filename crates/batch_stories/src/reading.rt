@@ -7,7 +7,7 @@ use column_building::batch_of;
 use flatbuf_meta::{BatchHead, Header, MAX_DEPTH, Schema, read_message};
 use record_batches::{Batch, body_length, read_batch, write_body};
 use std::alloc::{AllocError, Global};
-use story_requests::{Answer, RequestFault, Words};
+use story_requests::{RequestFault, Response, Words};
 
 /// The header of the message that comes next.
 pub(crate) fn header_of(alloc: Global, words: &mut Words<'_>) -> Result<Header, RequestFault> {
@@ -23,7 +23,7 @@ fn put_written(
     alloc: Global,
     schema: &Schema,
     batch: &Batch,
-    answer: &mut Answer,
+    answer: &mut Response,
 ) -> Result<(), RequestFault> {
     if !batch.is_of(schema) {
         return answer.word("NotOfSchema");
@@ -62,7 +62,7 @@ fn put_made(
     alloc: Global,
     schema: &Schema,
     batch: &Batch,
-    answer: &mut Answer,
+    answer: &mut Response,
 ) -> Result<(), RequestFault> {
     let cells = plain_cells(alloc, &batch.columns)?;
     let shown = format!(in alloc; "{cells:?}")?;
@@ -75,7 +75,7 @@ fn put_batch(
     alloc: Global,
     schema: &Schema,
     batch: &Batch,
-    answer: &mut Answer,
+    answer: &mut Response,
 ) -> Result<(), RequestFault> {
     answer.number(batch.rows)?;
     put_columns(&batch.columns, MAX_DEPTH, answer)?;
@@ -88,7 +88,7 @@ fn put_read(
     schema: &Schema,
     head: &BatchHead,
     body: &[u8],
-    answer: &mut Answer,
+    answer: &mut Response,
 ) -> Result<(), RequestFault> {
     if !schema.in_profile() {
         return Err(RequestFault::BadRequest);
@@ -106,7 +106,7 @@ fn put_read(
 pub(crate) fn answer_read(
     alloc: Global,
     words: &mut Words<'_>,
-    answer: &mut Answer,
+    answer: &mut Response,
 ) -> Result<(), RequestFault> {
     let schema = header_of(alloc, words)?;
     let head = header_of(alloc, words)?;

@@ -13,11 +13,11 @@ use Rattle.table_types.specs.Uploads.{Upload, upload_text}
 use Rattle.table_types.specs.Served.{in_frame}
 use Rattle.table_types.specs.Valid.{FitsFrame}
 use Rattle.table_types.specs.Ticket.{TableVersion, IsTicket}
-use Rattle.call_words.specs.declared.method.Method.{Method}
-use Rattle.call_words.specs.declared.method.Method.TheVariants as methods
-use Rattle.call_words.specs.Methods.{path_text}
-use Rattle.call_words.specs.Names.{Descriptor, NamesTable, NamesUpload}
-use Rattle.call_words.specs.Texts.{messages_text, end_text, call_text}
+use Rattle.call_protocol.specs.declared.method.Method.{Method}
+use Rattle.call_protocol.specs.declared.method.Method.TheVariants as methods
+use Rattle.call_protocol.specs.Methods.{path_text}
+use Rattle.call_protocol.specs.Names.{Descriptor, NamesTable, NamesUpload}
+use Rattle.call_protocol.specs.Texts.{messages_text, end_text, call_text}
 use Rattle.call_reading.specs.Requests.{Request, describes, shows, lists, serves, puts, AsksForTable, AsksForVersion, Data, header_in, body_in, Opens, IsBlank, HasBatch, Adds, AddAll, Brings, method_of, MessagesMean, IsCall}
 
 -- ---- frames

@@ -16,12 +16,12 @@ use Rattle.batch_types.specs.Canonical.{canonical_body}
 use Rattle.batch_types.specs.Cells.{Rows}
 use Rattle.table_types.specs.Uploads.{Upload, schema_text, head_text}
 use Rattle.table_types.specs.Valid.{IsTableName, IsId, FitsFrame, batches_limit, upload_limit}
-use Rattle.upload_parts.specs.Parts.{batch_parts, batches_parts, batch_text, batches_text, served_of}
-use Rattle.upload_parts.proofs.CallerLemmas.{part, parts_text, parts_fit, more_long, message_long}
-use Rattle.upload_writing.specs.Making.{upload_of, AreOfSchema, IsSmall}
-use Rattle.upload_writing.specs.Sized.{parts_held}
-use Rattle.call_words.specs.declared.refusal.Refusal.{Refusal}
-use Rattle.call_words.specs.Names.{Descriptor, NamesUpload}
+use Rattle.uploads.specs.Parts.{batch_parts, batches_parts, batch_text, batches_text, served_of}
+use Rattle.uploads.proofs.CallerLemmas.{part, parts_text, parts_fit, more_long, message_long}
+use Rattle.uploads.specs.Making.{upload_of, AreOfSchema, IsSmall}
+use Rattle.uploads.specs.Sized.{parts_held}
+use Rattle.call_protocol.specs.declared.refusal.CallRefusal.{CallRefusal}
+use Rattle.call_protocol.specs.Names.{Descriptor, NamesUpload}
 use Rattle.call_reading.specs.declared.upload_builder.UploadBuilder.{UploadBuilder}
 use Rattle.call_reading.specs.Requests.{Data, header_in, body_in, Opens, IsBlank, HasBatch, Adds}
 use Rattle.call_reading.specs.declared.upload_builder.Addition.{Addition}
@@ -363,7 +363,7 @@ grows_nothing message i adds = record {
 }
 
 -- a further message that is not passed over, and is at fault
-pub further_fault : (schema : SchemaTree) (count : ℕ) (message header body : List ℕ) (values : Data) (refusal : Refusal) → IsMessage data_descriptor message values → header ≡ header_in values
+pub further_fault : (schema : SchemaTree) (count : ℕ) (message header body : List ℕ) (values : Data) (refusal : CallRefusal) → IsMessage data_descriptor message values → header ≡ header_in values
     → body ≡ body_in values → (¬ IsBlank header body) → HeadFault header refusal ⊎ BatchFaultIn schema count header body refusal
     → MeansAtFault data_descriptor (FurtherFault schema count) message refusal
 further_fault schema count message header body values refusal means head tail there fault =
@@ -375,7 +375,7 @@ further_fault schema count message header body values refusal means head tail th
     )
 
 pub further_faults : (schema : SchemaTree) (count : ℕ) (message header body : List ℕ) (values : Data) → IsMessage data_descriptor message values
-    → header ≡ header_in values → body ≡ body_in values → (¬ IsBlank header body) → (r : Result Addition Refusal)
+    → header ≡ header_in values → body ≡ body_in values → (¬ IsBlank header body) → (r : Result Addition CallRefusal)
     → IfErr r (λ refusal. HeadFault header refusal ⊎ BatchFaultIn schema count header body refusal)
     → IfErr r (MeansAtFault data_descriptor (FurtherFault schema count) message)
 further_faults schema count message header body values means head tail there (Ok added) fault = tt
@@ -397,7 +397,7 @@ adds_batch schema message header body values rows means head tail has = record {
 }
 
 pub adds_as : (schema : SchemaTree) (wanted : Bool) (message header body : List ℕ) (values : Data) → IsMessage data_descriptor message values
-    → header ≡ header_in values → body ≡ body_in values → (r : Result Addition Refusal)
+    → header ≡ header_in values → body ≡ body_in values → (r : Result Addition CallRefusal)
     → IfOk r (HasAddition schema wanted header body) → IfOk r (AddsAs schema wanted message)
 adds_as schema wanted message header body values means head tail (Err refusal) has = tt
 adds_as schema wanted message header body values means head tail (Ok additions.Nothing) has = absurd has
@@ -406,7 +406,7 @@ adds_as schema wanted message header body values means head tail (Ok (additions.
 adds_as schema wanted message header body values means head tail (Ok additions.LeftOut) has =
     (has.0, adds_batch schema message header body values has.0 means head tail has.1, has.2)
 
-pub room_as : (count : ℕ) (r : Result Addition Refusal) → OnOk r (count < batches_limit) → IfOk r (λ added. HasRoom count added)
+pub room_as : (count : ℕ) (r : Result Addition CallRefusal) → OnOk r (count < batches_limit) → IfOk r (λ added. HasRoom count added)
 room_as count (Err refusal) room = tt
 room_as count (Ok additions.Nothing) room = tt
 room_as count (Ok (additions.Built batch)) room = room
@@ -429,7 +429,7 @@ opens_some message header values descriptor table id schema means is names same 
   },
 )
 
-pub opening_schema : (message header : List ℕ) (values : Data) (refusal : Refusal) → IsMessage data_descriptor message values → header ≡ header_in values → SchemaFault header refusal
+pub opening_schema : (message header : List ℕ) (values : Data) (refusal : CallRefusal) → IsMessage data_descriptor message values → header ≡ header_in values → SchemaFault header refusal
     → MeansAtFault data_descriptor OpeningFault message refusal
 opening_schema message header values refusal means is fault =
     inr (values, means, inr (inr (subst (λ (h : List ℕ). SchemaFault h refusal) is fault)))

@@ -7,13 +7,13 @@ use Rattle.proto_wire.specs.Flight.{flight_descriptor_descriptor, ticket_descrip
 use Rattle.table_types.specs.Ticket.{TableVersion}
 use Rattle.table_types.specs.Served.{in_frame}
 use Rattle.table_types.specs.Valid.{FitsFrame}
-use Rattle.call_words.specs.declared.method.Method.{Method}
-use Rattle.call_words.specs.declared.method.Method.TheVariants as methods
-use Rattle.call_words.specs.declared.refusal.Refusal.{Refusal}
-use Rattle.call_words.specs.declared.refusal.Refusal.TheVariants as refusals
-use Rattle.call_words.specs.Methods.{path_text}
-use Rattle.call_words.specs.Texts.{messages_text, end_text}
-use Rattle.call_words.specs.Names.{TableFault}
+use Rattle.call_protocol.specs.declared.method.Method.{Method}
+use Rattle.call_protocol.specs.declared.method.Method.TheVariants as methods
+use Rattle.call_protocol.specs.declared.refusal.CallRefusal.{CallRefusal}
+use Rattle.call_protocol.specs.declared.refusal.CallRefusal.TheVariants as refusals
+use Rattle.call_protocol.specs.Methods.{path_text}
+use Rattle.call_protocol.specs.Texts.{messages_text, end_text}
+use Rattle.call_protocol.specs.Names.{TableFault}
 use Rattle.call_reading.specs.declared.request.FlightRequest.{FlightRequest}
 use Rattle.call_reading.specs.declared.request.FlightRequest.TheVariants as asks
 use Rattle.call_reading.specs.Requests.{Request, lists, serves, AsksForTable, AsksForAll, AsksForVersion, method_of, MessagesMean, IsCall}
@@ -36,18 +36,18 @@ one_asks request here after message front fits mean = record {
 }
 
 -- what such a method is told of its messages
-pub record AsksForOne (method : Method) (P : List ℕ → Type 0) (F : List ℕ → Refusal → Type 0) : Type 0 where
+pub record AsksForOne (method : Method) (P : List ℕ → Type 0) (F : List ℕ → CallRefusal → Type 0) : Type 0 where
   pub none : IsFaultlessSoFar method []
   pub one : (message : List ℕ) → P message → IsFaultlessSoFar method (message ∷ [])
-  pub fault : (message : List ℕ) (refusal : Refusal) → F message refusal → MessageFault method [] message refusal
+  pub fault : (message : List ℕ) (refusal : CallRefusal) → F message refusal → MessageFault method [] message refusal
   pub more : (message second : List ℕ) → MessageFault method (message ∷ []) second refusals.MessageCount
   pub early : EndFault method [] refusals.MessageCount
 
-at_front : (method : Method) (here after : List ℕ) (refusal : Refusal) → IsFaultlessSoFar method [] → FrameBreaks here after refusal ⊎ MessageBreaks method [] here after refusal → BreaksMessages method here after refusal
+at_front : (method : Method) (here after : List ℕ) (refusal : CallRefusal) → IsFaultlessSoFar method [] → FrameBreaks here after refusal ⊎ MessageBreaks method [] here after refusal → BreaksMessages method here after refusal
 at_front method here after refusal none breaks =
     record { before = []; place = here; parts = refl; fit = tt; faultless = none; breaks = breaks }
 
-pub one_breaks : (method : Method) (P : List ℕ → Type 0) (F : List ℕ → Refusal → Type 0) → AsksForOne method P F → (here after : List ℕ) (refusal : Refusal) → OneBreaks P F here after refusal
+pub one_breaks : (method : Method) (P : List ℕ → Type 0) (F : List ℕ → CallRefusal → Type 0) → AsksForOne method P F → (here after : List ℕ) (refusal : CallRefusal) → OneBreaks P F here after refusal
     → BreaksMessages method here after refusal
 one_breaks method P F h here after refusal breaks =
     elim breaks [
@@ -56,7 +56,7 @@ one_breaks method P F h here after refusal breaks =
           elim behind [
             | inl ended ↦
                 at_front method here after refusal h.none
-                (inr (inr (ended.0, inl (subst (λ (r : Refusal). EndFault method [] r) (sym ended.1) h.early))))
+                (inr (inr (ended.0, inl (subst (λ (r : CallRefusal). EndFault method [] r) (sym ended.1) h.early))))
             | inr further ↦
                 elim further [
                   | inl m ↦
@@ -72,7 +72,7 @@ one_breaks method P F h here after refusal breaks =
                         breaks =
                             elim b.5 [
                               | inl frame ↦ inl frame
-                              | inr s ↦ inr (inl (s.0, s.1, s.2, inl (subst (λ (r : Refusal). MessageFault method (b.0 ∷ []) s.0 r) (sym s.3) (h.more b.0 s.0))))
+                              | inr s ↦ inr (inl (s.0, s.1, s.2, inl (subst (λ (r : CallRefusal). MessageFault method (b.0 ∷ []) s.0 r) (sym s.3) (h.more b.0 s.0))))
                             ];
                       }
                 ]
@@ -95,7 +95,7 @@ call_of request text here rest front h =
       mean = h.mean;
     }
 
-call_faults : (method : Method) (text here after : List ℕ) (refusal : Refusal) → text ≡ in_frame (path_text method) ++ here → BreaksMessages method here after refusal
+call_faults : (method : Method) (text here after : List ℕ) (refusal : CallRefusal) → text ≡ in_frame (path_text method) ++ here → BreaksMessages method here after refusal
     → RefusalStands refusal text after
 call_faults method text here after refusal front breaks = inr (inr (method, here, front, breaks))
 
@@ -126,7 +126,7 @@ table_known method asked table (Some a) None is mean reads = absurd reads
 table_known method asked table (Some a) (Some b) is mean reads =
     (is, one_asks (request_of asked) a b reads.0 reads.1 reads.2 (mean reads.0 reads.3))
 
-pub table_fails : (method : Method) (refusal : Refusal) (here after : Option (List ℕ)) → AsksForOne method AsksForSomeTable (MeansAtFault flight_descriptor_descriptor TableFault)
+pub table_fails : (method : Method) (refusal : CallRefusal) (here after : Option (List ℕ)) → AsksForOne method AsksForSomeTable (MeansAtFault flight_descriptor_descriptor TableFault)
     → WhereKnown here after (ReadsTable (Err refusal)) → WhereKnown here after (ReadsMessages method (Err refusal))
 table_fails method refusal None after h reads = tt
 table_fails method refusal (Some a) None h reads = absurd reads
@@ -138,7 +138,7 @@ all_known None after reads = tt
 all_known (Some a) None reads = absurd reads
 all_known (Some a) (Some b) reads = (refl, one_asks lists a b reads.0 reads.1 reads.2 (reads.0, refl, reads.3))
 
-pub all_fails : (refusal : Refusal) (here after : Option (List ℕ)) → WhereKnown here after (ReadsCriteria (Err refusal)) → WhereKnown here after (ReadsMessages methods.ListFlights (Err refusal))
+pub all_fails : (refusal : CallRefusal) (here after : Option (List ℕ)) → WhereKnown here after (ReadsCriteria (Err refusal)) → WhereKnown here after (ReadsMessages methods.ListFlights (Err refusal))
 all_fails refusal None after reads = tt
 all_fails refusal (Some a) None reads = absurd reads
 all_fails refusal (Some a) (Some b) reads = one_breaks methods.ListFlights AsksForAll (MeansAtFault criteria_descriptor CriteriaFault) list_one a b refusal reads
@@ -148,7 +148,7 @@ get_known ticket None after reads = tt
 get_known ticket (Some a) None reads = absurd reads
 get_known ticket (Some a) (Some b) reads = (refl, one_asks (serves ticket) a b reads.0 reads.1 reads.2 (reads.0, refl, reads.3))
 
-pub get_fails : (refusal : Refusal) (here after : Option (List ℕ)) → WhereKnown here after (ReadsTicket (Err refusal)) → WhereKnown here after (ReadsMessages methods.DoGet (Err refusal))
+pub get_fails : (refusal : CallRefusal) (here after : Option (List ℕ)) → WhereKnown here after (ReadsTicket (Err refusal)) → WhereKnown here after (ReadsMessages methods.DoGet (Err refusal))
 get_fails refusal None after reads = tt
 get_fails refusal (Some a) None reads = absurd reads
 get_fails refusal (Some a) (Some b) reads =
@@ -159,7 +159,7 @@ put_known text None after reads = tt
 put_known text (Some a) None reads = absurd reads
 put_known text (Some a) (Some b) reads = (refl, reads)
 
-pub put_fails : (refusal : Refusal) (here after : Option (List ℕ)) → WhereKnown here after (ReadsUpload (Err refusal)) → WhereKnown here after (ReadsMessages methods.DoPut (Err refusal))
+pub put_fails : (refusal : CallRefusal) (here after : Option (List ℕ)) → WhereKnown here after (ReadsUpload (Err refusal)) → WhereKnown here after (ReadsMessages methods.DoPut (Err refusal))
 put_fails refusal None after reads = tt
 put_fails refusal (Some a) None reads = absurd reads
 put_fails refusal (Some a) (Some b) reads = reads
@@ -172,14 +172,14 @@ call_known method asked (Some x) (Some y) None path messages = absurd messages
 call_known method asked (Some x) (Some y) (Some z) path messages =
     call_of (request_of asked) x y z (subst (λ m. x ≡ in_frame (path_text m) ++ y) messages.0 path) messages.1
 
-call_fails : (method : Method) (refusal : Refusal) (text here after : Option (List ℕ)) → WhereKnown text here (ReadsMethod (Ok method)) → WhereKnown here after (ReadsMessages method (Err refusal))
+call_fails : (method : Method) (refusal : CallRefusal) (text here after : Option (List ℕ)) → WhereKnown text here (ReadsMethod (Ok method)) → WhereKnown here after (ReadsMessages method (Err refusal))
     → WhereKnown text after (ReadsCall (Err refusal))
 call_fails method refusal None here after path messages = tt
 call_fails method refusal (Some x) None after path messages = absurd path
 call_fails method refusal (Some x) (Some y) None path messages = absurd messages
 call_fails method refusal (Some x) (Some y) (Some z) path messages = call_faults method x y z refusal path messages
 
-pub call_read : (method : Method) (result : Result FlightRequest Refusal) (text here after : Option (List ℕ)) → WhereKnown text here (ReadsMethod (Ok method))
+pub call_read : (method : Method) (result : Result FlightRequest CallRefusal) (text here after : Option (List ℕ)) → WhereKnown text here (ReadsMethod (Ok method))
     → WhereKnown here after (ReadsMessages method result) → WhereKnown text after (ReadsCall result)
 call_read method (Ok asked) text here after path messages = call_known method asked text here after path messages
 call_read method (Err refusal) text here after path messages = call_fails method refusal text here after path messages

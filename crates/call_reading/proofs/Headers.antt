@@ -4,7 +4,7 @@ use Rattle.header_types.specs.Header.{Header, ShowsHeader}
 use Rattle.header_types.specs.declared.fault.MetaFault.{MetaFault}
 use Rattle.header_types.specs.declared.fault.MetaFault.TheVariants as metas
 use Rattle.header_reading.specs.Faults.{HeaderFault}
-use Rattle.call_words.specs.declared.refusal.Refusal.TheVariants as refusals
+use Rattle.call_protocol.specs.declared.refusal.CallRefusal.TheVariants as refusals
 use Rattle.call_reading.specs.Faults.{IsNoHeader}
 
 -- what could not be read is no header, or memory was refused

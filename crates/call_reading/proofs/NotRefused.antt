@@ -22,14 +22,14 @@ use Rattle.table_types.specs.Uploads.{Upload}
 use Rattle.table_types.specs.Served.{in_frame}
 use Rattle.table_types.specs.Valid.{FitsFrame, batches_limit}
 use Rattle.table_types.specs.Ticket.{TableVersion}
-use Rattle.upload_writing.specs.Making.{IsSmall}
-use Rattle.call_words.specs.declared.method.Method.{Method}
-use Rattle.call_words.specs.declared.method.Method.TheVariants as methods
-use Rattle.call_words.specs.declared.refusal.Refusal.{Refusal}
-use Rattle.call_words.specs.declared.refusal.Refusal.TheVariants as refusals
-use Rattle.call_words.specs.Methods.{path_text, PathFault}
-use Rattle.call_words.specs.Names.{Descriptor, NamesTable, NamesUpload, TableFault, UploadNameFault}
-use Rattle.call_words.specs.Texts.{messages_text, end_text}
+use Rattle.uploads.specs.Making.{IsSmall}
+use Rattle.call_protocol.specs.declared.method.Method.{Method}
+use Rattle.call_protocol.specs.declared.method.Method.TheVariants as methods
+use Rattle.call_protocol.specs.declared.refusal.CallRefusal.{CallRefusal}
+use Rattle.call_protocol.specs.declared.refusal.CallRefusal.TheVariants as refusals
+use Rattle.call_protocol.specs.Methods.{path_text, PathFault}
+use Rattle.call_protocol.specs.Names.{Descriptor, NamesTable, NamesUpload, TableFault, UploadNameFault}
+use Rattle.call_protocol.specs.Texts.{messages_text, end_text}
 use Rattle.call_reading.specs.Requests.{Request, describes, shows, lists, serves, puts, AsksForTable, AsksForAll, AsksForVersion, HasOne, Data, header_in, body_in, Opens, HasBatch, Adds, AddAll, Brings, BringsUpload, method_of, MessagesMean, messages_limit, IsCall}
 use Rattle.call_reading.specs.Faults.{IsNoMessage, MeansAtFault, CriteriaFault, TicketFault, IsNoHeader, OpeningFault, FurtherFault, BatchFaultIn, OneFault, UploadFault, MessageFault, EndsEarly, UploadEndFault, EndFault, IsOneOrNone, IsUploadOrNone, IsFaultlessSoFar, IsFaultlessEnd, FrameBreaks, BreaksMessages, RefusalStands, IsOfMemory, IsOfTheMachine}
 use Rattle.call_reading.proofs.Apart.{message_frame, end_frame, is_message, is_end, front_message, no_end_here, path_fits, call_parts, MessagesAreOne, HeadersAreOne, BatchesAreOne, TablesAreOne, NamesAreOne, TicketsAreOne, nothing_shown, same_head, same_first, one_opening, one_list, one_upload}
@@ -48,7 +48,7 @@ module _ (law : NoFrameBeginsAnother) (no_fault : NoFaultAtAFrame) where
   told_of_frame f rest frames.Io is stands = inr refl
   told_of_frame f rest frames.OutOfMemory is stands = inl refl
 
-  no_break : (f : Frame) (rest here after : List ℕ) (refusal : Refusal) → IsFrame f → (f.flag ≡ 0) ⊎ (f.payload ≡ []) → here ≡ frame_text f ++ rest → FrameBreaks here after refusal → IsOfTheMachine refusal
+  no_break : (f : Frame) (rest here after : List ℕ) (refusal : CallRefusal) → IsFrame f → (f.flag ≡ 0) ⊎ (f.payload ≡ []) → here ≡ frame_text f ++ rest → FrameBreaks here after refusal → IsOfTheMachine refusal
   no_break f rest here after refusal is kind front breaks =
       elim breaks [
         | inl fault ↦ subst (λ r. IsOfTheMachine r) (sym fault.3) (told_of_frame f rest fault.0 is (subst (λ h. FrameFaultStands fault.0 h) front fault.1))
@@ -83,7 +83,7 @@ module _ (law : NoFrameBeginsAnother) (no_fault : NoFaultAtAFrame) where
       let h = beyond ms bs place rest fit.1 other.1 front.1 in
       record { more = h.more; are = ap (λ x. x ∷ ms) front.0 ∙ ap (λ l. b ∷ l) h.are; front = h.front; fit = h.fit }
 
-  at_place : (more : List (List ℕ)) (place rest after : List ℕ) (refusal : Refusal) → AllByRecursion FitsFrame more → place ≡ messages_text more ++ (end_text ++ rest) → FrameBreaks place after refusal
+  at_place : (more : List (List ℕ)) (place rest after : List ℕ) (refusal : CallRefusal) → AllByRecursion FitsFrame more → place ≡ messages_text more ++ (end_text ++ rest) → FrameBreaks place after refusal
       → IsOfTheMachine refusal
   at_place [] place rest after refusal fit front breaks = no_break end_frame rest place after refusal is_end (inr refl) front breaks
   at_place (m ∷ ms) place rest after refusal fit front breaks =
@@ -114,20 +114,20 @@ not_behind (x ∷ xs) ys y none = cc
 not_none : (messages others : List (List ℕ)) (first : List ℕ) → messages ≡ first ∷ others → messages ≡ [] → ⊥
 not_none messages others first are none = cc
 
-one_stands : (P : List ℕ → Type 0) (F : List ℕ → Refusal → Type 0) → ((m : List ℕ) (r : Refusal) → P m → F m r → IsOfMemory r)
-    → (messages before others : List (List ℕ)) (message : List ℕ) (refusal : Refusal) → HasOne P messages → messages ≡ before ++ message ∷ others → OneFault F before message refusal → IsOfMemory refusal
+one_stands : (P : List ℕ → Type 0) (F : List ℕ → CallRefusal → Type 0) → ((m : List ℕ) (r : CallRefusal) → P m → F m r → IsOfMemory r)
+    → (messages before others : List (List ℕ)) (message : List ℕ) (refusal : CallRefusal) → HasOne P messages → messages ≡ before ++ message ∷ others → OneFault F before message refusal → IsOfMemory refusal
 one_stands P F apart messages [] others message refusal h are fault =
     apart message refusal (subst P (same_first h.0 message [] others (sym h.1 ∙ are)).0 h.2) fault
 one_stands P F apart messages (b ∷ bs) others message refusal h are fault =
     absurd (not_behind bs others message (same_first h.0 b [] (bs ++ message ∷ others) (sym h.1 ∙ are)).1)
 
-one_faultless : (P : List ℕ → Type 0) (F : List ℕ → Refusal → Type 0) → ((m : List ℕ) (r : Refusal) → P m → F m r → IsOfMemory r)
-    → (before : List (List ℕ)) (message : List ℕ) (refusal : Refusal) → IsOneOrNone P (before ++ message ∷ []) → OneFault F before message refusal → IsOfMemory refusal
+one_faultless : (P : List ℕ → Type 0) (F : List ℕ → CallRefusal → Type 0) → ((m : List ℕ) (r : CallRefusal) → P m → F m r → IsOfMemory r)
+    → (before : List (List ℕ)) (message : List ℕ) (refusal : CallRefusal) → IsOneOrNone P (before ++ message ∷ []) → OneFault F before message refusal → IsOfMemory refusal
 one_faultless P F apart [] message refusal h fault = apart message refusal h fault
 one_faultless P F apart (b ∷ []) message refusal h fault = absurd h
 one_faultless P F apart (b ∷ c ∷ bs) message refusal h fault = absurd h
 
-one_ends : (P : List ℕ → Type 0) (messages : List (List ℕ)) (refusal : Refusal) → HasOne P messages → EndsEarly messages refusal → IsOfMemory refusal
+one_ends : (P : List ℕ → Type 0) (messages : List (List ℕ)) (refusal : CallRefusal) → HasOne P messages → EndsEarly messages refusal → IsOfMemory refusal
 one_ends P messages refusal h early = absurd (not_none messages [] h.0 h.1 early.0)
 
 abbrev pub MessagesApart : Type 0
@@ -140,10 +140,10 @@ abbrev pub BatchesApart : Type 0
 BatchesApart = (schema : SchemaTree) (head : Head) (body : List ℕ) (fault : BatchFault) (rows : Rows) → IsToldOf schema head body fault → LaysOut schema head body rows → fault ≡ batches.OutOfMemory
 
 abbrev pub TablesApart : Type 0
-TablesApart = (d : Descriptor) (x : List ℕ) (refusal : Refusal) → NamesTable d x → ¬ TableFault d refusal
+TablesApart = (d : Descriptor) (x : List ℕ) (refusal : CallRefusal) → NamesTable d x → ¬ TableFault d refusal
 
 abbrev pub NamesApart : Type 0
-NamesApart = (d : Descriptor) (t x : List ℕ) (refusal : Refusal) → NamesUpload d t x → ¬ UploadNameFault d refusal
+NamesApart = (d : Descriptor) (t x : List ℕ) (refusal : CallRefusal) → NamesUpload d t x → ¬ UploadNameFault d refusal
 
 some_is_none : (x : Data) (d : Descriptor) → x.0 ≡ Some d → x.0 ≡ None → ⊥
 some_is_none x d is none = cc
@@ -155,14 +155,14 @@ kinds_differ : (schema : SchemaTree) (head : Head) → batch_header head ≡ sch
 kinds_differ schema head same = cc
 
 module _ (messages_one : MessagesAreOne) (messages_apart : MessagesApart) where
-  pub means_none : (type : MessageType) (message : List ℕ) (v : Values type) (refusal : Refusal) → IsMessage type message v → IsNoMessage type message refusal → IsOfMemory refusal
+  pub means_none : (type : MessageType) (message : List ℕ) (v : Values type) (refusal : CallRefusal) → IsMessage type message v → IsNoMessage type message refusal → IsOfMemory refusal
   means_none type message v refusal means n =
       elim n.stands [
         | inl memory ↦ subst (λ r. IsOfMemory r) (sym n.is) memory
         | inr fault ↦ absurd (messages_apart type message n.fault v fault means)
       ]
 
-  meant : (type : MessageType) (F : Values type → Refusal → Type 0) (message : List ℕ) (v : Values type) (refusal : Refusal) → IsMessage type message v → (F v refusal → IsOfMemory refusal)
+  meant : (type : MessageType) (F : Values type → CallRefusal → Type 0) (message : List ℕ) (v : Values type) (refusal : CallRefusal) → IsMessage type message v → (F v refusal → IsOfMemory refusal)
       → MeansAtFault type F message refusal → IsOfMemory refusal
   meant type F message v refusal means apart fault =
       elim fault [
@@ -170,21 +170,21 @@ module _ (messages_one : MessagesAreOne) (messages_apart : MessagesApart) where
         | inr other ↦ apart (subst (λ x. F x refusal) (messages_one type message other.0 v other.1 means) other.2)
       ]
 
-  table_stands : TablesApart → (table m : List ℕ) (r : Refusal) → AsksForTable m table → MeansAtFault flight_descriptor_descriptor TableFault m r → IsOfMemory r
+  table_stands : TablesApart → (table m : List ℕ) (r : CallRefusal) → AsksForTable m table → MeansAtFault flight_descriptor_descriptor TableFault m r → IsOfMemory r
   table_stands apart table m r a fault =
       meant flight_descriptor_descriptor TableFault m a.descriptor r a.means (λ f. absurd (apart a.descriptor table r a.names f)) fault
 
-  all_stand : (m : List ℕ) (r : Refusal) → AsksForAll m → MeansAtFault criteria_descriptor CriteriaFault m r → IsOfMemory r
+  all_stand : (m : List ℕ) (r : CallRefusal) → AsksForAll m → MeansAtFault criteria_descriptor CriteriaFault m r → IsOfMemory r
   all_stand m r a fault = meant criteria_descriptor CriteriaFault m ([], tt) r a (λ f. absurd (f.0 refl)) fault
 
-  version_stands : (asked : TableVersion) (m : List ℕ) (r : Refusal) → AsksForVersion m asked → MeansAtFault ticket_descriptor TicketFault m r → IsOfMemory r
+  version_stands : (asked : TableVersion) (m : List ℕ) (r : CallRefusal) → AsksForVersion m asked → MeansAtFault ticket_descriptor TicketFault m r → IsOfMemory r
   version_stands asked m r a fault =
       meant ticket_descriptor TicketFault m (a.ticket, tt) r a.means
       (λ f. absurd (f.0 asked a.is_ticket)) fault
 
 -- ---- uploads
 
-pub no_header : HeadersApart → (header : List ℕ) (shown : Header) (refusal : Refusal) → ShowsHeader header shown → IsNoHeader header refusal → IsOfMemory refusal
+pub no_header : HeadersApart → (header : List ℕ) (shown : Header) (refusal : CallRefusal) → ShowsHeader header shown → IsNoHeader header refusal → IsOfMemory refusal
 no_header apart header shown refusal is_shown n =
     elim n.stands [
       | inl fault ↦ absurd (apart header n.fault shown fault is_shown)
@@ -213,7 +213,7 @@ among schema (x ∷ xs) ys message all h =
     }
 
 module _ (messages_one : MessagesAreOne) (headers_one : HeadersAreOne) (batches_one : BatchesAreOne) (tables_one : TablesAreOne) (names_one : NamesAreOne) (tickets_one : TicketsAreOne) (messages_apart : MessagesApart) (headers_apart : HeadersApart) (batches_apart : BatchesApart) (tables_apart : TablesApart) (names_apart : NamesApart) where
-  opening_stands : (message table id : List ℕ) (schema : SchemaTree) (refusal : Refusal) → Opens message table id schema → MeansAtFault data_descriptor OpeningFault message refusal → IsOfMemory refusal
+  opening_stands : (message table id : List ℕ) (schema : SchemaTree) (refusal : CallRefusal) → Opens message table id schema → MeansAtFault data_descriptor OpeningFault message refusal → IsOfMemory refusal
   opening_stands message table id schema refusal o fault =
       meant messages_one messages_apart data_descriptor OpeningFault message o.values refusal o.means
       (λ f. elim f [
@@ -237,7 +237,7 @@ module _ (messages_one : MessagesAreOne) (headers_one : HeadersAreOne) (batches_
       ])
       fault
 
-  batch_stands : (schema : SchemaTree) (header body : List ℕ) (rows : Rows) (count : ℕ) (refusal : Refusal) → HasBatch schema header body rows → count + 1 ≤ batches_limit → BatchFaultIn schema count header body refusal → IsOfMemory refusal
+  batch_stands : (schema : SchemaTree) (header body : List ℕ) (rows : Rows) (count : ℕ) (refusal : CallRefusal) → HasBatch schema header body rows → count + 1 ≤ batches_limit → BatchFaultIn schema count header body refusal → IsOfMemory refusal
   batch_stands schema header body rows count refusal b few fault =
       elim fault.2 [
         | inl told ↦
@@ -247,7 +247,7 @@ module _ (messages_one : MessagesAreOne) (headers_one : HeadersAreOne) (batches_
         | inr many ↦ absurd (omega (arith, few, many.0))
       ]
 
-  addition_stands : (schema : SchemaTree) (message : List ℕ) (own : List Rows) (count : ℕ) (refusal : Refusal) → Adds schema message own → count + length own ≤ batches_limit
+  addition_stands : (schema : SchemaTree) (message : List ℕ) (own : List Rows) (count : ℕ) (refusal : CallRefusal) → Adds schema message own → count + length own ≤ batches_limit
       → MeansAtFault data_descriptor (FurtherFault schema count) message refusal → IsOfMemory refusal
   addition_stands schema message own count refusal a few fault =
       meant messages_one messages_apart data_descriptor (FurtherFault schema count) message a.values refusal a.means
@@ -268,7 +268,7 @@ module _ (messages_one : MessagesAreOne) (headers_one : HeadersAreOne) (batches_
       ])
       fault
 
-  further_stands : (messages bs others : List (List ℕ)) (f message : List ℕ) (upload taken : Upload) (refusal : Refusal) → Brings messages upload → length upload.batches ≤ batches_limit
+  further_stands : (messages bs others : List (List ℕ)) (f message : List ℕ) (upload taken : Upload) (refusal : CallRefusal) → Brings messages upload → length upload.batches ≤ batches_limit
       → messages ≡ f ∷ (bs ++ message ∷ others) → Brings (f ∷ bs) taken → MeansAtFault data_descriptor (FurtherFault taken.schema (length taken.batches)) message refusal → IsOfMemory refusal
   further_stands messages bs others f message upload taken refusal b few are a fault =
       let fronts = same_first b.first f b.others (bs ++ message ∷ others) (sym b.messages_are ∙ are) in
@@ -283,7 +283,7 @@ module _ (messages_one : MessagesAreOne) (headers_one : HeadersAreOne) (batches_
       addition_stands upload.schema message s.own (length taken.batches) refusal s.adds (omega (arith, few, s.sum, ap length same))
       (subst (λ x. MeansAtFault data_descriptor (FurtherFault x (length taken.batches)) message refusal) schema fault)
 
-  upload_stands : (text : List ℕ) (messages before others : List (List ℕ)) (message : List ℕ) (refusal : Refusal) → BringsUpload messages text → length messages ≤ messages_limit → messages ≡ before ++ message ∷ others
+  upload_stands : (text : List ℕ) (messages before others : List (List ℕ)) (message : List ℕ) (refusal : CallRefusal) → BringsUpload messages text → length messages ≤ messages_limit → messages ≡ before ++ message ∷ others
       → UploadFault before message refusal → IsOfMemory refusal
   upload_stands text messages [] others message refusal u few are fault =
       let b = u.1 in
@@ -295,7 +295,7 @@ module _ (messages_one : MessagesAreOne) (headers_one : HeadersAreOne) (batches_
         | inr further ↦ further_stands messages bs others f message u.0 further.0 refusal u.1 u.2.batches_few are further.1 further.2
       ]
 
-  upload_ends : (text : List ℕ) (messages : List (List ℕ)) (refusal : Refusal) → BringsUpload messages text → UploadEndFault messages refusal → IsOfMemory refusal
+  upload_ends : (text : List ℕ) (messages : List (List ℕ)) (refusal : CallRefusal) → BringsUpload messages text → UploadEndFault messages refusal → IsOfMemory refusal
   upload_ends text messages refusal u fault =
       elim fault [
         | inl none ↦ absurd (not_none messages u.1.others u.1.first u.1.messages_are none.0)
@@ -307,7 +307,7 @@ module _ (messages_one : MessagesAreOne) (headers_one : HeadersAreOne) (batches_
 
   -- ---- whole calls
 
-  message_stands : (request : Request) (messages before others : List (List ℕ)) (message : List ℕ) (refusal : Refusal) → MessagesMean request messages → length messages ≤ messages_limit → messages ≡ before ++ message ∷ others
+  message_stands : (request : Request) (messages before others : List (List ℕ)) (message : List ℕ) (refusal : CallRefusal) → MessagesMean request messages → length messages ≤ messages_limit → messages ≡ before ++ message ∷ others
       → MessageFault (method_of request) before message refusal → IsOfMemory refusal
   message_stands (describes t) messages before others message refusal mean few are fault =
       one_stands (λ m. AsksForTable m t) (MeansAtFault flight_descriptor_descriptor TableFault) (table_stands messages_one messages_apart tables_apart t) messages before others message refusal mean are fault
@@ -320,7 +320,7 @@ module _ (messages_one : MessagesAreOne) (headers_one : HeadersAreOne) (batches_
   message_stands (puts text) messages before others message refusal mean few are fault =
       upload_stands text messages before others message refusal mean few are fault
 
-  end_stands : (request : Request) (messages : List (List ℕ)) (refusal : Refusal) → MessagesMean request messages → EndFault (method_of request) messages refusal → IsOfMemory refusal
+  end_stands : (request : Request) (messages : List (List ℕ)) (refusal : CallRefusal) → MessagesMean request messages → EndFault (method_of request) messages refusal → IsOfMemory refusal
   end_stands (describes t) messages refusal mean fault = one_ends (λ m. AsksForTable m t) messages refusal mean fault
   end_stands (shows t) messages refusal mean fault = one_ends (λ m. AsksForTable m t) messages refusal mean fault
   end_stands lists messages refusal mean fault = one_ends AsksForAll messages refusal mean fault
@@ -329,7 +329,7 @@ module _ (messages_one : MessagesAreOne) (headers_one : HeadersAreOne) (batches_
 
   -- ---- messages without fault so far
 
-  upload_faultless : (before : List (List ℕ)) (message : List ℕ) (refusal : Refusal) → IsUploadOrNone (before ++ message ∷ []) → UploadFault before message refusal → IsOfMemory refusal
+  upload_faultless : (before : List (List ℕ)) (message : List ℕ) (refusal : CallRefusal) → IsUploadOrNone (before ++ message ∷ []) → UploadFault before message refusal → IsOfMemory refusal
   upload_faultless [] message refusal h fault =
       let front = same_first h.1.first message h.1.others [] (sym h.1.messages_are) in
       opening_stands message h.0.table h.0.id h.0.schema refusal (subst (λ m. Opens m h.0.table h.0.id h.0.schema) front.0 h.1.opens) fault
@@ -339,7 +339,7 @@ module _ (messages_one : MessagesAreOne) (headers_one : HeadersAreOne) (batches_
         | inr further ↦ further_stands ((f ∷ bs) ++ message ∷ []) bs [] f message h.0 further.0 refusal h.1 h.2 refl further.1 further.2
       ]
 
-  pub message_faultless : (method : Method) (before : List (List ℕ)) (message : List ℕ) (refusal : Refusal) → IsFaultlessSoFar method (before ++ message ∷ []) → MessageFault method before message refusal
+  pub message_faultless : (method : Method) (before : List (List ℕ)) (message : List ℕ) (refusal : CallRefusal) → IsFaultlessSoFar method (before ++ message ∷ []) → MessageFault method before message refusal
       → IsOfMemory refusal
   message_faultless methods.GetFlightInfo before message refusal h fault =
       one_faultless (λ m. (table : List ℕ) × AsksForTable m table) (MeansAtFault flight_descriptor_descriptor TableFault)
@@ -354,7 +354,7 @@ module _ (messages_one : MessagesAreOne) (headers_one : HeadersAreOne) (batches_
       (λ m r a f. version_stands messages_one messages_apart a.0 m r a.1 f) before message refusal h fault
   message_faultless methods.DoPut before message refusal h fault = upload_faultless before message refusal h fault
 
-  pub end_faultless : (method : Method) (messages : List (List ℕ)) (refusal : Refusal) → IsFaultlessEnd method messages → EndFault method messages refusal → IsOfMemory refusal
+  pub end_faultless : (method : Method) (messages : List (List ℕ)) (refusal : CallRefusal) → IsFaultlessEnd method messages → EndFault method messages refusal → IsOfMemory refusal
   end_faultless methods.GetFlightInfo messages refusal some fault = absurd (some fault.0)
   end_faultless methods.GetSchema messages refusal some fault = absurd (some fault.0)
   end_faultless methods.ListFlights messages refusal some fault = absurd (some fault.0)
@@ -369,13 +369,13 @@ module _ (messages_one : MessagesAreOne) (headers_one : HeadersAreOne) (batches_
 
   -- ---- a whole call
 
-  of_memory : (refusal : Refusal) → refusal ≡ refusals.OutOfMemory → IsOfMemory refusal
+  of_memory : (refusal : CallRefusal) → refusal ≡ refusals.OutOfMemory → IsOfMemory refusal
   of_memory refusal is = subst (λ r. IsOfMemory r) (sym is) tt
 
   whole : (before messages more : List (List ℕ)) → messages ≡ before ++ more → more ≡ [] → before ≡ messages
   whole before messages more are none = sym (are ∙ ap (λ l. before ++ l) none ∙ append-nil before)
 
-  behind_the_path : NoFrameBeginsAnother → NoFaultAtAFrame → (request : Request) (messages : List (List ℕ)) (here rest after : List ℕ) (refusal : Refusal) → AllByRecursion FitsFrame messages
+  behind_the_path : NoFrameBeginsAnother → NoFaultAtAFrame → (request : Request) (messages : List (List ℕ)) (here rest after : List ℕ) (refusal : CallRefusal) → AllByRecursion FitsFrame messages
       → length messages ≤ messages_limit → MessagesMean request messages → here ≡ messages_text messages ++ (end_text ++ rest) → BreaksMessages (method_of request) here after refusal → IsOfTheMachine refusal
   behind_the_path law no_fault request messages here rest after refusal fit few mean front b =
       let y = beyond law no_fault messages b.before b.place rest fit b.fit (sym front ∙ b.parts) in
@@ -398,8 +398,8 @@ module _ (messages_one : MessagesAreOne) (headers_one : HeadersAreOne) (batches_
             ])
       ]
 
-  pub not_refused : NoFrameBeginsAnother → NoFaultAtAFrame → ((x y : Method) → path_text x ≡ path_text y → x ≡ y) → ((x : Method) (refusal : Refusal) → ¬ PathFault (path_text x) refusal)
-      → (text rest after : List ℕ) (request : Request) (refusal : Refusal) → IsCall text request rest → RefusalStands refusal text after → IsOfTheMachine refusal
+  pub not_refused : NoFrameBeginsAnother → NoFaultAtAFrame → ((x y : Method) → path_text x ≡ path_text y → x ≡ y) → ((x : Method) (refusal : CallRefusal) → ¬ PathFault (path_text x) refusal)
+      → (text rest after : List ℕ) (request : Request) (refusal : CallRefusal) → IsCall text request rest → RefusalStands refusal text after → IsOfTheMachine refusal
   not_refused law no_fault paths path_apart text rest after request refusal h stands =
       let path = path_text (method_of request) in
       let behind = messages_text h.messages ++ (end_text ++ rest) in

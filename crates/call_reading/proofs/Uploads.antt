@@ -11,11 +11,11 @@ use Rattle.table_types.specs.Uploads.{Upload}
 use Rattle.table_types.specs.Served.{in_frame}
 use Rattle.table_types.specs.Valid.{FitsFrame, batches_limit}
 use Rattle.proto_wire.specs.Flight.{data_descriptor}
-use Rattle.upload_writing.specs.Making.{upload_of}
-use Rattle.call_words.specs.declared.method.Method.TheVariants as methods
-use Rattle.call_words.specs.declared.refusal.Refusal.{Refusal}
-use Rattle.call_words.specs.declared.refusal.Refusal.TheVariants as refusals
-use Rattle.call_words.specs.Texts.{messages_text, end_text}
+use Rattle.uploads.specs.Making.{upload_of}
+use Rattle.call_protocol.specs.declared.method.Method.TheVariants as methods
+use Rattle.call_protocol.specs.declared.refusal.CallRefusal.{CallRefusal}
+use Rattle.call_protocol.specs.declared.refusal.CallRefusal.TheVariants as refusals
+use Rattle.call_protocol.specs.Texts.{messages_text, end_text}
 use Rattle.call_reading.specs.declared.upload_builder.UploadBuilder.{UploadBuilder}
 use Rattle.call_reading.specs.Requests.{Adds, AddAll, Brings, messages_limit}
 use Rattle.call_reading.specs.Faults.{MeansAtFault, FurtherFault, MessageFault, IsFaultlessSoFar, BreaksMessages}
@@ -99,7 +99,7 @@ faultless_opening message o = (
 )
 
 -- a further message is at fault, or none can be read
-pub further_breaks : (count left : ℕ) (i j : UploadBuilder) (here now after : List ℕ) (refusal : Refusal) → count + left ≡ messages_limit → IsOnItsWay i → HasTaken count i here now
+pub further_breaks : (count left : ℕ) (i j : UploadBuilder) (here now after : List ℕ) (refusal : CallRefusal) → count + left ≡ messages_limit → IsOnItsWay i → HasTaken count i here now
     → ReadsFurther left i j (Err refusal) now after → BreaksMessages methods.DoPut here after refusal
 further_breaks count left i j here now after refusal sum way h breaks =
     let b = h.brings in
@@ -152,7 +152,7 @@ further_breaks count left i j here now after refusal sum way h breaks =
     }
 
 -- the first message is at fault, or there is none
-opening_faults : (here after : List ℕ) (refusal : Refusal) → ReadsOpening (Err refusal) here after → BreaksMessages methods.DoPut here after refusal
+opening_faults : (here after : List ℕ) (refusal : CallRefusal) → ReadsOpening (Err refusal) here after → BreaksMessages methods.DoPut here after refusal
 opening_faults here after refusal breaks = record {
   before = [];
   place = here;
@@ -173,7 +173,7 @@ opening_faults here after refusal breaks = record {
 
 -- ---- the end
 
-finished : (count : ℕ) (i : UploadBuilder) (here now after : List ℕ) (r : Result (List ℕ) Refusal) → count ≤ messages_limit → IsOnItsWay i → (h : HasTaken count i here now)
+finished : (count : ℕ) (i : UploadBuilder) (here now after : List ℕ) (r : Result (List ℕ) CallRefusal) → count ≤ messages_limit → IsOnItsWay i → (h : HasTaken count i here now)
     → now ≡ end_text ++ after → Finishes h.upload r → ReadsUpload r here after
 finished count i here now after (Ok text) few way h front fin = record {
   messages = h.messages;
@@ -231,7 +231,7 @@ read_goes_on count left i j (Some x) (Some y) None h further = absurd further
 read_goes_on count left i j (Some x) (Some y) (Some z) h further =
     takes_more count i j x y z further.0 h further.1 further.2 further.3
 
-pub read_ends : (count left : ℕ) (i j : UploadBuilder) (here now after : Option (List ℕ)) (r : Result (List ℕ) Refusal) → count ≤ messages_limit → IsOnItsWay i → HasRead count i here now
+pub read_ends : (count left : ℕ) (i j : UploadBuilder) (here now after : Option (List ℕ)) (r : Result (List ℕ) CallRefusal) → count ≤ messages_limit → IsOnItsWay i → HasRead count i here now
     → WhereKnown now after (ReadsFurther left i j (Ok false)) → ((upload : Upload) → Holds j upload → Finishes upload r) → WhereKnown here after (ReadsUpload r)
 read_ends count left i j None now after r few way h further fin = tt
 read_ends count left i j (Some x) None after r few way h further fin = absurd h
@@ -239,26 +239,26 @@ read_ends count left i j (Some x) (Some y) None r few way h further fin = absurd
 read_ends count left i j (Some x) (Some y) (Some z) r few way h further fin =
     finished count i x y z r few way h further.0 (fin h.upload (subst (λ k. Holds k h.upload) (sym further.1) h.holds))
 
-pub read_breaks : (count left : ℕ) (i j : UploadBuilder) (here now after : Option (List ℕ)) (refusal : Refusal) → count + left ≡ messages_limit → IsOnItsWay i → HasRead count i here now
+pub read_breaks : (count left : ℕ) (i j : UploadBuilder) (here now after : Option (List ℕ)) (refusal : CallRefusal) → count + left ≡ messages_limit → IsOnItsWay i → HasRead count i here now
     → WhereKnown now after (ReadsFurther left i j (Err refusal)) → WhereKnown here after (ReadsUpload (Err refusal))
 read_breaks count left i j None now after refusal sum way h further = tt
 read_breaks count left i j (Some x) None after refusal sum way h further = absurd h
 read_breaks count left i j (Some x) (Some y) None refusal sum way h further = absurd further
 read_breaks count left i j (Some x) (Some y) (Some z) refusal sum way h further = further_breaks count left i j x y z refusal sum way h further
 
-pub opening_breaks : (here after : Option (List ℕ)) (refusal : Refusal) → WhereKnown here after (ReadsOpening (Err refusal)) → WhereKnown here after (ReadsUpload (Err refusal))
+pub opening_breaks : (here after : Option (List ℕ)) (refusal : CallRefusal) → WhereKnown here after (ReadsOpening (Err refusal)) → WhereKnown here after (ReadsUpload (Err refusal))
 opening_breaks None after refusal opens = tt
 opening_breaks (Some x) None refusal opens = absurd opens
 opening_breaks (Some x) (Some y) refusal opens = opening_faults x y refusal opens
 
 -- what is told of a further message that is not taken
-abbrev pub IsToldOfFurther : UploadBuilder → List ℕ → Refusal → Type 0
+abbrev pub IsToldOfFurther : UploadBuilder → List ℕ → CallRefusal → Type 0
 IsToldOfFurther i text refusal =
     MeansAtFault data_descriptor (FurtherFault (schema_of i.schema) i.count) text refusal
     ⊎ (AddsWithin (schema_of i.schema) i.count text × (refusal ≡ refusals.OutOfMemory))
 
 -- a further message that is at fault, or for which memory was refused
-pub further_read : (left : ℕ) (i j : UploadBuilder) (here after : Option (List ℕ)) (part : CallPart) (message : Vec ℕ Global) (text : List ℕ) (refusal : Refusal)
+pub further_read : (left : ℕ) (i j : UploadBuilder) (here after : Option (List ℕ)) (part : CallPart) (message : Vec ℕ Global) (text : List ℕ) (refusal : CallRefusal)
     → WhereKnown here after (ReadsPart (Ok part)) → part ≡ parts.Message message → text ≡ message.items
     → 1 ≤ left → IsToldOfFurther i text refusal → WhereKnown here after (ReadsFurther left i j (Err refusal))
 further_read left i j None after part message text refusal reads is same some fault = tt

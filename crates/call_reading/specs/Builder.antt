@@ -13,11 +13,11 @@ use Rattle.batch_types.specs.declared.fault.BatchFault.{BatchFault}
 use Rattle.record_batches.specs.Reading.{IsToldOf}
 use Rattle.table_types.specs.Uploads.{Upload, upload_text}
 use Rattle.table_types.specs.Valid.{IsTableName, IsId, IsUpload, FitsFrame, batches_limit, upload_limit}
-use Rattle.upload_parts.specs.Parts.{batch_parts, batches_parts, batch_text, batches_text, served_of}
-use Rattle.upload_writing.specs.Making.{upload_of, AreOfSchema, IsSmall}
-use Rattle.upload_writing.specs.Sized.{parts_held}
-use Rattle.call_words.specs.declared.refusal.Refusal.{Refusal}
-use Rattle.call_words.specs.declared.refusal.Refusal.TheVariants as refusals
+use Rattle.uploads.specs.Parts.{batch_parts, batches_parts, batch_text, batches_text, served_of}
+use Rattle.uploads.specs.Making.{upload_of, AreOfSchema, IsSmall}
+use Rattle.uploads.specs.Sized.{parts_held}
+use Rattle.call_protocol.specs.declared.refusal.CallRefusal.{CallRefusal}
+use Rattle.call_protocol.specs.declared.refusal.CallRefusal.TheVariants as refusals
 use Rattle.call_reading.specs.declared.upload_builder.UploadBuilder.{UploadBuilder}
 use Rattle.call_reading.specs.Requests.{Opens, Adds}
 
@@ -61,7 +61,7 @@ abbrev pub AddsWithin : SchemaTree → ℕ → List ℕ → Type 0
 AddsWithin schema count message = (more : List Rows) × Adds schema message more × (count + length more ≤ batches_limit)
 
 -- a head and a body lay out no batch, or there is one more than an upload may have
-abbrev pub LayFault : SchemaTree → ℕ → Head → List ℕ → Refusal → Type 0
+abbrev pub LayFault : SchemaTree → ℕ → Head → List ℕ → CallRefusal → Type 0
 LayFault schema count head body refusal =
     ((fault : BatchFault) × IsToldOf schema head body fault × (refusal ≡ refusals.Batch fault))
     ⊎ ((count ≡ batches_limit) × (refusal ≡ refusals.TooManyBatches))
@@ -99,7 +99,7 @@ pub record Grows (message : List ℕ) (old new : UploadBuilder) : Type 0 where
   pub holds : HoldsMore more old new
 
 -- what the end of an upload gives
-abbrev pub Finishes : Upload → Result (List ℕ) Refusal → Type 0
+abbrev pub Finishes : Upload → Result (List ℕ) CallRefusal → Type 0
 Finishes upload (Ok text) = IsUpload upload × (text ≡ upload_text upload)
 Finishes upload (Err refusal) =
     ((¬ IsSmall upload) × (refusal ≡ refusals.TooLarge)) ⊎ (IsSmall upload × (refusal ≡ refusals.OutOfMemory))

@@ -1,5 +1,5 @@
 -- What is wrong with a text that begins with no call, and where: each fault by what stands at its place, behind a path and
--- messages without fault. The statuses that tell of it are in `call_words`.
+-- messages without fault. The statuses that tell of it are in `call_protocol`.
 use Rattle.std.specs.Prelude.{◌≡◌, ◌≢◌, ◌⊎◌, ◌≤◌, ℕ, List, [], ◌∷◌, ◌++◌, length, None, Some}
 use Rattle.std.specs.List.{AllByRecursion}
 use Rattle.grpc_frames.specs.Frame.{frame_text}
@@ -22,71 +22,71 @@ use Rattle.table_types.specs.Uploads.{Upload}
 use Rattle.table_types.specs.Served.{in_frame}
 use Rattle.table_types.specs.Valid.{FitsFrame, batches_limit}
 use Rattle.table_types.specs.Ticket.{TableVersion, IsTicket}
-use Rattle.upload_writing.specs.Making.{IsSmall}
-use Rattle.call_words.specs.declared.back_fault.BackFault.TheVariants as backs
-use Rattle.call_words.specs.declared.method.Method.{Method}
-use Rattle.call_words.specs.declared.method.Method.TheVariants as methods
-use Rattle.call_words.specs.declared.refusal.Refusal.{Refusal}
-use Rattle.call_words.specs.declared.refusal.Refusal.TheVariants as refusals
-use Rattle.call_words.specs.Methods.{path_text, PathFault}
-use Rattle.call_words.specs.Names.{Descriptor, TableFault, UploadNameFault}
-use Rattle.call_words.specs.Texts.{messages_text, end_text}
+use Rattle.uploads.specs.Making.{IsSmall}
+use Rattle.call_protocol.specs.declared.back_fault.BackFault.TheVariants as backs
+use Rattle.call_protocol.specs.declared.method.Method.{Method}
+use Rattle.call_protocol.specs.declared.method.Method.TheVariants as methods
+use Rattle.call_protocol.specs.declared.refusal.CallRefusal.{CallRefusal}
+use Rattle.call_protocol.specs.declared.refusal.CallRefusal.TheVariants as refusals
+use Rattle.call_protocol.specs.Methods.{path_text, PathFault}
+use Rattle.call_protocol.specs.Names.{Descriptor, TableFault, UploadNameFault}
+use Rattle.call_protocol.specs.Texts.{messages_text, end_text}
 use Rattle.call_reading.specs.Requests.{Data, header_in, body_in, IsBlank, AsksForTable, AsksForAll, AsksForVersion, Brings, messages_limit}
 
 -- ---- one message
 
 -- It is no message of this type; of memory only where no fault stands in it.
-pub record IsNoMessage (type : MessageType) (message : List ℕ) (refusal : Refusal) : Type 0 where
+pub record IsNoMessage (type : MessageType) (message : List ℕ) (refusal : CallRefusal) : Type 0 where
   pub fault : WireFault
   pub is : refusal ≡ refusals.Wire fault
   pub stands : IsMessageFault type message fault
   pub memory : fault ≡ wires.OutOfMemory → IsFaultless type message
 
 -- it is none, or what it means is at fault
-abbrev pub MeansAtFault : (type : MessageType) → (Values type → Refusal → Type 0) → List ℕ → Refusal → Type 0
+abbrev pub MeansAtFault : (type : MessageType) → (Values type → CallRefusal → Type 0) → List ℕ → CallRefusal → Type 0
 MeansAtFault type IsAtFault message refusal =
     IsNoMessage type message refusal ⊎ ((values : Values type) × IsMessage type message values × IsAtFault values refusal)
 
-abbrev pub CriteriaFault : Values criteria_descriptor → Refusal → Type 0
+abbrev pub CriteriaFault : Values criteria_descriptor → CallRefusal → Type 0
 CriteriaFault values refusal = (values.0 ≢ []) × (refusal ≡ refusals.Criteria)
 
 -- no ticket
-abbrev pub TicketFault : Values ticket_descriptor → Refusal → Type 0
+abbrev pub TicketFault : Values ticket_descriptor → CallRefusal → Type 0
 TicketFault values refusal = ((asked : TableVersion) → ¬ IsTicket values.0 asked) × (refusal ≡ refusals.BadTicket)
 
 -- the header can't be read: a fault stands in it, or it shows one and memory was refused
-pub record IsNoHeader (header : List ℕ) (refusal : Refusal) : Type 0 where
+pub record IsNoHeader (header : List ℕ) (refusal : CallRefusal) : Type 0 where
   pub fault : MetaFault
   pub is : refusal ≡ refusals.Meta fault
   pub stands : HeaderFault header fault ⊎ ((fault ≡ metas.OutOfMemory) × ((shown : Header) × ShowsHeader header shown))
 
-abbrev pub SchemaFault : List ℕ → Refusal → Type 0
+abbrev pub SchemaFault : List ℕ → CallRefusal → Type 0
 SchemaFault header refusal =
     ((refusal ≡ refusals.NoSchema) × ((header ≡ []) ⊎ ((head : Head) × ShowsHeader header (batch_header head))))
     ⊎ ((header ≢ []) × IsNoHeader header refusal)
 
 -- the first message of an upload: its descriptor, and its schema
-abbrev pub OpeningFault : Data → Refusal → Type 0
+abbrev pub OpeningFault : Data → CallRefusal → Type 0
 OpeningFault values refusal =
     ((values.0 ≡ None) × (refusal ≡ refusals.BadDescriptor))
     ⊎ ((descriptor : Descriptor) × (values.0 ≡ Some descriptor) × UploadNameFault descriptor refusal)
     ⊎ SchemaFault (header_in values) refusal
 
 -- a header of a batch, and a body that it does not lay out as one; or one batch more than an upload may have
-abbrev pub BatchFaultIn : SchemaTree → ℕ → List ℕ → List ℕ → Refusal → Type 0
+abbrev pub BatchFaultIn : SchemaTree → ℕ → List ℕ → List ℕ → CallRefusal → Type 0
 BatchFaultIn schema count header body refusal =
     (head : Head) × ShowsHeader header (batch_header head)
     × (((fault : BatchFault) × IsToldOf schema head body fault × (refusal ≡ refusals.Batch fault))
     ⊎ ((count ≡ batches_limit) × (refusal ≡ refusals.TooManyBatches)))
 
 -- a header that is none of a batch
-abbrev pub HeadFault : List ℕ → Refusal → Type 0
+abbrev pub HeadFault : List ℕ → CallRefusal → Type 0
 HeadFault header refusal =
     IsNoHeader header refusal
     ⊎ (((other : SchemaTree) × ShowsHeader header (schema_header other)) × (refusal ≡ refusals.SecondSchema))
 
 -- a message behind the first, where there are so many batches
-abbrev pub FurtherFault : SchemaTree → ℕ → Data → Refusal → Type 0
+abbrev pub FurtherFault : SchemaTree → ℕ → Data → CallRefusal → Type 0
 FurtherFault schema count values refusal =
     (¬ IsBlank (header_in values) (body_in values))
     × (HeadFault (header_in values) refusal ⊎ BatchFaultIn schema count (header_in values) (body_in values) refusal)
@@ -94,18 +94,18 @@ FurtherFault schema count values refusal =
 -- ---- the next message, behind those that came
 
 -- a method that asks for one message, which is at fault, or is one too many
-abbrev pub OneFault : (List ℕ → Refusal → Type 0) → List (List ℕ) → List ℕ → Refusal → Type 0
+abbrev pub OneFault : (List ℕ → CallRefusal → Type 0) → List (List ℕ) → List ℕ → CallRefusal → Type 0
 OneFault IsAtFault [] message refusal = IsAtFault message refusal
 OneFault IsAtFault (first ∷ others) message refusal = refusal ≡ refusals.MessageCount
 
-abbrev pub UploadFault : List (List ℕ) → List ℕ → Refusal → Type 0
+abbrev pub UploadFault : List (List ℕ) → List ℕ → CallRefusal → Type 0
 UploadFault [] message refusal = MeansAtFault data_descriptor OpeningFault message refusal
 UploadFault (first ∷ others) message refusal =
     ((length (first ∷ others) ≡ messages_limit) × (refusal ≡ refusals.MessageCount))
     ⊎ ((upload : Upload) × Brings (first ∷ others) upload
     × MeansAtFault data_descriptor (FurtherFault upload.schema (length upload.batches)) message refusal)
 
-abbrev pub MessageFault : Method → List (List ℕ) → List ℕ → Refusal → Type 0
+abbrev pub MessageFault : Method → List (List ℕ) → List ℕ → CallRefusal → Type 0
 MessageFault methods.GetFlightInfo before message refusal =
     OneFault (MeansAtFault flight_descriptor_descriptor TableFault) before message refusal
 MessageFault methods.GetSchema before message refusal =
@@ -118,15 +118,15 @@ MessageFault methods.DoPut before message refusal = UploadFault before message r
 -- ---- the end, behind the messages that came
 
 -- no message where one is asked for
-abbrev pub EndsEarly : List (List ℕ) → Refusal → Type 0
+abbrev pub EndsEarly : List (List ℕ) → CallRefusal → Type 0
 EndsEarly messages refusal = (messages ≡ []) × (refusal ≡ refusals.MessageCount)
 
-abbrev pub UploadEndFault : List (List ℕ) → Refusal → Type 0
+abbrev pub UploadEndFault : List (List ℕ) → CallRefusal → Type 0
 UploadEndFault messages refusal =
     ((messages ≡ []) × (refusal ≡ refusals.NoSchema))
     ⊎ ((upload : Upload) × Brings messages upload × (¬ IsSmall upload) × (refusal ≡ refusals.TooLarge))
 
-abbrev pub EndFault : Method → List (List ℕ) → Refusal → Type 0
+abbrev pub EndFault : Method → List (List ℕ) → CallRefusal → Type 0
 EndFault methods.GetFlightInfo messages refusal = EndsEarly messages refusal
 EndFault methods.GetSchema messages refusal = EndsEarly messages refusal
 EndFault methods.ListFlights messages refusal = EndsEarly messages refusal
@@ -166,7 +166,7 @@ IsFaultlessEnd methods.DoGet messages = messages ≢ []
 IsFaultlessEnd methods.DoPut messages = (upload : Upload) × Brings messages upload × IsSmall upload
 
 -- no frame can be read here; or the text ends; or an end has a payload
-abbrev pub FrameBreaks : List ℕ → List ℕ → Refusal → Type 0
+abbrev pub FrameBreaks : List ℕ → List ℕ → CallRefusal → Type 0
 FrameBreaks here after refusal =
     ((fault : FrameFault) × FrameFaultStands fault here × LeavesAfter fault here after × (refusal ≡ refusals.Frame fault))
     ⊎ ((here ≡ []) × (after ≡ []) × (refusal ≡ refusals.NoEnd))
@@ -174,13 +174,13 @@ FrameBreaks here after refusal =
     × (refusal ≡ refusals.EndPayload))
 
 -- the first frame has no path of a method
-abbrev pub PathBreaks : List ℕ → List ℕ → Refusal → Type 0
+abbrev pub PathBreaks : List ℕ → List ℕ → CallRefusal → Type 0
 PathBreaks text after refusal =
     ((text ≡ end_text ++ after) × (refusal ≡ refusals.BadPath))
     ⊎ ((path : List ℕ) × (text ≡ in_frame path ++ after) × FitsFrame path × PathFault path refusal)
 
 -- a message is at fault; or the messages are, once their end has come; or memory was refused, and neither is
-abbrev pub MessageBreaks : Method → List (List ℕ) → List ℕ → List ℕ → Refusal → Type 0
+abbrev pub MessageBreaks : Method → List (List ℕ) → List ℕ → List ℕ → CallRefusal → Type 0
 MessageBreaks method before here after refusal =
     ((message : List ℕ) × (here ≡ in_frame message ++ after) × FitsFrame message
     × (MessageFault method before message refusal
@@ -189,7 +189,7 @@ MessageBreaks method before here after refusal =
     × (EndFault method before refusal ⊎ (IsFaultlessEnd method before × (refusal ≡ refusals.OutOfMemory))))
 
 -- behind messages without fault, one stands
-pub record BreaksMessages (method : Method) (here after : List ℕ) (refusal : Refusal) : Type 0 where
+pub record BreaksMessages (method : Method) (here after : List ℕ) (refusal : CallRefusal) : Type 0 where
   pub before : List (List ℕ)
   pub place : List ℕ
   pub parts : here ≡ messages_text before ++ place
@@ -199,7 +199,7 @@ pub record BreaksMessages (method : Method) (here after : List ℕ) (refusal : R
 
 -- The first fault of a text is this one, and this is left of the text behind it: the path is at fault, or what stands behind
 -- the path of a method.
-abbrev pub RefusalStands : Refusal → List ℕ → List ℕ → Type 0
+abbrev pub RefusalStands : CallRefusal → List ℕ → List ℕ → Type 0
 RefusalStands refusal text after =
     FrameBreaks text after refusal
     ⊎ PathBreaks text after refusal
@@ -208,7 +208,7 @@ RefusalStands refusal text after =
 -- ---- what the text is not to blame for
 
 -- memory was refused
-abbrev pub IsOfMemory : Refusal → Type 0
+abbrev pub IsOfMemory : CallRefusal → Type 0
 IsOfMemory (refusals.Frame fault) = fault ≡ frames.OutOfMemory
 IsOfMemory (refusals.Wire fault) = fault ≡ wires.OutOfMemory
 IsOfMemory (refusals.Meta fault) = fault ≡ metas.OutOfMemory
@@ -233,5 +233,5 @@ IsOfMemory refusals.Conflict = ⊥
 IsOfMemory refusals.Undecided = ⊥
 
 -- memory was refused, or a read failed
-abbrev pub IsOfTheMachine : Refusal → Type 0
+abbrev pub IsOfTheMachine : CallRefusal → Type 0
 IsOfTheMachine refusal = IsOfMemory refusal ⊎ (refusal ≡ refusals.Frame frames.Io)

@@ -11,11 +11,11 @@ use Rattle.batch_types.specs.LaysOut.{LaysOut}
 use Rattle.table_types.specs.Uploads.{Upload, upload_text}
 use Rattle.table_types.specs.Valid.{FitsFrame, IsUpload}
 use Rattle.table_types.specs.Ticket.{TableVersion, IsTicket}
-use Rattle.call_words.specs.declared.method.Method.{Method}
-use Rattle.call_words.specs.declared.method.Method.TheVariants as methods
-use Rattle.call_words.specs.Methods.{path_text}
-use Rattle.call_words.specs.Names.{Descriptor, NamesTable, NamesUpload}
-use Rattle.call_words.specs.Texts.{call_text}
+use Rattle.call_protocol.specs.declared.method.Method.{Method}
+use Rattle.call_protocol.specs.declared.method.Method.TheVariants as methods
+use Rattle.call_protocol.specs.Methods.{path_text}
+use Rattle.call_protocol.specs.Names.{Descriptor, NamesTable, NamesUpload}
+use Rattle.call_protocol.specs.Texts.{call_text}
 
 -- ---- what is asked
 

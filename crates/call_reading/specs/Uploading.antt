@@ -6,10 +6,10 @@ use Rattle.proto_wire.specs.Flight.{data_descriptor}
 use Rattle.table_types.specs.Served.{in_frame}
 use Rattle.table_types.specs.Uploads.{Upload}
 use Rattle.table_types.specs.Valid.{FitsFrame}
-use Rattle.call_words.specs.declared.method.Method.TheVariants as methods
-use Rattle.call_words.specs.declared.refusal.Refusal.{Refusal}
-use Rattle.call_words.specs.declared.refusal.Refusal.TheVariants as refusals
-use Rattle.call_words.specs.Texts.{messages_text, end_text}
+use Rattle.call_protocol.specs.declared.method.Method.TheVariants as methods
+use Rattle.call_protocol.specs.declared.refusal.CallRefusal.{CallRefusal}
+use Rattle.call_protocol.specs.declared.refusal.CallRefusal.TheVariants as refusals
+use Rattle.call_protocol.specs.Texts.{messages_text, end_text}
 use Rattle.call_reading.specs.declared.upload_builder.UploadBuilder.{UploadBuilder}
 use Rattle.call_reading.specs.Requests.{puts, Brings}
 use Rattle.call_reading.specs.Faults.{MeansAtFault, OpeningFault, FurtherFault, FrameBreaks, BreaksMessages}
@@ -17,7 +17,7 @@ use Rattle.call_reading.specs.Builder.{Holds, IsOpened, OpensSome, AddsWithin, G
 use Rattle.call_reading.specs.Reading.{AsksFor}
 
 -- the first message, or why there is no such
-abbrev pub ReadsOpening : Result UploadBuilder Refusal → List ℕ → List ℕ → Type 0
+abbrev pub ReadsOpening : Result UploadBuilder CallRefusal → List ℕ → List ℕ → Type 0
 ReadsOpening (Ok i) here after =
     (message : List ℕ) × (here ≡ in_frame message ++ after) × FitsFrame message × IsOpened message i
 ReadsOpening (Err refusal) here after =
@@ -27,7 +27,7 @@ ReadsOpening (Err refusal) here after =
     × (MeansAtFault data_descriptor OpeningFault message refusal ⊎ (OpensSome message × (refusal ≡ refusals.OutOfMemory))))
 
 -- a further message, or the end, or why neither
-abbrev pub ReadsFurther : ℕ → UploadBuilder → UploadBuilder → Result Bool Refusal → List ℕ → List ℕ → Type 0
+abbrev pub ReadsFurther : ℕ → UploadBuilder → UploadBuilder → Result Bool CallRefusal → List ℕ → List ℕ → Type 0
 ReadsFurther left old new (Ok true) here after =
     (message : List ℕ) × (here ≡ in_frame message ++ after) × FitsFrame message × Grows message old new × (1 ≤ left)
 ReadsFurther left old new (Ok false) here after = (here ≡ end_text ++ after) × (new ≡ old)
@@ -49,6 +49,6 @@ pub record HasTaken (count : ℕ) (i : UploadBuilder) (here now : List ℕ) : Ty
   pub holds : Holds i upload
 
 -- the whole of it
-abbrev pub ReadsUpload : Result (List ℕ) Refusal → List ℕ → List ℕ → Type 0
+abbrev pub ReadsUpload : Result (List ℕ) CallRefusal → List ℕ → List ℕ → Type 0
 ReadsUpload (Ok text) here after = AsksFor (puts text) here after
 ReadsUpload (Err refusal) here after = BreaksMessages methods.DoPut here after refusal

@@ -1,14 +1,14 @@
 //! Laws of what a text asks for as a call.
 
 ghost use Rattle.std.specs.Prelude.{◌≡◌, ◌++◌, ◌∷◌, [], ℕ, List};
-ghost use Rattle.call_words.specs.Texts.{end_text};
-ghost use Rattle.call_words.specs.declared.method.Method.{Method as MethodModel};
-ghost use Rattle.call_words.specs.declared.refusal.Refusal.{Refusal as Refused};
+ghost use Rattle.call_protocol.specs.Texts.{end_text};
+ghost use Rattle.call_protocol.specs.declared.method.Method.{Method as MethodModel};
+ghost use Rattle.call_protocol.specs.declared.refusal.CallRefusal.{CallRefusal as Refused};
 ghost use Rattle.call_reading.specs.Requests.{Request, IsCall};
 ghost use Rattle.call_reading.specs.Faults.{MessageFault, EndFault, IsFaultlessSoFar, IsFaultlessEnd, RefusalStands, IsOfMemory, IsOfTheMachine};
 
 use batch_types::laws::batches_are_one;
-use call_words::laws::{descriptors_name_one, paths_are_one};
+use call_protocol::laws::{descriptors_name_one, paths_are_one};
 use grpc_frames::laws::no_frame_begins_another;
 use header_types::laws::headers_are_one;
 use proto_messages::laws::messages_are_one;

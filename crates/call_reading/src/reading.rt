@@ -1,7 +1,7 @@
 //! A call, read from its path to its end.
 
 ghost use Rattle.std.specs.Prelude.{◌≡◌};
-ghost use Rattle.call_words.specs.declared.method.Method.TheVariants.{GetFlightInfo, GetSchema, ListFlights, DoGet, DoPut};
+ghost use Rattle.call_protocol.specs.declared.method.Method.TheVariants.{GetFlightInfo, GetSchema, ListFlights, DoGet, DoPut};
 ghost use Rattle.grpc_frames.specs.FrameFaults.{WhereKnown};
 ghost use Rattle.call_reading.specs.Reading.{ReadsMethod, ReadsMessages, ReadsCall};
 
@@ -9,22 +9,22 @@ use crate::frames::{CallPart, next_part};
 use crate::one::{read_criteria, read_table, read_ticket};
 use crate::request::FlightRequest;
 use crate::uploading::read_upload;
-use call_words::{Method, Refusal};
+use call_protocol::{CallRefusal, Method};
 use std::alloc::Global;
 use std::io::Read;
 
 /// The method of the path.
-fn read_method<R: Read>(alloc: Global, r: &mut R) -> Result<Method, Refusal>
+fn read_method<R: Read>(alloc: Global, r: &mut R) -> Result<Method, CallRefusal>
     ensures { WhereKnown (R.remaining r.old) (R.remaining r.new) (ReadsMethod result) }
 {
     match next_part(alloc, r)? {
         CallPart::Message(path) => Method::of_path(&path),
-        CallPart::End => Err(Refusal::BadPath),
+        CallPart::End => Err(CallRefusal::BadPath),
     }
 }
 
 /// Reads the messages of a call of `GetFlightInfo`.
-fn info_asked<R: Read>(alloc: Global, r: &mut R) -> Result<FlightRequest, Refusal>
+fn info_asked<R: Read>(alloc: Global, r: &mut R) -> Result<FlightRequest, CallRefusal>
     ensures { WhereKnown (R.remaining r.old) (R.remaining r.new) (ReadsMessages GetFlightInfo result) }
 {
     let table = read_table(alloc, r)?;
@@ -32,7 +32,7 @@ fn info_asked<R: Read>(alloc: Global, r: &mut R) -> Result<FlightRequest, Refusa
 }
 
 /// Reads the messages of a call of `GetSchema`.
-fn schema_asked<R: Read>(alloc: Global, r: &mut R) -> Result<FlightRequest, Refusal>
+fn schema_asked<R: Read>(alloc: Global, r: &mut R) -> Result<FlightRequest, CallRefusal>
     ensures { WhereKnown (R.remaining r.old) (R.remaining r.new) (ReadsMessages GetSchema result) }
 {
     let table = read_table(alloc, r)?;
@@ -40,7 +40,7 @@ fn schema_asked<R: Read>(alloc: Global, r: &mut R) -> Result<FlightRequest, Refu
 }
 
 /// Reads the messages of a call of `ListFlights`.
-fn list_asked<R: Read>(alloc: Global, r: &mut R) -> Result<FlightRequest, Refusal>
+fn list_asked<R: Read>(alloc: Global, r: &mut R) -> Result<FlightRequest, CallRefusal>
     ensures { WhereKnown (R.remaining r.old) (R.remaining r.new) (ReadsMessages ListFlights result) }
 {
     read_criteria(alloc, r)?;
@@ -48,7 +48,7 @@ fn list_asked<R: Read>(alloc: Global, r: &mut R) -> Result<FlightRequest, Refusa
 }
 
 /// Reads the messages of a call of `DoGet`.
-fn get_asked<R: Read>(alloc: Global, r: &mut R) -> Result<FlightRequest, Refusal>
+fn get_asked<R: Read>(alloc: Global, r: &mut R) -> Result<FlightRequest, CallRefusal>
     ensures { WhereKnown (R.remaining r.old) (R.remaining r.new) (ReadsMessages DoGet result) }
 {
     let ticket = read_ticket(alloc, r)?;
@@ -56,7 +56,7 @@ fn get_asked<R: Read>(alloc: Global, r: &mut R) -> Result<FlightRequest, Refusal
 }
 
 /// Reads the messages of a call of `DoPut`.
-fn put_asked<R: Read>(alloc: Global, r: &mut R) -> Result<FlightRequest, Refusal>
+fn put_asked<R: Read>(alloc: Global, r: &mut R) -> Result<FlightRequest, CallRefusal>
     ensures { WhereKnown (R.remaining r.old) (R.remaining r.new) (ReadsMessages DoPut result) }
 {
     let upload = read_upload(alloc, r)?;
@@ -68,7 +68,7 @@ fn read_messages<R: Read>(
     alloc: Global,
     r: &mut R,
     method: Method,
-) -> Result<FlightRequest, Refusal>
+) -> Result<FlightRequest, CallRefusal>
     ensures { WhereKnown (R.remaining r.old) (R.remaining r.new) (ReadsMessages method result) }
 {
     match method {
@@ -81,7 +81,7 @@ fn read_messages<R: Read>(
 }
 
 /// What a call asks for, read to its end, or the refusal that stands in it, read no further than that.
-pub fn read_call<R: Read>(alloc: Global, r: &mut R) -> Result<FlightRequest, Refusal>
+pub fn read_call<R: Read>(alloc: Global, r: &mut R) -> Result<FlightRequest, CallRefusal>
     ensures { WhereKnown (R.remaining r.old) (R.remaining r.new) (ReadsCall result) }
 {
     let method = read_method(alloc, r)?;

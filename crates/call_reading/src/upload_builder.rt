@@ -12,7 +12,7 @@ ghost use Rattle.proto_wire.specs.Flight.{data_descriptor};
 ghost use Rattle.flight_data.specs.Lent.{lent_values};
 ghost use Rattle.table_types.specs.Uploads.{Upload as Uploaded};
 ghost use Rattle.table_types.specs.Valid.{batches_limit, upload_limit};
-ghost use Rattle.call_words.specs.declared.refusal.Refusal.TheVariants.{OutOfMemory};
+ghost use Rattle.call_protocol.specs.declared.refusal.CallRefusal.TheVariants.{OutOfMemory};
 ghost use Rattle.call_reading.specs.Requests.{IsBlank};
 ghost use Rattle.call_reading.specs.Faults.{IsNoMessage, IsNoHeader, MeansAtFault, OpeningFault, SchemaFault, HeadFault, BatchFaultIn, FurtherFault};
 ghost use Rattle.call_reading.specs.Builder.{IsOnItsWay, Holds, HoldsMore, IsOpened, OpensSome, AddsWithin, SizeWith, IsCounted, Grows, Finishes, LayFault};
@@ -21,7 +21,7 @@ ghost use Rattle.call_reading.specs.Additions.{IsBuilt, IsLeftOut, HasAddition, 
 use batch_checking::check_batch;
 use batch_columns::Batch;
 use batch_types::BatchFault;
-use call_words::{Refusal, upload_in};
+use call_protocol::{CallRefusal, upload_in};
 use flight_data::LentFlightData;
 use grpc_frames::MAX_FRAME_PAYLOAD;
 use header_reading::read_message;
@@ -29,8 +29,7 @@ use header_types::laws::shown_schemas_are_in_profile;
 use header_types::{BatchHead, Header, Schema};
 use record_batches::read_batch_within;
 use std::alloc::{AllocError, Global};
-use upload_writing::batch_size;
-use uploads::{MAX_UPLOAD_BATCHES, MAX_UPLOAD_BYTES, Upload, UploadFault};
+use uploads::{MAX_UPLOAD_BATCHES, MAX_UPLOAD_BYTES, Upload, UploadFault, batch_size};
 
 /// The most bytes that batches have in the encoding of an upload.
 const SIZE_LIMIT: u64 = MAX_UPLOAD_BYTES as u64;
@@ -64,49 +63,49 @@ enum Addition {
 }
 
 /// What a message means, of which the bytes stay where they came.
-fn data_in(alloc: Global, message: &[u8]) -> Result<LentFlightData<'_>, Refusal>
+fn data_in(alloc: Global, message: &[u8]) -> Result<LentFlightData<'_>, CallRefusal>
     ensures read { IfOk result (λ read. IsMessage data_descriptor message.now (lent_values read)) }
     ensures fault { IfErr result (IsNoMessage data_descriptor message.now) }
 {
     match LentFlightData::read(alloc, message) {
         Ok(read) => Ok(read),
-        Err(fault) => Err(Refusal::Wire(fault)),
+        Err(fault) => Err(CallRefusal::Wire(fault)),
     }
 }
 
 /// What a header shows.
-fn shown(alloc: Global, header: &[u8]) -> Result<Header, Refusal>
+fn shown(alloc: Global, header: &[u8]) -> Result<Header, CallRefusal>
     ensures shown { IfOk result (λ shown. ShowsHeader header.now (header_of shown)) }
     ensures fault { IfErr result (IsNoHeader header.now) }
 {
     match read_message(alloc, header) {
         Ok(shown) => Ok(shown),
-        Err(fault) => Err(Refusal::Meta(fault)),
+        Err(fault) => Err(CallRefusal::Meta(fault)),
     }
 }
 
 /// The schema that a header shows.
-fn schema_in(alloc: Global, header: &[u8]) -> Result<Schema, Refusal>
+fn schema_in(alloc: Global, header: &[u8]) -> Result<Schema, CallRefusal>
     ensures shown { IfOk result (λ schema. ShowsHeader header.now (schema_header (schema_of schema))) }
     ensures fault { IfErr result (SchemaFault header.now) }
 {
     if header.is_empty() {
-        return Err(Refusal::NoSchema);
+        return Err(CallRefusal::NoSchema);
     }
     match shown(alloc, header)? {
         Header::Schema(schema) => Ok(schema),
-        Header::Batch(_) => Err(Refusal::NoSchema),
+        Header::Batch(_) => Err(CallRefusal::NoSchema),
     }
 }
 
 /// The head of a batch that a header shows.
-fn head_in(alloc: Global, header: &[u8]) -> Result<BatchHead, Refusal>
+fn head_in(alloc: Global, header: &[u8]) -> Result<BatchHead, CallRefusal>
     ensures shown { IfOk result (λ head. ShowsHeader header.now (batch_header (head_of head))) }
     ensures fault { IfErr result (HeadFault header.now) }
 {
     match shown(alloc, header)? {
         Header::Batch(head) => Ok(head),
-        Header::Schema(_) => Err(Refusal::SecondSchema),
+        Header::Schema(_) => Err(CallRefusal::SecondSchema),
     }
 }
 
@@ -141,7 +140,7 @@ fn laid_batch(
     wanted: bool,
     head: &BatchHead,
     body: &[u8],
-) -> Result<Option<Batch>, Refusal>
+) -> Result<Option<Batch>, CallRefusal>
     requires profile { InProfile (schema_of schema.now) }
     requires few { count ≤ batches_limit }
     ensures built { IfOk result (λ read. IfSome read
@@ -152,11 +151,11 @@ fn laid_batch(
     ensures fault { IfErr result (LayFault (schema_of schema.now) count (head_of head.now) body.now) }
 {
     if count == MAX_UPLOAD_BATCHES {
-        return Err(Refusal::TooManyBatches);
+        return Err(CallRefusal::TooManyBatches);
     }
     match wanted_batch(alloc, schema, wanted, head, body) {
         Ok(batch) => Ok(batch),
-        Err(fault) => Err(Refusal::Batch(fault)),
+        Err(fault) => Err(CallRefusal::Batch(fault)),
     }
 }
 
@@ -168,7 +167,7 @@ fn batch_in(
     wanted: bool,
     header: &[u8],
     body: &[u8],
-) -> Result<Addition, Refusal>
+) -> Result<Addition, CallRefusal>
     requires profile { InProfile (schema_of schema.now) }
     requires few { count ≤ batches_limit }
     ensures batch { IfOk result (HasAddition (schema_of schema.now) wanted header.now body.now) }
@@ -197,7 +196,7 @@ fn addition_of(
     count: usize,
     wanted: bool,
     message: &[u8],
-) -> Result<Addition, Refusal>
+) -> Result<Addition, CallRefusal>
     requires profile { InProfile (schema_of schema.now) }
     requires few { count ≤ batches_limit }
     ensures added { IfOk result (AddsAs (schema_of schema.now) wanted message.now) }
@@ -215,7 +214,7 @@ fn addition_of(
 
 impl UploadBuilder {
     /// The upload that a first message opens.
-    pub(crate) fn open(alloc: Global, message: &[u8]) -> Result<UploadBuilder, Refusal>
+    pub(crate) fn open(alloc: Global, message: &[u8]) -> Result<UploadBuilder, CallRefusal>
         ensures opened { IfOk result (IsOpened message.now) }
         ensures on_its_way { IfOk result IsOnItsWay }
         ensures fault { IfErr result (λ refusal.
@@ -225,7 +224,7 @@ impl UploadBuilder {
         shown_schemas_are_in_profile();
         let data = data_in(alloc, message)?;
         let Some(descriptor) = &data.flight_descriptor else {
-            return Err(Refusal::BadDescriptor);
+            return Err(CallRefusal::BadDescriptor);
         };
         let (table, id) = upload_in(descriptor)?;
         let schema = schema_in(alloc, data.data_header)?;
@@ -241,7 +240,7 @@ impl UploadBuilder {
     }
 
     /// Takes what a further message adds.
-    pub(crate) fn take(&mut self, alloc: Global, message: &[u8]) -> Result<(), Refusal>
+    pub(crate) fn take(&mut self, alloc: Global, message: &[u8]) -> Result<(), CallRefusal>
         requires { IsOnItsWay self.old }
         ensures grows { OnOk result (Grows message.now self.old self.new) }
         ensures on_its_way { IsOnItsWay self.new }
@@ -306,7 +305,7 @@ impl UploadBuilder {
     }
 
     /// Takes a batch.
-    fn add(&mut self, batch: Batch) -> Result<(), Refusal>
+    fn add(&mut self, batch: Batch) -> Result<(), CallRefusal>
         requires on_its_way { IsOnItsWay self.old }
         requires small { self.old.size ≤ upload_limit }
         requires of_schema { IsBatchOf (schema_of self.old.schema) batch }
@@ -325,17 +324,17 @@ impl UploadBuilder {
     }
 
     /// The upload, whose end has come.
-    pub(crate) fn finish(&self, alloc: Global) -> Result<Upload, Refusal>
+    pub(crate) fn finish(&self, alloc: Global) -> Result<Upload, CallRefusal>
         requires { IsOnItsWay self.now }
         ensures { (upload : Uploaded) → Holds self.now upload → Finishes upload result }
     {
         if self.size > SIZE_LIMIT {
-            return Err(Refusal::TooLarge);
+            return Err(CallRefusal::TooLarge);
         }
         match Upload::new(alloc, &self.table, self.id, &self.schema, &self.batches) {
             Ok(upload) => Ok(upload),
-            Err(UploadFault::TooLarge) => Err(Refusal::TooLarge),
-            Err(UploadFault::OutOfMemory) => Err(Refusal::OutOfMemory),
+            Err(UploadFault::TooLarge) => Err(CallRefusal::TooLarge),
+            Err(UploadFault::OutOfMemory) => Err(CallRefusal::OutOfMemory),
             Err(UploadFault::BadTable | UploadFault::TooManyBatches | UploadFault::ShapeDiffers) =>
                 { unreachable!() }
         }

@@ -2,13 +2,13 @@
 
 ghost use Rattle.std.specs.Prelude.{◌≡◌, ◌≤◌, ◌⊎◌, true, IfOk, Ok};
 ghost use Rattle.grpc_frames.specs.FrameFaults.{WhereKnown};
-ghost use Rattle.call_words.specs.declared.refusal.Refusal.TheVariants.{MessageCount};
+ghost use Rattle.call_protocol.specs.declared.refusal.CallRefusal.TheVariants.{MessageCount};
 ghost use Rattle.call_reading.specs.Builder.{IsOnItsWay};
 ghost use Rattle.call_reading.specs.Uploading.{ReadsOpening, ReadsFurther, ReadsUpload};
 
 use crate::frames::{CallPart, next_part};
 use crate::upload_builder::UploadBuilder;
-use call_words::Refusal;
+use call_protocol::CallRefusal;
 use std::alloc::Global;
 use std::io::Read;
 use uploads::Upload;
@@ -17,13 +17,13 @@ use uploads::Upload;
 pub const MAX_MESSAGES: u32 = 65_535;
 
 /// Reads the first message of an upload.
-fn open<R: Read>(alloc: Global, r: &mut R) -> Result<UploadBuilder, Refusal>
+fn open<R: Read>(alloc: Global, r: &mut R) -> Result<UploadBuilder, CallRefusal>
     ensures on_its_way { IfOk result IsOnItsWay }
     ensures read { WhereKnown (R.remaining r.old) (R.remaining r.new) (ReadsOpening result) }
 {
     match next_part(alloc, r)? {
         CallPart::Message(message) => UploadBuilder::open(alloc, &message),
-        CallPart::End => Err(Refusal::NoSchema),
+        CallPart::End => Err(CallRefusal::NoSchema),
     }
 }
 
@@ -33,7 +33,7 @@ fn take_next<R: Read>(
     r: &mut R,
     incoming: &mut UploadBuilder,
     left: u32,
-) -> Result<bool, Refusal>
+) -> Result<bool, CallRefusal>
     requires { IsOnItsWay incoming.old }
     ensures on_its_way { IsOnItsWay incoming.new }
     ensures room { result ≡ Ok true → 1 ≤ left }
@@ -43,7 +43,7 @@ fn take_next<R: Read>(
     match next_part(alloc, r)? {
         CallPart::Message(message) => {
             if left == 0 {
-                return Err(Refusal::MessageCount);
+                return Err(CallRefusal::MessageCount);
             }
             incoming.take(alloc, &message)?;
             Ok(true)
@@ -53,7 +53,7 @@ fn take_next<R: Read>(
 }
 
 /// Reads the messages of an upload, and the end behind them.
-pub(crate) fn read_upload<R: Read>(alloc: Global, r: &mut R) -> Result<Upload, Refusal>
+pub(crate) fn read_upload<R: Read>(alloc: Global, r: &mut R) -> Result<Upload, CallRefusal>
     ensures { WhereKnown (R.remaining r.old) (R.remaining r.new) (ReadsUpload result) }
 {
     let mut incoming = open(alloc, r)?;

@@ -6,7 +6,7 @@ use std::alloc::{AllocError, Global};
 use std::hash::RandomState;
 use std::io;
 use std::random::RandomSource;
-use story_requests::{Answer, Answers, RequestFault, Words};
+use story_requests::{Answers, RequestFault, Response, Words};
 use table_backend::TableBackend;
 use uploads::Upload;
 
@@ -53,7 +53,7 @@ fn served(
     }
 }
 
-fn tell_names(handed: &[Upload], answer: &mut Answer) -> Result<(), RequestFault> {
+fn tell_names(handed: &[Upload], answer: &mut Response) -> Result<(), RequestFault> {
     for upload in handed {
         answer.bytes(&upload.id())?;
     }
@@ -64,7 +64,7 @@ fn call(
     alloc: Global,
     backend: &mut TableBackend,
     words: &mut Words<'_>,
-    answer: &mut Answer,
+    answer: &mut Response,
 ) -> Result<(), RequestFault> {
     let input = input_of(alloc, words)?;
     let before = backend.handed().len();
@@ -106,7 +106,7 @@ impl Answers for Story {
         alloc: Global,
         asked: &str,
         words: &mut Words<'_>,
-        answer: &mut Answer,
+        answer: &mut Response,
     ) -> Result<(), RequestFault> {
         match asked {
             "new" => self.begin(alloc, words),

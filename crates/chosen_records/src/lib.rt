@@ -12,8 +12,6 @@ mod fault;
 pub mod laws;
 mod tally;
 mod telling;
-#[cfg(test)]
-mod tests;
 
 pub use chosen::chosen_again;
 pub use fault::ChosenFault;

@@ -5,8 +5,8 @@ use Rattle.std.specs.List.{AllByRecursion}
 use Rattle.grpc_frames.specs.Frame.{frame_text}
 use Rattle.grpc_frames.specs.FrameLaws.{NoFrameBeginsAnother}
 use Rattle.table_types.specs.Valid.{FitsFrame}
-use Rattle.call_words.specs.Statuses.{ok_trailer}
-use Rattle.call_words.specs.Texts.{messages_text}
+use Rattle.call_protocol.specs.Statuses.{ok_trailer}
+use Rattle.call_protocol.specs.Texts.{messages_text}
 use Rattle.client_calls.specs.Answers.{IsAnswer, IsRefused}
 use Rattle.client_calls.proofs.Came.{trailer_frame, is_trailer_frame, goes_on, end_alone}
 

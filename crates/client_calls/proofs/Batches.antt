@@ -7,10 +7,10 @@ use Rattle.batch_types.specs.Cells.{Rows}
 use Rattle.table_types.specs.Served.{in_frame, data_text}
 use Rattle.table_types.specs.Uploads.{Upload, upload_text}
 use Rattle.table_types.specs.Valid.{IsUpload}
-use Rattle.upload_parts.specs.Parts.{batch_parts, batches_parts, batch_text, batches_text, served_of, HasLeft, Gives}
-use Rattle.upload_parts.proofs.CallerLemmas.{more_long, some_bytes}
-use Rattle.call_words.specs.declared.call_fault.CallFault.{CallFault}
-use Rattle.call_words.specs.Texts.{messages_text}
+use Rattle.uploads.specs.Parts.{batch_parts, batches_parts, batch_text, batches_text, served_of, HasLeft, Gives}
+use Rattle.uploads.proofs.CallerLemmas.{more_long, some_bytes}
+use Rattle.call_protocol.specs.declared.call_fault.CallFault.{CallFault}
+use Rattle.call_protocol.specs.Texts.{messages_text}
 use Rattle.client_calls.specs.Requests.{further_message}
 use Rattle.client_calls.specs.Sending.{Sends}
 use Rattle.client_calls.proofs.Sent.{send_fails, send_follows}

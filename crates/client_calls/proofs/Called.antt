@@ -1,8 +1,8 @@
 -- A request and what came of it.
 use Rattle.std.proofs.Common.{◌≡◌, ℕ, List, [], ◌++◌, Option, Some, None, Result, Ok, Err, refl, append-nil}
 use Rattle.grpc_frames.specs.FrameFaults.{WhereKnown}
-use Rattle.call_words.specs.declared.call_fault.CallFault.{CallFault}
-use Rattle.call_words.specs.declared.call_fault.CallFault.TheVariants as calls
+use Rattle.call_protocol.specs.declared.call_fault.CallFault.{CallFault}
+use Rattle.call_protocol.specs.declared.call_fault.CallFault.TheVariants as calls
 use Rattle.client_calls.specs.declared.client_fault.ClientFault.{ClientFault}
 use Rattle.client_calls.specs.declared.client_fault.ClientFault.TheVariants as faults
 use Rattle.client_calls.specs.Answers.{Receives, Requests}

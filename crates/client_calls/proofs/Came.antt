@@ -9,9 +9,9 @@ use Rattle.grpc_frames.specs.FrameFaults.{WhereKnown}
 use Rattle.grpc_frames.specs.FrameLaws.{NoFrameBeginsAnother}
 use Rattle.table_types.specs.Served.{in_frame}
 use Rattle.table_types.specs.Valid.{FitsFrame}
-use Rattle.call_words.specs.Statuses.{trailer_text, ok_trailer}
-use Rattle.call_words.specs.Texts.{messages_text}
-use Rattle.call_words.specs.declared.call_fault.CallFault.TheVariants as calls
+use Rattle.call_protocol.specs.Statuses.{trailer_text, ok_trailer}
+use Rattle.call_protocol.specs.Texts.{messages_text}
+use Rattle.call_protocol.specs.declared.call_fault.CallFault.TheVariants as calls
 use Rattle.client_calls.specs.declared.client_fault.ClientFault.{ClientFault}
 use Rattle.client_calls.specs.declared.client_fault.ClientFault.TheVariants as faults
 use Rattle.client_calls.specs.declared.parts.AnswerPart.TheVariants as parts

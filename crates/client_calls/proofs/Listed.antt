@@ -11,7 +11,7 @@ use Rattle.proto_wire.specs.FlightValues.{info_values}
 use Rattle.proto_wire.specs.declared.flight.info.FlightInfo.{FlightInfo}
 use Rattle.grpc_frames.specs.FrameFaults.{WhereKnown}
 use Rattle.grpc_frames.specs.FrameLaws.{NoFrameBeginsAnother}
-use Rattle.call_words.specs.declared.call_fault.CallFault.TheVariants as calls
+use Rattle.call_protocol.specs.declared.call_fault.CallFault.TheVariants as calls
 use Rattle.client_calls.specs.declared.client_fault.ClientFault.{ClientFault}
 use Rattle.client_calls.specs.declared.client_fault.ClientFault.TheVariants as faults
 use Rattle.client_calls.specs.declared.parts.AnswerPart.TheVariants as parts

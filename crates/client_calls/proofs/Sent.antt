@@ -1,8 +1,8 @@
 -- Texts that were sent, one behind the other.
 use Rattle.std.proofs.Common.{◌≡◌, ℕ, List, [], ◌++◌, Option, Some, None, Result, Ok, Err, refl, sym, subst, ap, ◌∙◌, append_assoc, append-nil}
 use Rattle.grpc_frames.specs.FrameFaults.{WhereKnown}
-use Rattle.call_words.specs.declared.call_fault.CallFault.{CallFault}
-use Rattle.call_words.specs.declared.call_fault.CallFault.TheVariants as calls
+use Rattle.call_protocol.specs.declared.call_fault.CallFault.{CallFault}
+use Rattle.call_protocol.specs.declared.call_fault.CallFault.TheVariants as calls
 use Rattle.client_calls.specs.Sending.{Sends, SendsPart}
 
 -- a beginning of a text is one of a longer text

@@ -11,9 +11,9 @@ use Rattle.proto_fields.specs.Meaning.{number_meant, bytes_meant}
 use Rattle.proto_messages.specs.Descriptor.{Descriptor, NoMore, One, Values, IsMessage}
 use Rattle.proto_messages.specs.Canonical.{RisesFrom, Fits, canonical, canonical_fields}
 use Rattle.proto_wire.specs.Flight.{put_result_descriptor}
-use Rattle.upload_parts.proofs.CallerLemmas.{part, part_long, more_long, present_then}
+use Rattle.uploads.proofs.CallerLemmas.{part, part_long, more_long, present_then}
 use Rattle.table_types.specs.Valid.{FitsFrame}
-use Rattle.call_words.specs.Results.{applied_descriptor, applied_text, put_result}
+use Rattle.call_protocol.specs.Results.{applied_descriptor, applied_text, put_result}
 use Rattle.client_calls.specs.Parts.{IsResultOf, IsMetadataOf}
 
 -- what is written is read as what was written

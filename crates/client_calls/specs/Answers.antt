@@ -5,9 +5,9 @@ use Rattle.std.specs.Prelude.{◌≡◌, ◌≢◌, ◌<◌, ℕ, List, ◌∷�
 use Rattle.std.specs.List.{AllByRecursion}
 use Rattle.grpc_frames.specs.FrameFaults.{IsBeginning}
 use Rattle.table_types.specs.Valid.{FitsFrame}
-use Rattle.call_words.specs.Statuses.{trailer_text}
-use Rattle.call_words.specs.Texts.{messages_text, answer_text}
-use Rattle.call_words.specs.declared.call_fault.CallFault.TheVariants as calls
+use Rattle.call_protocol.specs.Statuses.{trailer_text}
+use Rattle.call_protocol.specs.Texts.{messages_text, answer_text}
+use Rattle.call_protocol.specs.declared.call_fault.CallFault.TheVariants as calls
 use Rattle.client_calls.specs.declared.client_fault.ClientFault.{ClientFault}
 use Rattle.client_calls.specs.declared.client_fault.ClientFault.TheVariants as faults
 

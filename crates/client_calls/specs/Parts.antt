@@ -7,10 +7,10 @@ use Rattle.proto_fields.specs.declared.fault.WireFault.{WireFault}
 use Rattle.proto_fields.specs.declared.fault.WireFault.TheVariants as wires
 use Rattle.table_types.specs.Served.{in_frame}
 use Rattle.table_types.specs.Valid.{FitsFrame}
-use Rattle.call_words.specs.Results.{applied_text, put_result}
-use Rattle.call_words.specs.Statuses.{trailer_text, ok_trailer}
-use Rattle.call_words.specs.Texts.{messages_text}
-use Rattle.call_words.specs.declared.call_fault.CallFault.TheVariants as calls
+use Rattle.call_protocol.specs.Results.{applied_text, put_result}
+use Rattle.call_protocol.specs.Statuses.{trailer_text, ok_trailer}
+use Rattle.call_protocol.specs.Texts.{messages_text}
+use Rattle.call_protocol.specs.declared.call_fault.CallFault.TheVariants as calls
 use Rattle.client_calls.specs.declared.client_fault.ClientFault.{ClientFault}
 use Rattle.client_calls.specs.declared.client_fault.ClientFault.TheVariants as faults
 use Rattle.client_calls.specs.declared.parts.AnswerPart.{AnswerPart}

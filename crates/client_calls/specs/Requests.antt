@@ -9,10 +9,10 @@ use Rattle.batch_types.specs.Canonical.{canonical_body}
 use Rattle.table_types.specs.Uploads.{Upload, schema_text, head_text}
 use Rattle.table_types.specs.Served.{data_text}
 use Rattle.table_types.specs.Ticket.{TableVersion, ticket_text}
-use Rattle.call_words.specs.declared.method.Method.TheVariants as methods
-use Rattle.call_words.specs.Methods.{path_text}
-use Rattle.call_words.specs.Names.{table_descriptor, upload_descriptor}
-use Rattle.call_words.specs.Texts.{call_text}
+use Rattle.call_protocol.specs.declared.method.Method.TheVariants as methods
+use Rattle.call_protocol.specs.Methods.{path_text}
+use Rattle.call_protocol.specs.Names.{table_descriptor, upload_descriptor}
+use Rattle.call_protocol.specs.Texts.{call_text}
 
 -- ---- what is told of a table
 

@@ -7,8 +7,8 @@ use Rattle.proto_wire.specs.Flight.{info_descriptor}
 use Rattle.proto_wire.specs.FlightValues.{info_values}
 use Rattle.proto_wire.specs.declared.flight.info.FlightInfo.{FlightInfo}
 use Rattle.table_types.specs.Tables.{Version}
-use Rattle.call_words.specs.Results.{put_result}
-use Rattle.call_words.specs.Texts.{messages_text}
+use Rattle.call_protocol.specs.Results.{put_result}
+use Rattle.call_protocol.specs.Texts.{messages_text}
 use Rattle.downloads.specs.declared.download.Download.{Download}
 use Rattle.downloads.specs.Downloads.{downloaded_of}
 use Rattle.downloads.specs.Taken.{downloaded_in}

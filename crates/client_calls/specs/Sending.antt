@@ -2,8 +2,8 @@
 use Rattle.std.specs.Prelude.{◌≡◌, ℕ, List, ◌++◌, Vec, Result, Ok, Err}
 use Rattle.std.specs.declared.alloc.Global.{Global}
 use Rattle.grpc_frames.specs.FrameFaults.{IsBeginning}
-use Rattle.call_words.specs.declared.call_fault.CallFault.{CallFault}
-use Rattle.call_words.specs.declared.call_fault.CallFault.TheVariants as calls
+use Rattle.call_protocol.specs.declared.call_fault.CallFault.{CallFault}
+use Rattle.call_protocol.specs.declared.call_fault.CallFault.TheVariants as calls
 
 -- a beginning of the text has gone out
 abbrev pub SendsPart : List ℕ → List ℕ → List ℕ → Type 0

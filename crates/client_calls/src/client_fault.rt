@@ -3,7 +3,7 @@
 ghost use Rattle.std.specs.Prelude.{◌≡◌};
 ghost use Rattle.client_calls.specs.Parts.{fault_of_wire};
 
-use call_words::CallFault;
+use call_protocol::CallFault;
 use proto_fields::WireFault;
 use std::alloc::AllocError;
 use thiserror::Error;
@@ -24,7 +24,7 @@ pub enum ClientFault {
 
 impl From<AllocError> for ClientFault {
     ghost use Rattle.std.specs.Prelude.{◌≡◌};
-    ghost use Rattle.call_words.specs.declared.call_fault.CallFault.TheVariants.{OutOfMemory};
+    ghost use Rattle.call_protocol.specs.declared.call_fault.CallFault.TheVariants.{OutOfMemory};
     ghost use Rattle.client_calls.specs.declared.client_fault.ClientFault.TheVariants.{Call};
 
     ghost from_gives = { λ _ fault. fault ≡ Call OutOfMemory };

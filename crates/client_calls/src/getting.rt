@@ -3,7 +3,7 @@
 ghost use Rattle.std.specs.Prelude.{◌≡◌, ◌++◌, ◌∷◌, [], ℕ, List, IfOk, IfErr};
 ghost use Rattle.grpc_frames.specs.FrameFaults.{WhereKnown};
 ghost use Rattle.table_types.specs.Valid.{FitsFrame};
-ghost use Rattle.call_words.specs.declared.call_fault.CallFault.TheVariants.{OutOfMemory};
+ghost use Rattle.call_protocol.specs.declared.call_fault.CallFault.TheVariants.{OutOfMemory};
 ghost use Rattle.downloads.specs.Taken.{GivesDownload, HasDownload, HasTaken, IsReady};
 ghost use Rattle.client_calls.specs.declared.client_fault.ClientFault.TheVariants.{Call};
 ghost use Rattle.client_calls.specs.Answers.{Receives, Requests};
@@ -12,7 +12,7 @@ ghost use Rattle.client_calls.specs.Requests.{get_request};
 use crate::client_fault::ClientFault;
 use crate::parts::{AnswerPart, MAX_ANSWER_FRAMES, next_part};
 use crate::requesting::send_get_request;
-use call_words::CallFault;
+use call_protocol::CallFault;
 use downloads::{Download, Downloading};
 use grpc_frames::laws::no_frame_begins_another;
 use std::alloc::Global;

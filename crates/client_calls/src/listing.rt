@@ -2,7 +2,7 @@
 
 ghost use Rattle.std.specs.Prelude.{◌≡◌, ℕ, List, IfOk, IfErr};
 ghost use Rattle.grpc_frames.specs.FrameFaults.{WhereKnown};
-ghost use Rattle.call_words.specs.declared.call_fault.CallFault.TheVariants.{OutOfMemory};
+ghost use Rattle.call_protocol.specs.declared.call_fault.CallFault.TheVariants.{OutOfMemory};
 ghost use Rattle.client_calls.specs.declared.client_fault.ClientFault.TheVariants.{Call};
 ghost use Rattle.client_calls.specs.declared.listing.Listing.TheVariants.{Told};
 ghost use Rattle.client_calls.specs.Answers.{Receives, Requests};
@@ -13,7 +13,7 @@ ghost use Rattle.client_calls.specs.Parts.{AddsInfo, IsListed, ListsAll, ListsMo
 use crate::client_fault::ClientFault;
 use crate::parts::{AnswerPart, MAX_ANSWER_FRAMES, next_part};
 use crate::requesting::send_list_request;
-use call_words::CallFault;
+use call_protocol::CallFault;
 use grpc_frames::laws::no_frame_begins_another;
 use proto_fields::WireFault;
 use proto_messages::ProtoMessage;

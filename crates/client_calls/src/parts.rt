@@ -6,7 +6,7 @@ ghost use Rattle.grpc_frames.specs.Frame.{IsFrame};
 ghost use Rattle.client_calls.specs.Parts.{TrailerSays, FrameSays, ReadsPart};
 
 use crate::client_fault::ClientFault;
-use call_words::CallFault;
+use call_protocol::CallFault;
 use grpc_frames::laws::{faults_stand_apart, no_frame_begins_another};
 use grpc_frames::{END_FLAG, Frame, FrameFault, read_frame};
 use std::alloc::Global;

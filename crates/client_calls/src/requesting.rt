@@ -2,13 +2,13 @@
 
 ghost use Rattle.std.specs.Prelude.{◌≡◌, ◌∷◌, [], IfOk};
 ghost use Rattle.grpc_frames.specs.FrameFaults.{WhereKnown};
-ghost use Rattle.call_words.specs.Methods.{path_text};
-ghost use Rattle.call_words.specs.Texts.{call_text};
+ghost use Rattle.call_protocol.specs.Methods.{path_text};
+ghost use Rattle.call_protocol.specs.Texts.{call_text};
 ghost use Rattle.client_calls.specs.Requests.{table_message, info_request, criteria_message, list_request, ticket_message, get_request};
 ghost use Rattle.client_calls.specs.Sending.{Sends, IsText};
 
 use crate::sending::{path_of, send_end, send_message};
-use call_words::{CallFault, Method, table_descriptor};
+use call_protocol::{CallFault, Method, table_descriptor};
 use proto_messages::ProtoMessage;
 use proto_wire::{Criteria, Ticket as TicketMessage};
 use std::alloc::{AllocError, Global};

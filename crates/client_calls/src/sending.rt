@@ -3,11 +3,11 @@
 ghost use Rattle.std.specs.Prelude.{◌≡◌};
 ghost use Rattle.grpc_frames.specs.FrameFaults.{WhereKnown};
 ghost use Rattle.table_types.specs.Served.{in_frame};
-ghost use Rattle.call_words.specs.Methods.{path_text};
-ghost use Rattle.call_words.specs.Texts.{end_text};
+ghost use Rattle.call_protocol.specs.Methods.{path_text};
+ghost use Rattle.call_protocol.specs.Texts.{end_text};
 ghost use Rattle.client_calls.specs.Sending.{Sends, IsText};
 
-use call_words::{CallFault, Method, SERVICE};
+use call_protocol::{CallFault, Method, SERVICE};
 use grpc_frames::{END_FLAG, MAX_FRAME_PAYLOAD, MESSAGE_FLAG, write_frame};
 use std::alloc::Global;
 use std::io::Write;

@@ -8,14 +8,14 @@ ghost use Rattle.proto_wire.specs.FlightValues.{data_ref_values, descriptor_valu
 ghost use Rattle.table_types.specs.Served.{in_frame, data_text};
 ghost use Rattle.table_types.specs.Uploads.{Upload as Uploaded, upload_text};
 ghost use Rattle.table_types.specs.Valid.{IsUpload};
-ghost use Rattle.call_words.specs.declared.method.Method.TheVariants.{DoPut};
-ghost use Rattle.call_words.specs.Methods.{path_text};
-ghost use Rattle.call_words.specs.Texts.{messages_text};
+ghost use Rattle.call_protocol.specs.declared.method.Method.TheVariants.{DoPut};
+ghost use Rattle.call_protocol.specs.Methods.{path_text};
+ghost use Rattle.call_protocol.specs.Texts.{messages_text};
 ghost use Rattle.client_calls.specs.Requests.{opening_message, further_message, put_messages, put_request};
 ghost use Rattle.client_calls.specs.Sending.{Sends, IsText};
 
 use crate::sending::{path_of, send_end, send_message};
-use call_words::{CallFault, Method, upload_descriptor};
+use call_protocol::{CallFault, Method, upload_descriptor};
 use proto_wire::{FlightDataRef, FlightDescriptor};
 use std::alloc::{AllocError, Global};
 use std::io::Write;

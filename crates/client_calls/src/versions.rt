@@ -7,7 +7,7 @@ ghost use Rattle.client_calls.specs.Results.{GivesVersion, HasVersion};
 ghost use Rattle.client_calls.specs.Parts.{IsResultOf, IsMetadataOf, MessageSays};
 
 use crate::client_fault::ClientFault;
-use call_words::{CallFault, result_message};
+use call_protocol::{CallFault, result_message};
 use proto_fields::{bytes_at, number_at};
 use proto_messages::laws::canonical_messages_are_messages;
 use std::alloc::Global;

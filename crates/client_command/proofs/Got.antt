@@ -10,8 +10,8 @@ use Rattle.table_types.specs.Ticket.{TableVersion}
 use Rattle.downloads.specs.declared.download.Download.{Download}
 use Rattle.downloads.specs.Taken.{GivesDownload, HasDownload, downloaded_in}
 use Rattle.client_calls.specs.Requests.{get_request}
-use Rattle.row_calls.specs.declared.fault.RowCallFault.TheVariants as rows
-use Rattle.row_calls.specs.Prints.{Prints, batches_in}
+use Rattle.json_client.specs.declared.fault.RowCallFault.TheVariants as rows
+use Rattle.json_client.specs.Prints.{Prints, batches_in}
 use Rattle.client_connections.specs.Events.{Event}
 use Rattle.client_command.specs.declared.fault.CommandFault.{CommandFault}
 use Rattle.client_command.specs.declared.fault.CommandFault.TheVariants as faults

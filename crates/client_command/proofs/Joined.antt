@@ -11,7 +11,7 @@ use Rattle.proto_wire.specs.FlightValues.{endpoint_values, info_values, location
 use Rattle.proto_wire.specs.declared.flight.endpoint.Location.{Location}
 use Rattle.proto_wire.specs.declared.flight.endpoint.FlightEndpoint.{FlightEndpoint}
 use Rattle.proto_wire.specs.declared.flight.info.FlightInfo.{FlightInfo}
-use Rattle.call_words.specs.Names.{NamesTable}
+use Rattle.call_protocol.specs.Names.{NamesTable}
 use Rattle.client_command.specs.declared.fault.CommandFault.{CommandFault}
 use Rattle.client_command.specs.Fields.{HasSchema, SchemaSays}
 use Rattle.client_command.specs.Latest.{IsLatest, LatestSays}

@@ -6,9 +6,9 @@ use Rattle.header_types.specs.Fields.{SchemaTree}
 use Rattle.table_types.specs.Uploads.{Upload}
 use Rattle.client_calls.specs.Requests.{put_request}
 use Rattle.client_calls.specs.Results.{GivesVersion, HasVersion}
-use Rattle.row_calls.specs.declared.fault.RowCallFault.{RowCallFault}
-use Rattle.row_calls.specs.declared.fault.RowCallFault.TheVariants as rows
-use Rattle.row_calls.specs.Puts.{IsUploadOfRows, MakesNoUpload}
+use Rattle.json_client.specs.declared.fault.RowCallFault.{RowCallFault}
+use Rattle.json_client.specs.declared.fault.RowCallFault.TheVariants as rows
+use Rattle.json_client.specs.Puts.{IsUploadOfRows, MakesNoUpload}
 use Rattle.client_connections.specs.Events.{Event}
 use Rattle.client_command.specs.declared.fault.CommandFault.{CommandFault}
 use Rattle.client_command.specs.declared.fault.CommandFault.TheVariants as faults

@@ -10,14 +10,14 @@ use Rattle.proto_wire.specs.declared.flight.info.FlightInfo.{FlightInfo}
 use Rattle.proto_wire.specs.Flight.{endpoint_descriptor, info_descriptor, location_descriptor}
 use Rattle.proto_wire.specs.FlightValues.{info_values}
 use Rattle.table_types.specs.Ticket.{TableVersion}
-use Rattle.call_words.specs.Statuses.{ok_trailer}
+use Rattle.call_protocol.specs.Statuses.{ok_trailer}
 use Rattle.downloads.specs.declared.download.Download.{Download}
 use Rattle.downloads.specs.Taken.{GivesDownload, HasDownload, downloaded_in}
 use Rattle.client_calls.specs.declared.client_fault.ClientFault.{ClientFault}
 use Rattle.client_calls.specs.Answers.{Receives}
 use Rattle.client_calls.specs.Requests.{get_request, info_request}
 use Rattle.client_calls.specs.Results.{GivesFrames, GivesInfo, HasFrames, HasInfo}
-use Rattle.row_calls.specs.Prints.{batches_in}
+use Rattle.json_client.specs.Prints.{batches_in}
 use Rattle.client_connections.specs.Events.{Event}
 use Rattle.client_command.specs.declared.fault.CommandFault.{CommandFault}
 use Rattle.client_command.specs.declared.fault.CommandFault.TheVariants.{Call, Differs, OutOfMemory}

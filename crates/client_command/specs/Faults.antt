@@ -2,8 +2,8 @@
 -- this program's own.
 use Rattle.std.specs.Prelude.{ℕ, List, [], ◌∷◌, Contains, max, Result, Ok, Err}
 use Rattle.client_calls.specs.declared.client_fault.ClientFault.TheVariants as calls
-use Rattle.row_calls.specs.declared.fault.RowCallFault.{RowCallFault}
-use Rattle.row_calls.specs.declared.fault.RowCallFault.TheVariants as rows
+use Rattle.json_client.specs.declared.fault.RowCallFault.{RowCallFault}
+use Rattle.json_client.specs.declared.fault.RowCallFault.TheVariants as rows
 use Rattle.client_command.specs.declared.fault.CommandFault.{CommandFault}
 use Rattle.client_command.specs.declared.fault.CommandFault.TheVariants as faults
 

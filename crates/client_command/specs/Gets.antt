@@ -1,5 +1,5 @@
 -- What a get of rows asks for, what it is told, and which lines are printed of that. A download and its rows are those
--- of `row_calls`.
+-- of `json_client`.
 use Rattle.std.specs.Prelude.{◌≡◌, ◌⊎◌, ℕ, List, Option, Some, None, Result, Ok, Err}
 use Rattle.std.specs.declared.net.socket_addr.SocketAddrV4.{SocketAddrV4}
 use Rattle.grpc_frames.specs.FrameFaults.{WhereKnown}
@@ -11,7 +11,7 @@ use Rattle.proto_wire.specs.declared.flight.info.FlightInfo.{FlightInfo}
 use Rattle.proto_wire.specs.FlightValues.{info_values}
 use Rattle.client_calls.specs.Requests.{get_request, info_request}
 use Rattle.client_calls.specs.Results.{GivesInfo, HasInfo}
-use Rattle.row_calls.specs.Prints.{batches_in}
+use Rattle.json_client.specs.Prints.{batches_in}
 use Rattle.client_connections.specs.Events.{Event}
 use Rattle.client_command.specs.declared.fault.CommandFault.{CommandFault}
 use Rattle.client_command.specs.declared.fault.CommandFault.TheVariants as faults

@@ -2,8 +2,8 @@
 use Rattle.std.specs.Prelude.{ℕ, List, Result, Ok, Err}
 use Rattle.header_types.specs.Fields.{Forest}
 use Rattle.batch_types.specs.Cells.{Rows}
-use Rattle.row_calls.specs.declared.fault.RowCallFault.TheVariants.{Output}
-use Rattle.row_calls.specs.Prints.{Prints}
+use Rattle.json_client.specs.declared.fault.RowCallFault.TheVariants.{Output}
+use Rattle.json_client.specs.Prints.{Prints}
 use Rattle.client_command.specs.declared.fault.CommandFault.{CommandFault}
 use Rattle.client_command.specs.declared.fault.CommandFault.TheVariants as faults
 

@@ -1,5 +1,5 @@
 -- What a put of rows sends, what it is told, and what is printed of that. Which upload is made of lines is that of
--- `row_calls`.
+-- `json_client`.
 use Rattle.std.specs.Prelude.{◌≡◌, ℕ, List, Option, Result, Ok, Err}
 use Rattle.std.specs.declared.net.socket_addr.SocketAddrV4.{SocketAddrV4}
 use Rattle.grpc_frames.specs.FrameFaults.{WhereKnown}
@@ -7,8 +7,8 @@ use Rattle.header_types.specs.Fields.{SchemaTree}
 use Rattle.table_types.specs.Uploads.{Upload}
 use Rattle.client_calls.specs.Requests.{put_request}
 use Rattle.client_calls.specs.Results.{GivesVersion, HasVersion}
-use Rattle.row_calls.specs.declared.fault.RowCallFault.TheVariants as rows
-use Rattle.row_calls.specs.Puts.{IsUploadOfRows, MakesNoUpload}
+use Rattle.json_client.specs.declared.fault.RowCallFault.TheVariants as rows
+use Rattle.json_client.specs.Puts.{IsUploadOfRows, MakesNoUpload}
 use Rattle.client_connections.specs.Events.{Event}
 use Rattle.client_command.specs.declared.fault.CommandFault.{CommandFault}
 use Rattle.client_command.specs.declared.fault.CommandFault.TheVariants as faults

@@ -8,7 +8,7 @@ use Rattle.header_types.specs.Fields.{SchemaTree}
 use Rattle.proto_messages.specs.Descriptor.{Values}
 use Rattle.proto_wire.specs.Flight.{info_descriptor, endpoint_descriptor, location_descriptor, flight_descriptor_descriptor}
 use Rattle.table_types.specs.Ticket.{TableVersion}
-use Rattle.call_words.specs.Names.{NamesTable}
+use Rattle.call_protocol.specs.Names.{NamesTable}
 use Rattle.client_calls.specs.declared.client_fault.ClientFault.TheVariants.{BadAnswer}
 use Rattle.client_command.specs.declared.fault.CommandFault.{CommandFault}
 use Rattle.client_command.specs.declared.fault.CommandFault.TheVariants.{Call, OutOfMemory}

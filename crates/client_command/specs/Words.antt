@@ -3,7 +3,7 @@ use Rattle.std.specs.Prelude.{◌≡◌, ◌≢◌, ◌⊎◌, ℕ, List, Option
 use Rattle.std.specs.declared.net.socket_addr.SocketAddrV4.{SocketAddrV4}
 use Rattle.table_types.specs.Valid.{IsId, IsTableName}
 use Rattle.table_types.specs.Ticket.{TableVersion, IsTableVersion}
-use Rattle.call_words.specs.Names.{id_text}
+use Rattle.call_protocol.specs.Names.{id_text}
 use Rattle.client_connections.specs.Addresses.{NamesNone, NamesServer}
 use Rattle.client_command.specs.declared.fault.CommandFault.{CommandFault}
 use Rattle.client_command.specs.declared.fault.CommandFault.TheVariants.{BadAddress, BadId, BadTable, OutOfMemory}

@@ -2,7 +2,7 @@
 -- (RFC 4648, section 8, in lower case).
 use Rattle.std.specs.Prelude.{◌≡◌, ℕ, List, ◌++◌, codes, decimal, Option, Result, Ok, Err}
 use Rattle.grpc_frames.specs.FrameFaults.{IsBeginning}
-use Rattle.call_words.specs.Names.{id_text}
+use Rattle.call_protocol.specs.Names.{id_text}
 use Rattle.client_connections.specs.Events.{Event}
 use Rattle.client_command.specs.declared.fault.CommandFault.{CommandFault}
 use Rattle.client_command.specs.declared.fault.CommandFault.TheVariants as faults

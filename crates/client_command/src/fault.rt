@@ -4,11 +4,11 @@ ghost use Rattle.std.specs.Prelude.{◌≡◌, ◌↔◌, Contains, IsTrue};
 ghost use Rattle.client_command.specs.Faults.{MayBeTaken, fault_of_rows, final_statuses, status_of_fault};
 
 use crate::status::{FAILURE, NO_CALL};
-use call_words::Status;
+use call_protocol::Status;
 use client_calls::ClientFault;
 use client_connections::ConnectFault;
-use json_rows::RowsFault;
-use row_calls::RowCallFault;
+use json_client::RowCallFault;
+use json_rows::JsonFault;
 use std::alloc::AllocError;
 use thiserror::Error;
 use uploads::UploadFault;
@@ -35,7 +35,7 @@ pub enum CommandFault {
     Call(ClientFault),
     /// The lines tell no rows of the schema, or the rows have no lines.
     #[error("{0}")]
-    Rows(RowsFault),
+    Rows(JsonFault),
     /// The rows make no upload.
     #[error("{0}")]
     Upload(UploadFault),

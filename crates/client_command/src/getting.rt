@@ -17,7 +17,7 @@ use std::net::SocketAddrV4;
 use table_types::Ticket;
 
 /// Asks the server at this address for the version of this ticket, and prints the lines of its rows to `out`, as
-/// [`row_calls::write_rows`] does. The writer is flushed. The connection is closed before the first line is printed.
+/// [`json_client::write_rows`] does. The writer is flushed. The connection is closed before the first line is printed.
 ///
 /// - [`CommandFault::Connect`]: there is no connection.
 /// - [`CommandFault::Call`]: the call has no answer, as [`client_calls::call_get`] says. No line is printed then.

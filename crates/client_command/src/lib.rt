@@ -4,7 +4,7 @@
 //! ([`Connect`] of `client_connections`), prints what was told, reports a fault in a line, and gives the exit status. The
 //! words of a put are read apart, by `put_words`, so that they are judged before its rows are read from a file.
 //! Beneath it stands a function that gives the fault itself. What goes over each connection is that of `client_calls`
-//! (`specs/Calls`), and which rows are put and printed that of `row_calls`; `specs/Puts`, `Gets` and the others say
+//! (`specs/Calls`), and which rows are put and printed that of `json_client`; `specs/Puts`, `Gets` and the others say
 //! what is printed of it.
 #![tactic(auto)]
 

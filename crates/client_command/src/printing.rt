@@ -2,14 +2,14 @@
 
 ghost use Rattle.std.specs.Prelude.{IfErr};
 ghost use Rattle.grpc_frames.specs.FrameFaults.{WhereKnown};
-ghost use Rattle.row_calls.specs.Prints.{Prints, batches_in};
+ghost use Rattle.json_client.specs.Prints.{Prints, batches_in};
 ghost use Rattle.header_types.specs.Views.{schema_of};
 ghost use Rattle.downloads.specs.Taken.{downloaded_in};
 ghost use Rattle.client_command.specs.Printed.{IsOfRows, PrintsRows};
 
 use crate::fault::CommandFault;
 use client_calls::Download;
-use row_calls::write_rows;
+use json_client::write_rows;
 use std::alloc::Global;
 use std::io::Write;
 

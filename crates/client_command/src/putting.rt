@@ -13,13 +13,13 @@ use crate::words::PutWords;
 use crate::writing::tell_put;
 use client_connections::Connect;
 use header_types::Schema;
-use row_calls::upload_of_rows;
+use json_client::upload_of_rows;
 use std::alloc::Global;
 use std::io::Write;
 use std::net::SocketAddrV4;
 
 /// Puts the rows that the lines of a text tell into this table at the server at this address, under this id, as
-/// `row_calls` does, and prints the line of the upload to `out`: its id in 32 lower-case
+/// `json_client` does, and prints the line of the upload to `out`: its id in 32 lower-case
 /// hexadecimal digits, a space, the version of the table that it made, and a line feed. The writer is flushed. The rows
 /// are of the schema, where one is given, else of that of [`json_rows::schema_of_rows`].
 ///

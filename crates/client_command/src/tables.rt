@@ -10,7 +10,7 @@ ghost use Rattle.client_command.specs.Tables.{TellsInfo, TellsTable, TellsTables
 use crate::fault::CommandFault;
 use crate::fields::{push_fields, schema_in};
 use crate::latest::latest_in;
-use call_words::table_in;
+use call_protocol::table_in;
 use client_calls::ClientFault;
 use header_types::Schema;
 use proto_wire::{FlightEndpoint, FlightInfo};

@@ -6,7 +6,7 @@ ghost use Rattle.client_connections.specs.Addresses.{NamesNone, NamesServer};
 ghost use Rattle.client_command.specs.Words.{AddressBy, IdBy, NamesNoPut, NamesTable, TableBy, TicketBy};
 
 use crate::fault::CommandFault;
-use call_words::id_in;
+use call_protocol::id_in;
 use client_connections::address_of;
 use std::alloc::Global;
 use std::net::SocketAddrV4;

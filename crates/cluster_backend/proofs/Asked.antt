@@ -1,13 +1,13 @@
 -- Answers of some tables are answers to what was asked.
 use Rattle.std.proofs.Common.{◌≡◌, inl, inr, ℕ, List}
-use Rattle.table_types.specs.Uploads.{Upload}
-use Rattle.table_types.specs.Answers.{answer_of}
-use Rattle.histories.specs.EventResult as results
-use Rattle.node_events.specs.declared.event_result.EventResult.{EventResult}
-use Rattle.node_events.specs.declared.event_result.EventResult.TheVariants as given
-use Rattle.seats.specs.declared.query.Query.{Query}
-use Rattle.seats.specs.declared.query.Query.TheVariants as query
-use Rattle.seats.specs.Steps.{AnswersQuery}
+use Rattle.node_threads.specs.parts.table_types.specs.Uploads.{Upload}
+use Rattle.node_threads.specs.parts.table_types.specs.Answers.{answer_of}
+use Rattle.node_threads.specs.parts.histories.specs.EventResult as results
+use Rattle.node_threads.specs.parts.node_events.specs.declared.event_result.EventResult.{EventResult}
+use Rattle.node_threads.specs.parts.node_events.specs.declared.event_result.EventResult.TheVariants as given
+use Rattle.node_threads.specs.seats.specs.declared.query.Query.{Query}
+use Rattle.node_threads.specs.seats.specs.declared.query.Query.TheVariants as query
+use Rattle.node_threads.specs.seats.specs.Steps.{AnswersQuery}
 use Rattle.cluster_backend.specs.Backing.{IsAnswerTo}
 
 same_bytes : (x y : List ℕ) → results.Answer x ≡ results.Answer y → x ≡ y

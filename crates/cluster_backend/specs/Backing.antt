@@ -2,27 +2,27 @@
 -- what tables uploads make, and which versions and outcomes. Clusters are this service's own.
 use Rattle.std.specs.Prelude.{◌≡◌, ◌⊎◌, ◌≤◌, ℕ, Bool, true, false, Option, None, Some, List, [], ◌∷◌, length}
 use Rattle.std.specs.List.{AllZip}
-use Rattle.ballots.specs.declared.value.Value.{Value}
-use Rattle.table_types.specs.Uploads.{Upload}
-use Rattle.table_types.specs.Answers.{answer_of}
-use Rattle.table_types.specs.Tables.{Version, effective, table_names}
-use Rattle.table_versions.specs.Values.{AreUploadsIn}
-use Rattle.table_versions.specs.State.{values_limit}
-use Rattle.table_versions.specs.Outcomes.{told}
-use Rattle.table_versions.specs.declared.outcome.Outcome.{Outcome}
-use Rattle.agreement.specs.declared.refusal.Refusal.TheVariants as refusal
-use Rattle.agreement_rules.specs.Views.{Views}
-use Rattle.histories.specs.Texts.{HasUploads}
+use Rattle.node_threads.specs.parts.ballots.specs.declared.value.Value.{Value}
+use Rattle.node_threads.specs.parts.table_types.specs.Uploads.{Upload}
+use Rattle.node_threads.specs.parts.table_types.specs.Answers.{answer_of}
+use Rattle.node_threads.specs.parts.table_types.specs.Tables.{Version, effective, table_names}
+use Rattle.node_threads.specs.parts.table_versions.specs.Values.{AreUploadsIn}
+use Rattle.node_threads.specs.parts.table_versions.specs.State.{values_limit}
+use Rattle.node_threads.specs.parts.table_versions.specs.Outcomes.{told}
+use Rattle.node_threads.specs.parts.table_versions.specs.declared.outcome.Outcome.{Outcome}
+use Rattle.node_threads.specs.parts.agreement.specs.declared.refusal.Refusal.TheVariants as refusal
+use Rattle.node_threads.specs.parts.agreement_rules.specs.Views.{Views}
+use Rattle.node_threads.specs.parts.histories.specs.Texts.{HasUploads}
 use Rattle.node_core.specs.State.{NodeState, NodeHas}
-use Rattle.node_events.specs.declared.event_result.EventResult.{EventResult}
-use Rattle.node_events.specs.declared.event_result.EventResult.TheVariants as given
-use Rattle.seats.specs.declared.query.Query.{Query}
-use Rattle.seats.specs.declared.query.Query.TheVariants as query
-use Rattle.seats.specs.declared.fault.SeatFault.{SeatFault}
-use Rattle.seats.specs.declared.fault.SeatFault.TheVariants as fault
-use Rattle.seats.specs.Steps.{AnswersQuery}
-use Rattle.call_words.specs.declared.back_fault.BackFault.{BackFault}
-use Rattle.call_words.specs.declared.back_fault.BackFault.TheVariants as faults
+use Rattle.node_threads.specs.parts.node_events.specs.declared.event_result.EventResult.{EventResult}
+use Rattle.node_threads.specs.parts.node_events.specs.declared.event_result.EventResult.TheVariants as given
+use Rattle.node_threads.specs.seats.specs.declared.query.Query.{Query}
+use Rattle.node_threads.specs.seats.specs.declared.query.Query.TheVariants as query
+use Rattle.node_threads.specs.seats.specs.declared.fault.SeatFault.{SeatFault}
+use Rattle.node_threads.specs.seats.specs.declared.fault.SeatFault.TheVariants as fault
+use Rattle.node_threads.specs.seats.specs.Steps.{AnswersQuery}
+use Rattle.call_protocol.specs.declared.back_fault.BackFault.{BackFault}
+use Rattle.call_protocol.specs.declared.back_fault.BackFault.TheVariants as faults
 use Rattle.call_reading.specs.Requests.{Request, describes, shows, lists, serves, puts}
 use Rattle.flight_calls.specs.Replies.{BackAnswer, described, shown, listed, served, decided, failed}
 use Rattle.table_backend.specs.Backing.{DescribesTable}

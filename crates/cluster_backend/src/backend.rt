@@ -1,13 +1,13 @@
 //! The backend of one connection.
 
 ghost use Rattle.std.specs.Prelude.{◌≡◌, true, false, [], map, string_bytes, IfOk, IfErr};
-ghost use Rattle.call_words.specs.declared.back_fault.BackFault.TheVariants.{OutOfMemory};
+ghost use Rattle.call_protocol.specs.declared.back_fault.BackFault.TheVariants.{OutOfMemory};
 ghost use Rattle.cluster_backend.specs.Backing.{MayAnswer, StaysAt};
 
 use crate::fault::back_fault;
 use crate::nodes::Nodes;
 use crate::receipts::Receipts;
-use call_words::BackFault;
+use call_protocol::BackFault;
 use flight_calls::{Backend, TableDescription};
 use node_events::EventResult;
 use node_threads::{Pending, Query};

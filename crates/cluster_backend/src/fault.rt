@@ -3,9 +3,9 @@
 ghost use Rattle.std.specs.Prelude.{◌≡◌};
 ghost use Rattle.cluster_backend.specs.Backing.{told_as};
 
-use call_words::BackFault;
-use node_core::Refusal;
-use seats::SeatFault;
+use agreement::Refusal;
+use call_protocol::BackFault;
+use node_threads::SeatFault;
 
 /// What a client is told of the fault of a node. Of a node whose journal does not know it, of a message that was not sent
 /// and of records that are lost it is told as of a store that failed.

@@ -18,8 +18,8 @@ mod running;
 pub use backend::ClusterBackend;
 pub use fault::back_fault;
 pub use node_threads::{
-    Beginning, Cluster, Gate, Journal, Note, OpenGate, OwnEntry, Pace, Recent, Retention, Running,
-    Seat, SeatFault, SeatInput, Whole,
+    Beginning, Cluster, Config, Gate, Journal, MAX_JOURNAL_ENTRIES, MAX_SLOTS, Note, OpenGate,
+    OwnEntry, Pace, Recent, Retention, Running, Seat, SeatFault, SeatInput, Whole, audit,
 };
 pub use nodes::Nodes;
 pub use receipts::{AllReceipts, NoReceipts, Receipts, all_are_held};

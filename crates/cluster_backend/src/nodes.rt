@@ -2,13 +2,13 @@
 
 ghost use Rattle.std.specs.Prelude.{ℕ, List, map, string_bytes, IfOk, IfErr};
 ghost use Rattle.std.specs.List.{AllZip};
-ghost use Rattle.table_types.specs.Uploads.{Upload as Uploaded};
-ghost use Rattle.table_types.specs.Tables.{effective, table_names};
-ghost use Rattle.table_versions.specs.Info.{IsLatest};
-ghost use Rattle.node_events.specs.declared.event_result.EventResult.{EventResult as Given};
-ghost use Rattle.seats.specs.declared.query.Query.{Query as Asked};
-ghost use Rattle.seats.specs.declared.query.Query.TheVariants.{Outcome};
-ghost use Rattle.seats.specs.declared.fault.SeatFault.{SeatFault as Fault};
+ghost use Rattle.node_threads.specs.parts.table_types.specs.Uploads.{Upload as Uploaded};
+ghost use Rattle.node_threads.specs.parts.table_types.specs.Tables.{effective, table_names};
+ghost use Rattle.node_threads.specs.parts.table_versions.specs.Info.{IsLatest};
+ghost use Rattle.node_threads.specs.parts.node_events.specs.declared.event_result.EventResult.{EventResult as Given};
+ghost use Rattle.node_threads.specs.seats.specs.declared.query.Query.{Query as Asked};
+ghost use Rattle.node_threads.specs.seats.specs.declared.query.Query.TheVariants.{Outcome};
+ghost use Rattle.node_threads.specs.seats.specs.declared.fault.SeatFault.{SeatFault as Fault};
 ghost use Rattle.table_backend.specs.Backing.{TellsLatest};
 ghost use Rattle.cluster_backend.specs.Backing.{IsAnswerTo, AreAgreed};
 

@@ -3,7 +3,7 @@
 ghost use Rattle.std.specs.Prelude.{◌↔◌, All, IsTrue};
 ghost use Rattle.cluster_backend.specs.Held.{IsHeldReceipt};
 
-use seats::{Beginning, Journal, Receipt, Retention};
+use node_threads::{Beginning, Journal, Receipt, Retention};
 use std::alloc::Global;
 use std::sync::{Mutex, Wait};
 

@@ -2,15 +2,16 @@
 
 ghost use Rattle.std.specs.Prelude.{◌≡◌, ◌≢◌, List, [], map, string_bytes, IfOk};
 ghost use Rattle.std.specs.List.{AllZip};
-ghost use Rattle.table_types.specs.Uploads.{Upload as Uploaded};
-ghost use Rattle.table_types.specs.Tables.{effective, table_names};
-ghost use Rattle.table_versions.specs.Info.{IsLatest};
+ghost use Rattle.node_threads.specs.parts.table_types.specs.Uploads.{Upload as Uploaded};
+ghost use Rattle.node_threads.specs.parts.table_types.specs.Tables.{effective, table_names};
+ghost use Rattle.node_threads.specs.parts.table_versions.specs.Info.{IsLatest};
 ghost use Rattle.table_backend.specs.Backing.{TellsLatest};
 ghost use Rattle.cluster_backend.specs.Backing.{AreAgreed, HasTables, IsAnswered};
 
 use crate::nodes::Nodes;
+use agreement::Refusal;
 use flight_calls::TableDescription;
-use node_core::{Node, Refusal};
+use node_core::Node;
 use node_threads::{Beginning, Gate, Pending, Query, Receipt, Retention, Running, Seat, SeatFault};
 use stable_records::Stable;
 use std::alloc::{AllocError, Global};

@@ -3,14 +3,14 @@
 ghost use Rattle.std.specs.Prelude.{◌≡◌, []};
 
 use crate::support::{Nodes, Why, check, had, three, ticket, told, upload};
-use call_words::BackFault;
+use call_protocol::BackFault;
 use client_calls::call_info;
 use flight_calls::Backend;
 use flight_service::{
     AllReceipts, Beginning, ClusterBackend, OpenGate, OwnEntry, SeatFault, SeatInput,
     serve_connection,
 };
-use growing_log::Opened;
+use ghost_log::Opened;
 use std::alloc::Global;
 use std::hash::RandomState;
 use std::marker::Brand;

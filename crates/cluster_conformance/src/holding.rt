@@ -5,7 +5,7 @@ ghost use Rattle.std.specs.Prelude.{◌≡◌, []};
 use crate::held::answers;
 use crate::support::{Nodes, Why, check, had, three, told};
 use flight_service::{Beginning, Gate, OwnEntry, Running, Works};
-use growing_log::Opened;
+use ghost_log::Opened;
 use std::alloc::Global;
 use std::hash::RandomState;
 use std::marker::Brand;

@@ -5,10 +5,11 @@ ghost use Rattle.std.specs.Prelude.{◌≡◌, []};
 use ballots::{Members, NodeId};
 use crossbeam_channel::Receiver;
 use disk_records::{DiskStable, MemoryDisk};
-use flight_service::{Beginning, Cluster, Gate, Journal, Note, OpenGate, OwnEntry, Running, Seat};
-use growing_log::Opened;
+use flight_service::{
+    Beginning, Cluster, Config, Gate, Journal, Note, OpenGate, OwnEntry, Running, Seat,
+};
+use ghost_log::Opened;
 use header_types::Schema;
-use schedule_runner::Config;
 use stable_records::{MemoryStable, Stable};
 use std::alloc::Global;
 use std::hash::RandomState;

@@ -1,8 +1,7 @@
 //! Nodes with workers, and what tests do with them besides.
 
 use crate::flag::Flag;
-use flight_service::{Beginning, OpenGate, Running, Works};
-use schedule_runner::audit;
+use flight_service::{Beginning, OpenGate, Running, Works, audit};
 use stable_records::Stable;
 use std::sync::Wait;
 use table_types::Ticket;

@@ -4,7 +4,7 @@ ghost use Rattle.std.specs.Prelude.{◌≡◌, []};
 
 use crate::support::{Why, check, had, three, three_on_disks, ticket, told, upload};
 use crate::tested::Tested;
-use call_words::BackFault;
+use call_protocol::BackFault;
 use client_calls::{Download, call_get};
 use crossbeam_channel::Receiver;
 use flight_calls::Backend;
@@ -12,7 +12,7 @@ use flight_service::{
     AllReceipts, Beginning, ClusterBackend, Nodes, Note, OpenGate, OwnEntry, Service, join_all,
     serve_connection, start_workers,
 };
-use growing_log::Opened;
+use ghost_log::Opened;
 use std::alloc::Global;
 use std::hash::RandomState;
 use std::marker::Brand;

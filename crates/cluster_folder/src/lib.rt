@@ -31,6 +31,3 @@ pub use judging::{MOST_NODES, Standing, judge};
 pub use marking::{check_mark, mark_of_file};
 pub use opening::{OpenFolder, open_folder};
 pub use reading::{node_files, read_folder};
-
-#[cfg(test)]
-mod tests;

@@ -14,8 +14,6 @@ mod identity;
 pub mod laws;
 mod marking;
 mod reading;
-#[cfg(test)]
-mod tests;
 mod writing;
 
 pub use fault::IdentityFault;

@@ -14,7 +14,7 @@ use Rattle.batch_types.specs.LaysOut.{LaysOut}
 use Rattle.batch_types.specs.Written.{CanBeWritten}
 use Rattle.table_types.specs.Uploads.{schema_text, head_text}
 use Rattle.table_types.specs.Valid.{FitsFrame, upload_limit}
-use Rattle.upload_parts.proofs.CallerLemmas.{message_long}
+use Rattle.uploads.proofs.CallerLemmas.{message_long}
 use Rattle.downloads.specs.Messages.{IsSchemaMessage, CanBeServed, IsUploadMessage}
 use Rattle.downloads.specs.MessageParts.{AreParts}
 use Rattle.downloads.proofs.Found.{data_values, data_rises, data_fits}

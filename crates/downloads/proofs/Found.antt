@@ -7,7 +7,7 @@ use Rattle.proto_messages.specs.Canonical.{RisesFrom, Fits, canonical}
 use Rattle.proto_wire.specs.Flight.{data_descriptor}
 use Rattle.table_types.specs.Served.{data_text}
 use Rattle.table_types.specs.Valid.{FitsFrame}
-use Rattle.upload_parts.proofs.CallerLemmas.{message_long}
+use Rattle.uploads.proofs.CallerLemmas.{message_long}
 use Rattle.downloads.specs.MessageParts.{AreParts}
 
 -- what is written is read as what was written

@@ -14,7 +14,7 @@ use Rattle.batch_columns.specs.Batches.{rows_of}
 use Rattle.table_types.specs.Uploads.{schema_text, head_text}
 use Rattle.table_types.specs.Served.{data_text}
 use Rattle.table_types.specs.Valid.{FitsFrame, IsId}
-use Rattle.upload_parts.proofs.CallerLemmas.{message_long}
+use Rattle.uploads.proofs.CallerLemmas.{message_long}
 use Rattle.downloads.specs.declared.parts.Parts.{Parts}
 use Rattle.downloads.specs.declared.upload_message.UploadMessage.{UploadMessage}
 use Rattle.downloads.specs.Messages.{IsSchemaMessage, message_text, CanBeServed, IsUploadMessage}

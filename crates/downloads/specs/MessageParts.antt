@@ -10,7 +10,7 @@ use Rattle.batch_columns.specs.declared.batch.Batch.{Batch}
 use Rattle.batch_columns.specs.Batches.{rows_of, IsBatchOf}
 use Rattle.table_types.specs.Served.{data_text}
 use Rattle.table_types.specs.Valid.{FitsFrame}
-use Rattle.upload_reading.specs.Read.{IsSchemaText, AreRowsText}
+use Rattle.uploads.specs.Read.{IsSchemaText, AreRowsText}
 use Rattle.downloads.specs.declared.parts.Parts.{Parts}
 use Rattle.downloads.specs.declared.upload_message.UploadMessage.{UploadMessage}
 

@@ -7,7 +7,7 @@ ghost use Rattle.downloads.specs.MessageParts.{TellsSchemaOf};
 use crate::parts::{Parts, parts_of};
 use header_types::Schema;
 use std::alloc::{AllocError, Global};
-use upload_reading::{DecodeFault, read_schema};
+use uploads::{DecodeFault, read_schema};
 
 /// The schema of the message of these parts.
 fn schema_of_parts(alloc: Global, parts: Parts<'_>) -> Result<Option<Schema>, AllocError>

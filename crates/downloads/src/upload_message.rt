@@ -11,8 +11,7 @@ use crate::parts::{Parts, parts_of};
 use batch_columns::Batch;
 use header_types::Schema;
 use std::alloc::{AllocError, Global};
-use upload_parts::MAX_UPLOAD_BYTES;
-use upload_reading::{DecodeFault, read_rows};
+use uploads::{DecodeFault, MAX_UPLOAD_BYTES, read_rows};
 
 /// What a message says of an upload: its id, and one of its batches; or the id alone, of an upload without batches.
 #[derive(Debug, Drop)]

@@ -9,7 +9,5 @@
 #![tactic(auto)]
 
 mod file;
-#[cfg(test)]
-mod tests;
 
 pub use file::FileDisk;

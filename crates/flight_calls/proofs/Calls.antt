@@ -1,15 +1,15 @@
 -- What serving a call gives, of what its parts give.
 use Rattle.std.proofs.Common.{◌≡◌, ◌⊎◌, ℕ, List, [], ◌∷◌, ◌++◌, Option, Some, None, Result, Ok, Err, refl, ap, subst, inl, inr, ◌∙◌}
 use Rattle.grpc_frames.specs.FrameFaults.{WhereKnown}
-use Rattle.call_words.specs.declared.back_fault.BackFault.TheVariants as backs
-use Rattle.call_words.specs.declared.refusal.Refusal.{Refusal}
-use Rattle.call_words.specs.declared.refusal.Refusal.TheVariants as refusals
+use Rattle.call_protocol.specs.declared.back_fault.BackFault.TheVariants as backs
+use Rattle.call_protocol.specs.declared.refusal.CallRefusal.{CallRefusal}
+use Rattle.call_protocol.specs.declared.refusal.CallRefusal.TheVariants as refusals
 use Rattle.call_reading.specs.declared.request.FlightRequest.{FlightRequest}
 use Rattle.call_reading.specs.Requests.{Request, describes, shows, lists, serves, puts, IsCall}
 use Rattle.call_reading.specs.Reading.{request_of, ReadsCall}
 use Rattle.call_reading.specs.Faults.{RefusalStands, IsOfTheMachine}
-use Rattle.call_words.specs.declared.call_fault.CallFault.{CallFault}
-use Rattle.call_words.specs.declared.call_fault.CallFault.TheVariants as faults
+use Rattle.call_protocol.specs.declared.call_fault.CallFault.{CallFault}
+use Rattle.call_protocol.specs.declared.call_fault.CallFault.TheVariants as faults
 use Rattle.flight_calls.specs.declared.outgoing.Outgoing.{Outgoing}
 use Rattle.flight_calls.specs.Replies.{Reply, refuses, reply_text}
 use Rattle.flight_calls.specs.Serving.{MayAnswer, Handed, Leaves, Stays, HandsOneAtMost, Responds, IsDue, Serves}
@@ -19,7 +19,7 @@ use Rattle.flight_calls.specs.Sending.{SendsReply}
 -- ---- an answer to what was read
 
 -- the backend has answered the request that was read
-pub answered : {B : Type 0} (may : MayAnswer B) (handed : Handed B) (leaves : Leaves B) (stays : Stays B) (old new : B) (asked : FlightRequest) (r : Result Outgoing Refusal) (text rest : Option (List ℕ))
+pub answered : {B : Type 0} (may : MayAnswer B) (handed : Handed B) (leaves : Leaves B) (stays : Stays B) (old new : B) (asked : FlightRequest) (r : Result Outgoing CallRefusal) (text rest : Option (List ℕ))
     → WhereKnown text rest (ReadsCall (Ok asked)) → RespondsBy may handed leaves stays (request_of asked) old new r
     → WhereKnown text rest (AnswersText may handed leaves stays old new r)
 answered may handed leaves stays old new asked r None rest call responds = tt
@@ -28,7 +28,7 @@ answered may handed leaves stays old new asked r (Some x) (Some y) call responds
     (responds.0, inr (request_of asked, call, responds.1), responds.2)
 
 -- a refusal stands in what was read, and the backend was not asked
-pub refused : {B : Type 0} (may : MayAnswer B) (handed : Handed B) (leaves : Leaves B) (stays : Stays B) (b : B) (refusal : Refusal) (text rest : Option (List ℕ))
+pub refused : {B : Type 0} (may : MayAnswer B) (handed : Handed B) (leaves : Leaves B) (stays : Stays B) (b : B) (refusal : CallRefusal) (text rest : Option (List ℕ))
     → WhereKnown text rest (ReadsCall (Err refusal)) → WhereKnown text rest (AnswersText may handed leaves stays b b (Err refusal))
 refused may handed leaves stays b refusal None rest stands = tt
 refused may handed leaves stays b refusal (Some x) None stands = absurd stands
@@ -54,7 +54,7 @@ serves_where_known may handed leaves stays old new reply r text rest (Some x) No
 serves_where_known may handed leaves stays old new reply r text rest (Some x) (Some y) due sends =
     serves_by may handed leaves stays old new reply r text rest x y due sends
 
-pub served : {B : Type 0} (may : MayAnswer B) (handed : Handed B) (leaves : Leaves B) (stays : Stays B) (old new : B) (answer : Result Outgoing Refusal) (r : Result (Unit {0}) CallFault) (text rest before after : Option (List ℕ))
+pub served : {B : Type 0} (may : MayAnswer B) (handed : Handed B) (leaves : Leaves B) (stays : Stays B) (old new : B) (answer : Result Outgoing CallRefusal) (r : Result (Unit {0}) CallFault) (text rest before after : Option (List ℕ))
     → WhereKnown text rest (AnswersText may handed leaves stays old new answer)
     → ((reply : Reply) → AnswersIn answer reply → WhereKnown before after (SendsReply r reply))
     → WhereKnown text rest (λ x y. WhereKnown before after (Serves may handed leaves stays r old new x y))
@@ -82,7 +82,7 @@ hands may handed leaves stays (puts text) old new reply h =
       | inr refused ↦ inl refused.1
     ]
 
-pub hands_one : {B : Type 0} (may : MayAnswer B) (handed : Handed B) (leaves : Leaves B) (stays : Stays B) (old new : B) (asked : FlightRequest) (r : Result Outgoing Refusal)
+pub hands_one : {B : Type 0} (may : MayAnswer B) (handed : Handed B) (leaves : Leaves B) (stays : Stays B) (old new : B) (asked : FlightRequest) (r : Result Outgoing CallRefusal)
     → RespondsBy may handed leaves stays (request_of asked) old new r → HandsOneAtMost handed old new
 hands_one may handed leaves stays old new asked r responds =
     elim (hands may handed leaves stays (request_of asked) old new responds.0 responds.1) [
@@ -106,10 +106,10 @@ handed_behind_an_end may handed leaves stays text rest old new reply due =
 abbrev pub HandsOver : {B : Type 0} → Handed B → List ℕ → B → B → Reply → Type 0
 HandsOver handed upload old new reply =
     (handed new ≡ handed old ++ upload ∷ [])
-    ⊎ ((refusal : Refusal) × IsOfTheMachine refusal × (reply ≡ refuses refusal) × (handed new ≡ handed old))
+    ⊎ ((refusal : CallRefusal) × IsOfTheMachine refusal × (reply ≡ refuses refusal) × (handed new ≡ handed old))
 
 module _ (one : (text a b : List ℕ) (x y : Request) → IsCall text x a → IsCall text y b → (x ≡ y) × (a ≡ b))
-    (faultless : (text rest after : List ℕ) (request : Request) (refusal : Refusal) → IsCall text request rest → RefusalStands refusal text after → IsOfTheMachine refusal) where
+    (faultless : (text rest after : List ℕ) (request : Request) (refusal : CallRefusal) → IsCall text request rest → RefusalStands refusal text after → IsOfTheMachine refusal) where
   pub ended_hands : {B : Type 0} (may : MayAnswer B) (handed : Handed B) (leaves : Leaves B) (stays : Stays B) (text rest left upload : List ℕ) (old new : B) (reply : Reply) → IsCall text (puts upload) rest
       → IsDue may handed leaves stays text left old new reply → HandsOver handed upload old new reply
   ended_hands may handed leaves stays text rest left upload old new reply call due =

@@ -4,9 +4,9 @@ use Rattle.std.specs.List.{AllByRecursion}
 use Rattle.std.proofs.lemmas.List.{map_push, take_more, flat_map_more}
 use Rattle.table_types.specs.Served.{in_frame}
 use Rattle.table_types.specs.Valid.{FitsFrame}
-use Rattle.call_words.specs.Texts.{messages_text}
-use Rattle.call_words.specs.declared.refusal.Refusal.{Refusal}
-use Rattle.call_words.specs.declared.refusal.Refusal.TheVariants as refusals
+use Rattle.call_protocol.specs.Texts.{messages_text}
+use Rattle.call_protocol.specs.declared.refusal.CallRefusal.{CallRefusal}
+use Rattle.call_protocol.specs.declared.refusal.CallRefusal.TheVariants as refusals
 use Rattle.flight_calls.specs.Framing.{Frames}
 
 -- these frames are those of the messages, each of which fits
@@ -44,7 +44,7 @@ one_of_mapped message_of (y ∷ ys) zero x within is all = subst (λ z. FitsFram
 one_of_mapped message_of (y ∷ ys) (suc i) x within is all = one_of_mapped message_of ys i x (omega (arith, within)) is all.1
 
 -- the frames of all could not be made, since that of one could not
-pub frames_fail : {X : Type 0} (message_of : X → List ℕ) (xs : List X) (i : ℕ) (x : X) (refusal : Refusal) → i < length xs → x ≡ get_or xs i x
+pub frames_fail : {X : Type 0} (message_of : X → List ℕ) (xs : List X) (i : ℕ) (x : X) (refusal : CallRefusal) → i < length xs → x ≡ get_or xs i x
     → ((refusal ≡ refusals.TooLarge) × (¬ FitsFrame (message_of x))) ⊎ (refusal ≡ refusals.OutOfMemory) → Frames (map message_of xs) (Err refusal)
 frames_fail message_of xs i x refusal within is fault =
     elim fault [

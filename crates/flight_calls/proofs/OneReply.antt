@@ -7,11 +7,11 @@ use Rattle.proto_wire.specs.Flight.{put_result_descriptor}
 use Rattle.table_types.specs.Uploads.{Upload, upload_text}
 use Rattle.table_types.specs.Valid.{IsUpload, IsId}
 use Rattle.table_types.specs.Tables.{Outcome, applied, mismatched, conflicting, unknown}
-use Rattle.call_words.specs.declared.refusal.Refusal.{Refusal}
-use Rattle.call_words.specs.Statuses.{code_of, status_of, name_of, refusal_trailer}
+use Rattle.call_protocol.specs.declared.refusal.CallRefusal.{CallRefusal}
+use Rattle.call_protocol.specs.Statuses.{code_of, status_of, name_of, refusal_trailer}
 use Rattle.call_reading.specs.Requests.{Request, describes, shows, lists, serves, puts}
 use Rattle.flight_calls.specs.Replies.{BackAnswer, described, shown, listed, served, decided, failed, Reply, answers, refuses, reply_text, RepliesBy, RepliesOutcome, RepliesDescribed, RepliesShown, RepliesListed, RepliesServed, RepliesTold, Replies}
-use Rattle.call_words.specs.Results.{applied_descriptor, put_result}
+use Rattle.call_protocol.specs.Results.{applied_descriptor, put_result}
 use Rattle.flight_calls.proofs.Sizes.{applied_short}
 
 -- ---- one reply
@@ -87,12 +87,12 @@ replies_one one (puts text) answer x y h k = told_one one text answer x y h k
 header_long : (n : ℕ) → length (header_text 128 n) ≡ 5
 header_long n = refl
 
-trailer_long : (refusal : Refusal) → length (refusal_trailer refusal) ≡ 6 + length (name_of refusal)
+trailer_long : (refusal : CallRefusal) → length (refusal_trailer refusal) ≡ 6 + length (name_of refusal)
 trailer_long refusal =
     let payload : List ℕ = code_of (status_of refusal) ∷ name_of refusal in
     omega (arith, length-append (header_text 128 (length payload)) payload, header_long (length payload))
 
-pub told_apart : ((refusal : Refusal) → 1 ≤ length (name_of refusal)) → (messages : List (List ℕ)) (refusal : Refusal) → reply_text (answers messages) ≡ reply_text (refuses refusal) → ⊥
+pub told_apart : ((refusal : CallRefusal) → 1 ≤ length (name_of refusal)) → (messages : List (List ℕ)) (refusal : CallRefusal) → reply_text (answers messages) ≡ reply_text (refuses refusal) → ⊥
 told_apart named [] refusal e =
     let long : 6 ≡ length (refusal_trailer refusal) = ap (λ (l : List ℕ). length l) e in
     omega (arith, long, trailer_long refusal, named refusal)

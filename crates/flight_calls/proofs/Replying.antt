@@ -7,14 +7,14 @@ use Rattle.table_types.specs.Valid.{IsUpload, FitsFrame}
 use Rattle.table_types.specs.Tables.{Version, applied}
 use Rattle.table_types.specs.Answers.{answer_of, answer_messages}
 use Rattle.table_types.specs.Ticket.{TableVersion, IsTableVersion}
-use Rattle.call_words.specs.declared.refusal.Refusal.{Refusal}
-use Rattle.call_words.specs.declared.refusal.Refusal.TheVariants as refusals
+use Rattle.call_protocol.specs.declared.refusal.CallRefusal.{CallRefusal}
+use Rattle.call_protocol.specs.declared.refusal.CallRefusal.TheVariants as refusals
 use Rattle.call_reading.specs.Requests.{describes, shows, lists, serves}
 use Rattle.flight_calls.specs.declared.table_description.TableDescription.{TableDescription}
 use Rattle.flight_calls.specs.declared.outgoing.Outgoing.{Outgoing}
 use Rattle.flight_calls.specs.declared.outgoing.Outgoing.TheVariants.{Shared}
 use Rattle.flight_calls.specs.Replies.{Description, described, shown, listed, served, Reply, answers, refuses, RepliesBy, info_message, schema_result}
-use Rattle.call_words.specs.Results.{put_result}
+use Rattle.call_protocol.specs.Results.{put_result}
 use Rattle.flight_calls.specs.Backing.{Describes, DescribeAll}
 use Rattle.flight_calls.specs.Serving.{MayAnswer, Handed, Leaves, Stays}
 use Rattle.flight_calls.specs.Describing.{version_in, locations_in, CanBeTold, message_told, message_of, schema_told}
@@ -66,7 +66,7 @@ messages_are (x ∷ xs) (y ∷ ys) h = ap₂ (λ (m : List ℕ) (ms : List (List
 -- ---- frames as a reply
 
 -- frames of these messages are a reply by them, or memory was refused
-framed_reply : (messages : List (List ℕ)) (r : Result Outgoing Refusal) → Frames messages r
+framed_reply : (messages : List (List ℕ)) (r : Result Outgoing CallRefusal) → Frames messages r
     → (reply : Reply) × (RepliesBy messages reply ⊎ (reply ≡ refuses refusals.OutOfMemory)) × AnswersIn r reply
 framed_reply messages (Ok frames) h = (answers messages, inl (inl (h.0, refl)), (messages, refl, h.1))
 framed_reply messages (Err refusal) h = (
@@ -77,7 +77,7 @@ framed_reply messages (Err refusal) h = (
 
 -- ---- an upload that was put
 
-pub applied_told : (text : List ℕ) (version : ℕ) (upload : Upload) (r : Result Outgoing Refusal) → IsUpload upload → upload_text upload ≡ text
+pub applied_told : (text : List ℕ) (version : ℕ) (upload : Upload) (r : Result Outgoing CallRefusal) → IsUpload upload → upload_text upload ≡ text
     → Frames (put_result upload.id version ∷ []) r → TellsOutcome text (applied version) r
 applied_told text version upload (Ok frames) valid is h =
     (answers (put_result upload.id version ∷ []), inl (upload, valid, is, refl), (put_result upload.id version ∷ [], refl, h.1))
@@ -90,7 +90,7 @@ applied_told text version upload (Err refusal) valid is h = (
 -- ---- a request, and what the backend answered
 
 module _ {B : Type 0} (may : MayAnswer B) (handed : Handed B) (leaves : Leaves B) (stays : Stays B) (old new : B) (same : handed new ≡ handed old) (took_nothing : stays old new) where
-  pub described_by : (table : List ℕ) (found : TableDescription) (r : Result Outgoing Refusal)
+  pub described_by : (table : List ℕ) (found : TableDescription) (r : Result Outgoing CallRefusal)
       → (description : Description) × may old (describes table) (described description) × Describes found description
       → Frames (message_of found ∷ []) r → RespondsBy may handed leaves stays (describes table) old new r
   described_by table found r told frames =
@@ -98,14 +98,14 @@ module _ {B : Type 0} (may : MayAnswer B) (handed : Handed B) (leaves : Leaves B
       let k = framed_reply (info_message told.0 ∷ []) r (subst (λ (m : List ℕ). Frames (m ∷ []) r) is frames) in
       (k.0, record { answer = described told.0; may_answer = told.1; replies = k.1; hands_nothing = same; takes_nothing = took_nothing }, k.2)
 
-  pub shown_by : (table schema : List ℕ) (r : Result Outgoing Refusal)
+  pub shown_by : (table schema : List ℕ) (r : Result Outgoing CallRefusal)
       → (tree : SchemaTree) × may old (shows table) (shown tree) × (schema ≡ schema_text tree) × FitsFrame schema
       → Frames (schema_told schema ∷ []) r → RespondsBy may handed leaves stays (shows table) old new r
   shown_by table schema r told frames =
       let k = framed_reply (schema_result told.0 ∷ []) r (subst (λ (s : List ℕ). Frames (schema_told s ∷ []) r) told.2 frames) in
       (k.0, record { answer = shown told.0; may_answer = told.1; replies = k.1; hands_nothing = same; takes_nothing = took_nothing }, k.2)
 
-  pub listed_by : (all : List TableDescription) (r : Result Outgoing Refusal)
+  pub listed_by : (all : List TableDescription) (r : Result Outgoing CallRefusal)
       → (descriptions : List Description) × may old lists (listed descriptions) × DescribeAll all descriptions
       → Frames (map message_of all) r → RespondsBy may handed leaves stays lists old new r
   listed_by all r told frames =

@@ -6,7 +6,7 @@ use Rattle.proto_fields.specs.Varint.{digits, varint_text}
 use Rattle.proto_fields.specs.Field.{Field, Varint, is_default, field_text, fields_text, present}
 use Rattle.proto_messages.specs.Canonical.{bytes_field, canonical}
 use Rattle.table_types.specs.Valid.{FitsFrame}
-use Rattle.call_words.specs.Results.{applied_descriptor, put_result}
+use Rattle.call_protocol.specs.Results.{applied_descriptor, put_result}
 
 digits_more : (b : Bool) (n most : ℕ) (others : List ℕ) → length others ≤ most → length (if b then n ∷ [] else (n % 128 + 128) ∷ others) ≤ suc most
 digits_more true n most others few = omega arith

@@ -7,7 +7,7 @@ use Rattle.proto_wire.specs.Flight.{info_descriptor, endpoint_descriptor, schema
 use Rattle.header_writing.specs.Canonical.{encapsulated}
 use Rattle.table_types.specs.Valid.{FitsFrame}
 use Rattle.table_types.specs.Ticket.{TableVersion, IsTableVersion, ticket_text}
-use Rattle.call_words.specs.Names.{table_descriptor}
+use Rattle.call_protocol.specs.Names.{table_descriptor}
 use Rattle.flight_calls.specs.declared.table_description.TableDescription.{TableDescription}
 use Rattle.flight_calls.specs.Replies.{total_of}
 

@@ -13,13 +13,13 @@ use Rattle.table_types.specs.Valid.{IsUpload, FitsFrame}
 use Rattle.table_types.specs.Tables.{Version, Outcome, applied, mismatched, conflicting, unknown}
 use Rattle.table_types.specs.Answers.{answer_messages}
 use Rattle.table_types.specs.Ticket.{TableVersion, ticket_text}
-use Rattle.call_words.specs.declared.back_fault.BackFault.{BackFault}
-use Rattle.call_words.specs.declared.refusal.Refusal.{Refusal}
-use Rattle.call_words.specs.declared.refusal.Refusal.TheVariants as refusals
-use Rattle.call_words.specs.Statuses.{refusal_trailer}
-use Rattle.call_words.specs.Names.{table_descriptor}
-use Rattle.call_words.specs.Results.{put_result}
-use Rattle.call_words.specs.Texts.{answer_text}
+use Rattle.call_protocol.specs.declared.back_fault.BackFault.{BackFault}
+use Rattle.call_protocol.specs.declared.refusal.CallRefusal.{CallRefusal}
+use Rattle.call_protocol.specs.declared.refusal.CallRefusal.TheVariants as refusals
+use Rattle.call_protocol.specs.Statuses.{refusal_trailer}
+use Rattle.call_protocol.specs.Names.{table_descriptor}
+use Rattle.call_protocol.specs.Results.{put_result}
+use Rattle.call_protocol.specs.Texts.{answer_text}
 use Rattle.call_reading.specs.Requests.{Request, describes, shows, lists, serves, puts}
 
 -- ---- what a backend may answer
@@ -70,7 +70,7 @@ schema_result schema = canonical schema_result_descriptor (encapsulated (schema_
 -- these messages and that all went well, or why it did not
 pub data Reply : Type 0 where
   answers : List (List ℕ) → Reply
-  refuses : Refusal → Reply
+  refuses : CallRefusal → Reply
 
 abbrev pub reply_text : Reply → List ℕ
 reply_text (answers messages) = answer_text messages

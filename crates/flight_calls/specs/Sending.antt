@@ -1,8 +1,8 @@
 -- What sending some bytes gives: a tool of the contracts of private functions.
 use Rattle.std.specs.Prelude.{◌≡◌, ◌≢◌, ℕ, List, ◌++◌, Result, Ok, Err}
 use Rattle.grpc_frames.specs.FrameFaults.{IsBeginning}
-use Rattle.call_words.specs.declared.call_fault.CallFault.{CallFault}
-use Rattle.call_words.specs.declared.call_fault.CallFault.TheVariants as faults
+use Rattle.call_protocol.specs.declared.call_fault.CallFault.{CallFault}
+use Rattle.call_protocol.specs.declared.call_fault.CallFault.TheVariants as faults
 use Rattle.flight_calls.specs.Replies.{Reply, reply_text}
 use Rattle.flight_calls.specs.Serving.{read_failed}
 

@@ -3,12 +3,12 @@
 use Rattle.std.specs.Prelude.{◌≡◌, ◌≢◌, ◌⊎◌, ℕ, List, [], ◌∷◌, ◌++◌, Result, Ok, Err}
 use Rattle.grpc_frames.specs.FrameFaults.{IsBeginning}
 use Rattle.grpc_frames.specs.declared.fault.FrameFault.TheVariants as frames
-use Rattle.call_words.specs.declared.back_fault.BackFault.{BackFault}
-use Rattle.call_words.specs.declared.back_fault.BackFault.TheVariants as backs
-use Rattle.call_words.specs.declared.refusal.Refusal.{Refusal}
-use Rattle.call_words.specs.declared.refusal.Refusal.TheVariants as refusals
-use Rattle.call_words.specs.declared.call_fault.CallFault.{CallFault}
-use Rattle.call_words.specs.declared.call_fault.CallFault.TheVariants as faults
+use Rattle.call_protocol.specs.declared.back_fault.BackFault.{BackFault}
+use Rattle.call_protocol.specs.declared.back_fault.BackFault.TheVariants as backs
+use Rattle.call_protocol.specs.declared.refusal.CallRefusal.{CallRefusal}
+use Rattle.call_protocol.specs.declared.refusal.CallRefusal.TheVariants as refusals
+use Rattle.call_protocol.specs.declared.call_fault.CallFault.{CallFault}
+use Rattle.call_protocol.specs.declared.call_fault.CallFault.TheVariants as faults
 use Rattle.call_reading.specs.Requests.{Request, describes, shows, lists, serves, puts, IsCall}
 use Rattle.call_reading.specs.Faults.{RefusalStands}
 use Rattle.flight_calls.specs.Replies.{BackAnswer, failed, Reply, refuses, reply_text, Replies}
@@ -74,7 +74,7 @@ Responds may handed leaves stays (puts text) old new reply = Puts may handed lea
 -- text begins with, or the fault that stands in it, of which the backend hears nothing.
 abbrev pub IsDue : {B : Type 0} → MayAnswer B → Handed B → Leaves B → Stays B → List ℕ → List ℕ → B → B → Reply → Type 0
 IsDue may handed leaves stays text rest old new reply =
-    ((refusal : Refusal) × RefusalStands refusal text rest × (new ≡ old) × (reply ≡ refuses refusal))
+    ((refusal : CallRefusal) × RefusalStands refusal text rest × (new ≡ old) × (reply ≡ refuses refusal))
     ⊎ ((request : Request) × IsCall text request rest × Responds may handed leaves stays request old new reply)
 
 -- what a read that failed is answered

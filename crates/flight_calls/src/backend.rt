@@ -10,10 +10,10 @@ ghost use Rattle.table_versions.specs.Outcomes.{told};
 ghost use Rattle.call_reading.specs.Requests.{Request, describes, shows, lists, serves, puts};
 ghost use Rattle.flight_calls.specs.Replies.{BackAnswer, Description, described, shown, listed, served, decided, failed};
 ghost use Rattle.flight_calls.specs.Backing.{Describes, DescribeAll};
-ghost use Rattle.call_words.specs.declared.back_fault.BackFault.TheVariants.{OutOfMemory};
+ghost use Rattle.call_protocol.specs.declared.back_fault.BackFault.TheVariants.{OutOfMemory};
 
 use crate::table_description::TableDescription;
-use call_words::BackFault;
+use call_protocol::BackFault;
 use std::alloc::Global;
 use table_types::Ticket;
 use table_versions::{Answer, Outcome};

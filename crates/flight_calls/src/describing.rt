@@ -10,7 +10,7 @@ ghost use Rattle.flight_calls.specs.Replies.{total_of};
 ghost use Rattle.flight_calls.specs.Describing.{CanBeTold, version_in, locations_in, endpoint_told, values_told, message_of, schema_told};
 
 use crate::table_description::TableDescription;
-use call_words::table_descriptor;
+use call_protocol::table_descriptor;
 use header_writing::encapsulate;
 use proto_messages::ProtoMessage;
 use proto_wire::{FlightEndpoint, FlightInfo, Location, SchemaResult, Ticket as TicketMessage};

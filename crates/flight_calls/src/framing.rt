@@ -5,14 +5,14 @@ ghost use Rattle.std.specs.List.{AllByRecursion};
 ghost use Rattle.grpc_frames.specs.Frame.{payload_limit, header_text};
 ghost use Rattle.table_types.specs.Served.{in_frame};
 ghost use Rattle.table_types.specs.Valid.{FitsFrame};
-ghost use Rattle.call_words.specs.declared.refusal.Refusal.TheVariants.{TooLarge, OutOfMemory};
+ghost use Rattle.call_protocol.specs.declared.refusal.CallRefusal.TheVariants.{TooLarge, OutOfMemory};
 ghost use Rattle.flight_calls.specs.Describing.{CanBeTold, message_of, schema_told};
 ghost use Rattle.flight_calls.specs.Framing.{Frames};
 
 use crate::describing::{info_message, schema_message};
 use crate::outgoing::Outgoing;
 use crate::table_description::TableDescription;
-use call_words::Refusal;
+use call_protocol::CallRefusal;
 use grpc_frames::{MAX_FRAME_PAYLOAD, MESSAGE_FLAG};
 use std::alloc::{AllocError, Global};
 
@@ -27,15 +27,15 @@ fn append_header(out: &mut Vec<u8>, len: usize) -> Result<(), AllocError>
 
 /// Appends the frame of a message.
 ///
-/// The refusals are [`Refusal::TooLarge`] for a message that no frame has room for, and [`Refusal::OutOfMemory`].
-fn append_frame(out: &mut Vec<u8>, message: &[u8]) -> Result<(), Refusal>
+/// The refusals are [`CallRefusal::TooLarge`] for a message that no frame has room for, and [`CallRefusal::OutOfMemory`].
+fn append_frame(out: &mut Vec<u8>, message: &[u8]) -> Result<(), CallRefusal>
     ensures ok { OnOk result (out.new.items ≡ out.old.items ++ in_frame message.now) }
     ensures fits { OnOk result (FitsFrame message.now) }
     ensures fault { IfErr result (λ refusal.
         ((refusal ≡ TooLarge) × (¬ FitsFrame message.now)) ⊎ (refusal ≡ OutOfMemory)) }
 {
     if message.len() > MAX_FRAME_PAYLOAD {
-        return Err(Refusal::TooLarge);
+        return Err(CallRefusal::TooLarge);
     }
     append_header(out, message.len())?;
     out.extend_from_slice(message)?;
@@ -43,7 +43,7 @@ fn append_frame(out: &mut Vec<u8>, message: &[u8]) -> Result<(), Refusal>
 }
 
 /// The frame of a message. The refusals are those of [`append_frame`].
-pub(crate) fn frame_of(alloc: Global, message: &[u8]) -> Result<Outgoing, Refusal>
+pub(crate) fn frame_of(alloc: Global, message: &[u8]) -> Result<Outgoing, CallRefusal>
     ensures { Frames (message.now ∷ []) result }
 {
     let mut frames = Vec::new(alloc);
@@ -52,7 +52,7 @@ pub(crate) fn frame_of(alloc: Global, message: &[u8]) -> Result<Outgoing, Refusa
 }
 
 /// The frame of the message with a schema, whose own message this is.
-pub(crate) fn schema_frame(alloc: Global, schema: &[u8]) -> Result<Outgoing, Refusal>
+pub(crate) fn schema_frame(alloc: Global, schema: &[u8]) -> Result<Outgoing, CallRefusal>
     requires { FitsFrame schema.now }
     ensures { Frames (schema_told schema.now ∷ []) result }
 {
@@ -61,7 +61,10 @@ pub(crate) fn schema_frame(alloc: Global, schema: &[u8]) -> Result<Outgoing, Ref
 }
 
 /// The frame of what is told of a table.
-pub(crate) fn info_frame(alloc: Global, described: &TableDescription) -> Result<Outgoing, Refusal>
+pub(crate) fn info_frame(
+    alloc: Global,
+    described: &TableDescription,
+) -> Result<Outgoing, CallRefusal>
     requires { CanBeTold described.now }
     ensures { Frames (message_of described.now ∷ []) result }
 {
@@ -74,7 +77,7 @@ fn append_info(
     alloc: Global,
     frames: &mut Vec<u8>,
     described: &TableDescription,
-) -> Result<(), Refusal>
+) -> Result<(), CallRefusal>
     requires { CanBeTold described.now }
     ensures ok { OnOk result (frames.new.items ≡ frames.old.items ++ in_frame (message_of described.now)) }
     ensures fits { OnOk result (FitsFrame (message_of described.now)) }
@@ -86,7 +89,7 @@ fn append_info(
 }
 
 /// The frames of what is told of each table. The refusals are those of [`append_frame`].
-pub(crate) fn info_frames(alloc: Global, all: &[TableDescription]) -> Result<Outgoing, Refusal>
+pub(crate) fn info_frames(alloc: Global, all: &[TableDescription]) -> Result<Outgoing, CallRefusal>
     requires { AllByRecursion CanBeTold all.now }
     ensures { Frames (map message_of all.now) result }
 {

@@ -4,16 +4,16 @@ ghost use Rattle.std.specs.Prelude.{◌≡◌, ◌≢◌, ◌⊎◌, ◌<◌, �
 ghost use Rattle.proto_messages.specs.Descriptor.{IsMessage};
 ghost use Rattle.proto_wire.specs.Flight.{put_result_descriptor};
 ghost use Rattle.table_types.specs.Valid.{IsId};
-ghost use Rattle.call_words.specs.declared.refusal.Refusal.{Refusal as Refused};
+ghost use Rattle.call_protocol.specs.declared.refusal.CallRefusal.{CallRefusal as Refused};
 ghost use Rattle.call_reading.specs.Requests.{Request, puts, IsCall};
 ghost use Rattle.call_reading.specs.Faults.{IsOfTheMachine};
 ghost use Rattle.flight_calls.specs.Replies.{BackAnswer, Reply, Replies, answers, refuses, reply_text};
-ghost use Rattle.call_words.specs.Results.{applied_descriptor, put_result};
+ghost use Rattle.call_protocol.specs.Results.{applied_descriptor, put_result};
 ghost use Rattle.flight_calls.specs.Serving.{IsDue};
 
 use crate::backend::Backend;
+use call_protocol::laws::refusals_are_told;
 use call_reading::laws::{calls_are_not_refused, calls_ask_for_one_thing};
-use call_words::laws::refusals_are_told;
 use proto_messages::laws::canonical_messages_are_messages;
 use table_types::laws::uploads_have_one_encoding;
 

@@ -16,6 +16,6 @@ mod serving;
 mod table_description;
 
 pub use backend::Backend;
-pub use call_words::CallFault;
+pub use call_protocol::CallFault;
 pub use serving::serve_call;
 pub use table_description::TableDescription;

@@ -4,9 +4,9 @@ ghost use Rattle.std.specs.Prelude.{◌≡◌, ◌++◌, ◌∷◌, ◌+◌, ◌
 ghost use Rattle.std.specs.List.{concat};
 ghost use Rattle.grpc_frames.specs.FrameFaults.{WhereKnown, Writes};
 ghost use Rattle.grpc_frames.specs.declared.fault.FrameFault.TheVariants.{Io};
-ghost use Rattle.call_words.specs.declared.refusal.Refusal.TheVariants.{Frame};
-ghost use Rattle.call_words.specs.Statuses.{code_of, trailer_text, ok_trailer, refusal_trailer};
-ghost use Rattle.call_words.specs.declared.call_fault.CallFault.TheVariants.{Read};
+ghost use Rattle.call_protocol.specs.declared.refusal.CallRefusal.TheVariants.{Frame};
+ghost use Rattle.call_protocol.specs.Statuses.{code_of, trailer_text, ok_trailer, refusal_trailer};
+ghost use Rattle.call_protocol.specs.declared.call_fault.CallFault.TheVariants.{Read};
 ghost use Rattle.flight_calls.specs.Replies.{Reply, refuses};
 ghost use Rattle.flight_calls.specs.Framing.{outgoing_text};
 ghost use Rattle.flight_calls.specs.Responding.{AnswersIn};
@@ -14,8 +14,8 @@ ghost use Rattle.flight_calls.specs.Sending.{Sends, SendsReply};
 
 use crate::outgoing::Outgoing;
 use bytes::Bytes;
-use call_words::laws::refusals_are_told;
-use call_words::{CallFault, Refusal, Status};
+use call_protocol::laws::refusals_are_told;
+use call_protocol::{CallFault, CallRefusal, Status};
 use grpc_frames::transfer::put;
 use grpc_frames::{END_FLAG, FrameFault, write_frame};
 use std::io::Write;
@@ -81,17 +81,17 @@ fn send_outgoing<W: Write>(w: &mut W, outgoing: &Outgoing) -> Result<(), CallFau
 }
 
 /// Whether a read failed.
-fn is_failed_read(refusal: Refusal) -> bool
+fn is_failed_read(refusal: CallRefusal) -> bool
     ensures { IsTrue result ↔ (refusal ≡ Frame Io) }
 {
     match refusal {
-        Refusal::Frame(fault) => fault == FrameFault::Io,
+        CallRefusal::Frame(fault) => fault == FrameFault::Io,
         _ => false,
     }
 }
 
 /// Writes the trailer of a refusal.
-fn send_trailer_of<W: Write>(w: &mut W, refusal: Refusal) -> Result<(), CallFault>
+fn send_trailer_of<W: Write>(w: &mut W, refusal: CallRefusal) -> Result<(), CallFault>
     ensures { WhereKnown (W.contents w.old) (W.contents w.new) (Sends result (refusal_trailer refusal)) }
 {
     refusals_are_told();
@@ -99,7 +99,7 @@ fn send_trailer_of<W: Write>(w: &mut W, refusal: Refusal) -> Result<(), CallFaul
 }
 
 /// What a caller is told where the trailer of a refusal was written.
-fn told_to_caller(refusal: Refusal) -> Result<(), CallFault>
+fn told_to_caller(refusal: CallRefusal) -> Result<(), CallFault>
     ensures read { result ≡ Err Read ↔ (refusal ≡ Frame Io) }
     ensures only { IfErr result (λ fault. fault ≡ Read) }
 {
@@ -111,7 +111,7 @@ fn told_to_caller(refusal: Refusal) -> Result<(), CallFault>
 }
 
 /// Writes the trailer of a refusal, and tells where it is that a read failed.
-fn send_refusal<W: Write>(w: &mut W, refusal: Refusal) -> Result<(), CallFault>
+fn send_refusal<W: Write>(w: &mut W, refusal: CallRefusal) -> Result<(), CallFault>
     ensures { WhereKnown (W.contents w.old) (W.contents w.new) (SendsReply result (refuses refusal)) }
 {
     send_trailer_of(w, refusal)?;
@@ -124,7 +124,7 @@ fn send_refusal<W: Write>(w: &mut W, refusal: Refusal) -> Result<(), CallFault>
 /// failed, and that a beginning of what was to be written has gone out.
 pub(crate) fn send_answer<W: Write>(
     w: &mut W,
-    answer: Result<Outgoing, Refusal>,
+    answer: Result<Outgoing, CallRefusal>,
 ) -> Result<(), CallFault>
     ensures { (reply : Reply) → AnswersIn answer reply
         → WhereKnown (W.contents w.old) (W.contents w.new) (SendsReply result reply) }

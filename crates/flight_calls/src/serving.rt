@@ -9,13 +9,13 @@ use crate::backend::Backend;
 use crate::outgoing::Outgoing;
 use crate::responding::respond;
 use crate::sending::send_answer;
+use call_protocol::{CallFault, CallRefusal};
 use call_reading::read_call;
-use call_words::{CallFault, Refusal};
 use std::alloc::Global;
 use std::io::{Read, Write};
 
 /// Reads a call to its end, or to the first fault that stands in it, and asks the backend once the end was read.
-fn answer<R: Read, B: Backend>(alloc: Global, r: &mut R, b: &mut B) -> Result<Outgoing, Refusal>
+fn answer<R: Read, B: Backend>(alloc: Global, r: &mut R, b: &mut B) -> Result<Outgoing, CallRefusal>
     ensures answers { WhereKnown (R.remaining r.old) (R.remaining r.new)
         (AnswersText B.may_answer B.handed B.leaves B.stays b.old b.new result) }
     ensures once { HandsOneAtMost B.handed b.old b.new }

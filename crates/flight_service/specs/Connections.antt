@@ -1,11 +1,11 @@
 -- What serving one connection to one node of a cluster gives: a call is served (`flight_calls`) by what that node answers and
 -- holds. Clusters are this service's own.
 use Rattle.std.specs.Prelude.{◌≡◌, ℕ, true, false, List, [], Result}
-use Rattle.table_types.specs.Uploads.{Upload}
-use Rattle.node_events.specs.declared.event_result.EventResult.{EventResult}
-use Rattle.seats.specs.declared.query.Query.{Query}
-use Rattle.seats.specs.declared.fault.SeatFault.{SeatFault}
-use Rattle.call_words.specs.declared.call_fault.CallFault.{CallFault}
+use Rattle.cluster_backend.specs.parts.table_types.specs.Uploads.{Upload}
+use Rattle.cluster_backend.specs.parts.node_events.specs.declared.event_result.EventResult.{EventResult}
+use Rattle.cluster_backend.specs.seats.specs.declared.query.Query.{Query}
+use Rattle.cluster_backend.specs.seats.specs.declared.fault.SeatFault.{SeatFault}
+use Rattle.call_protocol.specs.declared.call_fault.CallFault.{CallFault}
 use Rattle.flight_calls.specs.Serving.{Serves}
 use Rattle.cluster_backend.specs.Backing.{Connected, StaysAt, MayAnswer}
 

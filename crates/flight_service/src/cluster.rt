@@ -7,11 +7,11 @@ ghost use Rattle.std.specs.Prelude.{◌≡◌, [], IfOk};
 use crate::fault::{ServiceFault, store_fault};
 use ballots::{Members, NodeId};
 use cluster_backend::{
-    Beginning, Cluster, Journal, Note, OpenGate, OwnEntry, Recent, Retention, Running, Seat, Whole,
+    Beginning, Cluster, Config, Journal, MAX_JOURNAL_ENTRIES, MAX_SLOTS, Note, OpenGate, OwnEntry,
+    Recent, Retention, Running, Seat, Whole,
 };
 use crossbeam_channel::Receiver;
-use growing_log::Opened;
-use schedule_runner::{Config, MAX_JOURNAL_ENTRIES, MAX_SLOTS};
+use ghost_log::Opened;
 use stable_records::{MemoryStable, Stable};
 use std::alloc::Global;
 use std::hash::RandomState;

@@ -6,7 +6,7 @@ ghost use Rattle.flight_service.specs.Connections.{ServesAt};
 
 use crate::service::Service;
 use crate::timely::TimelyWriter;
-use call_words::CallFault;
+use call_protocol::CallFault;
 use cluster_backend::{ClusterBackend, Nodes, Receipts};
 use flight_calls::serve_call;
 use std::alloc::Global;

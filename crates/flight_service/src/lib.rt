@@ -29,15 +29,14 @@ pub use cluster::{
     Started, config_of, five_nodes, open_counting_seat, open_seat, start_nodes, three_nodes,
 };
 pub use cluster_backend::{
-    AllReceipts, Beginning, Cluster, ClusterBackend, Gate, Journal, NoReceipts, Nodes, Note,
-    OpenGate, OwnEntry, Recent, Retention, Running, Seat, SeatFault, SeatInput, Whole,
+    AllReceipts, Beginning, Cluster, ClusterBackend, Config, Gate, Journal, NoReceipts, Nodes,
+    Note, OpenGate, OwnEntry, Recent, Retention, Running, Seat, SeatFault, SeatInput, Whole, audit,
 };
 pub use connection::{SILENCE_SECONDS, serve_connection};
 pub use fault::ServiceFault;
 pub use listening::{bind_all, start_listening};
 pub use opening::{OpenService, join_all, open_service};
 pub use places::{MOST_CONNECTIONS, Places};
-pub use schedule_runner::Config;
 pub use service::Service;
 pub use timely::{MOST_WRITE_BYTES, TimelyWriter};
 pub use works::{Works, start_workers};

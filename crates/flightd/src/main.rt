@@ -10,7 +10,7 @@
 #![tactic(auto)]
 
 use acceptor_command::acceptor_run;
-use audit_command::{AuditFault, FAILURE, audit_run, explain_run};
+use audit_command::{FAILURE, audit_run, explain_run};
 use client_command::{get_everywhere_run, get_run, info_run, list_run, put_run, put_words};
 use client_connections::Sockets;
 use cluster_folder::{FolderFault, advise, node_files, read_folder};
@@ -82,8 +82,8 @@ fn main(rt: HostRuntime) -> ExitCode {
         ),
         Err(error) => {
             let fault = match error.kind() {
-                io::ErrorKind::OutOfMemory => AuditFault::OutOfMemory,
-                _ => AuditFault::Io,
+                io::ErrorKind::OutOfMemory => "OutOfMemory",
+                _ => "Io",
             };
             // Where this fails too, the status alone tells.
             let _ = eprintln!(rt; "flightd: {fault}");

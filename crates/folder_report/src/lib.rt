@@ -18,8 +18,6 @@ mod report;
 mod reporting;
 mod slots;
 mod tables;
-#[cfg(test)]
-mod tests;
 mod values;
 mod writing;
 

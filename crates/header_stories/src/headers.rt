@@ -5,13 +5,13 @@ use flatbuf_meta::{
     write_schema,
 };
 use std::alloc::Global;
-use story_requests::{Answer, RequestFault, Words};
+use story_requests::{RequestFault, Response, Words};
 
 /// `message BYTES`: the header that the bytes show.
 pub(crate) fn answer_message(
     alloc: Global,
     words: &mut Words<'_>,
-    answer: &mut Answer,
+    answer: &mut Response,
 ) -> Result<(), RequestFault> {
     let bytes = words.bytes(alloc)?;
     match read_message(alloc, &bytes) {
@@ -47,7 +47,7 @@ fn put_batch(head: &BatchHead, out: &mut Vec<u8>) -> Result<(), RequestFault> {
 pub(crate) fn answer_rewritten(
     alloc: Global,
     words: &mut Words<'_>,
-    answer: &mut Answer,
+    answer: &mut Response,
 ) -> Result<(), RequestFault> {
     let bytes = words.bytes(alloc)?;
     let mut out = Vec::new(alloc);
@@ -63,7 +63,7 @@ pub(crate) fn answer_rewritten(
 pub(crate) fn answer_encapsulated(
     alloc: Global,
     words: &mut Words<'_>,
-    answer: &mut Answer,
+    answer: &mut Response,
 ) -> Result<(), RequestFault> {
     let mut out = words.bytes(alloc)?;
     let message = words.bytes(alloc)?;

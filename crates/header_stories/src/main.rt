@@ -16,7 +16,7 @@ mod schemas;
 
 use std::alloc::Global;
 use std::process::ExitCode;
-use story_requests::{Answer, Answers, RequestFault, Words, run};
+use story_requests::{Answers, RequestFault, Response, Words, run};
 
 /// Who answers about headers.
 #[derive(Drop)]
@@ -32,7 +32,7 @@ impl Answers for HeaderAnswers {
         alloc: Global,
         asked: &str,
         words: &mut Words<'_>,
-        answer: &mut Answer,
+        answer: &mut Response,
     ) -> Result<(), RequestFault> {
         match asked {
             "uint" | "slot" | "vector" => places::answer_at(alloc, asked, words, answer),

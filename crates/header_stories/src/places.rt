@@ -2,9 +2,9 @@
 
 use flat_places::{PlaceFault, follow, slot, text, uint, vector};
 use std::alloc::Global;
-use story_requests::{Answer, RequestFault, Words};
+use story_requests::{RequestFault, Response, Words};
 
-fn put_fault(alloc: Global, fault: PlaceFault, answer: &mut Answer) -> Result<(), RequestFault> {
+fn put_fault(alloc: Global, fault: PlaceFault, answer: &mut Response) -> Result<(), RequestFault> {
     let name = format!(in alloc; "{fault}")?;
     answer.word(name.as_str())
 }
@@ -13,7 +13,7 @@ fn put_uint(
     alloc: Global,
     bytes: &[u8],
     at: (usize, usize),
-    answer: &mut Answer,
+    answer: &mut Response,
 ) -> Result<(), RequestFault> {
     let (place, size) = at;
     if !matches!(size, 1 | 2 | 4 | 8) {
@@ -29,7 +29,7 @@ fn put_slot(
     alloc: Global,
     bytes: &[u8],
     at: (usize, usize),
-    answer: &mut Answer,
+    answer: &mut Response,
 ) -> Result<(), RequestFault> {
     match slot(bytes, at.0, at.1) {
         Ok(Some(place)) => answer.number(place as u64),
@@ -42,7 +42,7 @@ fn put_vector(
     alloc: Global,
     bytes: &[u8],
     at: (usize, usize),
-    answer: &mut Answer,
+    answer: &mut Response,
 ) -> Result<(), RequestFault> {
     match vector(bytes, at.0, at.1) {
         Ok((first, count)) => {
@@ -59,7 +59,7 @@ pub(crate) fn answer_at(
     alloc: Global,
     asked: &str,
     words: &mut Words<'_>,
-    answer: &mut Answer,
+    answer: &mut Response,
 ) -> Result<(), RequestFault> {
     let bytes = words.bytes(alloc)?;
     let place = words.number()?;
@@ -75,7 +75,7 @@ pub(crate) fn answer_at(
 pub(crate) fn answer_follow(
     alloc: Global,
     words: &mut Words<'_>,
-    answer: &mut Answer,
+    answer: &mut Response,
 ) -> Result<(), RequestFault> {
     let bytes = words.bytes(alloc)?;
     let place = words.number()?;
@@ -89,7 +89,7 @@ pub(crate) fn answer_follow(
 pub(crate) fn answer_text(
     alloc: Global,
     words: &mut Words<'_>,
-    answer: &mut Answer,
+    answer: &mut Response,
 ) -> Result<(), RequestFault> {
     let bytes = words.bytes(alloc)?;
     let place = words.number()?;

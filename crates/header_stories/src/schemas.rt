@@ -9,7 +9,7 @@
 use crate::headers::put_schema;
 use flatbuf_meta::{Field, Header, Schema, Ty, read_message};
 use std::alloc::{AllocError, Global};
-use story_requests::{Answer, RequestFault, Words};
+use story_requests::{RequestFault, Response, Words};
 
 // The one field of a schema.
 fn only_field(schema: Schema) -> Result<Field, RequestFault> {
@@ -149,7 +149,7 @@ fn is_read(alloc: Global, text: &[u8], schema: Schema) -> bool {
 fn answer_of_profile(
     alloc: Global,
     schema: Schema,
-    answer: &mut Answer,
+    answer: &mut Response,
 ) -> Result<(), RequestFault> {
     let mut text = Vec::new(alloc);
     put_schema(&schema, &mut text)?;
@@ -165,7 +165,7 @@ fn answer_of_profile(
 pub(crate) fn answer_profile(
     alloc: Global,
     words: &mut Words<'_>,
-    answer: &mut Answer,
+    answer: &mut Response,
 ) -> Result<(), RequestFault> {
     let schema = schema_of(alloc, words)?;
     if schema.in_profile() {
@@ -178,7 +178,7 @@ pub(crate) fn answer_profile(
 pub(crate) fn answer_written(
     alloc: Global,
     words: &mut Words<'_>,
-    answer: &mut Answer,
+    answer: &mut Response,
 ) -> Result<(), RequestFault> {
     let schema = schema_of(alloc, words)?;
     let mut text = Vec::new(alloc);
@@ -190,7 +190,7 @@ pub(crate) fn answer_written(
 pub(crate) fn answer_shapes(
     alloc: Global,
     words: &mut Words<'_>,
-    answer: &mut Answer,
+    answer: &mut Response,
 ) -> Result<(), RequestFault> {
     let one = schema_of(alloc, words)?;
     let other = schema_of(alloc, words)?;

@@ -3,9 +3,9 @@ use Rattle.std.proofs.Common.{◌≡◌, ◌≢◌, ℕ, suc, ◌+◌, ◌<◌, 
 use Rattle.std.proofs.lemmas.List.{append-nil, get_or-set_same, get_or-set_other}
 use Rattle.std.proofs.lemmas.List.Elements.{filter-append}
 use Rattle.std.proofs.lemmas.Bool.{eq-eqb, ne_eqb, eqb-true}
-use Rattle.ballots.specs.Limits.{max_members}
-use Rattle.histories.specs.Event.{node_of}
-use Rattle.histories.specs.Owning.{Entry}
+use Rattle.node_parts.specs.ballots.specs.Limits.{max_members}
+use Rattle.node_parts.specs.histories.specs.Event.{node_of}
+use Rattle.node_parts.specs.histories.specs.Owning.{Entry}
 use Rattle.journal.specs.Logged.{own_of, AreCounted}
 
 one_or_none : (here : Bool) (entry : Entry) (others : List Entry) → length (if here then entry ∷ others else others) ≤ suc (length others)

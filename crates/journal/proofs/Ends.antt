@@ -1,7 +1,7 @@
 -- The messages that are held, with more behind them.
 use Rattle.std.proofs.Common.{◌∷◌, ◌++◌, [], List, subst}
 use Rattle.std.proofs.lemmas.List.{append_assoc}
-use Rattle.ballots.specs.declared.message.Message.{Message}
+use Rattle.node_parts.specs.ballots.specs.declared.message.Message.{Message}
 use Rattle.journal.specs.declared.last_messages.LastMessages.{LastMessages}
 use Rattle.journal.specs.Recalled.{IsEndOf}
 

@@ -2,16 +2,16 @@
 use Rattle.std.proofs.Common.{◌≡◌, ℕ, ◌<◌, Bool, if◌then◌else◌, Option, List, [], ◌∷◌, ◌++◌, length, refl, sym, ap, subst, ◌∙◌}
 use Rattle.std.proofs.lemmas.Bool.{eq-eqb}
 use Rattle.std.proofs.lemmas.List.{map_push}
-use Rattle.ballots.specs.declared.message.Message.{Message}
-use Rattle.agreement_rules.specs.Views.{Config}
-use Rattle.histories.specs.Event.{node_of}
-use Rattle.histories.specs.History.{Step as HistoryStep}
-use Rattle.histories.specs.Following.{Seat, SeatGives, StepFollows, ReachesFrom, with_seat}
-use Rattle.histories.specs.Owning.{Entry, own, entries_of, OwnReaches}
-use Rattle.schedule_runner.specs.declared.step.Step.{Step}
-use Rattle.schedule_runner.specs.declared.config.Config.{Config as RunConfig}
-use Rattle.schedule_runner.specs.Told.{config_of, event_of, result_of, step_of, steps_of}
-use Rattle.schedule_runner.specs.Traced.{Tells, TraceReachesFrom, StepFollowsBehind}
+use Rattle.node_parts.specs.ballots.specs.declared.message.Message.{Message}
+use Rattle.node_parts.specs.agreement_rules.specs.Views.{Config}
+use Rattle.node_parts.specs.histories.specs.Event.{node_of}
+use Rattle.node_parts.specs.histories.specs.History.{Step as HistoryStep}
+use Rattle.node_parts.specs.histories.specs.Following.{Seat, SeatGives, StepFollows, ReachesFrom, with_seat}
+use Rattle.node_parts.specs.histories.specs.Owning.{Entry, own, entries_of, OwnReaches}
+use Rattle.node_parts.specs.traces.specs.declared.step.Step.{Step}
+use Rattle.node_parts.specs.traces.specs.declared.config.Config.{Config as RunConfig}
+use Rattle.node_parts.specs.traces.specs.Told.{config_of, event_of, result_of, step_of, steps_of}
+use Rattle.node_parts.specs.traces.specs.Traced.{Tells, TraceReachesFrom, StepFollowsBehind}
 use Rattle.journal.specs.Recalled.{Recalled}
 use Rattle.journal.specs.Kept.{Kept}
 use Rattle.journal.specs.Journaled.{seats_in, Journaled, journaled, HasFollowed, HasEntry, IsNext, own_in}

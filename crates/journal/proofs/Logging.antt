@@ -4,12 +4,12 @@ use mathlib.Core.List.{IsPrefix}
 use Rattle.std.specs.Option.{IfSome}
 use Rattle.std.proofs.lemmas.List.{append-nil}
 use Rattle.std.proofs.lemmas.List.Elements.{filter-append}
-use Rattle.ballots.specs.declared.message.Message.{Message}
-use Rattle.histories.specs.Event.{node_of}
-use Rattle.histories.specs.Owning.{Entry, is_question, entry_of, entries_of, own}
-use Rattle.schedule_runner.specs.declared.config.Config.{Config}
-use Rattle.schedule_runner.specs.declared.step.Step.{Step}
-use Rattle.schedule_runner.specs.Told.{event_of, step_of, steps_of}
+use Rattle.node_parts.specs.ballots.specs.declared.message.Message.{Message}
+use Rattle.node_parts.specs.histories.specs.Event.{node_of}
+use Rattle.node_parts.specs.histories.specs.Owning.{Entry, is_question, entry_of, entries_of, own}
+use Rattle.node_parts.specs.traces.specs.declared.config.Config.{Config}
+use Rattle.node_parts.specs.traces.specs.declared.step.Step.{Step}
+use Rattle.node_parts.specs.traces.specs.Told.{event_of, step_of, steps_of}
 use Rattle.journal.specs.Journaled.{Journaled, TellsSame, HasEntry, own_in}
 use Rattle.journal.specs.Logged.{own_of, HasLogged, GoesOn, with_entry, own_entry}
 

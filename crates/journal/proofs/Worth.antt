@@ -2,28 +2,28 @@
 use Rattle.std.proofs.Common.{◌≡◌, ◌⊎◌, ℕ, ◌<◌, ◌≤◌, inl, inr, refl, Bool, false, List, [], Option, None, Some, slice_get, sym, ap, subst, ◌∙◌}
 use Rattle.std.proofs.lemmas.Option.{slice_get-map}
 use Rattle.std.specs.Option.{option_map}
-use Rattle.table_types.specs.Uploads.{Upload}
-use Rattle.table_versions.specs.declared.outcome.Outcome.TheVariants.{Applied}
-use Rattle.table_types.specs.Tables.{applied}
-use Rattle.histories.specs.Texts.{IsTextOf}
-use Rattle.histories.specs.Event as events
-use Rattle.histories.specs.EventResult as results
-use Rattle.histories.specs.EventResult.{EventResult as HistoryResult}
-use Rattle.histories.specs.History.{Step as HistoryStep, History}
-use Rattle.histories.specs.Following.{Seat, Follows, ReachesFrom}
-use Rattle.safe_histories.specs.Learning.{brings_up, brings_down}
-use Rattle.agreement_rules.specs.Views.{Config}
-use Rattle.safe_histories.specs.Safe.{IsStep, SameTicketSameBytes, AcknowledgedStandsOnce}
-use Rattle.joined_histories.specs.Joined.{Precedes}
-use Rattle.node_events.specs.declared.event.Event.{Event}
-use Rattle.node_events.specs.declared.event.Event.TheVariants.{Get, Outcome as AsksOutcome}
-use Rattle.node_events.specs.declared.event_result.EventResult.{EventResult}
-use Rattle.node_events.specs.declared.event_result.EventResult.TheVariants.{Answer, Outcome as TellsOutcome, Refused}
-use Rattle.node_events.specs.declared.event_result.Reason.TheVariants.{OutOfMemory}
-use Rattle.node_events.specs.Told.{event_of, result_of}
-use Rattle.schedule_runner.specs.declared.step.Step.{Step}
-use Rattle.schedule_runner.specs.Told.{config_of, step_of, steps_of}
-use Rattle.schedule_runner.specs.Traced.{Traced, history_of, TraceReachesFrom}
+use Rattle.node_parts.specs.table_types.specs.Uploads.{Upload}
+use Rattle.node_parts.specs.table_versions.specs.declared.outcome.Outcome.TheVariants.{Applied}
+use Rattle.node_parts.specs.table_types.specs.Tables.{applied}
+use Rattle.node_parts.specs.histories.specs.Texts.{IsTextOf}
+use Rattle.node_parts.specs.histories.specs.Event as events
+use Rattle.node_parts.specs.histories.specs.EventResult as results
+use Rattle.node_parts.specs.histories.specs.EventResult.{EventResult as HistoryResult}
+use Rattle.node_parts.specs.histories.specs.History.{Step as HistoryStep, History}
+use Rattle.node_parts.specs.histories.specs.Following.{Seat, Follows, ReachesFrom}
+use Rattle.node_parts.specs.safe_histories.specs.Learning.{brings_up, brings_down}
+use Rattle.node_parts.specs.agreement_rules.specs.Views.{Config}
+use Rattle.node_parts.specs.safe_histories.specs.Safe.{IsStep, SameTicketSameBytes, AcknowledgedStandsOnce}
+use Rattle.node_parts.specs.joined_histories.specs.Joined.{Precedes}
+use Rattle.node_parts.specs.node_events.specs.declared.event.Event.{Event}
+use Rattle.node_parts.specs.node_events.specs.declared.event.Event.TheVariants.{Get, Outcome as AsksOutcome}
+use Rattle.node_parts.specs.node_events.specs.declared.event_result.EventResult.{EventResult}
+use Rattle.node_parts.specs.node_events.specs.declared.event_result.EventResult.TheVariants.{Answer, Outcome as TellsOutcome, Refused}
+use Rattle.node_parts.specs.node_events.specs.declared.event_result.Reason.TheVariants.{OutOfMemory}
+use Rattle.node_parts.specs.node_events.specs.Told.{event_of, result_of}
+use Rattle.node_parts.specs.traces.specs.declared.step.Step.{Step}
+use Rattle.node_parts.specs.traces.specs.Told.{config_of, step_of, steps_of}
+use Rattle.node_parts.specs.traces.specs.Traced.{Traced, history_of, TraceReachesFrom}
 use Rattle.journal.specs.declared.receipt.Receipt.{Receipt}
 use Rattle.journal.specs.Journaled.{seats_in, Journaled, HasFollowed}
 use Rattle.journal.specs.Receipts.{step_told, IsReceiptOf, SameBytes, StandsOnce, AreWorth, IsFresh}

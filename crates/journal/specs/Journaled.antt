@@ -2,15 +2,15 @@
 -- the node had back the record that was due where it went down (Lamport, "Paxos Made Simple", section 2.5). That nodes share a
 -- journal is this service's own.
 use Rattle.std.specs.Prelude.{◌≡◌, ℕ, ◌<◌, ◌≤◌, Bool, IsTrue, Option, List, [], ◌∷◌, ◌++◌, length, slice_index_or}
-use Rattle.ballots.specs.declared.message.Message.{Message}
-use Rattle.histories.specs.Event.{node_of}
-use Rattle.histories.specs.EventResult.{count_of}
-use Rattle.histories.specs.Following.{Seat, SeatGives, IsAsked, at_first}
-use Rattle.histories.specs.Owning.{Entry, own, entries_of, OwnReaches}
-use Rattle.schedule_runner.specs.declared.step.Step.{Step}
-use Rattle.schedule_runner.specs.Told.{config_of, event_of, result_of, step_of, steps_of}
+use Rattle.node_parts.specs.ballots.specs.declared.message.Message.{Message}
+use Rattle.node_parts.specs.histories.specs.Event.{node_of}
+use Rattle.node_parts.specs.histories.specs.EventResult.{count_of}
+use Rattle.node_parts.specs.histories.specs.Following.{Seat, SeatGives, IsAsked, at_first}
+use Rattle.node_parts.specs.histories.specs.Owning.{Entry, own, entries_of, OwnReaches}
+use Rattle.node_parts.specs.traces.specs.declared.step.Step.{Step}
+use Rattle.node_parts.specs.traces.specs.Told.{config_of, event_of, result_of, step_of, steps_of}
 use Rattle.journal.specs.Kept.{Kept}
-use Rattle.schedule_runner.specs.Traced.{Traced, TellsAsBefore, TellsMore, HasRoomFor, TraceReachesFrom}
+use Rattle.node_parts.specs.traces.specs.Traced.{Traced, TellsAsBefore, TellsMore, HasRoomFor, TraceReachesFrom}
 
 -- how a node starts: as the list has it, or with nothing where the list ends
 abbrev pub seats_in : List Seat → ℕ → Seat

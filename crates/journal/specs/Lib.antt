@@ -1,3 +1,4 @@
+pub use Rattle.node_parts.specs as parts
 pub mod Recalled
 pub mod Kept
 pub mod Journaled

@@ -2,12 +2,12 @@
 use Rattle.std.specs.Prelude.{◌≡◌, ◌⊎◌, ℕ, ◌<◌, ◌≤◌, ◌^◌, ◌==◌, if◌then◌else◌, Bool, Option, None, Some, IsSome, List, [], ◌∷◌, ◌++◌, length, slice_index_or}
 use mathlib.Core.List.{IsPrefix}
 use Rattle.std.specs.List.{filter}
-use Rattle.ballots.specs.Limits.{max_members}
-use Rattle.ballots.specs.declared.message.Message.{Message}
-use Rattle.histories.specs.Event.{node_of}
-use Rattle.histories.specs.Owning.{Entry, is_question, entry_of}
-use Rattle.schedule_runner.specs.declared.step.Step.{Step}
-use Rattle.schedule_runner.specs.Told.{event_of, step_of}
+use Rattle.node_parts.specs.ballots.specs.Limits.{max_members}
+use Rattle.node_parts.specs.ballots.specs.declared.message.Message.{Message}
+use Rattle.node_parts.specs.histories.specs.Event.{node_of}
+use Rattle.node_parts.specs.histories.specs.Owning.{Entry, is_question, entry_of}
+use Rattle.node_parts.specs.traces.specs.declared.step.Step.{Step}
+use Rattle.node_parts.specs.traces.specs.Told.{event_of, step_of}
 use Rattle.journal.specs.Journaled.{Journaled, own_in}
 
 -- the entries of one node

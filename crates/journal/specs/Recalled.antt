@@ -1,8 +1,8 @@
 -- What a journal recalls of its steps: all, or the last messages alone. That it forgets is this service's own.
 use Rattle.std.specs.Prelude.{◌≡◌, ◌⊎◌, ℕ, ◌+◌, ◌<◌, ◌≤◌, Bool, Option, None, List, [], ◌∷◌, ◌++◌, length, map, drop, slice_get, nat_lt, if◌then◌else◌, flat_map}
-use Rattle.ballots.specs.declared.message.Message.{Message}
-use Rattle.schedule_runner.specs.declared.step.Step.{Step}
-use Rattle.schedule_runner.specs.Traced.{Traced, TellsAsBefore, TellsMore, HasRoomFor}
+use Rattle.node_parts.specs.ballots.specs.declared.message.Message.{Message}
+use Rattle.node_parts.specs.traces.specs.declared.step.Step.{Step}
+use Rattle.node_parts.specs.traces.specs.Traced.{Traced, TellsAsBefore, TellsMore, HasRoomFor}
 use Rattle.journal.specs.declared.last_messages.LastMessages.{LastMessages}
 
 -- the message of this number, where the first so many are forgotten

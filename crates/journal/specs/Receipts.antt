@@ -1,17 +1,17 @@
 -- Receipts of steps, and what two of one journal are worth. Receipts are this service's own.
 use Rattle.std.specs.Prelude.{◌≡◌, ◌⊎◌, ℕ, ◌<◌, ◌≤◌, false, List, Some, slice_get}
-use Rattle.table_types.specs.Uploads.{Upload}
-use Rattle.table_types.specs.Ticket.{TableVersion}
-use Rattle.table_versions.specs.declared.outcome.Outcome.TheVariants.{Applied}
-use Rattle.histories.specs.Texts.{IsTextOf}
-use Rattle.safe_histories.specs.Learning.{brings_up, brings_down}
-use Rattle.safe_histories.specs.Safe.{StandsIn}
-use Rattle.node_events.specs.declared.event.Event.TheVariants.{Get, Outcome as AsksOutcome}
-use Rattle.node_events.specs.declared.event_result.EventResult.TheVariants.{Answer, Outcome as TellsOutcome, Refused}
-use Rattle.node_events.specs.declared.event_result.Reason.TheVariants.{OutOfMemory}
-use Rattle.schedule_runner.specs.declared.step.Step.{Step}
-use Rattle.schedule_runner.specs.Told.{step_of}
-use Rattle.schedule_runner.specs.Traced.{Traced}
+use Rattle.node_parts.specs.table_types.specs.Uploads.{Upload}
+use Rattle.node_parts.specs.table_types.specs.Ticket.{TableVersion}
+use Rattle.node_parts.specs.table_versions.specs.declared.outcome.Outcome.TheVariants.{Applied}
+use Rattle.node_parts.specs.histories.specs.Texts.{IsTextOf}
+use Rattle.node_parts.specs.safe_histories.specs.Learning.{brings_up, brings_down}
+use Rattle.node_parts.specs.safe_histories.specs.Safe.{StandsIn}
+use Rattle.node_parts.specs.node_events.specs.declared.event.Event.TheVariants.{Get, Outcome as AsksOutcome}
+use Rattle.node_parts.specs.node_events.specs.declared.event_result.EventResult.TheVariants.{Answer, Outcome as TellsOutcome, Refused}
+use Rattle.node_parts.specs.node_events.specs.declared.event_result.Reason.TheVariants.{OutOfMemory}
+use Rattle.node_parts.specs.traces.specs.declared.step.Step.{Step}
+use Rattle.node_parts.specs.traces.specs.Told.{step_of}
+use Rattle.node_parts.specs.traces.specs.Traced.{Traced}
 use Rattle.journal.specs.declared.receipt.Receipt.{Receipt}
 
 -- the step that a receipt tells of

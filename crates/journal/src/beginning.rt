@@ -1,13 +1,13 @@
 //! Where journals begin.
 
-use growing_log::Naming;
+use ghost_log::Naming;
 use std::marker::Brand;
 
 /// How each node is where a journal of this name begins: with nothing, or as a history left it that went before. Whoever
 /// makes a journal picks it with the name.
 pub trait Beginning: Naming {
     ghost use Rattle.std.specs.Prelude.{List};
-    ghost use Rattle.histories.specs.Following.{Seat};
+    ghost use Rattle.node_parts.specs.histories.specs.Following.{Seat};
 
     ghost start: { List Seat };
 }

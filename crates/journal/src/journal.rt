@@ -2,13 +2,13 @@
 
 ghost use Rattle.std.specs.Prelude.{◌≡◌, ◌⊎◌, ◌↔◌, ◌+◌, ◌≤◌, IsTrue, [], ◌++◌, None, Some, IsSome, length, slice_get, IfOk, OnOk, vec_len};
 ghost use Rattle.std.specs.Option.{IfSome, option_map};
-ghost use Rattle.lawful_histories.specs.Lawful.{IsLawful};
-ghost use Rattle.histories.specs.History.{History};
-ghost use Rattle.safe_histories.specs.Safe.{IsSafe};
-ghost use Rattle.joined_histories.specs.Joined.{joined, Precedes};
-ghost use Rattle.schedule_runner.specs.Limits.{IsWithinLimits};
-ghost use Rattle.schedule_runner.specs.Told.{config_of};
-ghost use Rattle.schedule_runner.specs.Traced.{Tells, history_of};
+ghost use Rattle.node_parts.specs.lawful_histories.specs.Lawful.{IsLawful};
+ghost use Rattle.node_parts.specs.histories.specs.History.{History};
+ghost use Rattle.node_parts.specs.safe_histories.specs.Safe.{IsSafe};
+ghost use Rattle.node_parts.specs.joined_histories.specs.Joined.{joined, Precedes};
+ghost use Rattle.node_parts.specs.traces.specs.Limits.{IsWithinLimits};
+ghost use Rattle.node_parts.specs.traces.specs.Told.{config_of};
+ghost use Rattle.node_parts.specs.traces.specs.Traced.{Tells, history_of};
 ghost use Rattle.journal.specs.Recalled.{held_at};
 ghost use Rattle.journal.specs.Journaled.{seats_in, own_in, IsFull, HasFollowed, HasRoom, TellsSame, HasEntry, MayEnter, EntersOwn};
 ghost use Rattle.journal.specs.Logged.{HasLogged, GoesOn, own_entry};
@@ -23,13 +23,13 @@ use crate::recent_steps::RecentSteps;
 use crate::retention::{Recent, Retention, Whole};
 use crate::whole_steps::WholeSteps;
 use ballots::{Message, NodeId};
-use growing_log::{Naming, Opened, Reached};
+use ghost_log::{Naming, Opened, Reached};
 use histories::laws::{
     a_member_steps_alone, nothing_reaches_the_start, own_entries_decide_the_node, own_entries_grow,
     own_entries_leave_the_node,
 };
 use joined_histories::laws::{joined_replicas_agree, tails_are_safe};
-use schedule_runner::{Config, Step, Trace};
+use node_parts::{Config, Step, Trace};
 use std::alloc::{AllocError, Global};
 use std::marker::{Brand, Model, PhantomData};
 

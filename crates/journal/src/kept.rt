@@ -2,14 +2,14 @@
 
 ghost use Rattle.std.specs.Prelude.{◌≡◌, ◌↔◌, ℕ, Bool, IsTrue, IsSome, List, ◌∷◌, ◌++◌, [], true, false, length, OnOk, vec_len};
 ghost use Rattle.std.specs.Option.{IfSome, option_map};
-ghost use Rattle.histories.specs.Following.{Seat};
-ghost use Rattle.schedule_runner.specs.Traced.{TraceReachesFrom, StepFollowsBehind};
+ghost use Rattle.node_parts.specs.histories.specs.Following.{Seat};
+ghost use Rattle.node_parts.specs.traces.specs.Traced.{TraceReachesFrom, StepFollowsBehind};
 ghost use Rattle.journal.specs.Recalled.{held_at, HoldsTheLast, RecallsAsBefore, RecallsMore, HasRoomToRecall};
 
 use crate::recent_steps::RecentSteps;
 use crate::whole_steps::WholeSteps;
 use ballots::Message;
-use schedule_runner::{Config, Step, Trace};
+use node_parts::{Config, Step, Trace};
 use std::alloc::AllocError;
 use std::marker::Model;
 

@@ -2,7 +2,7 @@
 
 ghost use Rattle.std.specs.Prelude.{◌≡◌, ◌+◌, ◌^◌, ◌<◌, List, [], ◌∷◌, ◌++◌, length, vec_len, IfOk};
 ghost use Rattle.std.specs.Option.{option_map};
-ghost use Rattle.ballots.specs.declared.message.Message.{Message as Sent};
+ghost use Rattle.node_parts.specs.ballots.specs.declared.message.Message.{Message as Sent};
 ghost use Rattle.journal.specs.Recalled.{IsEndOf, held_at};
 
 use ballots::Message;

@@ -37,6 +37,7 @@ mod whole_steps;
 pub use beginning::Beginning;
 pub use journal::Journal;
 pub use last_messages::RECENT_MESSAGES;
+pub use node_parts::{Config, MAX_JOURNAL_ENTRIES, MAX_SLOTS, Step, Trace, audit};
 pub use own::OwnEntry;
 pub use receipt::Receipt;
 pub use retention::{Recent, Retention, Whole};

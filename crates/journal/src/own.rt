@@ -1,7 +1,7 @@
 //! What a node did itself.
 
 use ballots::Message;
-use schedule_runner::Step;
+use node_parts::Step;
 use std::marker::Model;
 
 /// An entry of a node's own list: a step with the messages themselves in the place of their numbers. Contracts see it as
@@ -19,8 +19,8 @@ pub struct OwnEntry {
 }
 
 impl Model for OwnEntry {
-    ghost use Rattle.histories.specs.Owning.{Entry};
-    ghost use Rattle.schedule_runner.specs.Told.{step_of};
+    ghost use Rattle.node_parts.specs.histories.specs.Owning.{Entry};
+    ghost use Rattle.node_parts.specs.traces.specs.Told.{step_of};
 
     ghost Value = { Entry };
 

@@ -5,7 +5,7 @@ ghost use Rattle.journal.specs.Logged.{own_of, HasGoneOn};
 
 use crate::own::OwnEntry;
 use ballots::{MAX_MEMBERS, NodeId};
-use growing_log::{Head, Naming, Reached};
+use ghost_log::{Head, Naming, Reached};
 use std::marker::Model;
 
 /// The log of all nodes' own entries, and how many of them each node has. Contracts see the entries.
@@ -18,7 +18,7 @@ pub(crate) struct Progress<J: Naming> {
 
 impl<J: Naming> Model for Progress<J> {
     ghost use Rattle.std.specs.Prelude.{List};
-    ghost use Rattle.histories.specs.Owning.{Entry};
+    ghost use Rattle.node_parts.specs.histories.specs.Owning.{Entry};
     ghost use Rattle.journal.specs.Logged.{AreCounted};
 
     ghost Value = { List Entry };

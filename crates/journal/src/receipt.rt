@@ -1,11 +1,11 @@
 //! Receipts of steps.
 
 ghost use Rattle.std.specs.Prelude.{◌≡◌, ◌↔◌, true, IsTrue};
-ghost use Rattle.node_events.specs.declared.event_result.EventResult.{EventResult as Given};
+ghost use Rattle.node_parts.specs.node_events.specs.declared.event_result.EventResult.{EventResult as Given};
 ghost use Rattle.journal.specs.Receipts.{step_told};
 
 use node_events::{Event, EventResult};
-use schedule_runner::Step;
+use node_parts::Step;
 
 /// What whoever took a step of a journal has of it. It is worth something where the journal confirms it
 /// ([`crate::Journal::confirm`]).

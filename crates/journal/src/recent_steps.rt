@@ -2,15 +2,15 @@
 
 ghost use Rattle.std.specs.Prelude.{◌≡◌, ℕ, ◌^◌, ◌<◌, ◌≤◌, Bool, List, [], ◌∷◌, ◌++◌, length, OnOk, IfOk, vec_len};
 ghost use Rattle.std.specs.Option.{option_map};
-ghost use Rattle.histories.specs.Following.{Seat};
-ghost use Rattle.schedule_runner.specs.Traced.{Tells, TellsMore, HasRoomFor, TraceReachesFrom, StepFollowsBehind};
+ghost use Rattle.node_parts.specs.histories.specs.Following.{Seat};
+ghost use Rattle.node_parts.specs.traces.specs.Traced.{Tells, TellsMore, HasRoomFor, TraceReachesFrom, StepFollowsBehind};
 ghost use Rattle.journal.specs.Recalled.{held_at, HoldsTheLast, RecallsMore, HasRoomToRecall};
 
 use crate::last_messages::LastMessages;
 use ballots::Message;
 use histories::laws::one_step_more_reaches;
 use http_server::Log;
-use schedule_runner::{Config, Step};
+use node_parts::{Config, Step};
 use std::alloc::{AllocError, Global};
 use std::marker::Model;
 
@@ -25,7 +25,7 @@ struct Sends {
 
 impl Model for Sends {
     ghost use Rattle.std.specs.Prelude.{List};
-    ghost use Rattle.ballots.specs.declared.message.Message.{Message as Sent};
+    ghost use Rattle.node_parts.specs.ballots.specs.declared.message.Message.{Message as Sent};
 
     ghost Value = { List Sent };
 

@@ -2,12 +2,12 @@
 
 ghost use Rattle.std.specs.Prelude.{◌≡◌, ℕ, ◌<◌, Bool, List, [], ◌∷◌, ◌++◌, OnOk, vec_len, vec_capacity};
 ghost use Rattle.std.specs.Option.{option_map};
-ghost use Rattle.histories.specs.Following.{Seat};
-ghost use Rattle.schedule_runner.specs.Traced.{Tells, TraceReachesFrom, StepFollowsBehind};
+ghost use Rattle.node_parts.specs.histories.specs.Following.{Seat};
+ghost use Rattle.node_parts.specs.traces.specs.Traced.{Tells, TraceReachesFrom, StepFollowsBehind};
 ghost use Rattle.journal.specs.Recalled.{held_at, RecallsAsBefore, RecallsMore, HasRoomToRecall};
 
 use ballots::Message;
-use schedule_runner::{Config, Step, Trace};
+use node_parts::{Config, Step, Trace};
 use std::alloc::{AllocError, Global};
 use std::marker::Model;
 

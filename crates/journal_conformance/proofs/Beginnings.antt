@@ -1,12 +1,12 @@
 -- A journal whose nodes started with nothing: no step went before its own.
 use Rattle.std.proofs.Common.{◌≡◌, List, [], sym, subst}
-use Rattle.agreement_rules.specs.Views.{Config}
-use Rattle.histories.specs.History.{History}
-use Rattle.histories.specs.Following.{Seat, at_first}
-use Rattle.joined_histories.specs.Joined.{joined, Precedes}
-use Rattle.schedule_runner.specs.Told.{config_of}
-use Rattle.schedule_runner.specs.Traced.{history_of}
-use Rattle.journal.specs.Journaled.{seats_in, Journaled}
+use Rattle.seats.specs.parts.agreement_rules.specs.Views.{Config}
+use Rattle.seats.specs.parts.histories.specs.History.{History}
+use Rattle.seats.specs.parts.histories.specs.Following.{Seat, at_first}
+use Rattle.seats.specs.parts.joined_histories.specs.Joined.{joined, Precedes}
+use Rattle.seats.specs.parts.traces.specs.Told.{config_of}
+use Rattle.seats.specs.parts.traces.specs.Traced.{history_of}
+use Rattle.seats.specs.journal.specs.Journaled.{seats_in, Journaled}
 
 abbrev nothing : Config → History
 nothing config = record { config = config; sent = []; steps = [] }

@@ -4,15 +4,15 @@ ghost use Rattle.std.specs.Prelude.{◌≡◌, []};
 
 use crate::from_nothing::{is_shown, steps_of};
 use crate::support::{Gave, config, deliver, journal, restart, seat, take, upload};
-use agreement::Config as Agreed;
+use agreement::AgreementConfig;
 use ballots::NodeId;
-use node_seats::Seat as NodeSeat;
 use schedule_runner::Config;
 use seats::{Beginning, Seat, SeatFault, SeatInput};
 use stable_records::MemoryStable;
 use std::alloc::Global;
 use std::hash::RandomState;
 use std::test::Fail;
+use stored_nodes::StoredNode;
 
 /// The seat of the member of this number that begins over a node that was opened.
 fn begun<J: Beginning>(
@@ -27,8 +27,8 @@ fn begun<J: Beginning>(
     if !config.is_within_limits() || number >= config.members.count() {
         return Err(Fail::from("no member of a configuration"));
     }
-    let agreed = Agreed::new(config.members, config.slot_limit).ok_or("no configuration")?;
-    match NodeSeat::open(alloc, hashing, me, agreed, MemoryStable::new(alloc)) {
+    let agreed = AgreementConfig::new(config.members, config.slot_limit).ok_or("no configuration")?;
+    match StoredNode::open(alloc, hashing, me, agreed, MemoryStable::new(alloc)) {
         Ok(Some(node)) => Ok(Box::new(alloc, Seat::begin(alloc, config, node))?),
         _ => Err(Fail::from("no node is opened")),
     }

@@ -3,13 +3,13 @@
 
 ghost use Rattle.std.specs.Prelude.{◌≡◌, ◌≤◌, ◌↔◌, List, IsTrue, length, slice_get};
 ghost use Rattle.std.specs.Option.{option_map};
-ghost use Rattle.ballots.specs.declared.value.Value.{Value as Decided};
-ghost use Rattle.agreement_rules.specs.Views.{Views, HasPrefix};
-ghost use Rattle.lawful_histories.specs.Lawful.{IsLawful};
-ghost use Rattle.histories.specs.Following.{IsUp, Follows};
-ghost use Rattle.safe_histories.specs.Learning.{Runs, HasLearnedPrefix};
-ghost use Rattle.safe_histories.specs.Safe.{IsSafe};
-ghost use Rattle.schedule_runner.specs.Traced.{history_of};
+ghost use Rattle.seats.specs.parts.ballots.specs.declared.value.Value.{Value as Decided};
+ghost use Rattle.seats.specs.parts.agreement_rules.specs.Views.{Views, HasPrefix};
+ghost use Rattle.seats.specs.parts.lawful_histories.specs.Lawful.{IsLawful};
+ghost use Rattle.seats.specs.parts.histories.specs.Following.{IsUp, Follows};
+ghost use Rattle.seats.specs.parts.safe_histories.specs.Learning.{Runs, HasLearnedPrefix};
+ghost use Rattle.seats.specs.parts.safe_histories.specs.Safe.{IsSafe};
+ghost use Rattle.seats.specs.parts.traces.specs.Traced.{history_of};
 ghost use Rattle.seats.specs.State.{Agrees, IsLedTo};
 ghost use Rattle.seats.specs.Steps.{IsDown};
 

@@ -5,7 +5,7 @@ ghost use Rattle.std.specs.Prelude.{◌≡◌, []};
 use crate::support::{
     Gave, check, config, deliver, journal_with, seat, serve_in, take, ticket, upload,
 };
-use growing_log::Opened;
+use ghost_log::Opened;
 use node_events::EventResult;
 use schedule_runner::Config;
 use seats::{Beginning, Journal, OwnEntry, Query, Seat, SeatInput};

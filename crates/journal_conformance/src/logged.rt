@@ -6,7 +6,7 @@ use crate::support::{
     Gave, check, config, deliver, journal_with, restart, seat, serve, take, ticket, upload,
 };
 use ballots::NodeId;
-use growing_log::Opened;
+use ghost_log::Opened;
 use schedule_runner::Config;
 use seats::{Beginning, Journal, OwnEntry, Query, Seat, SeatFault, SeatInput};
 use stable_records::MemoryStable;

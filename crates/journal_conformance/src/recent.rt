@@ -8,7 +8,7 @@ use crate::support::{
     ticket, upload,
 };
 use ballots::NodeId;
-use growing_log::Opened;
+use ghost_log::Opened;
 use journal::RECENT_MESSAGES;
 use schedule_runner::Config;
 use seats::{Beginning, Journal, OwnEntry, Query, Recent, Retention, Seat, SeatFault, SeatInput};

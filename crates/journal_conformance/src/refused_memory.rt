@@ -5,7 +5,7 @@
 use crate::support::{
     Gave, check, config, deliver, journal, restart, seat, serve, take, ticket, upload,
 };
-use node_core::Refusal;
+use agreement::Refusal;
 use node_events::Event;
 use seats::{Journal, Query, Seat, SeatFault, SeatInput};
 use stable_records::{MemoryStable, StoreFault};

@@ -3,7 +3,7 @@
 ghost use Rattle.std.specs.Prelude.{◌≡◌, []};
 
 use ballots::{Members, NodeId};
-use growing_log::Opened;
+use ghost_log::Opened;
 use header_types::Schema;
 use schedule_runner::Config;
 use seats::{Beginning, Journal, OwnEntry, Query, Receipt, Retention, Seat, SeatFault, SeatInput};

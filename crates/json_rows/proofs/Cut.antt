@@ -9,7 +9,7 @@ use Rattle.std.proofs.lemmas.Option.{same_Some}
 use Rattle.serde_json.specs.Data.{Data}
 use Rattle.header_types.specs.Fields.{Forest}
 use Rattle.batch_types.specs.Cells.{Rows}
-use Rattle.json_rows.specs.declared.fault.RowsFault.{RowsFault}
+use Rattle.json_rows.specs.declared.fault.JsonFault.{JsonFault}
 use Rattle.json_rows.specs.Lines.{lines_of, begin_with, has_feed, text_of, EndsLines, IsOfLines, TellsBatches, TellsLine, TellsRows, TellsSomeRow}
 use Rattle.json_rows.proofs.Zipped.{handed_on, zipped_are_one}
 
@@ -143,5 +143,5 @@ batches_then fields values here (first ∷ batches) rows told more_told =
 
 -- ---- faults
 
-pub not_of_lines : {T : Type 0} (r : Result T RowsFault) (fault : RowsFault) → IsErrAnd r (λ e. e ≡ fault) → (IsOfLines fault → ⊥) → IfErr r (λ e. IsOfLines e → ⊥)
-not_of_lines {T = T} r fault handed other = subst (λ (a : Result T RowsFault). IfErr a (λ e. IsOfLines e → ⊥)) (sym (handed_on r fault handed)) other
+pub not_of_lines : {T : Type 0} (r : Result T JsonFault) (fault : JsonFault) → IsErrAnd r (λ e. e ≡ fault) → (IsOfLines fault → ⊥) → IfErr r (λ e. IsOfLines e → ⊥)
+not_of_lines {T = T} r fault handed other = subst (λ (a : Result T JsonFault). IfErr a (λ e. IsOfLines e → ⊥)) (sym (handed_on r fault handed)) other

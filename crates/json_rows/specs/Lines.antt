@@ -10,8 +10,8 @@ use Rattle.header_types.specs.Fields.{Tree, Forest, no_more, more}
 use Rattle.batch_types.specs.Cells.{Cell, null_cell, Rows}
 use Rattle.batch_cells.specs.declared.cell.Cell.{Cell as Plain}
 use Rattle.batch_cells.specs.CellViews.{cell_of}
-use Rattle.json_rows.specs.declared.fault.RowsFault.{RowsFault}
-use Rattle.json_rows.specs.declared.fault.RowsFault.TheVariants as rows
+use Rattle.json_rows.specs.declared.fault.JsonFault.{JsonFault}
+use Rattle.json_rows.specs.declared.fault.JsonFault.TheVariants as rows
 use Rattle.json_rows.specs.Cells.{IsObjectOf, TellsCell, TellsFields, name_of, told_at}
 
 -- ---- lines
@@ -72,7 +72,7 @@ abbrev pub TellsSomeRow : Forest → Data → Type 0
 TellsSomeRow fields d = (cells : List Cell) × TellsFields fields d cells
 
 -- the fault says that a line tells no row
-abbrev pub IsOfLines : RowsFault → Type 0
+abbrev pub IsOfLines : JsonFault → Type 0
 IsOfLines rows.BadSchema = ⊥
 IsOfLines rows.NoRows = ⊥
 IsOfLines rows.SameNames = ⊥
@@ -82,7 +82,7 @@ IsOfLines (rows.TooLarge line) = ⊥
 IsOfLines rows.OutOfMemory = ⊥
 
 -- the fault says that a cell has no value, or that a value tells no cell
-abbrev pub IsOfCell : RowsFault → Type 0
+abbrev pub IsOfCell : JsonFault → Type 0
 IsOfCell rows.BadSchema = ⊥
 IsOfCell rows.NoRows = ⊥
 IsOfCell rows.SameNames = ⊥
@@ -92,7 +92,7 @@ IsOfCell (rows.TooLarge line) = ⊥
 IsOfCell rows.OutOfMemory = ⊥
 
 -- the fault says nothing of a row
-abbrev pub IsOfSchema : RowsFault → Type 0
+abbrev pub IsOfSchema : JsonFault → Type 0
 IsOfSchema rows.BadSchema = Unit {0}
 IsOfSchema rows.NoRows = Unit {0}
 IsOfSchema rows.SameNames = Unit {0}

@@ -40,7 +40,7 @@ impl From<AllocError> for CellFault {
 
 /// Why a line tells no row, whatever its members hold.
 #[derive(Clone, Copy, Debug, PartialEq, Eq, Error)]
-pub enum LineFault {
+pub enum JsonLineFault {
     /// It is not UTF-8.
     #[error("NotUtf8")]
     NotUtf8,
@@ -58,7 +58,7 @@ pub enum LineFault {
 
 /// Why a text tells no rows of a schema, or rows have no lines.
 #[derive(Clone, Copy, Debug, PartialEq, Eq, Error)]
-pub enum RowsFault {
+pub enum JsonFault {
     /// A field has not as many fields inside it as its type needs, or the batch is none of the schema, or the schema is not
     /// in profile.
     #[error("BadSchema")]
@@ -75,7 +75,7 @@ pub enum RowsFault {
         /// Its number, from 1.
         line: u64,
         /// What is wrong with it.
-        fault: LineFault,
+        fault: JsonLineFault,
     },
     /// A member of a line tells no cell of its field, or a cell has no value.
     #[error("line {line}, field {field}: {fault}")]
@@ -98,13 +98,13 @@ pub enum RowsFault {
     OutOfMemory,
 }
 
-impl From<AllocError> for RowsFault {
+impl From<AllocError> for JsonFault {
     ghost use Rattle.std.specs.Prelude.{◌≡◌};
-    ghost use Rattle.json_rows.specs.declared.fault.RowsFault.TheVariants.{OutOfMemory};
+    ghost use Rattle.json_rows.specs.declared.fault.JsonFault.TheVariants.{OutOfMemory};
 
     ghost from_gives = { λ _ fault. fault ≡ OutOfMemory };
 
-    fn from(_: AllocError) -> RowsFault {
-        RowsFault::OutOfMemory
+    fn from(_: AllocError) -> JsonFault {
+        JsonFault::OutOfMemory
     }
 }

@@ -26,7 +26,7 @@ mod tokens;
 mod untyped;
 mod writing;
 
-pub use fault::{CellFault, LineFault, RowsFault};
+pub use fault::{CellFault, JsonFault, JsonLineFault};
 pub use form::Form;
 pub use read::{BODY_LIMIT, MOST_ROWS, read_rows};
 pub use reading::{cell_of, cells_of};

@@ -4,10 +4,10 @@ ghost use Rattle.std.specs.Prelude.{◌≡◌, ◌≤◌, ◌<◌, ◌∷◌, �
 ghost use Rattle.std.specs.List.{AllZip};
 ghost use Rattle.serde_json.specs.Data.{Data};
 ghost use Rattle.serde_json.specs.View.{view};
-ghost use Rattle.json_rows.specs.declared.fault.RowsFault.TheVariants.{OutOfMemory};
+ghost use Rattle.json_rows.specs.declared.fault.JsonFault.TheVariants.{OutOfMemory};
 ghost use Rattle.json_rows.specs.Lines.{IsOfSchema, TellsLine, lines_of};
 
-use crate::fault::{LineFault, RowsFault};
+use crate::fault::{JsonFault, JsonLineFault};
 use memchr::memchr;
 use serde_json::Value;
 use std::alloc::Global;
@@ -26,23 +26,23 @@ fn cut_line(text: &[u8]) -> (&[u8], &[u8])
 }
 
 /// The value of a line.
-fn value_of(alloc: Global, line: &[u8], number: u64) -> Result<Value, RowsFault>
+fn value_of(alloc: Global, line: &[u8], number: u64) -> Result<Value, JsonFault>
     ensures read { IfOk result (λ value. TellsLine line.now (view value)) }
     ensures refused { (d : Data) → TellsLine line.now d → IfErr result (λ fault. fault ≡ OutOfMemory) }
     ensures kind { IfErr result (λ fault. IsOfSchema fault → ⊥) }
 {
     let Ok(text) = from_utf8(line) else {
-        return Err(RowsFault::Line {
+        return Err(JsonFault::Line {
             line: number,
-            fault: LineFault::NotUtf8,
+            fault: JsonLineFault::NotUtf8,
         });
     };
     match Value::from_str(alloc, text) {
         Ok(value) => Ok(value),
-        Err(error) if error.is_memory() => Err(RowsFault::OutOfMemory),
-        Err(_) => Err(RowsFault::Line {
+        Err(error) if error.is_memory() => Err(JsonFault::OutOfMemory),
+        Err(_) => Err(JsonFault::Line {
             line: number,
-            fault: LineFault::NotJson,
+            fault: JsonLineFault::NotJson,
         }),
     }
 }
@@ -62,7 +62,7 @@ pub(crate) fn take_values(
     text: &[u8],
     first: u64,
     most: usize,
-) -> Result<Taken<'_>, RowsFault>
+) -> Result<Taken<'_>, JsonFault>
     ensures read { IfOk result (λ taken. (lines : List (List ℕ)) × (lines_of text.now ≡ lines ++ lines_of taken.rest.now)
         × AllZip TellsLine lines (map view taken.values.items)) }
     ensures few { IfOk result (λ taken. length taken.values.items ≤ most) }
@@ -78,7 +78,7 @@ pub(crate) fn take_values(
         let (line, after) = cut_line(rest);
         let value = value_of(alloc, line, first.saturating_add(values.len() as u64))?;
         if values.push(value).is_err() {
-            return Err(RowsFault::OutOfMemory);
+            return Err(JsonFault::OutOfMemory);
         }
         rest = after;
     }

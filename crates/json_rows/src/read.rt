@@ -9,11 +9,11 @@ ghost use Rattle.batch_types.specs.Canonical.{canonical_body};
 ghost use Rattle.batch_types.specs.Shapes.{shapes_of};
 ghost use Rattle.batch_columns.specs.Batches.{IsBatchOf, rows_of};
 ghost use Rattle.batch_columns.specs.Held.{shapes_held};
-ghost use Rattle.json_rows.specs.declared.fault.RowsFault.TheVariants as RowsFault;
+ghost use Rattle.json_rows.specs.declared.fault.JsonFault.TheVariants as JsonFault;
 ghost use Rattle.json_rows.specs.Written.{HaveOwnNames};
 ghost use Rattle.json_rows.specs.Lines.{IsOfLines, TellsBatches, TellsSomeRow, TellsValues};
 
-use crate::fault::RowsFault;
+use crate::fault::JsonFault;
 use crate::lines::take_values;
 use crate::names::have_own_names;
 use crate::rows::batch_of_values;
@@ -49,20 +49,20 @@ fn is_short(batch: &Batch) -> bool
 /// inside it as its type needs. `Line` and `Cell` are told only of a text that does not tell rows: the first line that is no
 /// value of JSON, or is no object of the fields, or, of the lines up to there, a member that tells no cell of its field.
 /// `TooLarge` is told of a row that has no room in a batch.
-pub fn read_rows(alloc: Global, schema: &Schema, text: &[u8]) -> Result<Vec<Batch>, RowsFault>
+pub fn read_rows(alloc: Global, schema: &Schema, text: &[u8]) -> Result<Vec<Batch>, JsonFault>
     ensures read { IfOk result (λ batches. (values : List Data) × TellsValues text.now values
         × TellsBatches (schema_of schema.now).fields values (map rows_of batches.items)) }
     ensures of_schema { IfOk result (λ batches. AllByRecursion (IsBatchOf (schema_of schema.now)) batches.items) }
     ensures short { IfOk result (λ batches. AllByRecursion
         (λ batch. length (canonical_body (schema_of schema.now) (rows_of batch)) ≤ 4128768) batches.items) }
     ensures names { OnOk result (HaveOwnNames (schema_of schema.now).fields) }
-    ensures same { IsErrOf result RowsFault.SameNames → HaveOwnNames (schema_of schema.now).fields → ⊥ }
-    ensures some { IsErrOf result RowsFault.NoRows → ⊥ }
+    ensures same { IsErrOf result JsonFault.SameNames → HaveOwnNames (schema_of schema.now).fields → ⊥ }
+    ensures some { IsErrOf result JsonFault.NoRows → ⊥ }
     ensures refused { (values : List Data) → TellsValues text.now values
         → AllByRecursion (TellsSomeRow (schema_of schema.now).fields) values → IfErr result (λ fault. IsOfLines fault → ⊥) }
 {
     if !have_own_names(&schema.fields) {
-        return Err(RowsFault::SameNames);
+        return Err(JsonFault::SameNames);
     }
     let mut batches = Vec::new(alloc);
     let mut rest = text;
@@ -75,10 +75,10 @@ pub fn read_rows(alloc: Global, schema: &Schema, text: &[u8]) -> Result<Vec<Batc
             line = line.saturating_add(batch.rows);
             rest = taken.rest;
             if batches.push(batch).is_err() {
-                return Err(RowsFault::OutOfMemory);
+                return Err(JsonFault::OutOfMemory);
             }
         } else if taken.values.len() < 2 {
-            return Err(RowsFault::TooLarge { line });
+            return Err(JsonFault::TooLarge { line });
         } else {
             most = taken.values.len() / 2;
         }

@@ -8,14 +8,14 @@ ghost use Rattle.header_types.specs.Views.{schema_of};
 ghost use Rattle.header_types.specs.Profile.{InProfile};
 ghost use Rattle.batch_columns.specs.Batches.{IsBatchOf, rows_of};
 ghost use Rattle.json_rows.specs.declared.fault.CellFault.TheVariants as CellFault;
-ghost use Rattle.json_rows.specs.declared.fault.RowsFault.TheVariants as RowsFault;
+ghost use Rattle.json_rows.specs.declared.fault.JsonFault.TheVariants as JsonFault;
 ghost use Rattle.batch_columns.specs.Few.{columns_cells};
 ghost use Rattle.batch_cells.specs.CellViews.{cell_of as seen};
 ghost use Rattle.json_rows.specs.Cells.{IsObjectOf, TellsFields, TellsMembers, forest_in};
 ghost use Rattle.json_rows.specs.Written.{HaveOwnNames, WritesMembers, WritesValue};
 ghost use Rattle.json_rows.specs.Lines.{EndsLines, IsOfCell, IsOfSchema, TellsColumns, TellsLine, TellsRows, TellsValues, WritesLine, WritesRows, cell_at, has_feed};
 
-use crate::fault::{CellFault, LineFault, RowsFault};
+use crate::fault::{CellFault, JsonFault, JsonLineFault};
 use crate::names::have_own_names;
 use crate::rows::fault_at;
 use crate::writing::write_member;
@@ -62,14 +62,14 @@ fn write_row(
     fields: &[Field],
     columns: &[Vec<Cell>],
     row: usize,
-) -> Result<(), RowsFault>
+) -> Result<(), JsonFault>
     requires names { HaveOwnNames (forest_in fields.now) }
     requires counts { length columns.now ≡ length fields.now }
     requires within { AllByRecursion (λ cells. row < length cells.items) columns.now }
     ensures written { OnOk result (WritesValue (λ d. TellsFields (forest_in fields.now) d (map (cell_at row) columns.now))
         (suc (forest_depth (forest_in fields.now))) out.old.tokens out.new.tokens) }
     ensures refused { (d : Data) → TellsFields (forest_in fields.now) d (map (cell_at row) columns.now)
-        → IfErr result (λ fault. fault ≡ RowsFault.OutOfMemory) }
+        → IfErr result (λ fault. fault ≡ JsonFault.OutOfMemory) }
     ensures before { out.new.before ≡ out.old.before }
     ensures kind { IfErr result (λ fault. IsOfSchema fault → ⊥) }
 {
@@ -93,7 +93,7 @@ fn row_text(
     fields: &[Field],
     columns: &[Vec<Cell>],
     row: usize,
-) -> Result<Vec<u8>, RowsFault>
+) -> Result<Vec<u8>, JsonFault>
     requires names { HaveOwnNames (forest_in fields.now) }
     requires counts { length columns.now ≡ length fields.now }
     requires within { AllByRecursion (λ cells. row < length cells.items) columns.now }
@@ -101,7 +101,7 @@ fn row_text(
     ensures written { IfOk result (λ line. (value : Data) × TellsLine line.items value
         × TellsFields (forest_in fields.now) value (map (cell_at row) columns.now)) }
     ensures refused { (d : Data) → TellsFields (forest_in fields.now) d (map (cell_at row) columns.now)
-        → IfErr result (λ fault. fault ≡ RowsFault.OutOfMemory) }
+        → IfErr result (λ fault. fault ≡ JsonFault.OutOfMemory) }
     ensures kind { IfErr result (λ fault. IsOfSchema fault → ⊥) }
 {
     let mut out = Writer::new(Vec::new(alloc));
@@ -116,7 +116,7 @@ fn put_line(
     fields: &[Field],
     columns: &[Vec<Cell>],
     row: usize,
-) -> Result<(), RowsFault>
+) -> Result<(), JsonFault>
     requires names { HaveOwnNames (forest_in fields.now) }
     requires counts { length columns.now ≡ length fields.now }
     requires within { AllByRecursion (λ cells. row < length cells.items) columns.now }
@@ -129,13 +129,13 @@ fn put_line(
 {
     let mut line = row_text(alloc, fields, columns, row)?;
     if !is_one_line(&line) {
-        return Err(RowsFault::Line {
+        return Err(JsonFault::Line {
             line: (row as u64).saturating_add(1),
-            fault: LineFault::LineFeed,
+            fault: JsonLineFault::LineFeed,
         });
     }
     if line.push(b'\n').is_err() {
-        return Err(RowsFault::OutOfMemory);
+        return Err(JsonFault::OutOfMemory);
     }
     text.extend_from_slice(&line)?;
     Ok(())
@@ -147,7 +147,7 @@ fn lines_text(
     fields: &[Field],
     columns: &[Vec<Cell>],
     rows: usize,
-) -> Result<Vec<u8>, RowsFault>
+) -> Result<Vec<u8>, JsonFault>
     requires names { HaveOwnNames (forest_in fields.now) }
     requires counts { length columns.now ≡ length fields.now }
     requires long { AllByRecursion (λ cells. length cells.items ≡ rows) columns.now }
@@ -184,25 +184,25 @@ fn all_cells(alloc: Global, columns: &[Column]) -> Result<Vec<Vec<Cell>>, AllocE
 /// It is `BadSchema` where the batch is none of the schema or the schema is not in profile, and `SameNames` where two fields
 /// side by side have one name; else `Cell` of a cell that no value tells: a null in a field that may have none, a NaN
 /// of other bits than that of `"NaN"`, a type that is not carried; or memory is refused.
-pub fn rows_text(alloc: Global, schema: &Schema, batch: &Batch) -> Result<Vec<u8>, RowsFault>
+pub fn rows_text(alloc: Global, schema: &Schema, batch: &Batch) -> Result<Vec<u8>, JsonFault>
     ensures written { IfOk result (λ text. (values : List Data) × TellsValues text.items values
         × TellsRows (schema_of schema.now).fields values (rows_of batch.now)) }
     ensures ends { IfOk result (λ text. EndsLines text.items) }
     // A cell is refused only where no values tell the rows.
     ensures cell { (values : List Data) → TellsRows (schema_of schema.now).fields values (rows_of batch.now)
         → IfErr result (λ fault. IsOfCell fault → ⊥) }
-    ensures schema { IsErrOf result RowsFault.BadSchema → InProfile (schema_of schema.now)
+    ensures schema { IsErrOf result JsonFault.BadSchema → InProfile (schema_of schema.now)
         → IsBatchOf (schema_of schema.now) batch.now → ⊥ }
-    ensures same { IsErrOf result RowsFault.SameNames → HaveOwnNames (schema_of schema.now).fields → ⊥ }
-    ensures some { IsErrOf result RowsFault.NoRows → ⊥ }
+    ensures same { IsErrOf result JsonFault.SameNames → HaveOwnNames (schema_of schema.now).fields → ⊥ }
+    ensures some { IsErrOf result JsonFault.NoRows → ⊥ }
     ensures names { OnOk result (HaveOwnNames (schema_of schema.now).fields) }
 {
     if !schema.in_profile() || !batch.is_of(schema) {
-        return Err(RowsFault::BadSchema);
+        return Err(JsonFault::BadSchema);
     }
     let fields = schema.fields.as_slice();
     if !have_own_names(fields) {
-        return Err(RowsFault::SameNames);
+        return Err(JsonFault::SameNames);
     }
     let columns = all_cells(alloc, &batch.columns)?;
     lines_text(alloc, fields, &columns, batch.rows as usize)

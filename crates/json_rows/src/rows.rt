@@ -8,12 +8,12 @@ ghost use Rattle.batch_types.specs.Cells.{Cell as Seen};
 ghost use Rattle.batch_columns.specs.Batches.{IsBatchOf, rows_of};
 ghost use Rattle.batch_cells.specs.CellViews.{cell_of as seen};
 ghost use Rattle.json_rows.specs.declared.fault.CellFault.TheVariants as CellFault;
-ghost use Rattle.json_rows.specs.declared.fault.RowsFault.TheVariants.{OutOfMemory};
-ghost use Rattle.json_rows.specs.declared.fault.RowsFault.TheVariants as RowsFault;
+ghost use Rattle.json_rows.specs.declared.fault.JsonFault.TheVariants.{OutOfMemory};
+ghost use Rattle.json_rows.specs.declared.fault.JsonFault.TheVariants as JsonFault;
 ghost use Rattle.json_rows.specs.Cells.{IsObjectOf, TellsCell, forest_in, name_of, told_at};
 ghost use Rattle.json_rows.specs.Lines.{IsOfLines, IsOfSchema, TellsColumn, TellsColumns, TellsRows, TellsSomeRow};
 
-use crate::fault::{CellFault, LineFault, RowsFault};
+use crate::fault::{CellFault, JsonFault, JsonLineFault};
 use crate::reading::{are_names_of, member_cell};
 use batch_cells::Cell;
 use batch_columns::Batch;
@@ -71,17 +71,17 @@ fn column_at(
 }
 
 /// The fault of a member of a line.
-pub(crate) fn fault_at(first: u64, field: usize, fault: (usize, CellFault)) -> RowsFault
+pub(crate) fn fault_at(first: u64, field: usize, fault: (usize, CellFault)) -> JsonFault
     ensures memory { fault.1 ≡ CellFault.OutOfMemory → result ≡ OutOfMemory }
     ensures kind { IsOfSchema result → ⊥ }
 {
     match fault.1 {
-        CellFault::OutOfMemory => RowsFault::OutOfMemory,
+        CellFault::OutOfMemory => JsonFault::OutOfMemory,
         CellFault::WrongKind
         | CellFault::OutOfRange
         | CellFault::NullValue
         | CellFault::UnknownMember
-        | CellFault::Unsupported => RowsFault::Cell {
+        | CellFault::Unsupported => JsonFault::Cell {
             line: first.saturating_add(fault.0 as u64),
             field,
             fault: fault.1,
@@ -95,7 +95,7 @@ fn columns_of(
     fields: &[Field],
     values: &[Value],
     first: u64,
-) -> Result<Vec<Vec<Cell>>, RowsFault>
+) -> Result<Vec<Vec<Cell>>, JsonFault>
     ensures read { IfOk result (λ columns. TellsColumns (forest_in fields.now) (map view values.now)
         (map (λ cells. map seen cells.items) columns.items)) }
     ensures refused { AllByRecursion (TellsSomeRow (forest_in fields.now)) (map view values.now)
@@ -107,7 +107,7 @@ fn columns_of(
         match column_at(alloc, &fields[index], values) {
             Ok(cells) => {
                 if columns.push(cells).is_err() {
-                    return Err(RowsFault::OutOfMemory);
+                    return Err(JsonFault::OutOfMemory);
                 }
             }
             Err(fault) => return Err(fault_at(first, index, fault)),
@@ -117,20 +117,20 @@ fn columns_of(
 }
 
 /// What is told of rows that make no batch, the first of which stands in the line of this number.
-fn fault_of(first: u64, fault: BuildFault) -> RowsFault
+fn fault_of(first: u64, fault: BuildFault) -> JsonFault
     ensures lines { IsOfLines result → ⊥ }
-    ensures same { result ≢ RowsFault.SameNames }
-    ensures some { result ≢ RowsFault.NoRows }
+    ensures same { result ≢ JsonFault.SameNames }
+    ensures some { result ≢ JsonFault.NoRows }
 {
     match fault {
-        BuildFault::Cells(CellsFault::OutOfMemory) => RowsFault::OutOfMemory,
+        BuildFault::Cells(CellsFault::OutOfMemory) => JsonFault::OutOfMemory,
         BuildFault::TooManyRows | BuildFault::Cells(CellsFault::TooMany | CellsFault::TooLong) => {
-            RowsFault::TooLarge { line: first }
+            JsonFault::TooLarge { line: first }
         }
         BuildFault::WrongColumns
         | BuildFault::WrongLength
         | BuildFault::Cells(CellsFault::WrongChildren | CellsFault::NotOfField) => {
-            RowsFault::BadSchema
+            JsonFault::BadSchema
         }
     }
 }
@@ -141,19 +141,19 @@ pub(crate) fn batch_of_values(
     schema: &Schema,
     values: &[Value],
     first: u64,
-) -> Result<Batch, RowsFault>
+) -> Result<Batch, JsonFault>
     ensures read { IfOk result (λ batch. TellsRows (schema_of schema.now).fields (map view values.now) (rows_of batch)) }
     ensures of_schema { IfOk result (λ batch. IsBatchOf (schema_of schema.now) batch) }
     ensures refused { AllByRecursion (TellsSomeRow (schema_of schema.now).fields) (map view values.now)
         → IfErr result (λ fault. IsOfLines fault → ⊥) }
-    ensures same { IsErrOf result RowsFault.SameNames → ⊥ }
-    ensures some { IsErrOf result RowsFault.NoRows → ⊥ }
+    ensures same { IsErrOf result JsonFault.SameNames → ⊥ }
+    ensures some { IsErrOf result JsonFault.NoRows → ⊥ }
 {
     let fields = schema.fields.as_slice();
     if let Some(index) = first_other(fields, values) {
-        return Err(RowsFault::Line {
+        return Err(JsonFault::Line {
             line: first.saturating_add(index as u64),
-            fault: LineFault::UnknownMember,
+            fault: JsonLineFault::UnknownMember,
         });
     }
     let columns = columns_of(alloc, fields, values, first)?;

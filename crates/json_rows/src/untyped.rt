@@ -5,11 +5,11 @@ ghost use Rattle.std.specs.List.{AllByRecursion};
 ghost use Rattle.serde_json.specs.Data.{Data};
 ghost use Rattle.serde_json.specs.View.{view};
 ghost use Rattle.header_types.specs.Views.{schema_of};
-ghost use Rattle.json_rows.specs.declared.fault.RowsFault.TheVariants as RowsFault;
+ghost use Rattle.json_rows.specs.declared.fault.JsonFault.TheVariants as JsonFault;
 ghost use Rattle.json_rows.specs.Cells.{forest_in};
 ghost use Rattle.json_rows.specs.Lines.{TellsSomeRow, TellsValues};
 
-use crate::fault::{CellFault, LineFault, RowsFault};
+use crate::fault::{CellFault, JsonFault, JsonLineFault};
 use crate::lines::take_values;
 use crate::reading::members_of;
 use crate::rows::fault_at;
@@ -92,10 +92,10 @@ fn place_of(fields: &[Found], name: &str) -> Option<usize>
 }
 
 /// The fault of a member of a line.
-fn of_member(line: u64, field: usize, fault: CellFault) -> RowsFault
-    ensures { result ≢ RowsFault.NoRows }
+fn of_member(line: u64, field: usize, fault: CellFault) -> JsonFault
+    ensures { result ≢ JsonFault.NoRows }
 {
-    RowsFault::Cell { line, field, fault }
+    JsonFault::Cell { line, field, fault }
 }
 
 /// Adds a field that was not seen before. A schema has up to [`MAX_FIELDS`].
@@ -104,16 +104,16 @@ fn add_field(
     fields: &mut Vec<Found>,
     name: &str,
     kind: Kind,
-) -> Result<(), RowsFault>
-    ensures some { IfErr result (λ fault. fault ≢ RowsFault.NoRows) }
+) -> Result<(), JsonFault>
+    ensures some { IfErr result (λ fault. fault ≢ JsonFault.NoRows) }
 {
     if fields.len() >= MAX_FIELDS {
-        return Err(RowsFault::BadSchema);
+        return Err(JsonFault::BadSchema);
     }
     let name = String::from_str(alloc, name)?;
     match fields.push(Found { name, kind }) {
         Ok(()) => Ok(()),
-        Err(_) => Err(RowsFault::OutOfMemory),
+        Err(_) => Err(JsonFault::OutOfMemory),
     }
 }
 
@@ -124,8 +124,8 @@ fn add_member(
     name: &str,
     value: &Value,
     line: u64,
-) -> Result<(), RowsFault>
-    ensures some { IfErr result (λ fault. fault ≢ RowsFault.NoRows) }
+) -> Result<(), JsonFault>
+    ensures some { IfErr result (λ fault. fault ≢ JsonFault.NoRows) }
 {
     let place = place_of(fields, name);
     let Some(kind) = kind_of(value) else {
@@ -150,13 +150,13 @@ fn add_line(
     fields: &mut Vec<Found>,
     value: &Value,
     line: u64,
-) -> Result<(), RowsFault>
-    ensures some { IfErr result (λ fault. fault ≢ RowsFault.NoRows) }
+) -> Result<(), JsonFault>
+    ensures some { IfErr result (λ fault. fault ≢ JsonFault.NoRows) }
 {
     let Some(members) = value.as_object() else {
-        return Err(RowsFault::Line {
+        return Err(JsonFault::Line {
             line,
-            fault: LineFault::UnknownMember,
+            fault: JsonLineFault::UnknownMember,
         });
     };
     for (name, member) in members.iter() {
@@ -166,8 +166,8 @@ fn add_line(
 }
 
 /// The fields of these lines, in the order in which they are found.
-fn fields_of(alloc: Global, values: &[Value]) -> Result<Vec<Found>, RowsFault>
-    ensures some { IfErr result (λ fault. fault ≢ RowsFault.NoRows) }
+fn fields_of(alloc: Global, values: &[Value]) -> Result<Vec<Found>, JsonFault>
+    ensures some { IfErr result (λ fault. fault ≢ JsonFault.NoRows) }
 {
     let mut fields = Vec::new(alloc);
     for index in 0..values.len() {
@@ -206,9 +206,9 @@ fn schema_of_fields(alloc: Global, found: &[Found]) -> Result<Schema, AllocError
 }
 
 /// Whether each of the values tells a row of the fields.
-fn tell_rows(alloc: Global, fields: &[Field], values: &[Value]) -> Result<(), RowsFault>
+fn tell_rows(alloc: Global, fields: &[Field], values: &[Value]) -> Result<(), JsonFault>
     ensures told { OnOk result (AllByRecursion (TellsSomeRow (forest_in fields.now)) (map view values.now)) }
-    ensures some { IfErr result (λ fault. fault ≢ RowsFault.NoRows) }
+    ensures some { IfErr result (λ fault. fault ≢ JsonFault.NoRows) }
 {
     for index in 0..values.len() {
         if let Err(fault) = members_of(alloc, fields, &values[index]) {
@@ -226,17 +226,17 @@ fn tell_rows(alloc: Global, fields: &[Field], values: &[Value]) -> Result<(), Ro
 /// `NoRows` is told of a text with no line, `BadSchema` where there are more fields than a schema may have. `Line` and `Cell`
 /// are told as by [`crate::read_rows`]: `WrongKind` where a member is a text in one line and a number in another, or the
 /// like, `Unsupported` of an array or an object, which want a schema.
-pub fn schema_of_rows(alloc: Global, text: &[u8]) -> Result<Schema, RowsFault>
+pub fn schema_of_rows(alloc: Global, text: &[u8]) -> Result<Schema, JsonFault>
     ensures told { IfOk result (λ schema. (values : List Data) × TellsValues text.now values
         × AllByRecursion (TellsSomeRow (schema_of schema).fields) values) }
-    ensures some { IsErrOf result RowsFault.NoRows ↔ (length text.now ≡ 0) }
+    ensures some { IsErrOf result JsonFault.NoRows ↔ (length text.now ≡ 0) }
 {
     if text.is_empty() {
-        return Err(RowsFault::NoRows);
+        return Err(JsonFault::NoRows);
     }
     let taken = take_values(alloc, text, 1, usize::MAX)?;
     if !taken.rest.is_empty() {
-        return Err(RowsFault::TooLarge { line: 1 });
+        return Err(JsonFault::TooLarge { line: 1 });
     }
     let found = fields_of(alloc, &taken.values)?;
     let schema = schema_of_fields(alloc, &found)?;

@@ -10,12 +10,12 @@ use std::marker::Model;
 /// A run of nodes as it can be told from outside: how many nodes agree, and all messages that were sent, by whichever
 /// node, in the order of sending.
 #[derive(Debug, Drop)]
-pub struct Trace {
+pub struct SentMessages {
     members: Members,
     sent: Vec<Message>,
 }
 
-impl Model for Trace {
+impl Model for SentMessages {
     ghost use Rattle.lawful_histories.specs.Recorded.{Recorded};
 
     ghost Value = { Recorded };
@@ -23,13 +23,13 @@ impl Model for Trace {
     ghost view = { λ t. record { members = t.members; sent = t.sent.items } };
 }
 
-impl Trace {
+impl SentMessages {
     /// The run of so many members that sent these messages, in this order. It takes no memory.
-    pub fn new(members: Members, sent: Vec<Message>) -> Trace
+    pub fn new(members: Members, sent: Vec<Message>) -> SentMessages
         ensures members { members_of result ≡ members }
         ensures sent { sent_of result ≡ sent.items }
     {
-        Trace { members, sent }
+        SentMessages { members, sent }
     }
 
     /// How many nodes agree.
@@ -52,7 +52,7 @@ impl Trace {
 /// too, and only members count for a majority.
 ///
 /// It takes no memory. Its time grows at most with the square of the number of messages.
-pub fn audit(trace: &Trace) -> bool
+pub fn audit(trace: &SentMessages) -> bool
     ensures { IsTrue result ↔ IsLawful (members_of trace.now) (sent_of trace.now) }
 {
     are_lawful(trace.members(), trace.sent())

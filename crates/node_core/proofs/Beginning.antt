@@ -15,7 +15,7 @@ use Rattle.agreement_rules.specs.Due.{Aim, Attempts, AsksFrom, IsAim, AimIsDue, 
 use Rattle.histories.specs.Due.{IsDue, Tick}
 use Rattle.agreement.specs.declared.refusal.Refusal.{Refusal}
 use Rattle.agreement.specs.declared.refusal.Refusal.TheVariants.{OutOfRange, SlotsSpent, RoundsSpent, OutOfMemory}
-use Rattle.agreement.specs.declared.step.Step.{Step}
+use Rattle.agreement.specs.declared.step.AgreementStep.{AgreementStep as Step}
 use Rattle.agreement.specs.State.{AgreementState, Has}
 use Rattle.agreement.specs.Step.{AttemptGives, AskGives, CanTake, plan_of}
 use Rattle.node_core.specs.declared.plan.Planned.TheVariants.{Steps}

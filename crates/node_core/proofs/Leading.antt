@@ -12,9 +12,9 @@ use Rattle.table_versions.specs.State.{TablesState, HasTaken, ReadyState, IsRead
 use Rattle.table_versions.specs.Values.{AreUploadsIn}
 use Rattle.agreement.specs.State.{AgreementState, Has}
 use Rattle.agreement.specs.Step.{left_by, learner_calls_with}
-use Rattle.agreement.specs.declared.step.Step.{Step}
+use Rattle.agreement.specs.declared.step.AgreementStep.{AgreementStep as Step}
 use Rattle.node_core.specs.declared.plan.Planned.TheVariants.{Waits, Steps, Learns}
-use Rattle.waiting_uploads.specs.Waiting.{Waiting}
+use Rattle.pending_uploads.specs.Waiting.{Waiting}
 use Rattle.node_core.specs.State.{NodeState, NodeHas}
 use Rattle.node_core.specs.Plans.{LeadsTo}
 use Rattle.node_core.proofs.Waiting.{OneEncoding, still_one, still_still, still_behind}

@@ -17,7 +17,7 @@ use Rattle.agreement_rules.specs.Due.{Plan, quietly, also_learns, IsMessageOf, h
 use Rattle.histories.specs.Due.{Deliver, LearnsOf, BodyIsDue, AreStillWaiting}
 use Rattle.table_versions.specs.State.{ReadyState, IsReadyFor, values_limit}
 use Rattle.table_versions.specs.Values.{AreUploadsIn}
-use Rattle.agreement.specs.declared.step.Step.{Step}
+use Rattle.agreement.specs.declared.step.AgreementStep.{AgreementStep as Step}
 use Rattle.agreement.specs.Step.{plan_of, Grows, BodyGives}
 use Rattle.node_core.specs.declared.plan.Planned.TheVariants.{Steps, Learns}
 use Rattle.node_core.specs.State.{NodeState, NodeHas}

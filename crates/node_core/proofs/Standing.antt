@@ -4,7 +4,7 @@ use Rattle.ballots.specs.declared.value.Value.{Value}
 use Rattle.agreement_rules.specs.Views.{Config, Views, HasPrefix}
 use Rattle.table_versions.specs.Ledger.{FirstEntries, TableEntries, FrameEntries, IsLedger}
 use Rattle.table_versions.specs.State.{TablesState, HasTaken, IsSame}
-use Rattle.waiting_uploads.specs.Waiting.{Waiting}
+use Rattle.pending_uploads.specs.Waiting.{Waiting}
 use Rattle.agreement.specs.State.{AgreementState, Has}
 use Rattle.histories.specs.Due.{Input}
 use Rattle.node_core.specs.declared.input.Input.{Input as Comes}

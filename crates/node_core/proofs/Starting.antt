@@ -4,7 +4,7 @@ use Rattle.ballots.specs.declared.record.Record.{Record}
 use Rattle.learner.specs.Calls.{Call as LearnerCall}
 use Rattle.agreement_rules.specs.Views.{started_with, HasPrefix}
 use Rattle.table_versions.specs.State.{TablesState, HasTaken}
-use Rattle.waiting_uploads.specs.Waiting.{Waiting}
+use Rattle.pending_uploads.specs.Waiting.{Waiting}
 use Rattle.agreement.specs.State.{AgreementState, Has}
 use Rattle.node_core.specs.State.{NodeHas}
 use Rattle.node_core.proofs.Leading.{node_of}

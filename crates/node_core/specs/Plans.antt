@@ -6,7 +6,7 @@ use Rattle.ballots.specs.declared.message.Message.{Message}
 use Rattle.table_types.specs.Uploads.{Upload}
 use Rattle.agreement.specs.declared.refusal.Refusal.{Refusal}
 use Rattle.agreement.specs.declared.refusal.Refusal.TheVariants.{OutOfRange, SlotsSpent, RoundsSpent, OutOfMemory}
-use Rattle.agreement.specs.declared.step.Step.{Step}
+use Rattle.agreement.specs.declared.step.AgreementStep.{AgreementStep as Step}
 use Rattle.agreement.specs.State.{AgreementState}
 use Rattle.agreement.specs.Step.{kept_of, learner_calls_with, left_by, plan_of, Grows}
 use Rattle.agreement.specs.Step as step

@@ -11,7 +11,7 @@ use Rattle.agreement.specs.declared.refusal.Refusal.TheVariants.{OutOfRange, Slo
 use Rattle.agreement_rules.specs.Views.{Config, Views, started_with, HasPrefix}
 use Rattle.histories.specs.Due.{AreStillWaiting}
 use Rattle.table_versions.specs.State.{TablesState, HasTaken}
-use Rattle.waiting_uploads.specs.Waiting.{Waiting}
+use Rattle.pending_uploads.specs.Waiting.{Waiting}
 
 pub record NodeState : Type 0 where
   pub agreement : AgreementState

@@ -11,7 +11,7 @@ ghost use Rattle.node_core.specs.Plans.{TickGives, HasRoundLeft, CannotBegin};
 
 use crate::node::Node;
 use crate::slots::slot_left;
-use agreement::{Refusal, Step};
+use agreement::{AgreementStep, Refusal};
 use ballots::{OutOfMemory, Slot, UploadBytes, Value};
 use table_types::laws::texts_hold_one_list_of_uploads;
 use uploads::Upload;
@@ -29,7 +29,7 @@ fn value_of(upload: &Upload) -> Result<Value, OutOfMemory>
 
 impl Node {
     // An attempt for the upload that has waited longest, at the slot that leaves so many free ones to others.
-    pub(crate) fn attempt_upload(&self, upload: &Upload, left: u8) -> Result<Step, Refusal>
+    pub(crate) fn attempt_upload(&self, upload: &Upload, left: u8) -> Result<AgreementStep, Refusal>
         requires first { (others : List (List ℕ)) × (self.now.waiting.texts ≡ upload.now ∷ others) }
         requires within { left ≤ most_left }
         ensures gives { TickGives self.now left result }
@@ -40,7 +40,7 @@ impl Node {
     }
 
     // An attempt for nothing at the first free slot, so that the prefix can grow.
-    pub(crate) fn attempt_noop(&self) -> Result<Step, Refusal>
+    pub(crate) fn attempt_noop(&self) -> Result<AgreementStep, Refusal>
         requires none { self.now.waiting.texts ≡ [] }
         requires gap { (views : Views) (values : List Held) → NodeHas self.now views
             → HasPrefix self.now.agreement.config.members views.learner_calls values

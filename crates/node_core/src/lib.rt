@@ -33,7 +33,7 @@ mod reopening;
 mod slots;
 mod ticks;
 
-pub use agreement::{Config, Refusal};
+pub use agreement::{AgreementConfig, Refusal};
 pub use input::Input;
 pub use node::Node;
 pub use plan::Plan;

@@ -7,21 +7,21 @@ ghost use Rattle.node_core.specs.Plans.{LeadsTo, CanCommit};
 ghost use Rattle.node_core.specs.declared.plan.Planned.TheVariants.{Waits, Steps, Learns};
 
 use crate::plan::{Plan, Planned};
-use agreement::{Agreement, Config, Step};
+use agreement::{Agreement, AgreementConfig, AgreementStep};
 use ballots::NodeId;
 use decided_log::laws::prefixes_are_one;
 use learner::laws::learned_is_one;
+use pending_uploads::PendingUploads;
 use std::marker::Model;
 use table_types::laws::{texts_hold_one_list_of_uploads, uploads_have_one_encoding};
 use table_versions::{Ready, Tables};
 use uploads::Upload;
-use waiting_uploads::WaitingUploads;
 
 /// One node.
 pub struct Node {
     pub(crate) agreement: Agreement,
     pub(crate) tables: Tables,
-    pub(crate) waiting: WaitingUploads,
+    pub(crate) waiting: PendingUploads,
 }
 
 impl Model for Node {
@@ -31,7 +31,7 @@ impl Model for Node {
 
     ghost use Rattle.agreement.specs.contracts.agreement.Agreement as agreement_part;
     ghost use Rattle.table_versions.specs.contracts.tables.Tables as tables_part;
-    ghost use Rattle.waiting_uploads.specs.contracts.waiting.WaitingUploads as waiting_part;
+    ghost use Rattle.pending_uploads.specs.contracts.pending.PendingUploads as waiting_part;
     ghost use Rattle.std.specs.Coded.{codes};
 
     ghost coded = { Prim.hlevel (codes, agreement_part.the_row.coded, tables_part.the_row.coded, waiting_part.the_row.coded) };
@@ -68,7 +68,7 @@ impl Node {
     }
 
     /// How many members agree, and for how many slots.
-    pub fn config(&self) -> Config
+    pub fn config(&self) -> AgreementConfig
         ensures { result ≡ self.now.agreement.config }
     {
         self.agreement.config()
@@ -106,7 +106,7 @@ impl Node {
     }
 
     // Takes a step by which the prefix stays.
-    fn step(&mut self, step: Step)
+    fn step(&mut self, step: AgreementStep)
         requires { CanCommit self.old (Steps step) }
         ensures stands { (views after : Views) → NodeHas self.old views
             → LeadsTo self.old.agreement.config views (Steps step) after → NodeHas self.new after }
@@ -117,7 +117,7 @@ impl Node {
     }
 
     // Takes a step, and the values by which the prefix grows.
-    fn learn(&mut self, step: Step, ready: Ready)
+    fn learn(&mut self, step: AgreementStep, ready: Ready)
         requires { CanCommit self.old (Learns step ready) }
         ensures stands { (views after : Views) → NodeHas self.old views
             → LeadsTo self.old.agreement.config views (Learns step ready) after → NodeHas self.new after }

@@ -5,15 +5,15 @@ ghost use Rattle.std.specs.List.{AllByRecursion};
 ghost use Rattle.node_core.specs.State.{IsRecordOf, OpenGives};
 
 use crate::node::Node;
-use agreement::{Agreement, Config, Refusal};
+use agreement::{Agreement, AgreementConfig, Refusal};
 use ballots::{NodeId, Record};
+use pending_uploads::PendingUploads;
 use std::alloc::Global;
 use std::hash::RandomState;
 use table_versions::Tables;
-use waiting_uploads::WaitingUploads;
 
 // Whether each node and slot that a record names is of the configuration.
-fn is_record_of(config: Config, kept: &Record) -> bool
+fn is_record_of(config: AgreementConfig, kept: &Record) -> bool
     ensures { IsTrue result ↔ IsRecordOf config kept.now }
 {
     let members = config.members();
@@ -29,7 +29,7 @@ fn is_record_of(config: Config, kept: &Record) -> bool
 }
 
 // Whether all these records are of the configuration.
-fn are_records_of(config: Config, records: &[Record]) -> bool
+fn are_records_of(config: AgreementConfig, records: &[Record]) -> bool
     ensures { IsTrue result ↔ AllByRecursion (IsRecordOf config) records.now }
 {
     records.iter().all(|kept| is_record_of(config, kept))
@@ -45,7 +45,7 @@ impl Node {
         alloc: Global,
         hashing: RandomState,
         me: NodeId,
-        config: Config,
+        config: AgreementConfig,
         records: &[Record],
     ) -> Result<Node, Refusal>
         ensures { OpenGives config me records.now result }
@@ -57,7 +57,7 @@ impl Node {
         Ok(Node {
             agreement,
             tables: Tables::new(alloc, hashing),
-            waiting: WaitingUploads::new(alloc, hashing),
+            waiting: PendingUploads::new(alloc, hashing),
         })
     }
 }

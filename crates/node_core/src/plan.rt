@@ -4,7 +4,7 @@ ghost use Rattle.std.specs.Prelude.{◌≡◌};
 ghost use Rattle.std.specs.Option.{option_map};
 ghost use Rattle.node_core.specs.Plans.{kept_by, sent_by};
 
-use agreement::Step;
+use agreement::AgreementStep;
 use ballots::{Message, Record};
 use std::marker::Model;
 use table_versions::Ready;
@@ -18,9 +18,9 @@ pub(crate) enum Planned {
     /// The upload waits.
     Waits(Upload),
     /// The node's part in agreement takes a step, by which the prefix does not grow.
-    Steps(Step),
+    Steps(AgreementStep),
     /// It takes a step, and the tables what the prefix grows by.
-    Learns(Step, Ready),
+    Learns(AgreementStep, Ready),
 }
 
 /// What a node does about an input, decided and not yet done.

@@ -5,7 +5,7 @@ ghost use Rattle.stable_records.specs.Moments.{AnyCrashLeaves};
 ghost use Rattle.node_core.specs.Reopening.{ReopenGives, CountsReopening, ReadyAfterReopening};
 
 use crate::node::Node;
-use agreement::{Config, Refusal};
+use agreement::{AgreementConfig, Refusal};
 use ballots::NodeId;
 use stable_records::{Stable, StoreFault};
 use std::alloc::Global;
@@ -37,7 +37,7 @@ impl Node {
         alloc: Global,
         hashing: RandomState,
         me: NodeId,
-        config: Config,
+        config: AgreementConfig,
         store: &mut S,
     ) -> Result<Node, OpenFault>
         ensures gives { ReopenGives S.tells config me (S.finds store.old) (S.finds store.new) result }

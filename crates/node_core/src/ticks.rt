@@ -8,7 +8,7 @@ ghost use Rattle.agreement.specs.Step.{CanTake};
 
 use crate::node::Node;
 use crate::plan::Planned;
-use agreement::{Refusal, Step};
+use agreement::{AgreementStep, Refusal};
 
 /// The most free slots that an attempt leaves to other nodes.
 pub const MOST_LEFT: u8 = 7;
@@ -30,7 +30,7 @@ impl Node {
 
     // Where uploads wait, an attempt for the first; else one at the first free slot, if something is learned behind it; and
     // if not, a question.
-    fn step_of_tick(&self, left: u8) -> Result<Step, Refusal>
+    fn step_of_tick(&self, left: u8) -> Result<AgreementStep, Refusal>
         requires within { left ≤ most_left }
         ensures gives { TickGives self.now left result }
         ensures can { IfOk result (λ step. CanTake self.now.agreement step.change) }

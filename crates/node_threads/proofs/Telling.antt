@@ -1,23 +1,23 @@
 -- What a node's step tells.
 use Rattle.std.proofs.Common.{◌≡◌, ℕ, ◌-◌, inl, inr, List, ◌++◌, length, length-append, arith, sym, ap, ◌∙◌}
-use Rattle.ballots.specs.declared.message.Message.{Message}
-use Rattle.table_types.specs.Uploads.{Upload}
-use Rattle.table_types.specs.Tables.{Version}
-use Rattle.table_types.specs.Answers.{answer_of}
-use Rattle.histories.specs.EventResult as results
-use Rattle.histories.specs.Following.{GetGives}
-use Rattle.node_events.specs.declared.event_result.EventResult.{EventResult}
-use Rattle.node_events.specs.declared.event_result.EventResult.TheVariants.{Answer}
-use Rattle.node_events.specs.Told.{result_of}
-use Rattle.journal.specs.declared.receipt.Receipt.{Receipt}
-use Rattle.journal.specs.Journaled.{Journaled}
+use Rattle.seats.specs.parts.ballots.specs.declared.message.Message.{Message}
+use Rattle.seats.specs.parts.table_types.specs.Uploads.{Upload}
+use Rattle.seats.specs.parts.table_types.specs.Tables.{Version}
+use Rattle.seats.specs.parts.table_types.specs.Answers.{answer_of}
+use Rattle.seats.specs.parts.histories.specs.EventResult as results
+use Rattle.seats.specs.parts.histories.specs.Following.{GetGives}
+use Rattle.seats.specs.parts.node_events.specs.declared.event_result.EventResult.{EventResult}
+use Rattle.seats.specs.parts.node_events.specs.declared.event_result.EventResult.TheVariants.{Answer}
+use Rattle.seats.specs.parts.node_events.specs.Told.{result_of}
+use Rattle.seats.specs.journal.specs.declared.receipt.Receipt.{Receipt}
+use Rattle.seats.specs.journal.specs.Journaled.{Journaled}
 use Rattle.seats.specs.declared.input.Prepared.{Prepared}
 use Rattle.seats.specs.declared.input.SeatInput.{SeatInput}
 use Rattle.seats.specs.Inputs.{event_at, given_for}
 use Rattle.seats.specs.State.{RunningSeat}
 use Rattle.seats.specs.Steps.{IsTaken}
-use Rattle.node_work.specs.declared.workplace.Input.{Input}
-use Rattle.node_work.specs.declared.workplace.Sent.{Sent}
+use Rattle.node_worker.specs.declared.workplace.WorkInput.{WorkInput as Input}
+use Rattle.node_worker.specs.declared.workplace.Sent.{Sent}
 use Rattle.node_threads.specs.declared.steps.Taken.{Taken}
 use Rattle.node_threads.specs.Told.{IsTold}
 use Rattle.node_threads.specs.Working.{seat_input, IsHanded}

@@ -1,9 +1,9 @@
 -- The faults of seats and of workers. Both are this service's own.
-use Rattle.agreement.specs.declared.refusal.Refusal.TheVariants as refusal
-use Rattle.node_work.specs.declared.workplace.Fault.{Fault}
-use Rattle.node_work.specs.declared.workplace.Fault.TheVariants as fault
-use Rattle.node_work.specs.declared.workplace.End.{End}
-use Rattle.node_work.specs.declared.workplace.End.TheVariants as ending
+use Rattle.seats.specs.parts.agreement.specs.declared.refusal.Refusal.TheVariants as refusal
+use Rattle.node_worker.specs.declared.workplace.Fault.{Fault}
+use Rattle.node_worker.specs.declared.workplace.Fault.TheVariants as fault
+use Rattle.node_worker.specs.declared.workplace.End.{End}
+use Rattle.node_worker.specs.declared.workplace.End.TheVariants as ending
 use Rattle.seats.specs.declared.fault.SeatFault.{SeatFault}
 use Rattle.seats.specs.declared.fault.SeatFault.TheVariants as seat
 

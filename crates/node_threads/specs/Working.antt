@@ -1,13 +1,13 @@
 -- What a node's worker may rely on at its workplace. Workers are this service's own.
 use Rattle.std.specs.Prelude.{◌≡◌, Some, None, Ok, Err}
-use Rattle.journal.specs.declared.receipt.Receipt.{Receipt}
-use Rattle.node_events.specs.declared.event_result.EventResult.TheVariants.{Outcome}
+use Rattle.seats.specs.journal.specs.declared.receipt.Receipt.{Receipt}
+use Rattle.seats.specs.parts.node_events.specs.declared.event_result.EventResult.TheVariants.{Outcome}
 use Rattle.seats.specs.declared.input.SeatInput.{SeatInput}
 use Rattle.seats.specs.declared.input.SeatInput.TheVariants as seat
-use Rattle.node_work.specs.declared.workplace.Input.{Input}
-use Rattle.node_work.specs.declared.workplace.Input.TheVariants as worker
-use Rattle.node_work.specs.declared.workplace.Sent.{Sent}
-use Rattle.node_work.specs.Deeds.{Deed, Read, Handed, Told, Counted, Found, Entered, Answered, Looked}
+use Rattle.node_worker.specs.declared.workplace.WorkInput.{WorkInput as Input}
+use Rattle.node_worker.specs.declared.workplace.WorkInput.TheVariants as worker
+use Rattle.node_worker.specs.declared.workplace.Sent.{Sent}
+use Rattle.node_worker.specs.Deeds.{Deed, Read, Handed, Told, Counted, Found, Entered, Answered, Looked}
 use Rattle.node_threads.specs.declared.steps.Settled.{Settled}
 use Rattle.node_threads.specs.Told.{IsTold}
 

@@ -4,9 +4,9 @@ ghost use Rattle.std.specs.Prelude.{◌≡◌};
 ghost use Rattle.std.specs.Option.{IfSome};
 
 use crate::steps::Settled;
+use agreement::Refusal;
 use crossbeam_channel::Sender;
-use node_core::Refusal;
-use node_work::{Note, PutId};
+use node_worker::{Note, PutId};
 use seats::SeatFault;
 use slab::Slab;
 use std::alloc::{AllocError, Global};

@@ -3,8 +3,8 @@
 ghost use Rattle.std.specs.Prelude.{◌≡◌};
 ghost use Rattle.node_threads.specs.Faults.{worker_fault, seat_fault};
 
-use node_core::Refusal;
-use node_work::{End, Fault};
+use agreement::Refusal;
+use node_worker::{End, Fault};
 use seats::SeatFault;
 
 /// A seat's fault, as a worker meets it.

@@ -28,10 +28,10 @@ mod workplace;
 pub use cluster::Cluster;
 pub use desk::Ending;
 pub use gate::{Gate, OpenGate};
-pub use node_work::{LONGEST_WAIT_MILLISECONDS, LOOK_MILLISECONDS, Note, Pace};
+pub use node_worker::{LONGEST_WAIT_MILLISECONDS, LOOK_MILLISECONDS, Note, Pace};
 pub use running::{Pending, Running};
 pub use seats::{
-    Beginning, Found, Journal, OwnEntry, Prepared, Query, Receipt, Recent, Retention, Seat,
-    SeatFault, SeatInput, Whole,
+    Beginning, Config, Found, Journal, MAX_JOURNAL_ENTRIES, MAX_SLOTS, OwnEntry, Prepared, Query,
+    Receipt, Recent, Retention, Seat, SeatFault, SeatInput, Whole, audit,
 };
 pub use steps::{Settled, Taken};

@@ -2,15 +2,15 @@
 
 ghost use Rattle.std.specs.Prelude.{◌≡◌, List, IfOk};
 ghost use Rattle.std.specs.Option.{IfSome};
-ghost use Rattle.table_types.specs.Uploads.{Upload as Uploaded};
-ghost use Rattle.node_events.specs.declared.event_result.EventResult.TheVariants.{Outcome as Told};
+ghost use Rattle.seats.specs.parts.table_types.specs.Uploads.{Upload as Uploaded};
+ghost use Rattle.seats.specs.parts.node_events.specs.declared.event_result.EventResult.TheVariants.{Outcome as Told};
 ghost use Rattle.seats.specs.Steps.{AnswersQuery, IsPreparedFor};
 ghost use Rattle.node_threads.specs.Told.{IsTold};
 
 use crate::gate::Gate;
 use crate::steps::{Settled, Taken};
+use agreement::Refusal;
 use ballots::Message;
-use node_core::Refusal;
 use node_events::EventResult;
 use seats::{Beginning, Journal, Prepared, Query, Receipt, Retention, Seat, SeatFault, SeatInput};
 use stable_records::Stable;

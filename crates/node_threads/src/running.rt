@@ -2,8 +2,8 @@
 
 ghost use Rattle.std.specs.Prelude.{◌≡◌, IfOk};
 ghost use Rattle.std.specs.Option.{IfSome};
-ghost use Rattle.table_types.specs.Tables.{Version};
-ghost use Rattle.table_types.specs.Answers.{answer_of};
+ghost use Rattle.seats.specs.parts.table_types.specs.Tables.{Version};
+ghost use Rattle.seats.specs.parts.table_types.specs.Answers.{answer_of};
 
 use crate::cluster::Cluster;
 use crate::desk::{Desk, Ending};
@@ -11,9 +11,9 @@ use crate::faults::fault_of;
 use crate::gate::Gate;
 use crate::steps::Taken;
 use crate::workplace::NodeWorkplace;
+use agreement::Refusal;
 use crossbeam_channel::{Receiver, bounded, unbounded};
-use node_core::Refusal;
-use node_work::{Note, PutId, end_each, end_of, look_at_each};
+use node_worker::{Note, PutId, end_each, end_of, look_at_each};
 use seats::{Beginning, Receipt, Retention, SeatFault, SeatInput, Whole};
 use stable_records::Stable;
 use std::alloc::{AllocError, Global};

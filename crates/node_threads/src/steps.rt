@@ -2,11 +2,11 @@
 
 ghost use Rattle.std.specs.Prelude.{◌≡◌, List, IfOk};
 ghost use Rattle.std.specs.Option.{IfSome};
-ghost use Rattle.table_types.specs.Uploads.{Upload as Uploaded};
-ghost use Rattle.table_types.specs.Tables.{Version};
-ghost use Rattle.table_types.specs.Answers.{answer_of};
-ghost use Rattle.ballots.specs.declared.message.Message.{Message as Sent};
-ghost use Rattle.node_events.specs.declared.event_result.EventResult.TheVariants.{Outcome as Told};
+ghost use Rattle.seats.specs.parts.table_types.specs.Uploads.{Upload as Uploaded};
+ghost use Rattle.seats.specs.parts.table_types.specs.Tables.{Version};
+ghost use Rattle.seats.specs.parts.table_types.specs.Answers.{answer_of};
+ghost use Rattle.seats.specs.parts.ballots.specs.declared.message.Message.{Message as Sent};
+ghost use Rattle.seats.specs.parts.node_events.specs.declared.event_result.EventResult.TheVariants.{Outcome as Told};
 ghost use Rattle.seats.specs.declared.input.SeatInput.TheVariants.{Deliver};
 ghost use Rattle.seats.specs.Steps.{AnswersQuery};
 ghost use Rattle.node_threads.specs.Told.{IsTold};
@@ -14,8 +14,8 @@ ghost use Rattle.node_threads.specs.Told.{IsTold};
 use crate::cluster::Cluster;
 use crate::gate::Gate;
 use crate::locks::message_in;
+use agreement::Refusal;
 use ballots::Message;
-use node_core::Refusal;
 use node_events::EventResult;
 use seats::{Beginning, Query, Receipt, Retention, SeatFault, SeatInput};
 use stable_records::Stable;

@@ -4,7 +4,7 @@ use crate::gate::Gate;
 use crate::running::Running;
 use crate::stopwatch::Stopwatch;
 use crossbeam_channel::{Receiver, RecvTimeoutError};
-use node_work::{LOOK_MILLISECONDS, Next, Note, Pace, step};
+use node_worker::{LOOK_MILLISECONDS, Next, Note, Pace, step};
 use seats::{Beginning, Retention};
 use stable_records::Stable;
 use std::sync::Wait;

@@ -1,7 +1,7 @@
 //! Where the worker of a node works.
 
 ghost use Rattle.std.specs.Prelude.{◌≡◌};
-ghost use Rattle.node_work.specs.Deeds.{Answered};
+ghost use Rattle.node_worker.specs.Deeds.{Answered};
 ghost use Rattle.node_threads.specs.Working.{seat_input, IsDone};
 
 use crate::desk::Desk;
@@ -10,7 +10,7 @@ use crate::gate::Gate;
 use crate::locks::Locks;
 use crate::steps::{Settled, Taken};
 use ballots::Message;
-use node_work::{End, Fault, Input, Note, PutId, Sent, Workplace};
+use node_worker::{End, Fault, Note, PutId, Sent, WorkInput, Workplace};
 use seats::{Beginning, Retention, SeatFault, SeatInput};
 use stable_records::Stable;
 use std::sync::Wait;
@@ -83,7 +83,7 @@ impl<'a, const N: usize, R: Wait, S: Stable + Drop, J: Beginning, G: Gate, M: Re
         }
     }
 
-    fn hand(&mut self, input: Input) -> Result<Sent, Fault> {
+    fn hand(&mut self, input: WorkInput) -> Result<Sent, Fault> {
         match self.locks.take(self.rt, self.gate, input_of(input)) {
             Ok(taken) => Ok(sent_by(taken)),
             Err(fault) => Err(fault_of(fault)),
@@ -137,12 +137,12 @@ impl<'a, const N: usize, R: Wait, S: Stable + Drop, J: Beginning, G: Gate, M: Re
 }
 
 // A worker's input, as a seat takes it.
-fn input_of(input: Input) -> SeatInput
+fn input_of(input: WorkInput) -> SeatInput
     ensures { result ≡ seat_input input }
 {
     match input {
-        Input::Deliver(number, message) => SeatInput::Deliver(number, message),
-        Input::Tick(left) => SeatInput::Tick(left),
+        WorkInput::Deliver(number, message) => SeatInput::Deliver(number, message),
+        WorkInput::Tick(left) => SeatInput::Tick(left),
     }
 }
 

@@ -5,14 +5,14 @@ use acceptor::{Acceptor, Answer as Reply};
 use ballots::{Acceptance, Ballot, Body, Message, Record, Slot};
 use std::alloc::Global;
 use std::mem;
-use story_requests::{Answer, RequestFault, Words};
+use story_requests::{RequestFault, Response, Words};
 
 /// Answers a call of the acceptor.
 pub(crate) fn answer(
     alloc: Global,
     acceptor: &mut Acceptor,
     words: &mut Words<'_>,
-    answer: &mut Answer,
+    answer: &mut Response,
 ) -> Result<(), RequestFault> {
     match words.next() {
         "new" => make(alloc, acceptor, words),
@@ -65,7 +65,7 @@ fn ask(
     alloc: Global,
     acceptor: &mut Acceptor,
     words: &mut Words<'_>,
-    answer: &mut Answer,
+    answer: &mut Response,
 ) -> Result<(), RequestFault> {
     let message = words::message(alloc, words)?;
     let slot = message.slot;
@@ -81,7 +81,7 @@ fn prepare(
     acceptor: &mut Acceptor,
     slot: Slot,
     ballot: Ballot,
-    answer: &mut Answer,
+    answer: &mut Response,
 ) -> Result<(), RequestFault> {
     let reply = acceptor.on_prepare(slot, ballot)?;
     show(alloc, &reply, answer)
@@ -92,13 +92,13 @@ fn accept(
     acceptor: &mut Acceptor,
     slot: Slot,
     proposal: &Acceptance,
-    answer: &mut Answer,
+    answer: &mut Response,
 ) -> Result<(), RequestFault> {
     let reply = acceptor.on_accept(slot, proposal.clone()?)?;
     show(alloc, &reply, answer)
 }
 
-fn show(alloc: Global, reply: &Reply, answer: &mut Answer) -> Result<(), RequestFault> {
+fn show(alloc: Global, reply: &Reply, answer: &mut Response) -> Result<(), RequestFault> {
     match reply {
         Reply::Promise(None) => answer.word("Promise"),
         Reply::Promise(Some(report)) => {
@@ -118,7 +118,7 @@ fn would_grant(
     alloc: Global,
     acceptor: &Acceptor,
     words: &mut Words<'_>,
-    answer: &mut Answer,
+    answer: &mut Response,
 ) -> Result<(), RequestFault> {
     let message = words::message(alloc, words)?;
     shown::whether(would_take(acceptor, &message)?, answer)
@@ -138,7 +138,7 @@ fn promised(
     alloc: Global,
     acceptor: &Acceptor,
     words: &mut Words<'_>,
-    answer: &mut Answer,
+    answer: &mut Response,
 ) -> Result<(), RequestFault> {
     let slot = words::slot(alloc, words)?;
     match acceptor.promised(slot) {
@@ -152,7 +152,7 @@ fn accepted(
     alloc: Global,
     acceptor: &Acceptor,
     words: &mut Words<'_>,
-    answer: &mut Answer,
+    answer: &mut Response,
 ) -> Result<(), RequestFault> {
     let slot = words::slot(alloc, words)?;
     match acceptor.accepted(slot) {

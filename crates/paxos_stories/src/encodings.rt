@@ -4,14 +4,14 @@ use crate::{shown, words};
 use ballots::{Ballot, Body, LineFault, Message, MessageFault, Record, Slot, Value};
 use std::alloc::Global;
 use std::str::{FromStr, from_utf8};
-use story_requests::{Answer, RequestFault, Words};
+use story_requests::{RequestFault, Response, Words};
 
 /// Answers with what a line says or bytes mean, or with what is wrong with them; or with the encoding of a record.
 pub(crate) fn answer(
     alloc: Global,
     asked: &str,
     words: &mut Words<'_>,
-    answer: &mut Answer,
+    answer: &mut Response,
 ) -> Result<(), RequestFault> {
     match asked {
         "ballot" | "value" | "message" => read_line(alloc, asked, words, answer),
@@ -25,7 +25,7 @@ fn read_line(
     alloc: Global,
     asked: &str,
     words: &mut Words<'_>,
-    answer: &mut Answer,
+    answer: &mut Response,
 ) -> Result<(), RequestFault> {
     let bytes = words.bytes(alloc)?;
     let Ok(line) = from_utf8(&bytes) else {
@@ -38,34 +38,34 @@ fn read_line(
     }
 }
 
-fn read_ballot(alloc: Global, line: &str, answer: &mut Answer) -> Result<(), RequestFault> {
+fn read_ballot(alloc: Global, line: &str, answer: &mut Response) -> Result<(), RequestFault> {
     match Ballot::from_str(line) {
         Ok(ballot) => show_ballot(alloc, ballot, answer),
         Err(fault) => name(alloc, fault, answer),
     }
 }
 
-fn read_value(alloc: Global, line: &str, answer: &mut Answer) -> Result<(), RequestFault> {
+fn read_value(alloc: Global, line: &str, answer: &mut Response) -> Result<(), RequestFault> {
     match Value::from_str(alloc, line) {
         Ok(value) => show_value(alloc, &value, answer),
         Err(fault) => name(alloc, fault, answer),
     }
 }
 
-fn read_message(alloc: Global, line: &str, answer: &mut Answer) -> Result<(), RequestFault> {
+fn read_message(alloc: Global, line: &str, answer: &mut Response) -> Result<(), RequestFault> {
     match Message::from_str(alloc, line) {
         Ok(message) => show_message(alloc, &message, answer),
         Err(fault) => name(alloc, fault, answer),
     }
 }
 
-fn name(alloc: Global, fault: LineFault, answer: &mut Answer) -> Result<(), RequestFault> {
+fn name(alloc: Global, fault: LineFault, answer: &mut Response) -> Result<(), RequestFault> {
     let name = fault.to_string(alloc)?;
     answer.word(name.as_str())
 }
 
 // The round and the node, and the line that is written.
-fn show_ballot(alloc: Global, ballot: Ballot, answer: &mut Answer) -> Result<(), RequestFault> {
+fn show_ballot(alloc: Global, ballot: Ballot, answer: &mut Response) -> Result<(), RequestFault> {
     answer.number(u64::from(ballot.round()))?;
     answer.number(u64::from(ballot.node().number()))?;
     let line = ballot.to_string(alloc)?;
@@ -73,14 +73,18 @@ fn show_ballot(alloc: Global, ballot: Ballot, answer: &mut Answer) -> Result<(),
 }
 
 // The bytes, and the line that is written.
-fn show_value(alloc: Global, value: &Value, answer: &mut Answer) -> Result<(), RequestFault> {
+fn show_value(alloc: Global, value: &Value, answer: &mut Response) -> Result<(), RequestFault> {
     answer.bytes(value.as_bytes())?;
     let line = value.to_string(alloc)?;
     answer.bytes(line.as_bytes())
 }
 
 // The encoding, and the line that is written.
-fn show_message(alloc: Global, message: &Message, answer: &mut Answer) -> Result<(), RequestFault> {
+fn show_message(
+    alloc: Global,
+    message: &Message,
+    answer: &mut Response,
+) -> Result<(), RequestFault> {
     let mut bytes = Vec::new(alloc);
     message.encode(&mut bytes)?;
     answer.bytes(&bytes)?;
@@ -88,7 +92,7 @@ fn show_message(alloc: Global, message: &Message, answer: &mut Answer) -> Result
     answer.bytes(line.as_bytes())
 }
 
-fn decode(alloc: Global, words: &mut Words<'_>, answer: &mut Answer) -> Result<(), RequestFault> {
+fn decode(alloc: Global, words: &mut Words<'_>, answer: &mut Response) -> Result<(), RequestFault> {
     let bytes = words.bytes(alloc)?;
     match Message::decode(alloc, &bytes) {
         Ok(message) => show_message(alloc, &message, answer),
@@ -99,7 +103,7 @@ fn decode(alloc: Global, words: &mut Words<'_>, answer: &mut Answer) -> Result<(
 fn decode_record(
     alloc: Global,
     words: &mut Words<'_>,
-    answer: &mut Answer,
+    answer: &mut Response,
 ) -> Result<(), RequestFault> {
     let bytes = words.bytes(alloc)?;
     match Record::decode(alloc, &bytes) {
@@ -111,13 +115,13 @@ fn decode_record(
 fn message_fault(
     alloc: Global,
     fault: MessageFault,
-    answer: &mut Answer,
+    answer: &mut Response,
 ) -> Result<(), RequestFault> {
     let name = fault.to_string(alloc)?;
     answer.word(name.as_str())
 }
 
-fn show_record(alloc: Global, record: &Record, answer: &mut Answer) -> Result<(), RequestFault> {
+fn show_record(alloc: Global, record: &Record, answer: &mut Response) -> Result<(), RequestFault> {
     match record {
         Record::Began(ballot) => {
             answer.word("began")?;
@@ -141,14 +145,18 @@ fn encode_record(
     alloc: Global,
     kind: &str,
     words: &mut Words<'_>,
-    answer: &mut Answer,
+    answer: &mut Response,
 ) -> Result<(), RequestFault> {
     let message = words::message(alloc, words)?;
     let record = record_of(kind, &message)?;
     show_encoding(alloc, &record, answer)
 }
 
-fn show_encoding(alloc: Global, record: &Record, answer: &mut Answer) -> Result<(), RequestFault> {
+fn show_encoding(
+    alloc: Global,
+    record: &Record,
+    answer: &mut Response,
+) -> Result<(), RequestFault> {
     let mut bytes = Vec::new(alloc);
     record.encode(&mut bytes)?;
     answer.bytes(&bytes)

@@ -7,14 +7,14 @@ use ballots::Message;
 use breach_words::message_line;
 use run_breaches::{Breach, BrokenRules, are_lawful_by_slot, first_breach, first_breach_by_slot};
 use std::alloc::Global;
-use story_requests::{Answer, RequestFault, Words};
+use story_requests::{RequestFault, Response, Words};
 
 /// Answers what is asked of a file or of a message.
 pub(crate) fn answer(
     alloc: Global,
     asked: &str,
     words: &mut Words<'_>,
-    answer: &mut Answer,
+    answer: &mut Response,
 ) -> Result<(), RequestFault> {
     match asked {
         "explain" => explain(alloc, words, answer),
@@ -24,7 +24,11 @@ pub(crate) fn answer(
 }
 
 // The explained audit of a file: its status, what it writes, and what it says of a fault.
-fn explain(alloc: Global, words: &mut Words<'_>, answer: &mut Answer) -> Result<(), RequestFault> {
+fn explain(
+    alloc: Global,
+    words: &mut Words<'_>,
+    answer: &mut Response,
+) -> Result<(), RequestFault> {
     let file = words.bytes(alloc)?;
     let mut output = Vec::new(alloc);
     let mut said = Vec::new(alloc);
@@ -33,7 +37,7 @@ fn explain(alloc: Global, words: &mut Words<'_>, answer: &mut Answer) -> Result<
 }
 
 // The same of the audit that is not explained.
-fn audit(alloc: Global, words: &mut Words<'_>, answer: &mut Answer) -> Result<(), RequestFault> {
+fn audit(alloc: Global, words: &mut Words<'_>, answer: &mut Response) -> Result<(), RequestFault> {
     let file = words.bytes(alloc)?;
     let mut output = Vec::new(alloc);
     let mut said = Vec::new(alloc);
@@ -41,7 +45,7 @@ fn audit(alloc: Global, words: &mut Words<'_>, answer: &mut Answer) -> Result<()
     show(status, &output, &said, answer)
 }
 
-fn show(status: u8, output: &[u8], said: &[u8], answer: &mut Answer) -> Result<(), RequestFault> {
+fn show(status: u8, output: &[u8], said: &[u8], answer: &mut Response) -> Result<(), RequestFault> {
     answer.number(u64::from(status))?;
     answer.bytes(output)?;
     answer.bytes(said)
@@ -51,7 +55,7 @@ fn show(status: u8, output: &[u8], said: &[u8], answer: &mut Answer) -> Result<(
 pub(crate) fn breach(
     alloc: Global,
     history: &History,
-    answer: &mut Answer,
+    answer: &mut Response,
 ) -> Result<(), RequestFault> {
     let members = history.members();
     let said = history.said();
@@ -69,7 +73,7 @@ pub(crate) fn breach(
 }
 
 // The place and the slot of the message, and the rules that it breaks.
-fn show_breach(breach: &Breach, answer: &mut Answer) -> Result<(), RequestFault> {
+fn show_breach(breach: &Breach, answer: &mut Response) -> Result<(), RequestFault> {
     answer.number(breach.place as u64)?;
     answer.number(u64::from(breach.slot.number()))?;
     show_rules(&breach.broken, answer)
@@ -77,7 +81,7 @@ fn show_breach(breach: &Breach, answer: &mut Answer) -> Result<(), RequestFault>
 
 // The kind of the message, and of each rule of its kind the place of the message that it goes against, or whether it is
 // broken.
-fn show_rules(broken: &BrokenRules, answer: &mut Answer) -> Result<(), RequestFault> {
+fn show_rules(broken: &BrokenRules, answer: &mut Response) -> Result<(), RequestFault> {
     match broken {
         BrokenRules::Promise {
             not_above,
@@ -113,7 +117,7 @@ fn show_rules(broken: &BrokenRules, answer: &mut Answer) -> Result<(), RequestFa
     }
 }
 
-fn show_place(place: Option<usize>, answer: &mut Answer) -> Result<(), RequestFault> {
+fn show_place(place: Option<usize>, answer: &mut Response) -> Result<(), RequestFault> {
     match place {
         Some(place) => answer.number(place as u64),
         None => answer.word("no"),
@@ -121,12 +125,12 @@ fn show_place(place: Option<usize>, answer: &mut Answer) -> Result<(), RequestFa
 }
 
 // The line of a message, in which a long upload is shown by its ends.
-fn line(alloc: Global, words: &mut Words<'_>, answer: &mut Answer) -> Result<(), RequestFault> {
+fn line(alloc: Global, words: &mut Words<'_>, answer: &mut Response) -> Result<(), RequestFault> {
     let message = words::message(alloc, words)?;
     show_line(alloc, &message, answer)
 }
 
-fn show_line(alloc: Global, message: &Message, answer: &mut Answer) -> Result<(), RequestFault> {
+fn show_line(alloc: Global, message: &Message, answer: &mut Response) -> Result<(), RequestFault> {
     let line = message_line(alloc, message)?;
     answer.bytes(line.as_bytes())
 }

@@ -3,10 +3,10 @@
 use crate::explaining::breach;
 use crate::words;
 use ballots::{Members, Message};
-use lawful_histories::{Trace, audit};
+use lawful_histories::{SentMessages, audit};
 use std::alloc::Global;
 use std::mem;
-use story_requests::{Answer, RequestFault, Words};
+use story_requests::{RequestFault, Response, Words};
 
 /// How many members agree, and the messages that were said, in order.
 #[derive(Drop)]
@@ -47,7 +47,7 @@ pub(crate) fn answer(
     alloc: Global,
     history: &mut History,
     words: &mut Words<'_>,
-    answer: &mut Answer,
+    answer: &mut Response,
 ) -> Result<(), RequestFault> {
     match words.next() {
         "new" => make(alloc, history, words),
@@ -76,7 +76,7 @@ fn suppose(
     alloc: Global,
     history: &mut History,
     words: &mut Words<'_>,
-    answer: &mut Answer,
+    answer: &mut Response,
 ) -> Result<(), RequestFault> {
     say(alloc, history, words)?;
     judge(history, answer)?;
@@ -85,7 +85,7 @@ fn suppose(
 }
 
 // Whether the history is lawful.
-fn judge(history: &History, answer: &mut Answer) -> Result<(), RequestFault> {
-    let trace = Trace::new(history.members, history.said.clone()?);
+fn judge(history: &History, answer: &mut Response) -> Result<(), RequestFault> {
+    let trace = SentMessages::new(history.members, history.said.clone()?);
     answer.word(if audit(&trace) { "lawful" } else { "unlawful" })
 }

@@ -6,14 +6,14 @@ use ballots::{Acceptance, Body, NodeId, Slot, Value};
 use learner::Learner;
 use std::alloc::Global;
 use std::mem;
-use story_requests::{Answer, RequestFault, Words};
+use story_requests::{RequestFault, Response, Words};
 
 /// Answers a call of the learner.
 pub(crate) fn answer(
     alloc: Global,
     learner: &mut Learner,
     words: &mut Words<'_>,
-    answer: &mut Answer,
+    answer: &mut Response,
 ) -> Result<(), RequestFault> {
     match words.next() {
         "new" => make(alloc, learner, words),
@@ -35,7 +35,7 @@ fn tell(
     alloc: Global,
     learner: &mut Learner,
     words: &mut Words<'_>,
-    answer: &mut Answer,
+    answer: &mut Response,
 ) -> Result<(), RequestFault> {
     let message = words::message(alloc, words)?;
     let sender = message.sender;
@@ -52,7 +52,7 @@ fn accepted(
     sender: NodeId,
     slot: Slot,
     acceptance: Acceptance,
-    answer: &mut Answer,
+    answer: &mut Response,
 ) -> Result<(), RequestFault> {
     let Acceptance { ballot, value } = acceptance;
     let learned = learner.see_on_accepted(sender, slot, ballot, &value)?;
@@ -64,7 +64,7 @@ fn decided(
     learner: &mut Learner,
     slot: Slot,
     value: Value,
-    answer: &mut Answer,
+    answer: &mut Response,
 ) -> Result<(), RequestFault> {
     let learned = learner.see_on_decided(slot, &value)?;
     learner.on_decided(slot, value);
@@ -76,7 +76,7 @@ fn knows(
     alloc: Global,
     learner: &Learner,
     words: &mut Words<'_>,
-    answer: &mut Answer,
+    answer: &mut Response,
 ) -> Result<(), RequestFault> {
     let slot = words::slot(alloc, words)?;
     shown::perhaps(learner.decided(slot), answer)

@@ -5,14 +5,14 @@ use ballots::{Body, Slot, Value};
 use decided_log::DecidedLog;
 use std::alloc::Global;
 use std::mem;
-use story_requests::{Answer, RequestFault, Words};
+use story_requests::{RequestFault, Response, Words};
 
 /// Answers a call of the log.
 pub(crate) fn answer(
     alloc: Global,
     log: &mut DecidedLog,
     words: &mut Words<'_>,
-    answer: &mut Answer,
+    answer: &mut Response,
 ) -> Result<(), RequestFault> {
     match words.next() {
         "new" => make(alloc, log, words),
@@ -35,7 +35,7 @@ fn insert(
     alloc: Global,
     log: &mut DecidedLog,
     words: &mut Words<'_>,
-    answer: &mut Answer,
+    answer: &mut Response,
 ) -> Result<(), RequestFault> {
     let message = words::message(alloc, words)?;
     let slot = message.slot;
@@ -49,14 +49,14 @@ fn insert_value(
     log: &mut DecidedLog,
     slot: Slot,
     value: Value,
-    answer: &mut Answer,
+    answer: &mut Response,
 ) -> Result<(), RequestFault> {
     let gained = log.gain(slot, &value)?;
     log.insert(slot, value);
     show_gained(&gained, log.prefix().len(), answer)
 }
 
-fn show_gained(gained: &[Value], len: usize, answer: &mut Answer) -> Result<(), RequestFault> {
+fn show_gained(gained: &[Value], len: usize, answer: &mut Response) -> Result<(), RequestFault> {
     answer.number(len as u64)?;
     for value in gained {
         answer.bytes(value.as_bytes())?;
@@ -69,7 +69,7 @@ fn ask(
     alloc: Global,
     log: &DecidedLog,
     words: &mut Words<'_>,
-    answer: &mut Answer,
+    answer: &mut Response,
 ) -> Result<(), RequestFault> {
     let slot = words::slot(alloc, words)?;
     let told = log.asked(slot)?;
@@ -81,7 +81,7 @@ fn holds(
     alloc: Global,
     log: &DecidedLog,
     words: &mut Words<'_>,
-    answer: &mut Answer,
+    answer: &mut Response,
 ) -> Result<(), RequestFault> {
     let slot = words::slot(alloc, words)?;
     shown::perhaps(log.prefix().get(slot.number() as usize), answer)

@@ -28,7 +28,7 @@ use learner::Learner;
 use proposer::Proposer;
 use std::alloc::Global;
 use std::process::ExitCode;
-use story_requests::{Answer, Answers, RequestFault, Words};
+use story_requests::{Answers, RequestFault, Response, Words};
 
 fn main(rt: HostRuntime) -> ExitCode {
     story_requests::run::<Parts>(&rt)
@@ -62,7 +62,7 @@ impl Answers for Parts {
         alloc: Global,
         asked: &str,
         words: &mut Words<'_>,
-        answer: &mut Answer,
+        answer: &mut Response,
     ) -> Result<(), RequestFault> {
         match asked {
             "acceptor" => acceptors::answer(alloc, &mut self.acceptor, words, answer),

@@ -5,14 +5,14 @@ use ballots::{Acceptance, Ballot, Body, NodeId, Slot, Value};
 use proposer::{Proposer, RoundsSpent};
 use std::alloc::Global;
 use std::mem;
-use story_requests::{Answer, RequestFault, Words};
+use story_requests::{RequestFault, Response, Words};
 
 /// Answers a call of the proposer.
 pub(crate) fn answer(
     alloc: Global,
     proposer: &mut Proposer,
     words: &mut Words<'_>,
-    answer: &mut Answer,
+    answer: &mut Response,
 ) -> Result<(), RequestFault> {
     match words.next() {
         "new" => make(proposer, words),
@@ -37,7 +37,7 @@ fn begin(
     alloc: Global,
     proposer: &mut Proposer,
     words: &mut Words<'_>,
-    answer: &mut Answer,
+    answer: &mut Response,
 ) -> Result<(), RequestFault> {
     let seen = words::number(words)?;
     let message = words::message(alloc, words)?;
@@ -54,7 +54,7 @@ fn begin_with(
     slot: Slot,
     seen: u32,
     candidate: Value,
-    answer: &mut Answer,
+    answer: &mut Response,
 ) -> Result<(), RequestFault> {
     let foretold = proposer.see_begin(slot, seen, &candidate);
     let begun = proposer.begin(slot, seen, candidate);
@@ -65,7 +65,7 @@ fn show_begun(
     alloc: Global,
     foretold: Result<Ballot, RoundsSpent>,
     begun: Result<Ballot, RoundsSpent>,
-    answer: &mut Answer,
+    answer: &mut Response,
 ) -> Result<(), RequestFault> {
     if foretold != begun {
         return answer.word("ForetoldOtherwise");
@@ -84,7 +84,7 @@ fn tell(
     alloc: Global,
     proposer: &mut Proposer,
     words: &mut Words<'_>,
-    answer: &mut Answer,
+    answer: &mut Response,
 ) -> Result<(), RequestFault> {
     let message = words::message(alloc, words)?;
     let sender = message.sender;
@@ -103,7 +103,7 @@ fn nack(
     proposer: &mut Proposer,
     slot: Slot,
     ballot: Ballot,
-    answer: &mut Answer,
+    answer: &mut Response,
 ) -> Result<(), RequestFault> {
     proposer.see_on_nack(slot, ballot);
     proposer.on_nack(slot, ballot);
@@ -115,7 +115,7 @@ fn promise(
     proposer: &mut Proposer,
     (sender, slot, ballot): (NodeId, Slot, Ballot),
     report: &Option<Acceptance>,
-    answer: &mut Answer,
+    answer: &mut Response,
 ) -> Result<(), RequestFault> {
     let foretold = proposer.see_on_promise(sender, slot, ballot, report)?;
     let given = proposer.on_promise(sender, slot, ballot, report.clone()?);
@@ -128,7 +128,7 @@ fn promise(
 fn show_accept(
     alloc: Global,
     accept: &Option<(Slot, Ballot, Value)>,
-    answer: &mut Answer,
+    answer: &mut Response,
 ) -> Result<(), RequestFault> {
     match accept {
         Some((slot, ballot, value)) => {
@@ -143,14 +143,14 @@ fn show_place(
     alloc: Global,
     slot: Slot,
     ballot: Ballot,
-    answer: &mut Answer,
+    answer: &mut Response,
 ) -> Result<(), RequestFault> {
     answer.number(u64::from(slot.number()))?;
     shown::ballot(alloc, ballot, answer)
 }
 
 // The slot and the ballot of the attempt that is open, if any, and whether it has its majority.
-fn attempt(alloc: Global, proposer: &Proposer, answer: &mut Answer) -> Result<(), RequestFault> {
+fn attempt(alloc: Global, proposer: &Proposer, answer: &mut Response) -> Result<(), RequestFault> {
     match proposer.attempt() {
         Some((slot, ballot)) => {
             show_place(alloc, slot, ballot, answer)?;

@@ -2,13 +2,13 @@
 
 use ballots::{Acceptance, Ballot, Value};
 use std::alloc::Global;
-use story_requests::{Answer, RequestFault};
+use story_requests::{RequestFault, Response};
 
 /// Puts the line of the ballot.
 pub(crate) fn ballot(
     alloc: Global,
     ballot: Ballot,
-    answer: &mut Answer,
+    answer: &mut Response,
 ) -> Result<(), RequestFault> {
     let line = ballot.to_string(alloc)?;
     answer.word(line.as_str())
@@ -18,14 +18,14 @@ pub(crate) fn ballot(
 pub(crate) fn acceptance(
     alloc: Global,
     acceptance: &Acceptance,
-    answer: &mut Answer,
+    answer: &mut Response,
 ) -> Result<(), RequestFault> {
     ballot(alloc, acceptance.ballot, answer)?;
     answer.bytes(acceptance.value.as_bytes())
 }
 
 /// Puts the bytes of the value, where there is one.
-pub(crate) fn perhaps(value: Option<&Value>, answer: &mut Answer) -> Result<(), RequestFault> {
+pub(crate) fn perhaps(value: Option<&Value>, answer: &mut Response) -> Result<(), RequestFault> {
     match value {
         Some(value) => answer.bytes(value.as_bytes()),
         None => Ok(()),
@@ -33,6 +33,6 @@ pub(crate) fn perhaps(value: Option<&Value>, answer: &mut Answer) -> Result<(), 
 }
 
 /// Puts whether it is so.
-pub(crate) fn whether(is_so: bool, answer: &mut Answer) -> Result<(), RequestFault> {
+pub(crate) fn whether(is_so: bool, answer: &mut Response) -> Result<(), RequestFault> {
     answer.word(if is_so { "yes" } else { "no" })
 }

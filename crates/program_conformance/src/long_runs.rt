@@ -3,7 +3,7 @@
 
 use crate::streams::Narrow;
 use crate::support::spelled;
-use acceptor_command::{ServeFault, answer_frames};
+use acceptor_command::{AnswerFault, answer_frames};
 use std::alloc::Global;
 use std::test::Fail;
 
@@ -18,7 +18,7 @@ fn asks(alloc: Global, count: usize) -> Result<Vec<u8>, Fail> {
 }
 
 /// How a run over so many Asks and an end frame behind them ends.
-fn ending_of(alloc: Global, count: usize) -> Result<Result<(), (u32, ServeFault)>, Fail> {
+fn ending_of(alloc: Global, count: usize) -> Result<Result<(), (u32, AnswerFault)>, Fail> {
     let mut text = asks(alloc, count)?;
     text.extend_from_slice(&[0x80, 0, 0, 0, 0])?;
     let mut reader = text.as_slice();
@@ -29,9 +29,9 @@ fn ending_of(alloc: Global, count: usize) -> Result<Result<(), (u32, ServeFault)
 #[test]
 fn tells_the_limit_before_an_end(rt: HostRuntime) -> Result<(), Fail> {
     let before = ending_of(rt.alloc(), 999_999)?;
-    assert!(rt; before == Err((999_999, ServeFault::EndFlag)));
+    assert!(rt; before == Err((999_999, AnswerFault::EndFlag)));
     let behind = ending_of(rt.alloc(), 1_000_000)?;
-    assert!(rt; behind == Err((1_000_000, ServeFault::FrameLimit)));
+    assert!(rt; behind == Err((1_000_000, AnswerFault::FrameLimit)));
     Ok(())
 }
 
@@ -66,7 +66,7 @@ fn is_written_within(alloc: Global, text: &[u8], room: usize) -> bool {
     let ending = answer_frames(alloc, &mut reader, &mut writer);
     // The Accepted is 14 bytes beside its value.
     let frame = if room < REPORTED + 14 { 0 } else { 1 };
-    writer.written.len() == room && ending == Err((frame, ServeFault::Write))
+    writer.written.len() == room && ending == Err((frame, AnswerFault::Write))
 }
 
 #[test]

@@ -24,8 +24,6 @@ mod file;
 pub mod laws;
 mod node_files;
 mod summed_stable;
-#[cfg(test)]
-mod tests;
 
 pub use checking::first_misfit;
 pub use damage::{Damage, DamageKind, damage_in};

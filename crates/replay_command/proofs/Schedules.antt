@@ -1,7 +1,7 @@
 -- A file that is refused as a schedule means none.
 use Rattle.std.proofs.Common.{◌≡◌, ℕ, List, sym, ◌∙◌}
 use Rattle.node_events.specs.declared.event.Event.{Event}
-use Rattle.schedule_runner.specs.declared.config.Config.{Config}
+use Rattle.traces.specs.declared.config.Config.{Config}
 use Rattle.run_files.specs.declared.fault.ScheduleFault.{ScheduleFault}
 use Rattle.run_files.specs.declared.fault.ScheduleFault.TheVariants.{BadSchedule, OutOfMemory}
 use Rattle.run_files.specs.ScheduleFile.{MeansSchedule, MeansNothing}

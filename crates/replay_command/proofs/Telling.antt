@@ -3,7 +3,7 @@ use Rattle.std.proofs.Common.{◌≡◌, ℕ, ◌+◌, ◌<◌, List, [], ◌∷
 use Rattle.std.proofs.lemmas.List.{append_assoc, take_more, take-append-drop, length-take-le}
 use Rattle.std.specs.Io.KnownBytes.{Appends}
 use Rattle.grpc_frames.specs.FrameFaults.{IsBeginning}
-use Rattle.schedule_runner.specs.declared.step.Step.{Step}
+use Rattle.traces.specs.declared.step.Step.{Step}
 use Rattle.replay_command.specs.Lines.{line_of, lines_from, lines_of}
 
 pub appends_both : (old mid new : Option (List ℕ)) (a b : List ℕ) → Appends old mid a → Appends mid new b → Appends old new (a ++ b)

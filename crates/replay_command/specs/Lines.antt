@@ -10,7 +10,7 @@ use Rattle.node_events.specs.declared.event_result.EventResult.{EventResult}
 use Rattle.node_events.specs.declared.event_result.EventResult.TheVariants as results
 use Rattle.node_events.specs.declared.event_result.Reason.{Reason}
 use Rattle.node_events.specs.declared.event_result.Reason.TheVariants.{OutOfRange, SlotsSpent, RoundsSpent, OutOfMemory, Down, NotSent}
-use Rattle.schedule_runner.specs.declared.step.Step.{Step}
+use Rattle.traces.specs.declared.step.Step.{Step}
 
 -- this number and as many more that follow it, with commas between them
 abbrev pub numbers_text : ℕ → ℕ → List ℕ

@@ -3,9 +3,9 @@ use Rattle.std.specs.Prelude.{◌≡◌, ℕ, ◌⊎◌, List, Option, Result, O
 use Rattle.std.specs.Io.KnownBytes.{Keeps, Appends}
 use Rattle.grpc_frames.specs.FrameFaults.{IsBeginning}
 use Rattle.node_events.specs.declared.event.Event.{Event}
-use Rattle.schedule_runner.specs.declared.config.Config.{Config}
-use Rattle.schedule_runner.specs.Traced.{Traced}
-use Rattle.schedule_runner.specs.Runs.{IsRunOf}
+use Rattle.traces.specs.declared.config.Config.{Config}
+use Rattle.traces.specs.Traced.{Traced}
+use Rattle.traces.specs.Runs.{IsRunOf}
 use Rattle.replay_command.specs.declared.fault.ReplayFault.{ReplayFault}
 use Rattle.replay_command.specs.declared.fault.ReplayFault.TheVariants.{BadSchedule, OutOfMemory, Io}
 use Rattle.replay_command.specs.Lines.{lines_of}

@@ -4,9 +4,9 @@ ghost use Rattle.std.specs.Prelude.{◌≡◌, ◌+◌, ◌++◌, IfOk, OnOk, co
 ghost use Rattle.hex.specs.Hex.{encode_lower};
 ghost use Rattle.replay_command.specs.Lines.{numbers_text, sent_text, done_text, outcome_text, reason_text, result_text, line_of};
 
-use schedule_runner::{Event, EventResult, Reason, Step};
 use std::alloc::{AllocError, Global};
 use table_versions::{Answer, Outcome};
+use traces::{Event, EventResult, Reason, Step};
 
 /// The number so many places behind the first one. Two numbers of 64 bits have room for their sum in 128.
 fn number_behind(first: u64, more: u64) -> u128

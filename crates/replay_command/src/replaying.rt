@@ -11,10 +11,11 @@ use crate::lines::line_of;
 use crate::status::{FAILURE, SUCCESS};
 use grpc_frames::transfer::put;
 use run_files::{ScheduleFault, read_schedule, schedule_flaw};
-use schedule_runner::{RunFault, Step, Trace, run};
+use schedule_runner::{RunFault, run};
 use std::alloc::Global;
 use std::hash::RandomState;
 use std::io::Write;
+use traces::{Step, Trace};
 
 /// `flightd replay FILE`: applies the events of the schedule that the file's bytes are (`read_schedule` says how) to nodes
 /// of its own, writes a line for each to `w`, and gives the exit status. docs/FORMATS.md has the lines. `hashing` has the

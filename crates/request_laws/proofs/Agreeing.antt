@@ -11,12 +11,12 @@ use Rattle.batch_types.specs.Cells.{Rows}
 use Rattle.batch_types.specs.LaysOut.{LaysOut, IsFaultOf}
 use Rattle.record_batches.specs.Reading.{IsToldOf}
 use Rattle.table_types.specs.Uploads.{Upload}
-use Rattle.call_words.specs.declared.method.Method.{Method}
-use Rattle.call_words.specs.declared.method.Method.TheVariants as methods
-use Rattle.call_words.specs.declared.refusal.Refusal.{Refusal}
-use Rattle.call_words.specs.declared.refusal.Refusal.TheVariants as refusals
-use Rattle.call_words.specs.Methods.{PathFault}
-use Rattle.call_words.specs.Names.{Descriptor, DescriptorFault, NamesTable, NamesUpload, TableFault, UploadNameFault}
+use Rattle.call_protocol.specs.declared.method.Method.{Method}
+use Rattle.call_protocol.specs.declared.method.Method.TheVariants as methods
+use Rattle.call_protocol.specs.declared.refusal.CallRefusal.{CallRefusal}
+use Rattle.call_protocol.specs.declared.refusal.CallRefusal.TheVariants as refusals
+use Rattle.call_protocol.specs.Methods.{PathFault}
+use Rattle.call_protocol.specs.Names.{Descriptor, DescriptorFault, NamesTable, NamesUpload, TableFault, UploadNameFault}
 use Rattle.call_reading.specs.Requests.{Data, header_in, body_in, Brings}
 use Rattle.call_reading.specs.Faults.{MeansAtFault, CriteriaFault, TicketFault, SchemaFault, OpeningFault, BatchFaultIn, HeadFault, FurtherFault, OneFault, UploadFault, MessageFault, UploadEndFault, EndFault, IsOfMemory, IsOfTheMachine}
 use Rattle.call_reading.proofs.Apart.{MessagesAreOne, HeadersAreOne, same_head}
@@ -24,18 +24,18 @@ use Rattle.call_reading.proofs.NotRefused.{MessagesApart, HeadersApart, means_no
 use Rattle.request_laws.specs.Agreeing.{IsOfFields, IsOfAHeader, IsOfADescriptor, IsOfASchema, IsOfAFurtherMessage, MayTellEither, Agree}
 
 -- one of them says that memory was refused or a read failed, or they agree
-abbrev pub Both : Refusal → Refusal → Type 0
+abbrev pub Both : CallRefusal → CallRefusal → Type 0
 Both x y = IsOfTheMachine x ⊎ IsOfTheMachine y ⊎ Agree x y
 
-same : (x y : Refusal) → x ≡ y → Both x y
+same : (x y : CallRefusal) → x ≡ y → Both x y
 same x y is = inr (inr (inl (inl is)))
 
 -- ---- one message
 
 module _ (messages_one : MessagesAreOne) (messages_apart : MessagesApart) where
   -- what it means is at fault, and of one meaning they agree
-  means_agree : (type : MessageType) (F : Values type → Refusal → Type 0) → ((v : Values type) (x y : Refusal) → F v x → F v y → Both x y)
-      → (message : List ℕ) (x y : Refusal) → MeansAtFault type F message x → MeansAtFault type F message y → Both x y
+  means_agree : (type : MessageType) (F : Values type → CallRefusal → Type 0) → ((v : Values type) (x y : CallRefusal) → F v x → F v y → Both x y)
+      → (message : List ℕ) (x y : CallRefusal) → MeansAtFault type F message x → MeansAtFault type F message y → Both x y
   means_agree type F agree message x y p q =
       elim p [
         | inl broken ↦
@@ -50,7 +50,7 @@ module _ (messages_one : MessagesAreOne) (messages_apart : MessagesApart) where
             ]
       ]
 
-descriptors_agree : (Names : Type 0) (d : Descriptor) (x y : Refusal) → DescriptorFault Names d x → DescriptorFault Names d y → x ≡ y
+descriptors_agree : (Names : Type 0) (d : Descriptor) (x y : CallRefusal) → DescriptorFault Names d x → DescriptorFault Names d y → x ≡ y
 descriptors_agree Names d x y p q =
     elim p [
       | inl h ↦ elim q [ inl k ↦ h.1 ∙ sym k.1 | inr k ↦ absurd (k.0 h.0) ]
@@ -60,7 +60,7 @@ descriptors_agree Names d x y p q =
 -- ---- a header
 
 module _ (headers_one : HeadersAreOne) (headers_apart : HeadersApart) where
-  schemas_agree : (header : List ℕ) (x y : Refusal) → SchemaFault header x → SchemaFault header y → Both x y
+  schemas_agree : (header : List ℕ) (x y : CallRefusal) → SchemaFault header x → SchemaFault header y → Both x y
   schemas_agree header x y p q =
       elim p [
         | inl h ↦
@@ -83,7 +83,7 @@ module _ (headers_one : HeadersAreOne) (headers_apart : HeadersApart) where
             ]
       ]
 
-  heads_agree : (header : List ℕ) (x y : Refusal) → HeadFault header x → HeadFault header y → Both x y
+  heads_agree : (header : List ℕ) (x y : CallRefusal) → HeadFault header x → HeadFault header y → Both x y
   heads_agree header x y p q =
       elim p [
         | inl broken ↦
@@ -102,7 +102,7 @@ module _ (headers_one : HeadersAreOne) (headers_apart : HeadersApart) where
   no_schema_of_a_batch schema head is = absurd cc
 
   -- where a header shows the head of a batch, it is refused for want of memory alone
-  head_of_a_batch : (header : List ℕ) (head : Head) (refusal : Refusal) → ShowsHeader header (batch_header head) → HeadFault header refusal → IsOfMemory refusal
+  head_of_a_batch : (header : List ℕ) (head : Head) (refusal : CallRefusal) → ShowsHeader header (batch_header head) → HeadFault header refusal → IsOfMemory refusal
   head_of_a_batch header head refusal shows fault =
       elim fault [
         | inl broken ↦ no_header headers_apart header (batch_header head) refusal shows broken
@@ -136,7 +136,7 @@ module _ (faults_one : FaultsAreOne) (faults_apart : FaultsStandApart) where
       ]
 
   module _ (headers_one : HeadersAreOne) where
-    batches_agree : (schema : SchemaTree) (count : ℕ) (header body : List ℕ) (x y : Refusal) → BatchFaultIn schema count header body x
+    batches_agree : (schema : SchemaTree) (count : ℕ) (header body : List ℕ) (x y : CallRefusal) → BatchFaultIn schema count header body x
         → BatchFaultIn schema count header body y → Both x y
     batches_agree schema count header body x y p q =
         let heads = same_head p.0 q.0 (headers_one header (batch_header p.0) (batch_header q.0) p.1 q.1) in
@@ -157,13 +157,13 @@ module _ (faults_one : FaultsAreOne) (faults_apart : FaultsStandApart) where
 
 -- ---- the messages of an upload
 
-schema_kind : (header : List ℕ) (refusal : Refusal) → SchemaFault header refusal → IsOfASchema refusal
+schema_kind : (header : List ℕ) (refusal : CallRefusal) → SchemaFault header refusal → IsOfASchema refusal
 schema_kind header refusal fault = elim fault [ inl h ↦ inl h.0 | inr h ↦ inr (h.1.fault, h.1.is) ]
 
-descriptor_kind : (Names : Type 0) (d : Descriptor) (refusal : Refusal) → DescriptorFault Names d refusal → IsOfADescriptor refusal
+descriptor_kind : (Names : Type 0) (d : Descriptor) (refusal : CallRefusal) → DescriptorFault Names d refusal → IsOfADescriptor refusal
 descriptor_kind Names d refusal fault = elim fault [ inl h ↦ inr h.1 | inr h ↦ inl h.2 ]
 
-further_kind : (schema : SchemaTree) (count : ℕ) (message : List ℕ) (refusal : Refusal) → MeansAtFault data_descriptor (FurtherFault schema count) message refusal
+further_kind : (schema : SchemaTree) (count : ℕ) (message : List ℕ) (refusal : CallRefusal) → MeansAtFault data_descriptor (FurtherFault schema count) message refusal
     → IsOfAFurtherMessage refusal
 further_kind schema count message refusal fault =
     elim fault [
@@ -187,18 +187,18 @@ some_same : (d e : Descriptor) → Some d ≡ Some e → d ≡ e
 some_same d e is = cc
 
 -- what an upload is refused for by its descriptor
-abbrev NameFault : Data → Refusal → Type 0
+abbrev NameFault : Data → CallRefusal → Type 0
 NameFault values refusal =
     ((values.0 ≡ None) × (refusal ≡ refusals.BadDescriptor)) ⊎ ((descriptor : Descriptor) × (values.0 ≡ Some descriptor) × UploadNameFault descriptor refusal)
 
-name_kind : (values : Data) (refusal : Refusal) → NameFault values refusal → IsOfADescriptor refusal
+name_kind : (values : Data) (refusal : CallRefusal) → NameFault values refusal → IsOfADescriptor refusal
 name_kind values refusal fault =
     elim fault [
       | inl none ↦ inl none.1
       | inr some ↦ descriptor_kind ((table id : List ℕ) × NamesUpload some.0 table id) some.0 refusal some.2
     ]
 
-names_agree : (values : Data) (x y : Refusal) → NameFault values x → NameFault values y → x ≡ y
+names_agree : (values : Data) (x y : CallRefusal) → NameFault values x → NameFault values y → x ≡ y
 names_agree values x y p q =
     elim p [
       | inl none ↦
@@ -218,7 +218,7 @@ names_agree values x y p q =
     no_none : (d : Descriptor) → None ≡ Some d → ⊥
     no_none d is = absurd cc
 
-name_or_schema : (values : Data) (refusal : Refusal) → OpeningFault values refusal → NameFault values refusal ⊎ SchemaFault (header_in values) refusal
+name_or_schema : (values : Data) (refusal : CallRefusal) → OpeningFault values refusal → NameFault values refusal ⊎ SchemaFault (header_in values) refusal
 name_or_schema values refusal fault =
     elim fault [
       | inl none ↦ inl (inl none)
@@ -230,7 +230,7 @@ UploadsAreOne = (messages : List (List ℕ)) (x y : Upload) → Brings messages 
 
 module _ (messages_one : MessagesAreOne) (messages_apart : MessagesApart) (headers_one : HeadersAreOne) (headers_apart : HeadersApart)
     (faults_one : FaultsAreOne) (faults_apart : FaultsStandApart) where
-  opening_agree : (values : Data) (x y : Refusal) → OpeningFault values x → OpeningFault values y → Both x y
+  opening_agree : (values : Data) (x y : CallRefusal) → OpeningFault values x → OpeningFault values y → Both x y
   opening_agree values x y p q =
       elim (name_or_schema values x p) [
         | inl name ↦
@@ -245,7 +245,7 @@ module _ (messages_one : MessagesAreOne) (messages_apart : MessagesApart) (heade
             ]
       ]
 
-  further_agree : (schema : SchemaTree) (count : ℕ) (values : Data) (x y : Refusal) → FurtherFault schema count values x → FurtherFault schema count values y → Both x y
+  further_agree : (schema : SchemaTree) (count : ℕ) (values : Data) (x y : CallRefusal) → FurtherFault schema count values x → FurtherFault schema count values y → Both x y
   further_agree schema count values x y p q =
       elim p.1 [
         | inl head ↦
@@ -261,7 +261,7 @@ module _ (messages_one : MessagesAreOne) (messages_apart : MessagesApart) (heade
       ]
 
   module _ (uploads_one : UploadsAreOne) where
-    uploads_agree : (before : List (List ℕ)) (message : List ℕ) (x y : Refusal) → UploadFault before message x → UploadFault before message y → Both x y
+    uploads_agree : (before : List (List ℕ)) (message : List ℕ) (x y : CallRefusal) → UploadFault before message x → UploadFault before message y → Both x y
     uploads_agree [] message x y p q = means_agree messages_one messages_apart data_descriptor OpeningFault opening_agree message x y p q
     uploads_agree (first ∷ others) message x y p q =
         elim p [
@@ -283,16 +283,16 @@ module _ (messages_one : MessagesAreOne) (messages_apart : MessagesApart) (heade
 
     -- ---- any message
 
-    one_agrees : (type : MessageType) (F : Values type → Refusal → Type 0) → ((v : Values type) (x y : Refusal) → F v x → F v y → x ≡ y)
-        → (before : List (List ℕ)) (message : List ℕ) (x y : Refusal) → OneFault (MeansAtFault type F) before message x → OneFault (MeansAtFault type F) before message y → Both x y
+    one_agrees : (type : MessageType) (F : Values type → CallRefusal → Type 0) → ((v : Values type) (x y : CallRefusal) → F v x → F v y → x ≡ y)
+        → (before : List (List ℕ)) (message : List ℕ) (x y : CallRefusal) → OneFault (MeansAtFault type F) before message x → OneFault (MeansAtFault type F) before message y → Both x y
     one_agrees type F agree [] message x y p q =
         means_agree messages_one messages_apart type F (λ v a b f g. same a b (agree v a b f g)) message x y p q
     one_agrees type F agree (first ∷ others) message x y p q = same x y (p ∙ sym q)
 
-    tables_agree : (d : Descriptor) (x y : Refusal) → TableFault d x → TableFault d y → x ≡ y
+    tables_agree : (d : Descriptor) (x y : CallRefusal) → TableFault d x → TableFault d y → x ≡ y
     tables_agree d x y p q = descriptors_agree ((table : List ℕ) × NamesTable d table) d x y p q
 
-    pub messages_agree : (method : Method) (before : List (List ℕ)) (message : List ℕ) (x y : Refusal) → MessageFault method before message x
+    pub messages_agree : (method : Method) (before : List (List ℕ)) (message : List ℕ) (x y : CallRefusal) → MessageFault method before message x
         → MessageFault method before message y → Both x y
     messages_agree methods.GetFlightInfo before message x y p q = one_agrees flight_descriptor_descriptor TableFault tables_agree before message x y p q
     messages_agree methods.GetSchema before message x y p q = one_agrees flight_descriptor_descriptor TableFault tables_agree before message x y p q
@@ -310,7 +310,7 @@ none_brought upload brings = no_first brings.first brings.others brings.messages
     no_first : (first : List ℕ) (others : List (List ℕ)) → [] ≡ first ∷ others → ⊥
     no_first first others is = absurd cc
 
-uploads_end : (messages : List (List ℕ)) (x y : Refusal) → UploadEndFault messages x → UploadEndFault messages y → x ≡ y
+uploads_end : (messages : List (List ℕ)) (x y : CallRefusal) → UploadEndFault messages x → UploadEndFault messages y → x ≡ y
 uploads_end messages x y p q =
     elim p [
       | inl none ↦
@@ -325,7 +325,7 @@ uploads_end messages x y p q =
           ]
     ]
 
-pub ends_agree : (method : Method) (messages : List (List ℕ)) (x y : Refusal) → EndFault method messages x → EndFault method messages y → x ≡ y
+pub ends_agree : (method : Method) (messages : List (List ℕ)) (x y : CallRefusal) → EndFault method messages x → EndFault method messages y → x ≡ y
 ends_agree methods.GetFlightInfo messages x y p q = p.1 ∙ sym q.1
 ends_agree methods.GetSchema messages x y p q = p.1 ∙ sym q.1
 ends_agree methods.ListFlights messages x y p q = p.1 ∙ sym q.1
@@ -334,7 +334,7 @@ ends_agree methods.DoPut messages x y p q = uploads_end messages x y p q
 
 -- ---- the path
 
-pub paths_agree : (path : List ℕ) (x y : Refusal) → PathFault path x → PathFault path y → x ≡ y
+pub paths_agree : (path : List ℕ) (x y : CallRefusal) → PathFault path x → PathFault path y → x ≡ y
 paths_agree path x y p q =
     elim p [
       | inl h ↦ elim q [ inl k ↦ h.1 ∙ sym k.1 | inr k ↦ absurd (h.0 k.0 k.1) ]
@@ -344,18 +344,18 @@ paths_agree path x y p q =
 -- ---- some that do not agree
 
 -- neither is one of those of which either may be told
-abbrev IsNoneOfThese : Refusal → Type 0
+abbrev IsNoneOfThese : CallRefusal → Type 0
 IsNoneOfThese refusal =
     (¬ IsOfFields refusal) × (¬ IsOfAHeader refusal) × (¬ IsOfADescriptor refusal) × (refusal ≢ refusals.TooManyBatches)
 
-no_either : (x y : Refusal) → IsNoneOfThese x → IsNoneOfThese y → (x ≡ refusals.MessageCount → ¬ IsOfAFurtherMessage y) → ¬ MayTellEither x y
+no_either : (x y : CallRefusal) → IsNoneOfThese x → IsNoneOfThese y → (x ≡ refusals.MessageCount → ¬ IsOfAFurtherMessage y) → ¬ MayTellEither x y
 no_either x y p q count either =
     elim either [
       | inl first ↦ p.2 first.0
       | inr other ↦ elim other [ inl many ↦ p.3 many.0 | inr message ↦ count message.0 message.1 ]
     ]
 
-not_agreeing : (x y : Refusal) → IsNoneOfThese x → IsNoneOfThese y → x ≢ y → (x ≡ refusals.MessageCount → ¬ IsOfAFurtherMessage y)
+not_agreeing : (x y : CallRefusal) → IsNoneOfThese x → IsNoneOfThese y → x ≢ y → (x ≡ refusals.MessageCount → ¬ IsOfAFurtherMessage y)
     → (y ≡ refusals.MessageCount → ¬ IsOfAFurtherMessage x) → ¬ Agree x y
 not_agreeing x y p q differ count other_count agree =
     elim agree [
@@ -371,7 +371,7 @@ not_agreeing x y p q differ count other_count agree =
           ]
     ]
 
-by_name : (refusal : Refusal) → ((fault : WireFault) → refusal ≢ refusals.Wire fault) → ((fault : MetaFault) → refusal ≢ refusals.Meta fault)
+by_name : (refusal : CallRefusal) → ((fault : WireFault) → refusal ≢ refusals.Wire fault) → ((fault : MetaFault) → refusal ≢ refusals.Meta fault)
     → refusal ≢ refusals.BadDescriptor → refusal ≢ refusals.CmdDescriptor → refusal ≢ refusals.TooManyBatches → IsNoneOfThese refusal
 by_name refusal fields header bad command many = (
   λ is. fields is.0 is.1,

@@ -19,9 +19,9 @@ use Rattle.table_types.specs.Uploads.{Upload, schema_text, head_text}
 use Rattle.table_types.specs.Served.{data_text}
 use Rattle.table_types.specs.Valid.{FitsFrame, IsTableName, IsUpload, upload_limit}
 use Rattle.table_types.specs.Ticket.{TableVersion, IsTableVersion, ticket_text, IsTicket}
-use Rattle.upload_parts.specs.Parts.{batch_parts, served_of}
-use Rattle.upload_parts.proofs.CallerLemmas.{message_long, parts_fit}
-use Rattle.call_words.specs.Names.{id_text, table_descriptor, upload_descriptor}
+use Rattle.uploads.specs.Parts.{batch_parts, served_of}
+use Rattle.uploads.proofs.CallerLemmas.{message_long, parts_fit}
+use Rattle.call_protocol.specs.Names.{id_text, table_descriptor, upload_descriptor}
 use Rattle.call_reading.specs.Requests.{Data, AsksForTable, AsksForVersion, Opens, Adds, AddAll, Brings}
 use Rattle.client_calls.specs.Requests.{table_message, ticket_message, opening_message, further_message, put_messages}
 use Rattle.request_laws.proofs.Names.{table_is_text, digits_are_text}

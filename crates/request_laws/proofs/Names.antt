@@ -11,7 +11,7 @@ use Rattle.std.proofs.lemmas.Str.Ascii.{IsAscii-from_all}
 use Rattle.hex.specs.Hex.{lower_digits}
 use Rattle.hex.proofs.HexLemmas.{IsAscii-encode_with}
 use Rattle.table_types.specs.Valid.{IsNameByte, IsTableName}
-use Rattle.call_words.specs.Names.{id_text}
+use Rattle.call_protocol.specs.Names.{id_text}
 
 byte_is_ascii : (byte : ℕ) → IsNameByte byte → byte < 128
 byte_is_ascii byte (inl digit) = omega (arith, digit.1)

@@ -11,12 +11,12 @@ use Rattle.batch_types.specs.Cells.{Rows}
 use Rattle.table_types.specs.Served.{in_frame}
 use Rattle.table_types.specs.Valid.{FitsFrame}
 use Rattle.table_types.specs.Ticket.{TableVersion}
-use Rattle.call_words.specs.declared.method.Method.{Method}
-use Rattle.call_words.specs.declared.method.Method.TheVariants as methods
-use Rattle.call_words.specs.declared.refusal.Refusal.{Refusal}
-use Rattle.call_words.specs.declared.refusal.Refusal.TheVariants as refusals
-use Rattle.call_words.specs.Methods.{path_text, PathFault}
-use Rattle.call_words.specs.Texts.{messages_text, end_text}
+use Rattle.call_protocol.specs.declared.method.Method.{Method}
+use Rattle.call_protocol.specs.declared.method.Method.TheVariants as methods
+use Rattle.call_protocol.specs.declared.refusal.CallRefusal.{CallRefusal}
+use Rattle.call_protocol.specs.declared.refusal.CallRefusal.TheVariants as refusals
+use Rattle.call_protocol.specs.Methods.{path_text, PathFault}
+use Rattle.call_protocol.specs.Texts.{messages_text, end_text}
 use Rattle.call_reading.specs.Requests.{AsksForTable, AsksForAll, AsksForVersion, AddAll}
 use Rattle.call_reading.specs.Faults.{MessageFault, IsOneOrNone, IsUploadOrNone, IsFaultlessSoFar, IsFaultlessEnd, EndFault, FrameBreaks, PathBreaks, MessageBreaks, BreaksMessages, RefusalStands, IsOfMemory, IsOfTheMachine}
 use Rattle.call_reading.proofs.Apart.{message_frame, end_frame, is_message, is_end, front_message, no_end_here, path_fits}
@@ -38,15 +38,15 @@ record Next (here after : List ℕ) : Type 0 where
   pub reads : ReadsFrame read here after
 
 -- what it is refused for
-abbrev refused_for : Result (Option Frame) FrameFault → Refusal
+abbrev refused_for : Result (Option Frame) FrameFault → CallRefusal
 refused_for (Err fault) = refusals.Frame fault
 refused_for (Ok None) = refusals.NoEnd
 refused_for (Ok (Some frame)) = refusals.EndPayload
 
-abbrev NextIsNeither : List ℕ → List ℕ → Refusal → Type 0
+abbrev NextIsNeither : List ℕ → List ℕ → CallRefusal → Type 0
 NextIsNeither here after refusal = (next : Next here after) × IsNeither next.read × (refusal ≡ refused_for next.read)
 
-fault_next : (here after : List ℕ) (refusal : Refusal) (fault : FrameFault) → FrameFaultStands fault here → LeavesAfter fault here after → refusal ≡ refusals.Frame fault
+fault_next : (here after : List ℕ) (refusal : CallRefusal) (fault : FrameFault) → FrameFaultStands fault here → LeavesAfter fault here after → refusal ≡ refusals.Frame fault
     → IsOfTheMachine refusal ⊎ NextIsNeither here after refusal
 fault_next here after refusal frames.Truncated stands leaves is = inr (record { read = Err frames.Truncated; decided = (λ same. cc, λ same. cc); reads = (stands, leaves) }, tt, is)
 fault_next here after refusal frames.BadFlag stands leaves is = inr (record { read = Err frames.BadFlag; decided = (λ same. cc, λ same. cc); reads = (stands, leaves) }, tt, is)
@@ -55,7 +55,7 @@ fault_next here after refusal frames.TooLong stands leaves is = inr (record { re
 fault_next here after refusal frames.Io stands leaves is = inl (subst (λ r. IsOfTheMachine r) (sym is) (inr refl))
 fault_next here after refusal frames.OutOfMemory stands leaves is = inl (subst (λ r. IsOfTheMachine r) (sym is) (inl refl))
 
-frame_next : (here after : List ℕ) (refusal : Refusal) → FrameBreaks here after refusal → IsOfTheMachine refusal ⊎ NextIsNeither here after refusal
+frame_next : (here after : List ℕ) (refusal : CallRefusal) → FrameBreaks here after refusal → IsOfTheMachine refusal ⊎ NextIsNeither here after refusal
 frame_next here after refusal breaks =
     elim breaks [
       | inl fault ↦ fault_next here after refusal fault.0 fault.1 fault.2 fault.3
@@ -78,10 +78,10 @@ frame_next here after refusal breaks =
 end_next : (here after : List ℕ) → here ≡ end_text ++ after → Next here after
 end_next here after front = record { read = Ok (Some end_frame); decided = tt; reads = (is_end, front) }
 
-abbrev Breaks : Method → List (List ℕ) → List ℕ → List ℕ → Refusal → Type 0
+abbrev Breaks : Method → List (List ℕ) → List ℕ → List ℕ → CallRefusal → Type 0
 Breaks method before here after refusal = FrameBreaks here after refusal ⊎ MessageBreaks method before here after refusal
 
-abbrev BreaksInFront : List ℕ → List ℕ → Refusal → Type 0
+abbrev BreaksInFront : List ℕ → List ℕ → CallRefusal → Type 0
 BreaksInFront text after refusal = FrameBreaks text after refusal ⊎ PathBreaks text after refusal
 
 -- ---- messages without fault so far, and those of them that came first
@@ -193,14 +193,14 @@ module _ (law : NoFrameBeginsAnother) where
 
 abbrev pub MemoryIsLast : Type 0
 MemoryIsLast =
-    (method : Method) (before : List (List ℕ)) (message : List ℕ) (refusal : Refusal) → IsFaultlessSoFar method (before ++ message ∷ []) → MessageFault method before message refusal
+    (method : Method) (before : List (List ℕ)) (message : List ℕ) (refusal : CallRefusal) → IsFaultlessSoFar method (before ++ message ∷ []) → MessageFault method before message refusal
     → IsOfMemory refusal
 
 -- one of them says that memory was refused or a read failed, or the same is left behind both, and they agree
-abbrev Refused : List ℕ → List ℕ → Refusal → Refusal → Type 0
+abbrev Refused : List ℕ → List ℕ → CallRefusal → CallRefusal → Type 0
 Refused a b x y = IsOfTheMachine x ⊎ IsOfTheMachine y ⊎ ((a ≡ b) × Agree x y)
 
-with_place : (a b : List ℕ) (x y : Refusal) → a ≡ b → Both x y → Refused a b x y
+with_place : (a b : List ℕ) (x y : CallRefusal) → a ≡ b → Both x y → Refused a b x y
 with_place a b x y left both =
     elim both [
       | inl machine ↦ inl machine
@@ -209,14 +209,14 @@ with_place a b x y left both =
 
 abbrev pub MessagesAgree : Type 0
 MessagesAgree =
-    (method : Method) (before : List (List ℕ)) (message : List ℕ) (x y : Refusal) → MessageFault method before message x → MessageFault method before message y → Both x y
+    (method : Method) (before : List (List ℕ)) (message : List ℕ) (x y : CallRefusal) → MessageFault method before message x → MessageFault method before message y → Both x y
 
 -- a message is at fault, or memory was refused; or the end is, or memory was
-abbrev AtAMessage : Method → List (List ℕ) → List ℕ → Refusal → Type 0
+abbrev AtAMessage : Method → List (List ℕ) → List ℕ → CallRefusal → Type 0
 AtAMessage method before message refusal =
     MessageFault method before message refusal ⊎ (IsFaultlessSoFar method (before ++ message ∷ []) × (refusal ≡ refusals.OutOfMemory))
 
-abbrev AtTheEnd : Method → List (List ℕ) → Refusal → Type 0
+abbrev AtTheEnd : Method → List (List ℕ) → CallRefusal → Type 0
 AtTheEnd method before refusal = EndFault method before refusal ⊎ (IsFaultlessEnd method before × (refusal ≡ refusals.OutOfMemory))
 
 not_neither_end : ¬ IsNeither (Ok (Some end_frame))
@@ -230,7 +230,7 @@ module _ (law : NoFrameBeginsAnother) (readings : ReadingsAreOne) (memory : Memo
   one_after here a b x y = (readings here a b x.read y.read x.decided y.decided x.reads y.reads).1
 
   -- no frame breaks where a message stands
-  no_frame_breaks : (here after rest message : List ℕ) (refusal : Refusal) → FitsFrame message → here ≡ in_frame message ++ rest → FrameBreaks here after refusal → IsOfTheMachine refusal
+  no_frame_breaks : (here after rest message : List ℕ) (refusal : CallRefusal) → FitsFrame message → here ≡ in_frame message ++ rest → FrameBreaks here after refusal → IsOfTheMachine refusal
   no_frame_breaks here after rest message refusal fits front frame =
       elim (frame_next here after refusal frame) [
         | inl machine ↦ machine
@@ -240,7 +240,7 @@ module _ (law : NoFrameBeginsAnother) (readings : ReadingsAreOne) (memory : Memo
       ]
 
   -- nor does anything where it is without fault
-  none_breaks : (method : Method) (before : List (List ℕ)) (here after rest message : List ℕ) (refusal : Refusal) → FitsFrame message → here ≡ in_frame message ++ rest
+  none_breaks : (method : Method) (before : List (List ℕ)) (here after rest message : List ℕ) (refusal : CallRefusal) → FitsFrame message → here ≡ in_frame message ++ rest
       → IsFaultlessSoFar method (before ++ message ∷ []) → Breaks method before here after refusal → IsOfTheMachine refusal
   none_breaks method before here after rest message refusal fits front faultless breaks =
       elim breaks [
@@ -258,7 +258,7 @@ module _ (law : NoFrameBeginsAnother) (readings : ReadingsAreOne) (memory : Memo
       ]
 
   -- nor where the end does
-  no_frame_at_an_end : (here after rest : List ℕ) (refusal : Refusal) → here ≡ end_text ++ rest → FrameBreaks here after refusal → IsOfTheMachine refusal
+  no_frame_at_an_end : (here after rest : List ℕ) (refusal : CallRefusal) → here ≡ end_text ++ rest → FrameBreaks here after refusal → IsOfTheMachine refusal
   no_frame_at_an_end here after rest refusal front frame =
       elim (frame_next here after refusal frame) [
         | inl machine ↦ machine
@@ -267,7 +267,7 @@ module _ (law : NoFrameBeginsAnother) (readings : ReadingsAreOne) (memory : Memo
             absurd (not_neither_end (subst (λ r. IsNeither r) read next.1))
       ]
 
-  frames_agree : (here a b : List ℕ) (x y : Refusal) → FrameBreaks here a x → FrameBreaks here b y → Refused a b x y
+  frames_agree : (here a b : List ℕ) (x y : CallRefusal) → FrameBreaks here a x → FrameBreaks here b y → Refused a b x y
   frames_agree here a b x y p q =
       elim (frame_next here a x p) [
         | inl machine ↦ inl machine
@@ -280,7 +280,7 @@ module _ (law : NoFrameBeginsAnother) (readings : ReadingsAreOne) (memory : Memo
             ]
       ]
 
-  messages_at_one_place : (method : Method) (before : List (List ℕ)) (message : List ℕ) (a b : List ℕ) (x y : Refusal) → a ≡ b
+  messages_at_one_place : (method : Method) (before : List (List ℕ)) (message : List ℕ) (a b : List ℕ) (x y : CallRefusal) → a ≡ b
       → AtAMessage method before message x → AtAMessage method before message y → Refused a b x y
   messages_at_one_place method before message a b x y left p q =
       elim p [
@@ -292,7 +292,7 @@ module _ (law : NoFrameBeginsAnother) (readings : ReadingsAreOne) (memory : Memo
         | inr refused ↦ inl (inl (subst (λ r. IsOfMemory r) (sym refused.1) tt))
       ]
 
-  ends_at_one_place : (method : Method) (before : List (List ℕ)) (a b : List ℕ) (x y : Refusal) → a ≡ b
+  ends_at_one_place : (method : Method) (before : List (List ℕ)) (a b : List ℕ) (x y : CallRefusal) → a ≡ b
       → AtTheEnd method before x → AtTheEnd method before y → Refused a b x y
   ends_at_one_place method before a b x y left p q =
       elim p [
@@ -304,7 +304,7 @@ module _ (law : NoFrameBeginsAnother) (readings : ReadingsAreOne) (memory : Memo
         | inr refused ↦ inl (inl (subst (λ r. IsOfMemory r) (sym refused.1) tt))
       ]
 
-  at_one_place : (method : Method) (before : List (List ℕ)) (here a b : List ℕ) (x y : Refusal) → Breaks method before here a x
+  at_one_place : (method : Method) (before : List (List ℕ)) (here a b : List ℕ) (x y : CallRefusal) → Breaks method before here a x
       → Breaks method before here b y → Refused a b x y
   at_one_place method before here a b x y p q =
       elim p [
@@ -342,7 +342,7 @@ module _ (law : NoFrameBeginsAnother) (readings : ReadingsAreOne) (memory : Memo
             ]
       ]
 
-  behind_the_path : (method : Method) (here a b : List ℕ) (x y : Refusal) → BreaksMessages method here a x → BreaksMessages method here b y → Refused a b x y
+  behind_the_path : (method : Method) (here a b : List ℕ) (x y : CallRefusal) → BreaksMessages method here a x → BreaksMessages method here b y → Refused a b x y
   behind_the_path method here a b x y p q =
       elim (two_places law p.before q.before p.place q.place p.fit q.fit (sym p.parts ∙ q.parts)) [
         | inl same ↦
@@ -360,7 +360,7 @@ module _ (law : NoFrameBeginsAnother) (readings : ReadingsAreOne) (memory : Memo
       ]
 
   -- what is refused in front of a path's method has no such path
-  none_in_front : ((x : Method) (refusal : Refusal) → ¬ PathFault (path_text x) refusal) → (method : Method) (text here after : List ℕ) (refusal : Refusal)
+  none_in_front : ((x : Method) (refusal : CallRefusal) → ¬ PathFault (path_text x) refusal) → (method : Method) (text here after : List ℕ) (refusal : CallRefusal)
       → text ≡ in_frame (path_text method) ++ here → BreaksInFront text after refusal → IsOfTheMachine refusal
   none_in_front apart method text here after refusal front breaks =
       elim breaks [
@@ -374,7 +374,7 @@ module _ (law : NoFrameBeginsAnother) (readings : ReadingsAreOne) (memory : Memo
             ]
       ]
 
-  paths_at_one_place : (text a b : List ℕ) (x y : Refusal) → PathBreaks text a x → PathBreaks text b y → Refused a b x y
+  paths_at_one_place : (text a b : List ℕ) (x y : CallRefusal) → PathBreaks text a x → PathBreaks text b y → Refused a b x y
   paths_at_one_place text a b x y p q =
       elim p [
         | inl none ↦
@@ -391,7 +391,7 @@ module _ (law : NoFrameBeginsAnother) (readings : ReadingsAreOne) (memory : Memo
             ]
       ]
 
-  both_in_front : (text a b : List ℕ) (x y : Refusal) → BreaksInFront text a x → BreaksInFront text b y → Refused a b x y
+  both_in_front : (text a b : List ℕ) (x y : CallRefusal) → BreaksInFront text a x → BreaksInFront text b y → Refused a b x y
   both_in_front text a b x y p q =
       elim p [
         | inl frame ↦
@@ -414,25 +414,25 @@ module _ (law : NoFrameBeginsAnother) (readings : ReadingsAreOne) (memory : Memo
             ]
       ]
 
-  abbrev BreaksBehind : List ℕ → List ℕ → Refusal → Type 0
+  abbrev BreaksBehind : List ℕ → List ℕ → CallRefusal → Type 0
   BreaksBehind text after refusal = (method : Method) × (here : List ℕ) × (text ≡ in_frame (path_text method) ++ here) × BreaksMessages method here after refusal
 
-  both_behind : ((x y : Method) → path_text x ≡ path_text y → x ≡ y) → (text a b : List ℕ) (x y : Refusal) → BreaksBehind text a x → BreaksBehind text b y
+  both_behind : ((x y : Method) → path_text x ≡ path_text y → x ≡ y) → (text a b : List ℕ) (x y : CallRefusal) → BreaksBehind text a x → BreaksBehind text b y
       → Refused a b x y
   both_behind paths text a b x y p q =
       let front = front_message law (path_text p.0) (path_text q.0) p.1 q.1 (path_fits p.0) (path_fits q.0) (sym p.2 ∙ q.2) in
       behind_the_path q.0 q.1 a b x y
       (subst (λ h. BreaksMessages q.0 h a x) front.1 (subst (λ m. BreaksMessages m p.1 a x) (paths p.0 q.0 front.0) p.3)) q.3
 
-  in_front_or_behind : (text after : List ℕ) (refusal : Refusal) → RefusalStands refusal text after → BreaksInFront text after refusal ⊎ BreaksBehind text after refusal
+  in_front_or_behind : (text after : List ℕ) (refusal : CallRefusal) → RefusalStands refusal text after → BreaksInFront text after refusal ⊎ BreaksBehind text after refusal
   in_front_or_behind text after refusal stands =
       elim stands [
         | inl frame ↦ inl (inl frame)
         | inr other ↦ elim other [ inl path ↦ inl (inr path) | inr behind ↦ inr behind ]
       ]
 
-  pub one_place : ((x y : Method) → path_text x ≡ path_text y → x ≡ y) → ((x : Method) (refusal : Refusal) → ¬ PathFault (path_text x) refusal)
-      → (text a b : List ℕ) (x y : Refusal) → RefusalStands x text a → RefusalStands y text b → Refused a b x y
+  pub one_place : ((x y : Method) → path_text x ≡ path_text y → x ≡ y) → ((x : Method) (refusal : CallRefusal) → ¬ PathFault (path_text x) refusal)
+      → (text a b : List ℕ) (x y : CallRefusal) → RefusalStands x text a → RefusalStands y text b → Refused a b x y
   one_place paths apart text a b x y p q =
       elim (in_front_or_behind text a x p) [
         | inl front ↦

@@ -10,8 +10,8 @@ use Rattle.table_types.specs.Uploads.{Upload, schema_text}
 use Rattle.table_types.specs.Served.{data_text}
 use Rattle.table_types.specs.Valid.{FitsFrame, IsTableName, IsUpload}
 use Rattle.table_types.specs.Ticket.{TableVersion, IsTableVersion, ticket_text}
-use Rattle.upload_parts.proofs.CallerLemmas.{part, varint_is, digits_few, part_few, both_fields, no_field, message_size}
-use Rattle.call_words.specs.Names.{id_text}
+use Rattle.uploads.proofs.CallerLemmas.{part, varint_is, digits_few, part_few, both_fields, no_field, message_size}
+use Rattle.call_protocol.specs.Names.{id_text}
 use Rattle.client_calls.specs.Requests.{table_message, ticket_message, opening_message}
 
 -- ---- fields

@@ -15,7 +15,7 @@ use Rattle.table_types.specs.Answers.{answer_messages, answer_of}
 use Rattle.table_types.proofs.Growing.{all_there}
 use Rattle.table_versions.specs.State.{values_limit}
 use Rattle.table_versions.proofs.BareSchemas.{ShapesApart, bare_writable}
-use Rattle.call_words.specs.Statuses.{ok_trailer}
+use Rattle.call_protocol.specs.Statuses.{ok_trailer}
 use Rattle.downloads.specs.Downloads.{ServedUpload, IdsDiffer, IsOfVersion, IsServedVersion, served_of}
 use Rattle.client_calls.specs.Answers.{IsAnswer}
 use Rattle.request_laws.specs.Versions.{IsMadeOf}

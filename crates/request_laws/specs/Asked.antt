@@ -5,7 +5,7 @@ use Rattle.std.specs.Prelude.{ℕ, List, ◌++◌}
 use Rattle.table_types.specs.Uploads.{Upload, upload_text}
 use Rattle.table_types.specs.Valid.{IsTableName, IsUpload}
 use Rattle.table_types.specs.Ticket.{TableVersion, IsTableVersion}
-use Rattle.call_words.specs.declared.refusal.Refusal.{Refusal}
+use Rattle.call_protocol.specs.declared.refusal.CallRefusal.{CallRefusal}
 use Rattle.call_reading.specs.Requests.{describes, serves, puts, IsCall}
 use Rattle.call_reading.specs.Faults.{RefusalStands, IsOfTheMachine}
 use Rattle.client_calls.specs.Requests.{info_request, get_request, put_request}
@@ -34,4 +34,4 @@ PutRequestsAreCalls =
 
 -- no fault stands in the text: it is refused where memory was or a read failed, and for nothing else
 abbrev pub IsFaultless : List ℕ → Type 0
-IsFaultless text = (refusal : Refusal) (after : List ℕ) → RefusalStands refusal text after → IsOfTheMachine refusal
+IsFaultless text = (refusal : CallRefusal) (after : List ℕ) → RefusalStands refusal text after → IsOfTheMachine refusal

@@ -9,9 +9,9 @@ ghost use Rattle.table_types.specs.Tables.{Version, version_of};
 ghost use Rattle.table_types.specs.Answers.{answer_messages, answer_of};
 ghost use Rattle.table_versions.specs.State.{values_limit, TablesState, HasTaken};
 ghost use Rattle.table_versions.specs.Values.{AreUploadsIn};
-ghost use Rattle.call_words.specs.declared.refusal.Refusal.{Refusal as Refused};
-ghost use Rattle.call_words.specs.declared.refusal.Refusal.TheVariants.{BadPath, NoCall, MessageCount, BadTicket, NoSchema, TooLarge};
-ghost use Rattle.call_words.specs.Statuses.{ok_trailer};
+ghost use Rattle.call_protocol.specs.declared.refusal.CallRefusal.{CallRefusal as Refused};
+ghost use Rattle.call_protocol.specs.declared.refusal.CallRefusal.TheVariants.{BadPath, NoCall, MessageCount, BadTicket, NoSchema, TooLarge};
+ghost use Rattle.call_protocol.specs.Statuses.{ok_trailer};
 ghost use Rattle.call_reading.specs.Faults.{RefusalStands, IsOfTheMachine};
 ghost use Rattle.downloads.specs.declared.download.Download.{Download};
 ghost use Rattle.downloads.specs.Downloads.{IsServedVersion};
@@ -25,8 +25,8 @@ ghost use Rattle.request_laws.specs.Asked.{InfoRequestsAreCalls, GetRequestsAreC
 ghost use Rattle.request_laws.specs.Versions.{IsMadeOf};
 
 use batch_types::laws::{batches_are_one, written_rows_are_laid_out};
+use call_protocol::laws::{descriptors_name_one, paths_are_one};
 use call_reading::laws::{calls_are_not_refused, memory_is_refused_where_no_fault_stands};
-use call_words::laws::{descriptors_name_one, paths_are_one};
 use client_calls::laws::versions_are_given;
 use flatbuf_meta::laws::{written_headers_are_shown, written_schemas_are_short};
 use grpc_frames::laws::{no_frame_begins_another, readings_are_one};

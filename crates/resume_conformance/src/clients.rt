@@ -2,10 +2,10 @@
 
 use crate::uploading::{ticket, upload};
 use node_events::{Event, EventResult};
-use node_seats::Seat;
 use stable_records::MemoryStable;
 use std::alloc::Global;
 use std::test::Fail;
+use stored_nodes::StoredNode;
 use table_versions::{Answer, Outcome};
 
 /// An upload that a node told to be applied: its number, the version that it is of its table, and what answered the
@@ -20,7 +20,7 @@ pub(crate) struct Acknowledged {
 // Which version of its table this node tells the upload to be, if any.
 fn version_told(
     alloc: Global,
-    node: &mut Seat<MemoryStable>,
+    node: &mut StoredNode<MemoryStable>,
     number: u64,
 ) -> Result<Option<u64>, Fail> {
     let mut sent = Vec::new(alloc);
@@ -35,7 +35,7 @@ fn version_told(
 // What this node answers to the ticket for this version of the upload's table.
 fn answer_told(
     alloc: Global,
-    node: &mut Seat<MemoryStable>,
+    node: &mut StoredNode<MemoryStable>,
     number: u64,
     version: u64,
 ) -> Result<Answer, Fail> {
@@ -53,7 +53,7 @@ fn answer_told(
 /// What this node acknowledges of the upload of this number, if anything.
 pub(crate) fn told_of(
     alloc: Global,
-    node: &mut Seat<MemoryStable>,
+    node: &mut StoredNode<MemoryStable>,
     number: u64,
 ) -> Result<Option<Acknowledged>, Fail> {
     let Some(version) = version_told(alloc, node, number)? else {
@@ -70,7 +70,7 @@ pub(crate) fn told_of(
 /// Whether this node acknowledges the same.
 pub(crate) fn tells_the_same(
     alloc: Global,
-    node: &mut Seat<MemoryStable>,
+    node: &mut StoredNode<MemoryStable>,
     before: &Acknowledged,
 ) -> Result<bool, Fail> {
     match told_of(alloc, node, before.number)? {

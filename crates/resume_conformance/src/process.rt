@@ -6,10 +6,10 @@ use crate::starting::Started;
 use crate::uploading::upload;
 use ballots::Message;
 use node_events::{Event, EventResult};
-use node_seats::Seat;
 use stable_records::MemoryStable;
 use std::alloc::Global;
 use std::test::Fail;
+use stored_nodes::StoredNode;
 
 /// Three nodes, all messages that they sent, and which of these are on the way to which node.
 #[derive(Drop)]
@@ -30,7 +30,7 @@ impl Process {
     }
 
     /// Its nodes.
-    pub(crate) fn nodes(&mut self) -> &mut [Seat<MemoryStable>] {
+    pub(crate) fn nodes(&mut self) -> &mut [StoredNode<MemoryStable>] {
         self.started.nodes.as_mut_slice()
     }
 

@@ -4,15 +4,15 @@ ghost use Rattle.std.specs.Prelude.{◌≡◌, [], length, IfOk};
 ghost use Rattle.std.specs.List.{All};
 ghost use Rattle.resumed_nodes.specs.Starting.{AreStarted, MayBeTold};
 
-use agreement::Config;
+use agreement::AgreementConfig;
 use ballots::{Members, Message, NodeId, Record};
-use node_seats::Seat;
 use resumed_nodes::{chosen_by, hear_together, reopen_next};
 use stable_records::{MemoryStable, Stable};
 use std::alloc::Global;
 use std::hash::RandomState;
 use std::test::Fail;
 use std::thread::Threads;
+use stored_nodes::StoredNode;
 
 /// More slots than the rows fill.
 const SLOTS: u32 = 1_000;
@@ -20,12 +20,15 @@ const SLOTS: u32 = 1_000;
 /// Three nodes, and whether one of them accepted a value for a slot at which they have learned none.
 #[derive(Drop)]
 pub(crate) struct Started {
-    pub(crate) nodes: Box<Vec<Seat<MemoryStable>>>,
+    pub(crate) nodes: Box<Vec<StoredNode<MemoryStable>>>,
     pub(crate) is_undecided: bool,
 }
 
 // Puts a node behind the others.
-fn push(nodes: &mut Vec<Seat<MemoryStable>>, node: Seat<MemoryStable>) -> Result<(), Fail> {
+fn push(
+    nodes: &mut Vec<StoredNode<MemoryStable>>,
+    node: StoredNode<MemoryStable>,
+) -> Result<(), Fail> {
     match nodes.push(node) {
         Ok(()) => Ok(()),
         Err(refused) => {
@@ -38,11 +41,11 @@ fn push(nodes: &mut Vec<Seat<MemoryStable>>, node: Seat<MemoryStable>) -> Result
 /// Three nodes that have nothing.
 pub(crate) fn started_anew(alloc: Global, hashing: RandomState) -> Result<Started, Fail> {
     let members = Members::new(3).ok_or("no members")?;
-    let config = Config::new(members, SLOTS).ok_or("no config")?;
+    let config = AgreementConfig::new(members, SLOTS).ok_or("no config")?;
     let mut nodes = Vec::new(alloc);
     for number in 0..3 {
         let me = NodeId::new(number).ok_or("no node")?;
-        match Seat::open(alloc, hashing, me, config, MemoryStable::new(alloc)) {
+        match StoredNode::open(alloc, hashing, me, config, MemoryStable::new(alloc)) {
             Ok(Some(node)) => push(&mut nodes, node)?,
             _ => return Err(Fail::from("a node is not opened")),
         }
@@ -56,7 +59,7 @@ pub(crate) fn started_anew(alloc: Global, hashing: RandomState) -> Result<Starte
 // A store of what the node of this number kept, without so many of its last records.
 fn store(
     alloc: Global,
-    before: &[Seat<MemoryStable>],
+    before: &[StoredNode<MemoryStable>],
     number: u8,
     lost: usize,
 ) -> Result<MemoryStable, Fail> {
@@ -83,10 +86,10 @@ fn leaves_undecided(records: &[Record], told: &[Message]) -> bool {
 fn reopened(
     alloc: Global,
     hashing: RandomState,
-    config: Config,
-    before: &[Seat<MemoryStable>],
+    config: AgreementConfig,
+    before: &[StoredNode<MemoryStable>],
     lost: usize,
-) -> Result<Vec<Seat<MemoryStable>>, Fail>
+) -> Result<Vec<StoredNode<MemoryStable>>, Fail>
     requires { config.members ≡ 3 }
     ensures three { IfOk result (λ nodes. length nodes.items ≡ 3) }
     ensures started { IfOk result (λ nodes. AreStarted config [] nodes.items) }
@@ -105,8 +108,8 @@ fn reopened(
 // The messages that tell what was chosen.
 fn told_by(
     alloc: Global,
-    config: Config,
-    nodes: &[Seat<MemoryStable>],
+    config: AgreementConfig,
+    nodes: &[StoredNode<MemoryStable>],
 ) -> Result<Vec<Message>, Fail>
     requires three { (config.members ≡ 3) × (length nodes.now ≡ 3) }
     requires started { AreStarted config [] nodes.now }
@@ -124,11 +127,11 @@ pub(crate) fn started_over<R: Threads + Sync>(
     rt: &R,
     alloc: Global,
     hashing: RandomState,
-    before: &[Seat<MemoryStable>],
+    before: &[StoredNode<MemoryStable>],
     lost: usize,
 ) -> Result<Started, Fail> {
     let members = Members::new(3).ok_or("no members")?;
-    let config = Config::new(members, SLOTS).ok_or("no config")?;
+    let config = AgreementConfig::new(members, SLOTS).ok_or("no config")?;
     let opened = reopened(alloc, hashing, config, before, lost)?;
     let told = told_by(alloc, config, opened.as_slice())?;
     let heard = hear_together(rt, alloc, config, opened, told.as_slice())?;

@@ -6,7 +6,7 @@ use Rattle.ballots.specs.declared.record.Record.{Record}
 use Rattle.ballots.specs.declared.message.Message.{Message}
 use Rattle.agreement_rules.specs.Views.{Config}
 use Rattle.agreement_rules.specs.Due.{IsMessageOf}
-use Rattle.node_seats.specs.State.{SeatState}
+use Rattle.stored_nodes.specs.State.{SeatState}
 use Rattle.resumed_nodes.specs.Hearing.{HearAllAnswers}
 use Rattle.resumed_nodes.specs.Starting.{MayBeTold}
 use Rattle.resumed_nodes.specs.declared.fault.HearFault.{HearFault}

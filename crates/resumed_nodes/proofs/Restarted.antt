@@ -18,7 +18,7 @@ use Rattle.resumed_histories.specs.StartingOver.{TellsOfAValue, Hears, StartsOve
 use Rattle.resumed_histories.specs.StartingOver as over
 use Rattle.chosen_records.specs.Chosen.{IsRecorded}
 use Rattle.node_core.specs.State.{IsRecordOf}
-use Rattle.node_seats.specs.State.{SeatState, IsPlaced, StandsUp}
+use Rattle.stored_nodes.specs.State.{SeatState, IsPlaced, StandsUp}
 use Rattle.resumed_nodes.specs.Heard.{heard, starts_of}
 use Rattle.resumed_nodes.specs.Hearing.{HasHeard}
 use Rattle.resumed_nodes.specs.Starting.{IsStarted, AreStarted, HasHeardAgain, MayBeTold, HaveBack, GoesOn, records_of}

@@ -11,8 +11,8 @@ use Rattle.histories.specs.Due as owed
 use Rattle.node_core.specs.declared.plan.Planned.{Planned}
 use Rattle.node_events.specs.declared.event_result.Reason.{Reason}
 use Rattle.node_events.specs.declared.event_result.Reason.TheVariants as reason
-use Rattle.node_seats.specs.State.{SeatState, IsPlaced, StandsUp}
-use Rattle.node_seats.specs.Parts.{PlanAnswers, IsDoneFor, IsBrokenOff, StandsStill}
+use Rattle.stored_nodes.specs.State.{SeatState, IsPlaced, StandsUp}
+use Rattle.stored_nodes.specs.Parts.{PlanAnswers, IsDoneFor, IsBrokenOff, StandsStill}
 use Rattle.resumed_histories.specs.StartingOver.{TellsOfAValue, Hears}
 use Rattle.resumed_nodes.specs.Heard.{heard}
 use Rattle.resumed_nodes.specs.Hearing.{HasHeard, HearAnswers, IsHearFaultFor, HearAllAnswers}

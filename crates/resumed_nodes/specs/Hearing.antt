@@ -9,8 +9,8 @@ use Rattle.agreement_rules.specs.Due.{IsMessageOf}
 use Rattle.resumed_histories.specs.StartingOver.{TellsOfAValue, Hears}
 use Rattle.node_events.specs.declared.event_result.Reason.{Reason}
 use Rattle.node_events.specs.declared.event_result.Reason.TheVariants as reason
-use Rattle.node_seats.specs.State.{SeatState, IsPlaced, StandsUp}
-use Rattle.node_seats.specs.Parts.{StandsStill}
+use Rattle.stored_nodes.specs.State.{SeatState, IsPlaced, StandsUp}
+use Rattle.stored_nodes.specs.Parts.{StandsStill}
 use Rattle.resumed_nodes.specs.Heard.{heard}
 use Rattle.resumed_nodes.specs.declared.fault.HearFault.{HearFault}
 use Rattle.resumed_nodes.specs.declared.fault.HearFault.TheVariants.{NoValue, OutOfRange, OutOfMemory, Down, Store}

@@ -17,7 +17,7 @@ use Rattle.stable_records.specs.declared.fault.StoreFault.{StoreFault}
 use Rattle.node_core.specs.State.{CanStart}
 use Rattle.node_core.specs.declared.reopening.OpenFault.{OpenFault}
 use Rattle.node_core.specs.declared.reopening.OpenFault.TheVariants as opening
-use Rattle.node_seats.specs.State.{SeatState, IsPlaced, StandsUp}
+use Rattle.stored_nodes.specs.State.{SeatState, IsPlaced, StandsUp}
 use Rattle.resumed_nodes.specs.Heard.{heard, starts_of}
 use Rattle.resumed_nodes.specs.declared.fault.ReopenFault.{ReopenFault}
 use Rattle.resumed_nodes.specs.declared.fault.ReopenFault.TheVariants as fault

@@ -9,10 +9,10 @@ ghost use Rattle.resumed_nodes.specs.Knowing.{TellsAll};
 
 use ballots::{Message, OutOfMemory, Record};
 use chosen_records::{ChosenFault, chosen_again};
-use node_core::Config;
-use node_seats::Seat;
+use node_core::AgreementConfig;
 use stable_records::Stable;
 use std::alloc::Global;
+use stored_nodes::StoredNode;
 
 /// The messages that tell again what a majority of these nodes recorded, all of which have started again: of each slot that
 /// was chosen, the `Accepted` of each member that recorded one at the slot's first ballot at which a majority did
@@ -22,8 +22,8 @@ use std::alloc::Global;
 /// such a slot.
 pub fn chosen_by<S: Stable + Drop>(
     alloc: Global,
-    config: Config,
-    nodes: &[Seat<S>],
+    config: AgreementConfig,
+    nodes: &[StoredNode<S>],
 ) -> Result<Vec<Message>, ChosenFault>
     requires all { length nodes.now ≡ config.members }
     requires started { AreStarted config [] nodes.now }
@@ -41,7 +41,7 @@ pub fn chosen_by<S: Stable + Drop>(
 // The records of each node. They share the bytes of their values.
 fn all_records<S: Stable + Drop>(
     alloc: Global,
-    nodes: &[Seat<S>],
+    nodes: &[StoredNode<S>],
 ) -> Result<Vec<Vec<Record>>, OutOfMemory>
     ensures { IfOk result (λ all. map (λ own. own.items) all.items ≡ records_of nodes.now) }
 {

@@ -5,7 +5,7 @@ ghost use Rattle.std.specs.List.{All};
 ghost use Rattle.ballots.specs.declared.record.Record.{Record as Held};
 ghost use Rattle.agreement_rules.specs.Views.{Views, started_with};
 ghost use Rattle.resumed_histories.specs.StartingOver.{TellsOfAValue};
-ghost use Rattle.node_seats.specs.State.{IsPlaced, StandsUp};
+ghost use Rattle.stored_nodes.specs.State.{IsPlaced, StandsUp};
 ghost use Rattle.resumed_nodes.specs.declared.fault.HearFault.TheVariants.{OutOfMemory};
 ghost use Rattle.resumed_nodes.specs.Starting.{AreStarted, HasHeardAgain, IsStarted, MayBeTold, records_of};
 ghost use Rattle.resumed_nodes.specs.Hearing.{HearAnswers, HearLeaves, IsHearFaultFor, HearAllAnswers};
@@ -13,12 +13,12 @@ ghost use Rattle.resumed_nodes.specs.Hearing.{HearAnswers, HearLeaves, IsHearFau
 use crate::fault::HearFault;
 use crate::pushing::push;
 use ballots::{Body, Message};
-use node_core::{Config, Input};
+use node_core::{AgreementConfig, Input};
 use node_events::Reason;
-use node_seats::Seat;
 use stable_records::Stable;
 use std::alloc::{AllocError, Global};
 use std::thread::{Threads, map_vec};
+use stored_nodes::StoredNode;
 
 /// Hands the node, which is up, a message again that tells which value was accepted or decided: its learner is told,
 /// and it has seen the message's round (Lamport, *Paxos Made Simple*, sections 2.3 and 2.5). Nothing is kept or sent.
@@ -27,7 +27,7 @@ use std::thread::{Threads, map_vec};
 /// down, which then hears nothing, and [`HearFault::OutOfRange`] only where the message names a node that is none or a
 /// slot that there is not. After each of these, and where memory is refused, the node stands as it stood.
 /// [`HearFault::Store`] never comes for a node that stands up by its rules.
-pub fn hear<S: Stable + Drop>(seat: &mut Seat<S>, message: &Message) -> Result<(), HearFault>
+pub fn hear<S: Stable + Drop>(seat: &mut StoredNode<S>, message: &Message) -> Result<(), HearFault>
     ensures gives { (views : Views) → IsPlaced seat.old → StandsUp seat.old views
         → HearAnswers seat.old seat.new views message.now result }
     ensures leaves { HearLeaves seat.old seat.new result }
@@ -57,7 +57,7 @@ fn tells_of_a_value(body: &Body) -> bool
 }
 
 // Does what is due to a message that tells of a value.
-fn hear_copy<S: Stable + Drop>(seat: &mut Seat<S>, message: Message) -> Result<(), HearFault>
+fn hear_copy<S: Stable + Drop>(seat: &mut StoredNode<S>, message: Message) -> Result<(), HearFault>
     requires { TellsOfAValue message.body }
     ensures gives { (views : Views) → IsPlaced seat.old → StandsUp seat.old views
         → HearAnswers seat.old seat.new views message result }
@@ -88,7 +88,10 @@ fn fault_for(reason: Reason) -> HearFault
 /// they tell, and nothing else has changed (Lamport, *Paxos Made Simple*, sections 2.3 and 2.5).
 ///
 /// The faults are those of [`hear`], of the first message that meets one; the node has heard those before it.
-pub fn hear_all<S: Stable + Drop>(seat: &mut Seat<S>, told: &[Message]) -> Result<(), HearFault>
+pub fn hear_all<S: Stable + Drop>(
+    seat: &mut StoredNode<S>,
+    told: &[Message],
+) -> Result<(), HearFault>
     ensures { (records : List Held) → IsPlaced seat.old → StandsUp seat.old (started_with records)
         → HearAllAnswers seat.old seat.new records told.now result }
 {
@@ -103,10 +106,10 @@ pub fn hear_all<S: Stable + Drop>(seat: &mut Seat<S>, told: &[Message]) -> Resul
 
 // Hands these messages to a node that was started with its records, and gives it back.
 fn hear_own<S: Stable + Drop>(
-    config: Config,
-    node: Seat<S>,
+    config: AgreementConfig,
+    node: StoredNode<S>,
     told: &[Message],
-) -> Result<Seat<S>, AllocError>
+) -> Result<StoredNode<S>, AllocError>
     requires started { IsStarted config [] node.me node }
     requires may { All (MayBeTold config) told.now }
     ensures { IfOk result (HasHeardAgain config told.now node) }
@@ -141,17 +144,17 @@ fn refused(fault: HearFault) -> AllocError
 pub fn hear_together<R: Threads + Sync, S: Stable + Drop + Send>(
     rt: &R,
     alloc: Global,
-    config: Config,
-    nodes: Vec<Seat<S>>,
+    config: AgreementConfig,
+    nodes: Vec<StoredNode<S>>,
     told: &[Message],
-) -> Result<Vec<Seat<S>>, AllocError>
+) -> Result<Vec<StoredNode<S>>, AllocError>
     requires started { AreStarted config [] nodes.items }
     requires may { All (MayBeTold config) told.now }
     ensures heard { IfOk result (λ heard. AreStarted config told.now heard.items) }
     ensures records { IfOk result (λ heard. records_of heard.items ≡ records_of nodes.items) }
     ensures all { IfOk result (λ heard. length heard.items ≡ length nodes.items) }
 {
-    let hear = |node: Seat<S>| -> Result<Seat<S>, AllocError>
+    let hear = |node: StoredNode<S>| -> Result<StoredNode<S>, AllocError>
         requires { IsStarted config [] node.me node × All (MayBeTold config) told.now }
         ensures { IfOk result (HasHeardAgain config told.entry.now node) }
     { hear_own(config, node, told) };
@@ -161,8 +164,8 @@ pub fn hear_together<R: Threads + Sync, S: Stable + Drop + Send>(
 // All nodes, where each has heard the messages.
 fn all_ok<S: Stable + Drop>(
     alloc: Global,
-    results: Vec<Result<Seat<S>, AllocError>>,
-) -> Result<Vec<Seat<S>>, AllocError>
+    results: Vec<Result<StoredNode<S>, AllocError>>,
+) -> Result<Vec<StoredNode<S>>, AllocError>
     ensures { IfOk result (λ nodes. map (λ node. Ok node) nodes.items ≡ results.items) }
 {
     let mut nodes = Vec::with_capacity(alloc, results.len())?;

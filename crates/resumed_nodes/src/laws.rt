@@ -10,7 +10,7 @@ ghost use Rattle.histories.specs.Following.{Seat, recovered_in, at_first};
 ghost use Rattle.joined_histories.specs.Joined.{Precedes};
 ghost use Rattle.resumed_histories.specs.StartingOver.{Hears, StartsOver};
 ghost use Rattle.chosen_records.specs.Chosen.{IsRecorded};
-ghost use Rattle.node_seats.specs.State.{SeatState};
+ghost use Rattle.stored_nodes.specs.State.{SeatState};
 ghost use Rattle.resumed_nodes.specs.Heard.{heard, starts_of};
 ghost use Rattle.resumed_nodes.specs.Starting.{AreStarted, GoesOn, records_of};
 ghost use Rattle.resumed_nodes.specs.Knowing.{TellsAll, KnowsAcknowledged};

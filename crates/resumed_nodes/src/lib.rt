@@ -25,6 +25,3 @@ pub use choosing::chosen_by;
 pub use fault::{HearFault, ReopenFault};
 pub use hearing::{hear, hear_all, hear_together};
 pub use starting::reopen_next;
-
-#[cfg(test)]
-mod tests;

@@ -9,11 +9,11 @@ ghost use Rattle.resumed_nodes.specs.Starting.{AddsNode, AreOwn, AreStarted, IsO
 use crate::fault::ReopenFault;
 use crate::pushing::push;
 use ballots::{NodeId, Record};
-use node_core::{Config, OpenFault};
-use node_seats::Seat;
+use node_core::{AgreementConfig, OpenFault};
 use stable_records::Stable;
 use std::alloc::Global;
 use std::hash::RandomState;
+use stored_nodes::StoredNode;
 
 /// Starts the next node again, with the records that its store gives back and nothing else (Lamport, *Paxos Made Simple*,
 /// section 2.5): it stands behind the others, each of which is at the place of its number. Memory is taken from this
@@ -27,8 +27,8 @@ pub fn reopen_next<S: Stable + Drop>(
     alloc: Global,
     hashing: RandomState,
     me: NodeId,
-    config: Config,
-    nodes: &mut Vec<Seat<S>>,
+    config: AgreementConfig,
+    nodes: &mut Vec<StoredNode<S>>,
     store: S,
 ) -> Result<(), ReopenFault>
     requires member { me < config.members }
@@ -40,7 +40,7 @@ pub fn reopen_next<S: Stable + Drop>(
         (left : S) × RaisesCount why (S.faults store) (S.faults left))) }
     ensures same { OnErr result (nodes.new.items ≡ nodes.old.items) }
 {
-    let node = match Seat::reopen(alloc, hashing, me, config, store) {
+    let node = match StoredNode::reopen(alloc, hashing, me, config, store) {
         Ok(node) => node,
         Err(fault) => return Err(fault_for(fault)),
     };

@@ -3,12 +3,12 @@
 use crate::schemas::{alone, both, int, plain, with_one};
 use batch_columns::{Batch, Column};
 use header_types::{BitWidth, Field, Precision, Schema, Ty};
-use json_rows::{CellFault, LineFault, RowsFault, read_rows, rows_text};
+use json_rows::{CellFault, JsonFault, JsonLineFault, read_rows, rows_text};
 use std::alloc::{AllocError, Global};
 use std::test::Fail;
 
 /// The fault that is told of these lines.
-fn fault_of(alloc: Global, schema: &Schema, lines: &[u8]) -> Option<RowsFault> {
+fn fault_of(alloc: Global, schema: &Schema, lines: &[u8]) -> Option<JsonFault> {
     read_rows(alloc, schema, lines).err()
 }
 
@@ -23,8 +23,8 @@ fn numbers(alloc: Global) -> Result<Schema, AllocError> {
 }
 
 /// The fault of a cell of the second column.
-fn of_second(line: u64, fault: CellFault) -> Option<RowsFault> {
-    Some(RowsFault::Cell {
+fn of_second(line: u64, fault: CellFault) -> Option<JsonFault> {
+    Some(JsonFault::Cell {
         line,
         field: 1,
         fault,
@@ -100,7 +100,7 @@ fn one_nan_is_written_and_no_other(rt: HostRuntime) -> Result<(), Fail> {
         quiet.is_ok_and(|text| text.as_slice() == b"{\"a\":\"NaN\"}\n".as_slice()),
         "the quiet one"
     );
-    let other = RowsFault::Cell {
+    let other = JsonFault::Cell {
         line: 1,
         field: 0,
         fault: CellFault::OutOfRange,
@@ -111,8 +111,8 @@ fn one_nan_is_written_and_no_other(rt: HostRuntime) -> Result<(), Fail> {
 }
 
 /// The fault of a line.
-fn of_line(line: u64, fault: LineFault) -> Option<RowsFault> {
-    Some(RowsFault::Line { line, fault })
+fn of_line(line: u64, fault: JsonLineFault) -> Option<JsonFault> {
+    Some(JsonFault::Line { line, fault })
 }
 
 #[test]
@@ -121,19 +121,19 @@ fn faults_of_lines_are_told_where_they_stand(rt: HostRuntime) -> Result<(), Fail
     let schema = numbers(alloc)?;
     assert!(rt;
         fault_of(alloc, &schema, b"{\"b\":1}\n{\"b\":1,\"c\":2}\n")
-            == of_line(2, LineFault::UnknownMember),
+            == of_line(2, JsonLineFault::UnknownMember),
         "an unknown member"
     );
     assert!(rt;
-        fault_of(alloc, &schema, b"[1]\n") == of_line(1, LineFault::UnknownMember),
+        fault_of(alloc, &schema, b"[1]\n") == of_line(1, JsonLineFault::UnknownMember),
         "no object"
     );
     assert!(rt;
-        fault_of(alloc, &schema, b"{\"b\":1}\n\n{\"b\":1}\n") == of_line(2, LineFault::NotJson),
+        fault_of(alloc, &schema, b"{\"b\":1}\n\n{\"b\":1}\n") == of_line(2, JsonLineFault::NotJson),
         "an empty line"
     );
     assert!(rt;
-        fault_of(alloc, &schema, b"{\"b\":1}\n\"\xff\"\n") == of_line(2, LineFault::NotUtf8),
+        fault_of(alloc, &schema, b"{\"b\":1}\n\"\xff\"\n") == of_line(2, JsonLineFault::NotUtf8),
         "a byte that begins no character"
     );
     assert!(rt; fault_of(alloc, &schema, b"").is_none(), "no line");
@@ -149,14 +149,14 @@ fn schemas_that_no_object_can_tell_are_refused(rt: HostRuntime) -> Result<(), Fa
         plain(alloc, "a", Ty::Utf8)?,
     )?;
     assert!(rt;
-        fault_of(alloc, &twice, b"{\"a\":\"x\"}\n") == Some(RowsFault::SameNames),
+        fault_of(alloc, &twice, b"{\"a\":\"x\"}\n") == Some(JsonFault::SameNames),
         "two fields of one name"
     );
     let half = Ty::FloatingPoint {
         precision: Precision::Half,
     };
     let halves = alone(alloc, plain(alloc, "a", half)?)?;
-    let unsupported = RowsFault::Cell {
+    let unsupported = JsonFault::Cell {
         line: 1,
         field: 0,
         fault: CellFault::Unsupported,
@@ -167,7 +167,7 @@ fn schemas_that_no_object_can_tell_are_refused(rt: HostRuntime) -> Result<(), Fa
     );
     let odd = with_one(alloc, "a", Ty::Utf8, plain(alloc, "x", Ty::Utf8)?)?;
     assert!(rt;
-        fault_of(alloc, &alone(alloc, odd)?, b"{}\n") == Some(RowsFault::BadSchema),
+        fault_of(alloc, &alone(alloc, odd)?, b"{}\n") == Some(JsonFault::BadSchema),
         "a field inside a text"
     );
     Ok(())

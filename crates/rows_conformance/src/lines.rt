@@ -3,7 +3,7 @@
 use crate::schemas::{alone, both, int, plain, with_one};
 use batch_cells::{Cell, cells_of};
 use header_types::{BitWidth, DateUnit, Precision, Schema, TimeUnit, Ty};
-use json_rows::{RowsFault, read_rows, rows_text};
+use json_rows::{JsonFault, read_rows, rows_text};
 use std::alloc::Global;
 use std::test::Fail;
 
@@ -13,7 +13,7 @@ fn are_written(
     schema: &Schema,
     lines: &str,
     wanted: &str,
-) -> Result<bool, RowsFault> {
+) -> Result<bool, JsonFault> {
     let batches = read_rows(alloc, schema, lines.as_bytes())?;
     match batches.as_slice() {
         [batch] => Ok(rows_text(alloc, schema, batch)?.as_slice() == wanted.as_bytes()),
@@ -22,7 +22,7 @@ fn are_written(
 }
 
 /// Whether lines of one field `a` of this type are read and written as they stand.
-fn stand(alloc: Global, ty: Ty, lines: &str) -> Result<bool, RowsFault> {
+fn stand(alloc: Global, ty: Ty, lines: &str) -> Result<bool, JsonFault> {
     let schema = alone(alloc, plain(alloc, "a", ty)?)?;
     are_written(alloc, &schema, lines, lines)
 }

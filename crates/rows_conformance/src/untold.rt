@@ -6,7 +6,7 @@ use batch_cells::Cell;
 use batch_columns::Batch;
 use column_building::column_of;
 use header_types::{BitWidth, DateUnit, DecimalWidth, Field, Precision, Schema, TimeUnit, Ty};
-use json_rows::{CellFault, RowsFault, read_rows, rows_text};
+use json_rows::{CellFault, JsonFault, read_rows, rows_text};
 use std::alloc::{AllocError, Global};
 use std::test::Fail;
 
@@ -68,15 +68,15 @@ fn batch_of(alloc: Global, field: &Field, cells: &[Cell]) -> Result<Batch, Fail>
 }
 
 /// The fault that is told of these cells of a table of this field alone.
-fn fault_of(alloc: Global, field: Field, cells: &[Cell]) -> Result<Option<RowsFault>, Fail> {
+fn fault_of(alloc: Global, field: Field, cells: &[Cell]) -> Result<Option<JsonFault>, Fail> {
     let batch = batch_of(alloc, &field, cells)?;
     let schema = alone(alloc, field)?;
     Ok(rows_text(alloc, &schema, &batch).err())
 }
 
 /// The fault of a cell of the column at this place.
-fn of_cell(line: u64, field: usize, fault: CellFault) -> Option<RowsFault> {
-    Some(RowsFault::Cell { line, field, fault })
+fn of_cell(line: u64, field: usize, fault: CellFault) -> Option<JsonFault> {
+    Some(JsonFault::Cell { line, field, fault })
 }
 
 /// The same field, which may have no null.
@@ -250,7 +250,7 @@ fn float_fault(
     ty: Ty,
     first: &[u8],
     second: &[u8],
-) -> Result<Option<RowsFault>, Fail> {
+) -> Result<Option<JsonFault>, Fail> {
     let field = plain(alloc, "a", ty)?;
     let cells = [
         bytes_cell(alloc, first)?,
@@ -392,7 +392,7 @@ fn fault_of_both(
     alloc: Global,
     numbers: &[Cell],
     floats: &[Cell],
-) -> Result<Option<RowsFault>, Fail> {
+) -> Result<Option<JsonFault>, Fail> {
     let first = plain(alloc, "a", int(BitWidth::Eight))?;
     let second = plain(alloc, "b", DOUBLE)?;
     let mut batch = batch_of(alloc, &first, numbers)?;
@@ -479,7 +479,7 @@ fn members_of_structs_are_told_by_their_rows(rt: HostRuntime) -> Result<(), Fail
 }
 
 /// Whether these rows have lines that are read as the same batch.
-fn is_read_again(alloc: Global, schema: &Schema, batch: &Batch) -> Result<bool, RowsFault> {
+fn is_read_again(alloc: Global, schema: &Schema, batch: &Batch) -> Result<bool, JsonFault> {
     let text = rows_text(alloc, schema, batch)?;
     let batches = read_rows(alloc, schema, text.as_slice())?;
     match batches.as_slice() {

@@ -1,11 +1,11 @@
 //! Lines that come without a schema.
 
-use json_rows::{CellFault, RowsFault, read_rows, rows_text, schema_of_rows};
+use json_rows::{CellFault, JsonFault, read_rows, rows_text, schema_of_rows};
 use std::alloc::Global;
 use std::test::Fail;
 
 /// Whether the lines, read with the schema that is made for them, are written so.
-fn are_written(alloc: Global, lines: &str, wanted: &str) -> Result<bool, RowsFault> {
+fn are_written(alloc: Global, lines: &str, wanted: &str) -> Result<bool, JsonFault> {
     let schema = schema_of_rows(alloc, lines.as_bytes())?;
     let batches = read_rows(alloc, &schema, lines.as_bytes())?;
     match batches.as_slice() {
@@ -15,7 +15,7 @@ fn are_written(alloc: Global, lines: &str, wanted: &str) -> Result<bool, RowsFau
 }
 
 /// The fault that is told of these lines.
-fn fault_of(alloc: Global, lines: &str) -> Option<RowsFault> {
+fn fault_of(alloc: Global, lines: &str) -> Option<JsonFault> {
     schema_of_rows(alloc, lines.as_bytes()).err()
 }
 
@@ -36,8 +36,8 @@ fn types_come_from_all_lines(rt: HostRuntime) -> Result<(), Fail> {
 #[test]
 fn lines_that_want_a_schema_are_refused(rt: HostRuntime) -> Result<(), Fail> {
     let alloc = rt.alloc();
-    assert!(rt; fault_of(alloc, "") == Some(RowsFault::NoRows), "no line");
-    let kinds = RowsFault::Cell {
+    assert!(rt; fault_of(alloc, "") == Some(JsonFault::NoRows), "no line");
+    let kinds = JsonFault::Cell {
         line: 2,
         field: 0,
         fault: CellFault::WrongKind,
@@ -46,7 +46,7 @@ fn lines_that_want_a_schema_are_refused(rt: HostRuntime) -> Result<(), Fail> {
         fault_of(alloc, "{\"a\":1}\n{\"a\":\"1\"}\n") == Some(kinds),
         "a number and a text"
     );
-    let array = RowsFault::Cell {
+    let array = JsonFault::Cell {
         line: 1,
         field: 0,
         fault: CellFault::Unsupported,

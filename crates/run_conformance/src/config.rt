@@ -1,12 +1,12 @@
 //! For how many slots a configuration can be made.
 
 use crate::support::members;
-use agreement::Config;
+use agreement::AgreementConfig;
 use std::test::Fail;
 
 // How many members and slots the configuration has that is made for three members and so many slots.
 fn made(slot_limit: u32) -> Result<Option<(u8, u32)>, Fail> {
-    let config = Config::new(members(3)?, slot_limit);
+    let config = AgreementConfig::new(members(3)?, slot_limit);
     Ok(config.map(|config| (config.members().count(), config.slot_limit())))
 }
 

@@ -1,7 +1,7 @@
 //! Nodes that take one input after the other, each with a store of what it kept.
 
 use crate::support::members;
-use agreement::{Config, Refusal};
+use agreement::{AgreementConfig, Refusal};
 use ballots::{Message, NodeId, Record};
 use node_core::{Input, Node};
 use std::alloc::Global;
@@ -18,8 +18,8 @@ pub(crate) fn boxed(alloc: Global, node: Node) -> Result<Box<Node>, Fail> {
 }
 
 /// Three members, and so many slots.
-pub(crate) fn config() -> Result<Config, Fail> {
-    Ok(Config::new(members(3)?, SLOTS).ok_or("no config")?)
+pub(crate) fn config() -> Result<AgreementConfig, Fail> {
+    Ok(AgreementConfig::new(members(3)?, SLOTS).ok_or("no config")?)
 }
 
 /// Node 0, 1 or 2 of three, as these records left it.

@@ -7,7 +7,7 @@ use Rattle.serde_json.specs.Data.{Data}
 use Rattle.serde_json.specs.Read.{read as read_text}
 use Rattle.serde_json.specs.View.{items_of}
 use Rattle.node_events.specs.declared.event.Event.{Event}
-use Rattle.schedule_runner.specs.declared.config.Config.{Config}
+use Rattle.traces.specs.declared.config.Config.{Config}
 use Rattle.run_files.specs.UploadValue.{MeansUpload}
 use Rattle.run_files.specs.JsonValues.{array_at}
 use Rattle.run_files.specs.ScheduleFile.{TellsEvent, TellsConfig, MeansSchedule}

@@ -9,8 +9,8 @@ use Rattle.serde_json.specs.Find.{as_array}
 use Rattle.serde_json.specs.View.{items_of}
 use Rattle.run_files.specs.declared.script.NodeCount.{NodeCount}
 use Rattle.run_files.specs.declared.script.NodeCount.TheVariants.{Three, Five}
-use Rattle.run_files.specs.declared.script.Asked.{Asked}
-use Rattle.run_files.specs.declared.script.Asked.TheVariants.{Put, Get, Info}
+use Rattle.run_files.specs.declared.script.CallRequest.{CallRequest}
+use Rattle.run_files.specs.declared.script.CallRequest.TheVariants.{Put, Get, Info}
 use Rattle.run_files.specs.declared.script.Call.{Call}
 use Rattle.run_files.specs.JsonValues.{words, number_at, array_at}
 use Rattle.run_files.specs.UploadValue.{MeansUpload}
@@ -32,7 +32,7 @@ one_of rest d e x y a b p q =
     let same : d ≡ e = cc in
     upload_is_one e x y (subst (λ (v : Data). MeansUpload v x) same p) q
 
-pub asked_is_one : (word : List ℕ) (rest : List Data) (a b : Asked) → Asks word rest a → Asks word rest b → a ≡ b
+pub asked_is_one : (word : List ℕ) (rest : List Data) (a b : CallRequest) → Asks word rest a → Asks word rest b → a ≡ b
 asked_is_one w r (Put x) (Put y) p q = ap Put (one_of r p.1 q.1 x y p.2 q.2 p.3 q.3)
 asked_is_one w r (Get x) (Get y) p q =
     let table : x.table ≡ y.table = cc in
@@ -42,7 +42,7 @@ asked_is_one w r (Info x) (Info y) p q = let same : x ≡ y = cc in ap Info same
 asked_is_one w r a b p q = absurd (differ w _ _ p.0 q.0 refl)
 
 -- behind the word of an upload stands what means it
-pub put_said : (word : List ℕ) (d : Data) (a : Asked) → word ≡ codes "put" → Asks word (d ∷ []) a → (upload : List ℕ) × MeansUpload d upload
+pub put_said : (word : List ℕ) (d : Data) (a : CallRequest) → word ≡ codes "put" → Asks word (d ∷ []) a → (upload : List ℕ) × MeansUpload d upload
 put_said word d (Put upload) is says =
     let same : d ≡ says.1 = cc in (upload, subst (λ (v : Data). MeansUpload v upload) (sym same) says.3)
 put_said word d (Get ticket) is says = absurd (differ word _ _ is says.0 refl)
@@ -62,7 +62,7 @@ call_said nodes d word node rest call is told =
 one_call : (x y : Call) → x.node ≡ y.node → x.asked ≡ y.asked → x ≡ y
 one_call x y node asked =
     let first : ℕ → Call = λ n. record { node = n; asked = x.asked } in
-    let second : Asked → Call = λ a. record { node = y.node; asked = a } in
+    let second : CallRequest → Call = λ a. record { node = y.node; asked = a } in
     ap first node ∙ ap second asked
 
 pub call_is_one : (nodes : NodeCount) (d : Data) (x y : Call) → TellsCall nodes d x → TellsCall nodes d y → x ≡ y

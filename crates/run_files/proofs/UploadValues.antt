@@ -20,9 +20,9 @@ use Rattle.batch_columns.specs.Contents.{Contents}
 use Rattle.batch_columns.specs.declared.batch.Batch.{Batch}
 use Rattle.table_types.specs.Uploads.{Upload, upload_text}
 use Rattle.table_types.specs.Valid.{IsId, IsUpload}
-use Rattle.upload_writing.specs.Making.{AreMade, AreRefused, upload_of}
-use Rattle.upload_writing.specs.declared.fault.UploadFault.{UploadFault}
-use Rattle.upload_writing.specs.declared.fault.UploadFault.TheVariants as faults
+use Rattle.uploads.specs.Making.{AreMade, AreRefused, upload_of}
+use Rattle.uploads.specs.declared.upload_fault.UploadFault.{UploadFault}
+use Rattle.uploads.specs.declared.upload_fault.UploadFault.TheVariants as faults
 use Rattle.run_files.specs.JsonValues.{text_at}
 use Rattle.run_files.specs.UploadValue.{IsByteOf, TellsCell, TellsRows, IsByteBatch, TellsUpload, MeansUpload, byte_cell, column_rows, column_schema, name_told}
 use Rattle.run_files.proofs.Reading.{items_are_one, zipped_are_one}

@@ -7,8 +7,8 @@ use Rattle.serde_json.specs.Read.{read as read_text}
 use Rattle.serde_json.specs.View.{view, items_of}
 use Rattle.serde_json.specs.declared.value.Value.{Value}
 use Rattle.ballots.specs.Majority.{IsMembers}
-use Rattle.schedule_runner.specs.declared.config.Config.{Config}
-use Rattle.schedule_runner.specs.Limits.{most_slots}
+use Rattle.traces.specs.declared.config.Config.{Config}
+use Rattle.traces.specs.Limits.{most_slots}
 use Rattle.run_files.specs.declared.flaw.TextFlaw.{TextFlaw}
 use Rattle.run_files.specs.declared.flaw.TextFlaw.TheVariants.{NotUtf8, NotJson}
 use Rattle.run_files.specs.declared.flaw.ScheduleFlaw.{ScheduleFlaw}

@@ -10,8 +10,8 @@ use Rattle.ballots.specs.Majority.{IsMembers}
 use Rattle.table_types.specs.Ticket.{IsTableVersion}
 use Rattle.node_events.specs.declared.event.Event.{Event}
 use Rattle.node_events.specs.declared.event.Event.TheVariants.{Put, Tick, Deliver, TickCut, DeliverCut, Restart, Get, Info, Outcome}
-use Rattle.schedule_runner.specs.declared.config.Config.{Config}
-use Rattle.schedule_runner.specs.Limits.{IsWithinLimits, most_entries}
+use Rattle.traces.specs.declared.config.Config.{Config}
+use Rattle.traces.specs.Limits.{IsWithinLimits, most_entries}
 use Rattle.run_files.specs.JsonValues.{whole, words, number_at, array_at}
 use Rattle.run_files.specs.UploadValue.{MeansUpload}
 

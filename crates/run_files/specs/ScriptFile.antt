@@ -10,8 +10,8 @@ use Rattle.table_types.specs.Valid.{IsTableName}
 use Rattle.table_types.specs.Ticket.{IsTableVersion}
 use Rattle.run_files.specs.declared.script.NodeCount.{NodeCount}
 use Rattle.run_files.specs.declared.script.NodeCount.TheVariants.{Three, Five}
-use Rattle.run_files.specs.declared.script.Asked.{Asked}
-use Rattle.run_files.specs.declared.script.Asked.TheVariants.{Put, Get, Info}
+use Rattle.run_files.specs.declared.script.CallRequest.{CallRequest}
+use Rattle.run_files.specs.declared.script.CallRequest.TheVariants.{Put, Get, Info}
 use Rattle.run_files.specs.declared.script.Call.{Call}
 use Rattle.run_files.specs.JsonValues.{whole, words, number_at, array_at}
 use Rattle.run_files.specs.UploadValue.{MeansUpload}
@@ -23,7 +23,7 @@ node_count Five = 5
 
 -- The word says that this is asked, by the values that stand behind the node's number: an upload as a schedule has it, a version
 -- of a table as a ticket has it, or a table's name.
-abbrev pub Asks : List ℕ → List Data → Asked → Type 0
+abbrev pub Asks : List ℕ → List Data → CallRequest → Type 0
 Asks word rest (Put upload) = (word ≡ codes "put") × (d : Data) × (rest ≡ d ∷ []) × MeansUpload d upload
 Asks word rest (Get ticket) =
     (word ≡ codes "get") × (rest ≡ string ticket.table ∷ whole ticket.version ∷ []) × IsTableVersion ticket

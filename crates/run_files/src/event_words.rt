@@ -12,10 +12,10 @@ ghost use Rattle.run_files.specs.ScheduleFile.{Says, TellsEvent, most_left};
 
 use crate::fault::ValueFault;
 use crate::json_values::{text_of, whole_of, words_of};
-use schedule_runner::{Event, TableText};
 use serde_json::Value;
 use std::alloc::{AllocError, Global};
 use table_types::Ticket;
+use traces::{Event, TableText};
 use uploads::Upload;
 
 /// How many slots a tick leaves to others: a number of eight bits.

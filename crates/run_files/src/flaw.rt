@@ -23,7 +23,7 @@ pub enum ScheduleFlaw {
     /// It is no object with a whole number `members`, 1 to [`MAX_MEMBERS`](ballots::MAX_MEMBERS).
     #[error("`members` is not there, or is no whole number from 1 to 7")]
     Members,
-    /// It is no object with a whole number `slot_limit`, 1 to [`MAX_SLOTS`](schedule_runner::MAX_SLOTS).
+    /// It is no object with a whole number `slot_limit`, 1 to [`MAX_SLOTS`](traces::MAX_SLOTS).
     #[error("`slot_limit` is not there, or is no whole number from 1 to 1,000,000")]
     SlotLimit,
     /// It is no object with an array `uploads`.

@@ -2,7 +2,7 @@
 
 ghost use Rattle.std.specs.Prelude.{◌≡◌, ℕ, List};
 ghost use Rattle.node_events.specs.declared.event.Event.{Event as Happening};
-ghost use Rattle.schedule_runner.specs.declared.config.Config.{Config as Configured};
+ghost use Rattle.traces.specs.declared.config.Config.{Config as Configured};
 ghost use Rattle.run_files.specs.declared.script.NodeCount.{NodeCount as Counted};
 ghost use Rattle.run_files.specs.declared.script.Call.{Call as Calling};
 ghost use Rattle.run_files.specs.ScheduleFile.{MeansSchedule};

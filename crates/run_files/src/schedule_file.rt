@@ -4,8 +4,8 @@ ghost use Rattle.std.specs.Prelude.{◌≡◌, ◌≤◌, ℕ, List, Some, None,
 ghost use Rattle.serde_json.specs.View.{view};
 ghost use Rattle.ballots.specs.Majority.{IsMembers};
 ghost use Rattle.node_events.specs.declared.event.Event.{Event as Happening};
-ghost use Rattle.schedule_runner.specs.declared.config.Config.{Config as Configured};
-ghost use Rattle.schedule_runner.specs.Limits.{most_slots};
+ghost use Rattle.traces.specs.declared.config.Config.{Config as Configured};
+ghost use Rattle.traces.specs.Limits.{most_slots};
 ghost use Rattle.run_files.specs.declared.fault.ScheduleFault.TheVariants.{OutOfMemory};
 ghost use Rattle.run_files.specs.Flaws.{IsScheduleFlaw, IsScheduleFlawIn, ReadsSchedule};
 ghost use Rattle.run_files.specs.JsonValues.{number_at};
@@ -17,9 +17,9 @@ use crate::flaw::ScheduleFlaw;
 use crate::json_values::{array_at, value_of};
 use crate::upload_values::uploads_of;
 use ballots::{MAX_MEMBERS, Members};
-use schedule_runner::{Config, Event, MAX_JOURNAL_ENTRIES, MAX_SLOTS};
 use serde_json::Value;
 use std::alloc::{AllocError, Global};
+use traces::{Config, Event, MAX_JOURNAL_ENTRIES, MAX_SLOTS};
 
 /// Events of nodes, and what the nodes have in common.
 #[derive(Debug, Drop)]

@@ -4,8 +4,8 @@ ghost use Rattle.std.specs.Prelude.{◌≡◌};
 ghost use Rattle.run_files.specs.ScriptFile.{node_count};
 
 use ballots::Members;
-use schedule_runner::TableText;
 use table_types::Ticket;
+use traces::TableText;
 use uploads::Upload;
 
 /// How many nodes there are.
@@ -32,7 +32,7 @@ impl NodeCount {
 
 /// What a client asks.
 #[derive(Debug, Drop)]
-pub enum Asked {
+pub enum CallRequest {
     /// It uploads.
     Put(Upload),
     /// It asks for a version of a table.
@@ -47,7 +47,7 @@ pub struct Call {
     /// The number of the node that is called, from 0 on.
     pub node: u8,
     /// What it is asked.
-    pub asked: Asked,
+    pub asked: CallRequest,
 }
 
 /// Calls of clients, one after the other, to the nodes of a cluster.

@@ -5,7 +5,7 @@ ghost use Rattle.serde_json.specs.Data.{string};
 ghost use Rattle.serde_json.specs.View.{view};
 ghost use Rattle.table_types.specs.Valid.{IsTableName};
 ghost use Rattle.run_files.specs.declared.fault.ValueFault.TheVariants.{OutOfMemory};
-ghost use Rattle.run_files.specs.declared.script.Asked.{Asked as Question};
+ghost use Rattle.run_files.specs.declared.script.CallRequest.{CallRequest as Question};
 ghost use Rattle.run_files.specs.declared.script.Call.{Call as Calling};
 ghost use Rattle.run_files.specs.Flaws.{ReadsItems};
 ghost use Rattle.run_files.specs.ScriptFile.{Asks, TellsCall};
@@ -13,12 +13,12 @@ ghost use Rattle.run_files.specs.ScriptFile.{Asks, TellsCall};
 use crate::event_words::ticket_of;
 use crate::fault::ValueFault;
 use crate::json_values::{text_of, words_of};
-use crate::script::{Asked, Call, NodeCount};
+use crate::script::{Call, CallRequest, NodeCount};
 use crate::upload_values::upload_of;
-use schedule_runner::TableText;
 use serde_json::Value;
 use std::alloc::{AllocError, Global};
 use table_types::is_table_name;
+use traces::TableText;
 
 /// The name of a table.
 fn table_of(alloc: Global, value: &Value) -> Result<TableText, ValueFault>
@@ -36,14 +36,14 @@ fn table_of(alloc: Global, value: &Value) -> Result<TableText, ValueFault>
 }
 
 /// What this word asks with one thing more.
-fn asked_of_one(alloc: Global, word: &str, value: &Value) -> Result<Asked, ValueFault>
+fn asked_of_one(alloc: Global, word: &str, value: &Value) -> Result<CallRequest, ValueFault>
     ensures read { IfOk result (Asks word.now (view value.now ∷ [])) }
     ensures refused { (asked : Question) → Asks word.now (view value.now ∷ []) asked
         → IfErr result (λ fault. fault ≡ OutOfMemory) }
 {
     match word {
-        "put" => Ok(Asked::Put(upload_of(alloc, value)?)),
-        "info" => Ok(Asked::Info(table_of(alloc, value)?)),
+        "put" => Ok(CallRequest::Put(upload_of(alloc, value)?)),
+        "info" => Ok(CallRequest::Info(table_of(alloc, value)?)),
         _ => Err(ValueFault::Unfit),
     }
 }
@@ -53,19 +53,19 @@ fn asked_of_two(
     word: &str,
     table: &Value,
     version: &Value,
-) -> Result<Asked, ValueFault>
+) -> Result<CallRequest, ValueFault>
     ensures read { IfOk result (Asks word.now (view table.now ∷ view version.now ∷ [])) }
     ensures refused { (asked : Question) → Asks word.now (view table.now ∷ view version.now ∷ []) asked
         → IfErr result (λ fault. fault ≡ OutOfMemory) }
 {
     match word {
-        "get" => Ok(Asked::Get(ticket_of(alloc, table, version)?)),
+        "get" => Ok(CallRequest::Get(ticket_of(alloc, table, version)?)),
         _ => Err(ValueFault::Unfit),
     }
 }
 
 /// What this word asks with what stands behind it.
-fn asked_of(alloc: Global, word: &str, rest: &[Value]) -> Result<Asked, ValueFault>
+fn asked_of(alloc: Global, word: &str, rest: &[Value]) -> Result<CallRequest, ValueFault>
     ensures read { IfOk result (Asks word.now (map view rest.now)) }
     ensures refused { (asked : Question) → Asks word.now (map view rest.now) asked
         → IfErr result (λ fault. fault ≡ OutOfMemory) }

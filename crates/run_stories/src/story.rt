@@ -7,7 +7,7 @@ use std::alloc::{AllocError, Global};
 use std::hash::RandomState;
 use std::io;
 use std::random::RandomSource;
-use story_requests::{Answer, Answers, RequestFault, Words};
+use story_requests::{Answers, RequestFault, Response, Words};
 use uploads::Upload;
 
 /// Who has heard of nodes, uploads and events.
@@ -41,20 +41,20 @@ fn played(alloc: Global, story: &Story) -> Result<Option<Box<Trace>>, RequestFau
     }
 }
 
-fn tell_judged(alloc: Global, trace: &Trace, answer: &mut Answer) -> Result<(), RequestFault> {
+fn tell_judged(alloc: Global, trace: &Trace, answer: &mut Response) -> Result<(), RequestFault> {
     let judged = if audit(trace) { "lawful" } else { "unlawful" };
     answer.word(judged)?;
     tell_messages(alloc, trace.sent(), answer)
 }
 
-fn play(alloc: Global, story: &Story, answer: &mut Answer) -> Result<(), RequestFault> {
+fn play(alloc: Global, story: &Story, answer: &mut Response) -> Result<(), RequestFault> {
     match &played(alloc, story)? {
         Some(trace) => tell_steps(alloc, trace.steps(), answer),
         None => answer.word("BadConfig"),
     }
 }
 
-fn messages(alloc: Global, story: &Story, answer: &mut Answer) -> Result<(), RequestFault> {
+fn messages(alloc: Global, story: &Story, answer: &mut Response) -> Result<(), RequestFault> {
     match &played(alloc, story)? {
         Some(trace) => tell_judged(alloc, trace, answer),
         None => answer.word("BadConfig"),
@@ -109,7 +109,7 @@ impl Answers for Story {
         alloc: Global,
         asked: &str,
         words: &mut Words<'_>,
-        answer: &mut Answer,
+        answer: &mut Response,
     ) -> Result<(), RequestFault> {
         match asked {
             "nodes" => self.begin(words),

@@ -3,25 +3,25 @@
 use ballots::Message;
 use schedule_runner::{Event, EventResult, Reason, Step};
 use std::alloc::Global;
-use story_requests::{Answer, RequestFault};
+use story_requests::{RequestFault, Response};
 use table_versions::{Answer as Served, Outcome};
 
-fn tell_numbered(name: &str, number: u64, answer: &mut Answer) -> Result<(), RequestFault> {
+fn tell_numbered(name: &str, number: u64, answer: &mut Response) -> Result<(), RequestFault> {
     answer.word(name)?;
     answer.number(number)
 }
 
-fn tell_sent(first: u64, count: u64, answer: &mut Answer) -> Result<(), RequestFault> {
+fn tell_sent(first: u64, count: u64, answer: &mut Response) -> Result<(), RequestFault> {
     tell_numbered("sent", first, answer)?;
     answer.number(count)
 }
 
-fn tell_served(alloc: Global, served: &Served, answer: &mut Answer) -> Result<(), RequestFault> {
+fn tell_served(alloc: Global, served: &Served, answer: &mut Response) -> Result<(), RequestFault> {
     answer.word("answer")?;
     answer.bytes(served.to_vec(alloc)?.as_slice())
 }
 
-fn tell_outcome(outcome: Outcome, answer: &mut Answer) -> Result<(), RequestFault> {
+fn tell_outcome(outcome: Outcome, answer: &mut Response) -> Result<(), RequestFault> {
     match outcome {
         Outcome::Applied(version) => tell_numbered("applied", version, answer),
         Outcome::SchemaMismatch => answer.word("mismatch"),
@@ -41,7 +41,7 @@ fn reason_name(reason: Reason) -> &'static str {
     }
 }
 
-fn tell_reason(reason: Reason, answer: &mut Answer) -> Result<(), RequestFault> {
+fn tell_reason(reason: Reason, answer: &mut Response) -> Result<(), RequestFault> {
     answer.word("refused")?;
     answer.word(reason_name(reason))
 }
@@ -54,7 +54,7 @@ fn done_name(event: &Event) -> &'static str {
     }
 }
 
-fn tell_step(alloc: Global, step: &Step, answer: &mut Answer) -> Result<(), RequestFault> {
+fn tell_step(alloc: Global, step: &Step, answer: &mut Response) -> Result<(), RequestFault> {
     match &step.result {
         EventResult::Sent { first, count } => tell_sent(*first, *count, answer),
         EventResult::Done => answer.word(done_name(&step.event)),
@@ -71,7 +71,7 @@ fn tell_step(alloc: Global, step: &Step, answer: &mut Answer) -> Result<(), Requ
 pub(crate) fn tell_steps(
     alloc: Global,
     steps: &[Step],
-    answer: &mut Answer,
+    answer: &mut Response,
 ) -> Result<(), RequestFault> {
     for step in steps {
         tell_step(alloc, step, answer)?;
@@ -79,7 +79,11 @@ pub(crate) fn tell_steps(
     Ok(())
 }
 
-fn tell_message(alloc: Global, message: &Message, answer: &mut Answer) -> Result<(), RequestFault> {
+fn tell_message(
+    alloc: Global,
+    message: &Message,
+    answer: &mut Response,
+) -> Result<(), RequestFault> {
     let mut bytes = Vec::new(alloc);
     message.encode(&mut bytes)?;
     answer.bytes(bytes.as_slice())
@@ -89,7 +93,7 @@ fn tell_message(alloc: Global, message: &Message, answer: &mut Answer) -> Result
 pub(crate) fn tell_messages(
     alloc: Global,
     sent: &[Message],
-    answer: &mut Answer,
+    answer: &mut Response,
 ) -> Result<(), RequestFault> {
     for message in sent {
         tell_message(alloc, message, answer)?;

@@ -1,3 +1,1 @@
-pub mod Coming
-pub mod Telling
 mod Seating

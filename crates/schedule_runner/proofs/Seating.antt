@@ -13,8 +13,8 @@ use Rattle.histories.specs.Following.{Seat, SeatGives, IsAsked, StepFollows, at_
 use Rattle.node_events.specs.declared.event.Event.{Event}
 use Rattle.node_events.specs.declared.event_result.EventResult.{EventResult}
 use Rattle.node_events.specs.Told.{event_of, result_of}
-use Rattle.node_seats.specs.State.{IsPlaced, Stands}
-use Rattle.schedule_runner.specs.Applying.{AppliesTo, Answers}
+use Rattle.stored_nodes.specs.State.{IsPlaced, Stands}
+use Rattle.traces.specs.Applying.{AppliesTo, Answers}
 use Rattle.schedule_runner.specs.Seated.{MemorySeat, IsSeatOf, AreSeated, MemorySeatAnswers}
 
 -- of no event is it asked whether a record was recovered, or it was not

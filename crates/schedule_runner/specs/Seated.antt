@@ -7,7 +7,7 @@ use Rattle.histories.specs.Event.{Event}
 use Rattle.histories.specs.Following.{Seat}
 use Rattle.node_events.specs.declared.event_result.EventResult.{EventResult as Told}
 use Rattle.node_events.specs.Told.{result_of}
-use Rattle.node_seats.specs.State.{SeatState, IsPlaced, Stands, SeatApplies, IsAsBefore, SeatSends}
+use Rattle.stored_nodes.specs.State.{SeatState, IsPlaced, Stands, SeatApplies, IsAsBefore, SeatSends}
 
 -- a node with a store in memory, which contracts see as the list of its records
 abbrev pub MemorySeat : Type 0

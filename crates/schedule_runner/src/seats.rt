@@ -4,23 +4,23 @@ ghost use Rattle.std.specs.Prelude.{◌≡◌, ◌<◌, IfOk};
 ghost use Rattle.histories.specs.Event.{node_of};
 ghost use Rattle.histories.specs.Following.{Seat as HistorySeat, at_first};
 ghost use Rattle.node_events.specs.Told.{event_of};
-ghost use Rattle.node_seats.specs.State.{IsPlaced, Stands};
+ghost use Rattle.stored_nodes.specs.State.{IsPlaced, Stands};
 ghost use Rattle.schedule_runner.specs.Seated.{IsSeatOf, AreSeated, MemorySeatAnswers};
 
-use crate::nodes::Nodes;
-use agreement::Config;
+use agreement::AgreementConfig;
 use ballots::{Message, NodeId};
 use histories::laws::a_member_steps_alone;
 use node_events::{Event, EventResult, Reason};
-use node_seats::{Seat, SeatFault};
 use stable_records::{MemoryStable, StoreFault};
 use std::alloc::{AllocError, Global};
 use std::hash::RandomState;
+use stored_nodes::{StoredNode, StoredNodeFault};
+use traces::RunNodes;
 
 /// All members, each with the store of its records.
 #[derive(Drop)]
 pub(crate) struct Seats {
-    seats: Vec<Seat<MemoryStable>>,
+    seats: Vec<StoredNode<MemoryStable>>,
 }
 
 impl Seats {
@@ -28,7 +28,7 @@ impl Seats {
     pub(crate) fn open(
         alloc: Global,
         hashing: RandomState,
-        config: Config,
+        config: AgreementConfig,
     ) -> Result<Seats, AllocError>
         ensures { IfOk result (λ seats. AreSeated seats.seats.items config at_first) }
     {
@@ -49,12 +49,12 @@ fn first_seat(
     alloc: Global,
     hashing: RandomState,
     me: NodeId,
-    config: Config,
-) -> Result<Seat<MemoryStable>, AllocError>
+    config: AgreementConfig,
+) -> Result<StoredNode<MemoryStable>, AllocError>
     requires { me < config.members }
     ensures { IfOk result (λ seat. IsSeatOf config me seat (at_first me)) }
 {
-    match Seat::open(alloc, hashing, me, config, MemoryStable::new(alloc)) {
+    match StoredNode::open(alloc, hashing, me, config, MemoryStable::new(alloc)) {
         Ok(Some(seat)) => Ok(seat),
         Ok(None) => unreachable!(),
         Err(StoreFault::OutOfMemory) => Err(AllocError),
@@ -64,7 +64,7 @@ fn first_seat(
 
 // An event of one node. A store in memory has no fault but want of memory, and gives back what it kept.
 fn apply_to(
-    seat: &mut Seat<MemoryStable>,
+    seat: &mut StoredNode<MemoryStable>,
     sent: &mut Vec<Message>,
     event: &Event,
 ) -> Result<EventResult, AllocError>
@@ -74,13 +74,13 @@ fn apply_to(
 {
     match seat.apply(sent, event) {
         Ok(result) => Ok(result),
-        Err(SeatFault::OutOfMemory) => Err(AllocError),
-        Err(SeatFault::Store(_)) => unreachable!(),
-        Err(SeatFault::Lost) => unreachable!(),
+        Err(StoredNodeFault::OutOfMemory) => Err(AllocError),
+        Err(StoredNodeFault::Store(_)) => unreachable!(),
+        Err(StoredNodeFault::Lost) => unreachable!(),
     }
 }
 
-impl Nodes for Seats {
+impl RunNodes for Seats {
     ghost have = { λ s. AreSeated s.seats.items };
 
     fn apply(&mut self, sent: &mut Vec<Message>, event: &Event) -> Result<EventResult, AllocError> {

@@ -9,7 +9,7 @@ use Rattle.proto_wire.specs.FlightValues.{ticket_values, location_values, endpoi
 use Rattle.proto_wire.specs.declared.flight.endpoint.Ticket.{Ticket as TicketMessage}
 use Rattle.proto_wire.specs.declared.flight.endpoint.FlightEndpoint.{FlightEndpoint}
 use Rattle.table_types.specs.Ticket.{TableVersion, IsTableVersion, IsTicket, ticket_text}
-use Rattle.call_words.specs.declared.call_fault.CallFault.TheVariants as calls
+use Rattle.call_protocol.specs.declared.call_fault.CallFault.TheVariants as calls
 use Rattle.client_calls.specs.declared.client_fault.ClientFault.{ClientFault}
 use Rattle.client_calls.specs.declared.client_fault.ClientFault.TheVariants as faults
 use Rattle.script_calls.specs.declared.told.Told.{Told}

@@ -6,7 +6,7 @@ use Rattle.proto_messages.specs.Descriptor.{Descriptor, Values, IsMessage}
 use Rattle.proto_wire.specs.Flight.{info_descriptor}
 use Rattle.proto_wire.specs.FlightValues.{info_values}
 use Rattle.proto_wire.specs.declared.flight.info.FlightInfo.{FlightInfo}
-use Rattle.call_words.specs.declared.call_fault.CallFault.TheVariants as calls
+use Rattle.call_protocol.specs.declared.call_fault.CallFault.TheVariants as calls
 use Rattle.client_calls.specs.declared.client_fault.ClientFault.{ClientFault}
 use Rattle.client_calls.specs.declared.client_fault.ClientFault.TheVariants as faults
 use Rattle.client_calls.specs.Answers.{IsAnswer, IsRefused, IsNoAnswer, Receives, Requests}

@@ -3,7 +3,7 @@ use Rattle.std.proofs.Common.{◌≡◌, ℕ, List, sym, subst}
 use Rattle.table_types.specs.Uploads.{Upload, upload_text}
 use Rattle.table_types.specs.Valid.{IsUpload}
 use Rattle.table_types.specs.Ticket.{TableVersion}
-use Rattle.run_files.specs.declared.script.Asked.TheVariants as asked
+use Rattle.run_files.specs.declared.script.CallRequest.TheVariants as asked
 use Rattle.script_calls.specs.Asking.{Question, puts, gets, informs, IsAsked}
 
 module _ (P : Question → Type 0) where

@@ -6,8 +6,8 @@ use Rattle.proto_wire.specs.Flight.{info_descriptor}
 use Rattle.table_types.specs.Uploads.{Upload, upload_text}
 use Rattle.table_types.specs.Valid.{IsUpload}
 use Rattle.table_types.specs.Ticket.{TableVersion}
-use Rattle.run_files.specs.declared.script.Asked.{Asked}
-use Rattle.run_files.specs.declared.script.Asked.TheVariants as asked
+use Rattle.run_files.specs.declared.script.CallRequest.{CallRequest}
+use Rattle.run_files.specs.declared.script.CallRequest.TheVariants as asked
 use Rattle.client_calls.specs.declared.client_fault.ClientFault.{ClientFault}
 use Rattle.client_calls.specs.declared.client_fault.ClientFault.TheVariants as faults
 use Rattle.client_calls.specs.Requests.{put_request, get_request, info_request}
@@ -27,7 +27,7 @@ pub data Question : Type 0 where
   informs : List ℕ → Question
 
 -- the call of a script asks this; an upload is known by its encoding
-abbrev pub IsAsked : Asked → Question → Type 0
+abbrev pub IsAsked : CallRequest → Question → Type 0
 IsAsked (asked.Put text) (puts upload) = IsUpload upload × (upload_text upload ≡ text)
 IsAsked (asked.Get ticket) (gets version) = version ≡ ticket
 IsAsked (asked.Info text) (informs table) = table ≡ text
@@ -83,7 +83,7 @@ as_received (Err unanswered.BadAnswer) = Err faults.BadAnswer
 as_received (Err (unanswered.Call fault)) = Err (faults.Call fault)
 
 -- It was asked for a version, and the service is unavailable (gRPC, "Status codes and their use in gRPC": 14).
-abbrev pub IsAskedAgain : Asked → Told → Type 0
+abbrev pub IsAskedAgain : CallRequest → Told → Type 0
 IsAskedAgain (asked.Get ticket) (told.Status code words) = code ≡ 14
 IsAskedAgain (asked.Get ticket) (told.Put version) = ⊥
 IsAskedAgain (asked.Get ticket) (told.Get frames) = ⊥

@@ -4,7 +4,7 @@ use Rattle.std.specs.Prelude.{◌≡◌, ℕ, List, [], ◌∷◌, length, Some,
 use Rattle.proto_messages.specs.Descriptor.{Values}
 use Rattle.proto_wire.specs.Flight.{info_descriptor, endpoint_descriptor, location_descriptor}
 use Rattle.table_types.specs.Ticket.{TableVersion, IsTableVersion, ticket_text}
-use Rattle.call_words.specs.declared.call_fault.CallFault.TheVariants as calls
+use Rattle.call_protocol.specs.declared.call_fault.CallFault.TheVariants as calls
 use Rattle.client_calls.specs.declared.client_fault.ClientFault.{ClientFault}
 use Rattle.client_calls.specs.declared.client_fault.ClientFault.TheVariants as faults
 use Rattle.script_calls.specs.declared.told.Told.{Told}

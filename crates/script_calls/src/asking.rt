@@ -11,12 +11,12 @@ ghost use Rattle.script_calls.specs.Asking.{Question, puts, gets, informs, IsAsk
 ghost use Rattle.script_calls.specs.Informing.{EndpointSays, InfoSays};
 
 use crate::told::{Told, Unanswered};
-use call_words::CallFault;
+use call_protocol::CallFault;
 use client_calls::laws::answers_are_one;
 use client_calls::{ClientFault, call_get_frames, call_info, call_put};
 use proto_messages::laws::messages_are_one;
 use proto_wire::{FlightEndpoint, FlightInfo};
-use run_files::Asked;
+use run_files::CallRequest;
 use std::alloc::Global;
 use std::io::{Read, Write};
 use table_types::laws::tickets_have_one_encoding;
@@ -104,7 +104,7 @@ fn answer<R: Read, W: Write>(
     alloc: Global,
     r: &mut R,
     w: &mut W,
-    asked: &Asked,
+    asked: &CallRequest,
 ) -> Result<Told, ClientFault>
     ensures sent { (question : Question) → IsAsked asked.now question
         → WhereKnown (W.contents w.old) (W.contents w.new) (Requests result (request_of question)) }
@@ -112,9 +112,9 @@ fn answer<R: Read, W: Write>(
         → WhereKnown (R.remaining r.old) (R.remaining r.new) (Receives (Tells question) (CanTell question) result) }
 {
     match asked {
-        Asked::Put(upload) => ask_put(alloc, r, w, upload),
-        Asked::Get(ticket) => ask_get(alloc, r, w, ticket),
-        Asked::Info(table) => ask_info(alloc, r, w, table.as_str()),
+        CallRequest::Put(upload) => ask_put(alloc, r, w, upload),
+        CallRequest::Get(ticket) => ask_get(alloc, r, w, ticket),
+        CallRequest::Info(table) => ask_info(alloc, r, w, table.as_str()),
     }
 }
 
@@ -132,7 +132,7 @@ pub fn ask<R: Read, W: Write>(
     alloc: Global,
     r: &mut R,
     w: &mut W,
-    asked: &Asked,
+    asked: &CallRequest,
 ) -> Result<Told, Unanswered>
     // What has gone out is the request, or a beginning of it where it could not be written.
     ensures sent { (question : Question) → IsAsked asked.now question

@@ -3,8 +3,8 @@
 ghost use Rattle.std.specs.Prelude.{◌↔◌, IsTrue};
 ghost use Rattle.script_calls.specs.Asking.{IsAskedAgain};
 
-use call_words::CallFault;
-use run_files::Asked;
+use call_protocol::CallFault;
+use run_files::CallRequest;
 use thiserror::Error;
 
 /// What a service told a client.
@@ -36,11 +36,11 @@ const UNAVAILABLE: u8 = 14;
 
 /// Whether a client asks the same again a little later: it asked for a version, which the service does not serve yet, or not at
 /// this moment.
-pub fn asks_again(asked: &Asked, told: &Told) -> bool
+pub fn asks_again(asked: &CallRequest, told: &Told) -> bool
     ensures { IsTrue result ↔ IsAskedAgain asked.now told.now }
 {
     match (asked, told) {
-        (Asked::Get(_), Told::Status(status, _)) => *status == UNAVAILABLE,
+        (CallRequest::Get(_), Told::Status(status, _)) => *status == UNAVAILABLE,
         _ => false,
     }
 }

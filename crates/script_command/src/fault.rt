@@ -1,6 +1,6 @@
 //! What keeps a script from being played.
 
-use call_words::CallFault;
+use call_protocol::CallFault;
 use flight_service::ServiceFault;
 use script_calls::Unanswered;
 use thiserror::Error;

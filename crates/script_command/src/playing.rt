@@ -14,7 +14,7 @@ use crossbeam_channel::Receiver;
 use flight_service::{
     AllReceipts, Beginning, Note, OwnEntry, Works, five_nodes, join_all, open_service, three_nodes,
 };
-use growing_log::Opened;
+use ghost_log::Opened;
 use grpc_frames::transfer::put;
 use run_files::{Call, NodeCount, ScriptFault, read_script, script_flaw};
 use std::alloc::Global;

@@ -1,7 +1,7 @@
 //! What calls make of the bytes that come back.
 
 use crate::support::{only_call, told_by};
-use call_words::CallFault;
+use call_protocol::CallFault;
 use script_calls::{Told, Unanswered, ask, asks_again};
 use std::alloc::Global;
 use std::test::Fail;

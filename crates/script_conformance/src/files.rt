@@ -1,6 +1,6 @@
 //! Files that tell a script, and files that tell none.
 
-use run_files::{Asked, Call, NodeCount, Script, ScriptFault, read_script, script_flaw};
+use run_files::{Call, CallRequest, NodeCount, Script, ScriptFault, read_script, script_flaw};
 use std::alloc::{AllocError, Global};
 use std::test::Fail;
 
@@ -45,17 +45,17 @@ fn has_bad_calls(alloc: Global, nodes: &str, calls: &str) -> Result<bool, Fail> 
 fn words_of(alloc: Global, call: &Call) -> Result<String, AllocError> {
     let node = call.node;
     match &call.asked {
-        Asked::Put(upload) => {
+        CallRequest::Put(upload) => {
             let table = upload.table();
             let length = upload.as_slice().len();
             format!(in alloc; "{node} put {table} {length}")
         }
-        Asked::Get(ticket) => {
+        CallRequest::Get(ticket) => {
             let table = ticket.table();
             let version = ticket.version();
             format!(in alloc; "{node} get {table} {version}")
         }
-        Asked::Info(table) => {
+        CallRequest::Info(table) => {
             let table = table.as_str();
             format!(in alloc; "{node} info {table}")
         }

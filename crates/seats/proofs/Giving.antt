@@ -1,14 +1,14 @@
 -- What the calls with the journal give, from what they entered.
 use Rattle.std.proofs.Common.{◌≡◌, ◌⊎◌, ℕ, Bool, false, None, Some, Ok, Err, List, [], length, sym, ap, subst, ◌∙◌}
-use Rattle.ballots.specs.declared.message.Message.{Message}
+use Rattle.journal.specs.parts.ballots.specs.declared.message.Message.{Message}
 use Rattle.stable_records.specs.declared.fault.StoreFault.{StoreFault}
-use Rattle.agreement_rules.specs.Views.{started_with}
-use Rattle.histories.specs.Following.{Seat, with_due}
-use Rattle.node_events.specs.declared.event.Event.{Event}
-use Rattle.node_events.specs.declared.event.Event.TheVariants as event
-use Rattle.node_events.specs.declared.event_result.EventResult.{EventResult}
-use Rattle.node_events.specs.declared.event_result.EventResult.TheVariants as results
-use Rattle.node_seats.specs.State.{SeatState, IsPlaced, StandsUp}
+use Rattle.journal.specs.parts.agreement_rules.specs.Views.{started_with}
+use Rattle.journal.specs.parts.histories.specs.Following.{Seat, with_due}
+use Rattle.journal.specs.parts.node_events.specs.declared.event.Event.{Event}
+use Rattle.journal.specs.parts.node_events.specs.declared.event.Event.TheVariants as event
+use Rattle.journal.specs.parts.node_events.specs.declared.event_result.EventResult.{EventResult}
+use Rattle.journal.specs.parts.node_events.specs.declared.event_result.EventResult.TheVariants as results
+use Rattle.stored_nodes.specs.State.{SeatState, IsPlaced, StandsUp}
 use Rattle.journal.specs.declared.receipt.Receipt.{Receipt}
 use Rattle.journal.specs.Journaled.{Journaled, HasEntry, EntersOwn}
 use Rattle.seats.specs.declared.input.Prepared.{Prepared}

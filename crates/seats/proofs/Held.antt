@@ -1,6 +1,6 @@
 -- A message that the journal holds was sent.
 use Rattle.std.proofs.Common.{◌≡◌, Bool, true, false, if◌then◌else◌, Option, None, Some, nat_lt, slice_get}
-use Rattle.ballots.specs.declared.message.Message.{Message}
+use Rattle.journal.specs.parts.ballots.specs.declared.message.Message.{Message}
 use Rattle.journal.specs.Journaled.{Journaled}
 use Rattle.seats.specs.declared.input.SeatInput.{SeatInput}
 use Rattle.seats.specs.declared.input.SeatInput.TheVariants.{Put, Tick, Deliver}

@@ -1,9 +1,9 @@
 -- What the node of a seat has, by the seat's own entries.
 use Rattle.std.proofs.Common.{◌≡◌, Some, List}
-use Rattle.ballots.specs.declared.value.Value.{Value}
-use Rattle.table_types.specs.Uploads.{Upload}
-use Rattle.table_versions.specs.Values.{AreUploadsIn}
-use Rattle.table_versions.specs.State.{HasTaken}
+use Rattle.journal.specs.parts.ballots.specs.declared.value.Value.{Value}
+use Rattle.journal.specs.parts.table_types.specs.Uploads.{Upload}
+use Rattle.journal.specs.parts.table_versions.specs.Values.{AreUploadsIn}
+use Rattle.journal.specs.parts.table_versions.specs.State.{HasTaken}
 use Rattle.node_core.specs.State.{NodeState}
 use Rattle.seats.specs.State.{RunningSeat, IsLed, IsLedNode}
 use Rattle.seats.proofs.Leading.{was_up}

@@ -4,21 +4,21 @@ use Rattle.std.proofs.lemmas.Bool.{eq-eqb, ne_eqb}
 use Rattle.std.proofs.lemmas.List.{append-nil, take_all}
 use Rattle.std.proofs.lemmas.Option.{slice_get_within}
 use Rattle.std.proofs.Math.Seq.{drop-append_seam}
-use Rattle.ballots.specs.declared.message.Message.{Message}
-use Rattle.ballots.specs.declared.record.Record.{Record}
-use Rattle.agreement_rules.specs.Views.{Config, Views, started_with}
-use Rattle.agreement_rules.specs.Due.{Plan, Plans}
-use Rattle.histories.specs.Event.{node_of}
-use Rattle.histories.specs.EventResult.{count_of}
-use Rattle.histories.specs.Due.{IsDue, InputKeeps}
-use Rattle.histories.specs.Due as owed
-use Rattle.histories.specs.Following.{Seat, IsUp, IsDown, SeatGives, IsAsked, recovered_in}
-use Rattle.histories.specs.Owning.{Entry, concerns, is_question, entry_of, entries_of, OwnReaches}
-use Rattle.node_events.specs.declared.event.Event.{Event}
-use Rattle.node_events.specs.declared.event.Event.TheVariants as event
-use Rattle.node_events.specs.Told.{event_of, result_of}
-use Rattle.schedule_runner.specs.declared.step.Step.{Step}
-use Rattle.schedule_runner.specs.Told.{config_of, step_of}
+use Rattle.journal.specs.parts.ballots.specs.declared.message.Message.{Message}
+use Rattle.journal.specs.parts.ballots.specs.declared.record.Record.{Record}
+use Rattle.journal.specs.parts.agreement_rules.specs.Views.{Config, Views, started_with}
+use Rattle.journal.specs.parts.agreement_rules.specs.Due.{Plan, Plans}
+use Rattle.journal.specs.parts.histories.specs.Event.{node_of}
+use Rattle.journal.specs.parts.histories.specs.EventResult.{count_of}
+use Rattle.journal.specs.parts.histories.specs.Due.{IsDue, InputKeeps}
+use Rattle.journal.specs.parts.histories.specs.Due as owed
+use Rattle.journal.specs.parts.histories.specs.Following.{Seat, IsUp, IsDown, SeatGives, IsAsked, recovered_in}
+use Rattle.journal.specs.parts.histories.specs.Owning.{Entry, concerns, is_question, entry_of, entries_of, OwnReaches}
+use Rattle.journal.specs.parts.node_events.specs.declared.event.Event.{Event}
+use Rattle.journal.specs.parts.node_events.specs.declared.event.Event.TheVariants as event
+use Rattle.journal.specs.parts.node_events.specs.Told.{event_of, result_of}
+use Rattle.journal.specs.parts.traces.specs.declared.step.Step.{Step}
+use Rattle.journal.specs.parts.traces.specs.Told.{config_of, step_of}
 use Rattle.journal.specs.Journaled.{seats_in, Journaled, IsNext, EntersOwn, own_in}
 use Rattle.seats.specs.declared.input.SeatInput.{SeatInput}
 use Rattle.seats.specs.declared.input.SeatInput.TheVariants.{Put, Tick, Deliver}

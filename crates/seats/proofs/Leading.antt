@@ -1,23 +1,23 @@
 -- What a seat is led to by its own entries, before and behind a step that it enters.
 use Rattle.std.proofs.Common.{◌≡◌, ◌⊎◌, inl, inr, ℕ, ◌<◌, Bool, true, false, Option, None, Some, List, [], ◌∷◌, ◌++◌, length, refl, sym, ap, subst, ◌∙◌}
-use Rattle.ballots.specs.declared.message.Message.{Message}
-use Rattle.ballots.specs.declared.record.Record.{Record}
-use Rattle.agreement_rules.specs.Views.{Config, Views, started_with}
-use Rattle.agreement_rules.specs.Due.{Plan, Plans}
-use Rattle.histories.specs.Event.{node_of}
-use Rattle.histories.specs.Due.{IsDue, InputKeeps}
-use Rattle.histories.specs.Following.{Seat, IsUp, with_due, recovered_in}
-use Rattle.histories.specs.Following as following
-use Rattle.histories.specs.Owning.{Entry, concerns, entry_of, own, OwnReaches}
+use Rattle.journal.specs.parts.ballots.specs.declared.message.Message.{Message}
+use Rattle.journal.specs.parts.ballots.specs.declared.record.Record.{Record}
+use Rattle.journal.specs.parts.agreement_rules.specs.Views.{Config, Views, started_with}
+use Rattle.journal.specs.parts.agreement_rules.specs.Due.{Plan, Plans}
+use Rattle.journal.specs.parts.histories.specs.Event.{node_of}
+use Rattle.journal.specs.parts.histories.specs.Due.{IsDue, InputKeeps}
+use Rattle.journal.specs.parts.histories.specs.Following.{Seat, IsUp, with_due, recovered_in}
+use Rattle.journal.specs.parts.histories.specs.Following as following
+use Rattle.journal.specs.parts.histories.specs.Owning.{Entry, concerns, entry_of, own, OwnReaches}
 use Rattle.node_core.specs.declared.plan.Planned.{Planned}
 use Rattle.node_core.specs.Plans.{sent_by}
-use Rattle.node_events.specs.declared.event.Event.{Event}
-use Rattle.node_events.specs.Told.{event_of}
-use Rattle.node_seats.specs.State.{SeatState, IsPlaced, StandsUp}
-use Rattle.node_seats.specs.Parts.{IsDoneFor, IsBrokenOff}
-use Rattle.schedule_runner.specs.declared.step.Step.{Step}
-use Rattle.schedule_runner.specs.declared.config.Config.{Config as RunConfig}
-use Rattle.schedule_runner.specs.Told.{config_of, step_of, steps_of}
+use Rattle.journal.specs.parts.node_events.specs.declared.event.Event.{Event}
+use Rattle.journal.specs.parts.node_events.specs.Told.{event_of}
+use Rattle.stored_nodes.specs.State.{SeatState, IsPlaced, StandsUp}
+use Rattle.stored_nodes.specs.Parts.{IsDoneFor, IsBrokenOff}
+use Rattle.journal.specs.parts.traces.specs.declared.step.Step.{Step}
+use Rattle.journal.specs.parts.traces.specs.declared.config.Config.{Config as RunConfig}
+use Rattle.journal.specs.parts.traces.specs.Told.{config_of, step_of, steps_of}
 use Rattle.journal.specs.Journaled.{seats_in, Journaled, HasEntry, TellsSame, IsNext, EntersOwn, own_in}
 use Rattle.seats.specs.declared.input.SeatInput.{SeatInput}
 use Rattle.seats.specs.declared.input.SeatInput.TheVariants.{Put}

@@ -1,16 +1,16 @@
 -- A journal with more room tells the same, so that what is entered in it is entered in the one before; and calls that change
 -- nothing.
 use Rattle.std.proofs.Common.{◌≡◌, inl, inr, ℕ, ◌≤◌, Bool, IsTrue, false, Option, Some, IsSome, Err, List, [], ◌∷◌, ◌++◌, length, refl, sym, ap, subst, ◌∙◌}
-use Rattle.ballots.specs.declared.message.Message.{Message}
-use Rattle.node_events.specs.declared.event.Event.{Event}
-use Rattle.node_events.specs.declared.event_result.EventResult.{EventResult}
-use Rattle.node_seats.specs.declared.fault.SeatFault.{SeatFault as NodeFault}
-use Rattle.node_seats.specs.declared.fault.SeatFault.TheVariants as recover
-use Rattle.node_seats.specs.Kept.{CountsRecall}
-use Rattle.schedule_runner.specs.declared.step.Step.{Step}
-use Rattle.schedule_runner.specs.declared.config.Config.{Config}
+use Rattle.journal.specs.parts.ballots.specs.declared.message.Message.{Message}
+use Rattle.journal.specs.parts.node_events.specs.declared.event.Event.{Event}
+use Rattle.journal.specs.parts.node_events.specs.declared.event_result.EventResult.{EventResult}
+use Rattle.stored_nodes.specs.declared.fault.StoredNodeFault.{StoredNodeFault as NodeFault}
+use Rattle.stored_nodes.specs.declared.fault.StoredNodeFault.TheVariants as recover
+use Rattle.stored_nodes.specs.Kept.{CountsRecall}
+use Rattle.journal.specs.parts.traces.specs.declared.step.Step.{Step}
+use Rattle.journal.specs.parts.traces.specs.declared.config.Config.{Config}
 use Rattle.journal.specs.declared.receipt.Receipt.{Receipt}
-use Rattle.histories.specs.Owning.{Entry}
+use Rattle.journal.specs.parts.histories.specs.Owning.{Entry}
 use Rattle.journal.specs.Recalled.{held_at}
 use Rattle.journal.specs.Journaled.{Journaled, HasEntry, TellsSame}
 use Rattle.seats.specs.declared.fault.SeatFault.{SeatFault}

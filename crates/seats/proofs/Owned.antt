@@ -3,16 +3,16 @@ use Rattle.std.proofs.Common.{◌≡◌, ◌⊎◌, inl, inr, ℕ, ◌<◌, ◌�
 use Rattle.std.specs.Option.{IfSome}
 use Rattle.std.proofs.lemmas.List.Elements.{filter-append}
 use mathlib.Core.List.{IsPrefix}
-use Rattle.ballots.specs.declared.message.Message.{Message}
-use Rattle.histories.specs.Event.{node_of}
-use Rattle.histories.specs.Following.{Seat}
-use Rattle.histories.specs.Owning.{Entry, is_question, entry_of}
-use Rattle.node_events.specs.declared.event.Event.{Event}
-use Rattle.node_events.specs.declared.event_result.EventResult.{EventResult}
-use Rattle.node_events.specs.Told.{event_of}
-use Rattle.node_seats.specs.State.{SeatState}
-use Rattle.schedule_runner.specs.declared.step.Step.{Step}
-use Rattle.schedule_runner.specs.Told.{step_of}
+use Rattle.journal.specs.parts.ballots.specs.declared.message.Message.{Message}
+use Rattle.journal.specs.parts.histories.specs.Event.{node_of}
+use Rattle.journal.specs.parts.histories.specs.Following.{Seat}
+use Rattle.journal.specs.parts.histories.specs.Owning.{Entry, is_question, entry_of}
+use Rattle.journal.specs.parts.node_events.specs.declared.event.Event.{Event}
+use Rattle.journal.specs.parts.node_events.specs.declared.event_result.EventResult.{EventResult}
+use Rattle.journal.specs.parts.node_events.specs.Told.{event_of}
+use Rattle.stored_nodes.specs.State.{SeatState}
+use Rattle.journal.specs.parts.traces.specs.declared.step.Step.{Step}
+use Rattle.journal.specs.parts.traces.specs.Told.{step_of}
 use Rattle.journal.specs.Journaled.{Journaled, own_in}
 use Rattle.journal.specs.Logged.{own_of, own_entry, HasLogged}
 use Rattle.seats.specs.declared.input.SeatInput.{SeatInput}

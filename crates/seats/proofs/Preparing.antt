@@ -1,14 +1,14 @@
 -- What is due to an input, as what its seat prepares.
 use Rattle.std.proofs.Common.{◌≡◌, sym, subst, Option, None, Some, IsSome, Ok, Err}
-use Rattle.agreement.specs.declared.refusal.Refusal.{Refusal}
-use Rattle.agreement.specs.declared.refusal.Refusal.TheVariants as refusal
-use Rattle.histories.specs.Due.{Input}
-use Rattle.histories.specs.Following.{IsUp}
+use Rattle.journal.specs.parts.agreement.specs.declared.refusal.Refusal.{Refusal}
+use Rattle.journal.specs.parts.agreement.specs.declared.refusal.Refusal.TheVariants as refusal
+use Rattle.journal.specs.parts.histories.specs.Due.{Input}
+use Rattle.journal.specs.parts.histories.specs.Following.{IsUp}
 use Rattle.node_core.specs.declared.plan.Planned.{Planned}
-use Rattle.node_events.specs.declared.event_result.Reason.{Reason}
-use Rattle.node_events.specs.declared.event_result.Reason.TheVariants as reason
-use Rattle.node_seats.specs.State.{SeatState}
-use Rattle.node_seats.specs.Parts.{PlanAnswers, RefusesAs, StandsStill, IsPlannedFor}
+use Rattle.journal.specs.parts.node_events.specs.declared.event_result.Reason.{Reason}
+use Rattle.journal.specs.parts.node_events.specs.declared.event_result.Reason.TheVariants as reason
+use Rattle.stored_nodes.specs.State.{SeatState}
+use Rattle.stored_nodes.specs.Parts.{PlanAnswers, RefusesAs, StandsStill, IsPlannedFor}
 use Rattle.seats.specs.declared.fault.SeatFault.{SeatFault}
 use Rattle.seats.specs.declared.fault.SeatFault.TheVariants as fault
 use Rattle.seats.specs.declared.input.SeatInput.{SeatInput}

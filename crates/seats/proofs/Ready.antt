@@ -1,25 +1,25 @@
 -- What a seat does that is ready, with its number and the count of its messages as the program has them.
 use Rattle.std.proofs.Common.{◌≡◌, ◌⊎◌, inl, inr, ℕ, Bool, false, Option, None, Some, List, [], ◌∷◌, ◌++◌, length, refl, sym, ap, subst, ◌∙◌}
-use Rattle.ballots.specs.declared.message.Message.{Message}
-use Rattle.ballots.specs.declared.record.Record.{Record}
-use Rattle.agreement_rules.specs.Views.{Config, Views}
-use Rattle.table_types.specs.Uploads.{Upload}
-use Rattle.histories.specs.Texts.{HasUploads}
-use Rattle.histories.specs.Due.{Input}
-use Rattle.histories.specs.EventResult.{EventResult as HistoryResult, count_of}
-use Rattle.histories.specs.Following.{Seat, IsUp, GetGives}
-use Rattle.histories.specs.Following as following
-use Rattle.histories.specs.Owning.{Entry}
+use Rattle.journal.specs.parts.ballots.specs.declared.message.Message.{Message}
+use Rattle.journal.specs.parts.ballots.specs.declared.record.Record.{Record}
+use Rattle.journal.specs.parts.agreement_rules.specs.Views.{Config, Views}
+use Rattle.journal.specs.parts.table_types.specs.Uploads.{Upload}
+use Rattle.journal.specs.parts.histories.specs.Texts.{HasUploads}
+use Rattle.journal.specs.parts.histories.specs.Due.{Input}
+use Rattle.journal.specs.parts.histories.specs.EventResult.{EventResult as HistoryResult, count_of}
+use Rattle.journal.specs.parts.histories.specs.Following.{Seat, IsUp, GetGives}
+use Rattle.journal.specs.parts.histories.specs.Following as following
+use Rattle.journal.specs.parts.histories.specs.Owning.{Entry}
 use Rattle.node_core.specs.State.{NodeState}
 use Rattle.node_core.specs.declared.plan.Planned.{Planned}
 use Rattle.node_core.specs.Plans.{CanCommit, sent_by}
-use Rattle.node_events.specs.declared.event.Event.{Event}
-use Rattle.node_events.specs.declared.event.Event.TheVariants as event
-use Rattle.node_events.specs.declared.event_result.EventResult.{EventResult}
-use Rattle.node_events.specs.declared.event_result.EventResult.TheVariants as results
-use Rattle.node_events.specs.Told.{result_of}
-use Rattle.node_seats.specs.State.{SeatState, IsPlaced, StandsUp}
-use Rattle.node_seats.specs.Parts.{IsPlannedFor, IsDoneFor, IsBrokenOff, IsUnchanged as NodeUnchanged, StandsStill}
+use Rattle.journal.specs.parts.node_events.specs.declared.event.Event.{Event}
+use Rattle.journal.specs.parts.node_events.specs.declared.event.Event.TheVariants as event
+use Rattle.journal.specs.parts.node_events.specs.declared.event_result.EventResult.{EventResult}
+use Rattle.journal.specs.parts.node_events.specs.declared.event_result.EventResult.TheVariants as results
+use Rattle.journal.specs.parts.node_events.specs.Told.{result_of}
+use Rattle.stored_nodes.specs.State.{SeatState, IsPlaced, StandsUp}
+use Rattle.stored_nodes.specs.Parts.{IsPlannedFor, IsDoneFor, IsBrokenOff, IsUnchanged as NodeUnchanged, StandsStill}
 use Rattle.journal.specs.declared.receipt.Receipt.{Receipt}
 use Rattle.journal.specs.Journaled.{Journaled, HasEntry, MayEnter, EntersOwn}
 use Rattle.seats.specs.declared.input.SeatInput.{SeatInput}

@@ -1,18 +1,18 @@
 -- What a journal shows of a node that agrees with it.
 use Rattle.std.proofs.Common.{◌≡◌, ◌↔◌, ℕ, ◌<◌, Bool, if◌then◌else◌, Option, None, Some, List, refl, sym, ap, subst, ◌∙◌}
 use Rattle.std.proofs.lemmas.Bool.{eq-eqb}
-use Rattle.ballots.specs.declared.message.Message.{Message}
-use Rattle.ballots.specs.declared.value.Value.{Value}
-use Rattle.ballots.specs.declared.record.Record.{Record}
-use Rattle.agreement_rules.specs.Views.{Config, Views, HasPrefix}
-use Rattle.histories.specs.History.{Step, History}
-use Rattle.histories.specs.Following.{Seat, IsUp, ReachesFrom, with_seat}
-use Rattle.histories.specs.Following as following
-use Rattle.histories.specs.Owning.{own, OwnReaches}
-use Rattle.safe_histories.specs.Learning.{Runs, HasLearnedPrefix}
-use Rattle.joined_histories.specs.Joined.{joined, Precedes}
-use Rattle.schedule_runner.specs.Told.{config_of, steps_of}
-use Rattle.schedule_runner.specs.Traced.{history_of}
+use Rattle.journal.specs.parts.ballots.specs.declared.message.Message.{Message}
+use Rattle.journal.specs.parts.ballots.specs.declared.value.Value.{Value}
+use Rattle.journal.specs.parts.ballots.specs.declared.record.Record.{Record}
+use Rattle.journal.specs.parts.agreement_rules.specs.Views.{Config, Views, HasPrefix}
+use Rattle.journal.specs.parts.histories.specs.History.{Step, History}
+use Rattle.journal.specs.parts.histories.specs.Following.{Seat, IsUp, ReachesFrom, with_seat}
+use Rattle.journal.specs.parts.histories.specs.Following as following
+use Rattle.journal.specs.parts.histories.specs.Owning.{own, OwnReaches}
+use Rattle.journal.specs.parts.safe_histories.specs.Learning.{Runs, HasLearnedPrefix}
+use Rattle.journal.specs.parts.joined_histories.specs.Joined.{joined, Precedes}
+use Rattle.journal.specs.parts.traces.specs.Told.{config_of, steps_of}
+use Rattle.journal.specs.parts.traces.specs.Traced.{history_of}
 use Rattle.journal.specs.Journaled.{seats_in, Journaled, HasFollowed}
 use Rattle.seats.specs.State.{RunningSeat, IsLedTo, IsLed, Agrees}
 use Rattle.seats.specs.Steps.{IsDown}

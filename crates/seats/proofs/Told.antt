@@ -1,20 +1,20 @@
 -- What a node answers and refuses, as what its seat does.
 use Rattle.std.proofs.Common.{◌≡◌, inl, inr, ℕ, Option, None, Some, List, refl, sym, ap, subst, ◌∙◌}
 use Rattle.std.specs.Option.{option_map}
-use Rattle.agreement.specs.declared.refusal.Refusal.{Refusal}
-use Rattle.agreement.specs.declared.refusal.Refusal.TheVariants as refusal
-use Rattle.agreement_rules.specs.Views.{Config, Views}
-use Rattle.agreement_rules.specs.Due as due
-use Rattle.table_types.specs.Uploads.{Upload}
-use Rattle.table_types.specs.Tables.{Version, version_of}
-use Rattle.table_types.specs.Answers.{answer_of}
-use Rattle.histories.specs.Texts.{HasUploads}
-use Rattle.histories.specs.Due as owed
-use Rattle.histories.specs.EventResult as results
-use Rattle.histories.specs.Following.{GetGives}
+use Rattle.journal.specs.parts.agreement.specs.declared.refusal.Refusal.{Refusal}
+use Rattle.journal.specs.parts.agreement.specs.declared.refusal.Refusal.TheVariants as refusal
+use Rattle.journal.specs.parts.agreement_rules.specs.Views.{Config, Views}
+use Rattle.journal.specs.parts.agreement_rules.specs.Due as due
+use Rattle.journal.specs.parts.table_types.specs.Uploads.{Upload}
+use Rattle.journal.specs.parts.table_types.specs.Tables.{Version, version_of}
+use Rattle.journal.specs.parts.table_types.specs.Answers.{answer_of}
+use Rattle.journal.specs.parts.histories.specs.Texts.{HasUploads}
+use Rattle.journal.specs.parts.histories.specs.Due as owed
+use Rattle.journal.specs.parts.histories.specs.EventResult as results
+use Rattle.journal.specs.parts.histories.specs.Following.{GetGives}
 use Rattle.node_core.specs.State.{NodeState, NodeHas}
 use Rattle.node_core.specs.Plans.{IsRefused, JudgesPut}
-use Rattle.node_seats.specs.State.{StandsUp}
+use Rattle.stored_nodes.specs.State.{StandsUp}
 use Rattle.seats.specs.State.{RunningSeat}
 use Rattle.seats.specs.Steps.{IsDown, OfItsTables}
 

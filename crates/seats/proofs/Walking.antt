@@ -2,11 +2,11 @@
 use Rattle.std.proofs.Common.{◌≡◌, ◌↔◌, ℕ, suc, ◌<◌, ◌≤◌, arith, length, drop, get_or, not, Bool, true, false, IsTrue, if◌then◌else◌, None, Some, List, [], ◌∷◌, ◌++◌, refl, sym, ap, subst, ◌∙◌}
 use Rattle.std.proofs.lemmas.List.{append_cancel_left}
 use Rattle.std.proofs.Math.Seq.{drop-cons}
-use Rattle.ballots.specs.declared.message.Message.{Message}
-use Rattle.histories.specs.History.{Step}
-use Rattle.histories.specs.Owning.{Entry, concerns, entry_of, entries_of, own}
-use Rattle.schedule_runner.specs.declared.step.Step.{Step as TraceStep}
-use Rattle.schedule_runner.specs.Told.{step_of, steps_of}
+use Rattle.journal.specs.parts.ballots.specs.declared.message.Message.{Message}
+use Rattle.journal.specs.parts.histories.specs.History.{Step}
+use Rattle.journal.specs.parts.histories.specs.Owning.{Entry, concerns, entry_of, entries_of, own}
+use Rattle.journal.specs.parts.traces.specs.declared.step.Step.{Step as TraceStep}
+use Rattle.journal.specs.parts.traces.specs.Told.{step_of, steps_of}
 use Rattle.seats.specs.Walking.{LeavesOwn}
 
 -- the entries of a list of steps are those of the first, and of the others

@@ -1,10 +1,10 @@
 -- A node's own entry without what follows from the rest of it.
 use Rattle.std.specs.Prelude.{◌≡◌, ℕ, Bool, false, Option, None, Some, List, [], length}
-use Rattle.ballots.specs.declared.message.Message.{Message}
-use Rattle.histories.specs.Event as told
-use Rattle.histories.specs.EventResult.{EventResult, Sent, Done}
-use Rattle.histories.specs.Owning.{Entry}
-use Rattle.node_events.specs.declared.event.Event.TheVariants as event
+use Rattle.journal.specs.parts.ballots.specs.declared.message.Message.{Message}
+use Rattle.journal.specs.parts.histories.specs.Event as told
+use Rattle.journal.specs.parts.histories.specs.EventResult.{EventResult, Sent, Done}
+use Rattle.journal.specs.parts.histories.specs.Owning.{Entry}
+use Rattle.journal.specs.parts.node_events.specs.declared.event.Event.TheVariants as event
 use Rattle.seats.specs.declared.compact_entry.CompactStep.{CompactStep}
 use Rattle.seats.specs.declared.compact_entry.CompactStep.TheVariants.{Put, Tick, Deliver, TickCut, DeliverCut, Restart}
 use Rattle.seats.specs.declared.input.SeatInput.TheVariants as input

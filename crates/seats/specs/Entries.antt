@@ -1,12 +1,12 @@
 -- What is entered of an input: the step of the journal, and the node's own entry of it.
 use Rattle.std.specs.Prelude.{◌≡◌, ℕ, Bool, false, None, List, [], length}
-use Rattle.ballots.specs.declared.message.Message.{Message}
-use Rattle.histories.specs.Owning.{Entry}
-use Rattle.node_events.specs.declared.event.Event.{Event}
-use Rattle.node_events.specs.declared.event.Event.TheVariants as restart
-use Rattle.node_events.specs.declared.event_result.EventResult.TheVariants as results
-use Rattle.schedule_runner.specs.declared.step.Step.{Step}
-use Rattle.schedule_runner.specs.Told.{step_of}
+use Rattle.journal.specs.parts.ballots.specs.declared.message.Message.{Message}
+use Rattle.journal.specs.parts.histories.specs.Owning.{Entry}
+use Rattle.journal.specs.parts.node_events.specs.declared.event.Event.{Event}
+use Rattle.journal.specs.parts.node_events.specs.declared.event.Event.TheVariants as restart
+use Rattle.journal.specs.parts.node_events.specs.declared.event_result.EventResult.TheVariants as results
+use Rattle.journal.specs.parts.traces.specs.declared.step.Step.{Step}
+use Rattle.journal.specs.parts.traces.specs.Told.{step_of}
 use Rattle.seats.specs.declared.entering.Copies.{Copies}
 use Rattle.seats.specs.declared.input.SeatInput.{SeatInput}
 use Rattle.seats.specs.Inputs.{event_at, given_for, handed_by}

@@ -1,12 +1,12 @@
 -- What comes to a running node, as an input of the rules and as an event of a history. Inputs are this service's own.
 use Rattle.std.specs.Prelude.{◌≡◌, ℕ, Option, None, Some, List, slice_get}
-use Rattle.ballots.specs.declared.message.Message.{Message}
-use Rattle.histories.specs.Due.{Input}
-use Rattle.histories.specs.Due as owed
-use Rattle.node_events.specs.declared.event.Event.{Event}
-use Rattle.node_events.specs.declared.event.Event.TheVariants as event
-use Rattle.node_events.specs.declared.event_result.EventResult.{EventResult}
-use Rattle.node_events.specs.declared.event_result.EventResult.TheVariants as results
+use Rattle.journal.specs.parts.ballots.specs.declared.message.Message.{Message}
+use Rattle.journal.specs.parts.histories.specs.Due.{Input}
+use Rattle.journal.specs.parts.histories.specs.Due as owed
+use Rattle.journal.specs.parts.node_events.specs.declared.event.Event.{Event}
+use Rattle.journal.specs.parts.node_events.specs.declared.event.Event.TheVariants as event
+use Rattle.journal.specs.parts.node_events.specs.declared.event_result.EventResult.{EventResult}
+use Rattle.journal.specs.parts.node_events.specs.declared.event_result.EventResult.TheVariants as results
 use Rattle.journal.specs.Recalled.{held_at}
 use Rattle.journal.specs.Journaled.{Journaled}
 use Rattle.seats.specs.declared.input.SeatInput.{SeatInput}

@@ -1,3 +1,5 @@
+pub use Rattle.journal as journal
+pub use Rattle.journal.specs.parts as parts
 pub mod OwnLists
 pub mod OwnListsSeen
 pub mod Inputs

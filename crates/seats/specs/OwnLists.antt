@@ -1,7 +1,7 @@
 -- What contracts see of the list of what a node did itself, which is held, or counted alone. That it may be counted is this
 -- service's own.
 use Rattle.std.specs.Prelude.{◌≡◌, ℕ, Bool, List, map}
-use Rattle.histories.specs.Owning.{Entry}
+use Rattle.journal.specs.parts.histories.specs.Owning.{Entry}
 
 pub record OwnList : Type 0 where
   pub entries : List Entry

@@ -1,16 +1,16 @@
 -- A node that runs beside others: its store, what it did itself, and how that agrees with the journal of all (Lamport, "Paxos
 -- Made Simple", section 2.5, for what a node keeps). That nodes share a journal is this service's own.
 use Rattle.std.specs.Prelude.{◌≡◌, ◌⊎◌, ℕ, Bool, IsTrue, IsSome, Option, None, List}
-use Rattle.ballots.specs.declared.record.Record.{Record}
-use Rattle.agreement_rules.specs.Views.{Views}
-use Rattle.table_types.specs.Uploads.{Upload}
-use Rattle.histories.specs.Texts.{HasUploads}
-use Rattle.histories.specs.Following.{Seat, IsUp, IsDown}
-use Rattle.histories.specs.Owning.{Entry, OwnReaches}
+use Rattle.journal.specs.parts.ballots.specs.declared.record.Record.{Record}
+use Rattle.journal.specs.parts.agreement_rules.specs.Views.{Views}
+use Rattle.journal.specs.parts.table_types.specs.Uploads.{Upload}
+use Rattle.journal.specs.parts.histories.specs.Texts.{HasUploads}
+use Rattle.journal.specs.parts.histories.specs.Following.{Seat, IsUp, IsDown}
+use Rattle.journal.specs.parts.histories.specs.Owning.{Entry, OwnReaches}
 use Rattle.node_core.specs.State.{NodeState, NodeHas}
-use Rattle.node_seats.specs.State.{SeatState, IsPlaced, StandsUp}
-use Rattle.schedule_runner.specs.declared.config.Config.{Config}
-use Rattle.schedule_runner.specs.Told.{config_of}
+use Rattle.stored_nodes.specs.State.{SeatState, IsPlaced, StandsUp}
+use Rattle.journal.specs.parts.traces.specs.declared.config.Config.{Config}
+use Rattle.journal.specs.parts.traces.specs.Told.{config_of}
 use Rattle.journal.specs.Journaled.{seats_in, Journaled, own_in}
 
 pub record RunningSeat (S : Type 0) : Type 0 where

@@ -1,32 +1,32 @@
 -- What the calls of a running node give and leave, by cases of what they answer (Lamport, "Paxos Made Simple", section 2.5, for
 -- what a node keeps before it answers). Seats, journals and receipts are this service's own.
 use Rattle.std.specs.Prelude.{◌≡◌, ◌≢◌, ◌⊎◌, ℕ, ◌<◌, Bool, false, IsTrue, None, Some, IsSome, Result, Ok, Err, List, [], length}
-use Rattle.ballots.specs.declared.record.Record.{Record}
+use Rattle.journal.specs.parts.ballots.specs.declared.record.Record.{Record}
 use Rattle.stable_records.specs.Calls.{RaisesCount}
-use Rattle.agreement.specs.declared.refusal.Refusal.{Refusal}
-use Rattle.agreement.specs.declared.refusal.Refusal.TheVariants as refusal
-use Rattle.agreement_rules.specs.Views.{Views, started_with}
-use Rattle.agreement_rules.specs.Due.{Plan, Plans}
-use Rattle.table_types.specs.Uploads.{Upload}
-use Rattle.table_types.specs.Tables.{version_of}
-use Rattle.histories.specs.Texts.{HasUploads}
-use Rattle.histories.specs.Due.{IsDue, InputKeeps}
-use Rattle.histories.specs.Following.{Seat, IsUp, with_due, GetGives, OutcomeGives}
-use Rattle.histories.specs.Owning.{Entry}
+use Rattle.journal.specs.parts.agreement.specs.declared.refusal.Refusal.{Refusal}
+use Rattle.journal.specs.parts.agreement.specs.declared.refusal.Refusal.TheVariants as refusal
+use Rattle.journal.specs.parts.agreement_rules.specs.Views.{Views, started_with}
+use Rattle.journal.specs.parts.agreement_rules.specs.Due.{Plan, Plans}
+use Rattle.journal.specs.parts.table_types.specs.Uploads.{Upload}
+use Rattle.journal.specs.parts.table_types.specs.Tables.{version_of}
+use Rattle.journal.specs.parts.histories.specs.Texts.{HasUploads}
+use Rattle.journal.specs.parts.histories.specs.Due.{IsDue, InputKeeps}
+use Rattle.journal.specs.parts.histories.specs.Following.{Seat, IsUp, with_due, GetGives, OutcomeGives}
+use Rattle.journal.specs.parts.histories.specs.Owning.{Entry}
 use Rattle.node_core.specs.State.{NodeState, NodeHas}
 use Rattle.node_core.specs.Plans.{IsRefused}
-use Rattle.node_events.specs.declared.event.Event.{Event}
-use Rattle.node_events.specs.declared.event.Event.TheVariants as event
-use Rattle.node_events.specs.declared.event_result.EventResult.{EventResult}
-use Rattle.node_events.specs.declared.event_result.EventResult.TheVariants as results
-use Rattle.node_events.specs.declared.event_result.Reason.{Reason}
-use Rattle.node_events.specs.declared.event_result.Reason.TheVariants as reason
-use Rattle.node_events.specs.Told.{result_of}
-use Rattle.node_seats.specs.declared.fault.SeatFault.{SeatFault as NodeFault}
-use Rattle.node_seats.specs.declared.fault.SeatFault.TheVariants as recover
-use Rattle.node_seats.specs.State.{Stands, StandsUp}
-use Rattle.node_seats.specs.Parts.{IsPlannedFor}
-use Rattle.schedule_runner.specs.declared.config.Config.{Config}
+use Rattle.journal.specs.parts.node_events.specs.declared.event.Event.{Event}
+use Rattle.journal.specs.parts.node_events.specs.declared.event.Event.TheVariants as event
+use Rattle.journal.specs.parts.node_events.specs.declared.event_result.EventResult.{EventResult}
+use Rattle.journal.specs.parts.node_events.specs.declared.event_result.EventResult.TheVariants as results
+use Rattle.journal.specs.parts.node_events.specs.declared.event_result.Reason.{Reason}
+use Rattle.journal.specs.parts.node_events.specs.declared.event_result.Reason.TheVariants as reason
+use Rattle.journal.specs.parts.node_events.specs.Told.{result_of}
+use Rattle.stored_nodes.specs.declared.fault.StoredNodeFault.{StoredNodeFault as NodeFault}
+use Rattle.stored_nodes.specs.declared.fault.StoredNodeFault.TheVariants as recover
+use Rattle.stored_nodes.specs.State.{Stands, StandsUp}
+use Rattle.stored_nodes.specs.Parts.{IsPlannedFor}
+use Rattle.journal.specs.parts.traces.specs.declared.config.Config.{Config}
 use Rattle.journal.specs.declared.receipt.Receipt.{Receipt}
 use Rattle.journal.specs.Journaled.{Journaled, IsFull, HasEntry, TellsSame}
 use Rattle.seats.specs.declared.fault.SeatFault.{SeatFault}

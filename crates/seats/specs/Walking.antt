@@ -1,8 +1,8 @@
 -- One step of a journal beside a node's own entries.
 use Rattle.std.specs.Prelude.{◌≡◌, ℕ, Bool, Option, None, Some, List, ◌++◌}
-use Rattle.ballots.specs.declared.message.Message.{Message}
-use Rattle.histories.specs.History.{Step}
-use Rattle.histories.specs.Owning.{Entry, entries_of}
+use Rattle.journal.specs.parts.ballots.specs.declared.message.Message.{Message}
+use Rattle.journal.specs.parts.histories.specs.History.{Step}
+use Rattle.journal.specs.parts.histories.specs.Owning.{Entry, entries_of}
 
 -- the entries that the step has of the node stand first, and these are left behind them; or they do not stand first
 abbrev pub LeavesOwn : ℕ → List Message → Step → Bool → List Entry → Option (List Entry) → Type 0

@@ -2,16 +2,16 @@
 
 ghost use Rattle.std.specs.Prelude.{◌≡◌, ◌↔◌, IsTrue, take, drop};
 ghost use Rattle.std.specs.Option.{option_map};
-ghost use Rattle.histories.specs.Owning.{concerns, number_in, is_turned_away, handed_in, sends_in, entry_of, own as own_entries};
-ghost use Rattle.node_events.specs.Told.{event_of, result_of};
-ghost use Rattle.schedule_runner.specs.Told.{step_of, steps_of};
+ghost use Rattle.journal.specs.parts.histories.specs.Owning.{concerns, number_in, is_turned_away, handed_in, sends_in, entry_of, own as own_entries};
+ghost use Rattle.journal.specs.parts.node_events.specs.Told.{event_of, result_of};
+ghost use Rattle.journal.specs.parts.traces.specs.Told.{step_of, steps_of};
 ghost use Rattle.seats.specs.Walking.{LeavesOwn};
 
 use crate::compact_entry::CompactEntry;
 use crate::messages::{same_handed, same_messages};
 use ballots::{Message, NodeId};
+use journal::Step;
 use node_events::{Event, EventResult, Reason};
-use schedule_runner::Step;
 
 // Whether the event is one of this node that may change it.
 fn is_of(me: NodeId, event: &Event) -> bool

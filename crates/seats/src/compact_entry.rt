@@ -2,14 +2,13 @@
 
 ghost use Rattle.std.specs.Prelude.{◌≡◌, ◌↔◌, ℕ, IsTrue};
 ghost use Rattle.std.specs.Option.{option_map};
-ghost use Rattle.histories.specs.EventResult.{Sent, Done};
-ghost use Rattle.node_events.specs.Told.{event_of, result_of};
+ghost use Rattle.journal.specs.parts.histories.specs.EventResult.{Sent, Done};
+ghost use Rattle.journal.specs.parts.node_events.specs.Told.{event_of, result_of};
 ghost use Rattle.seats.specs.Compact.{IsDone};
 
 use ballots::{Message, NodeId};
-use journal::OwnEntry;
+use journal::{OwnEntry, Step};
 use node_events::{Event, EventResult};
-use schedule_runner::Step;
 use std::marker::Model;
 use uploads::Upload;
 
@@ -57,7 +56,7 @@ pub(crate) struct CompactEntry {
 }
 
 impl Model for CompactEntry {
-    ghost use Rattle.histories.specs.Owning.{Entry};
+    ghost use Rattle.journal.specs.parts.histories.specs.Owning.{Entry};
     ghost use Rattle.seats.specs.Compact.{entry_in};
 
     ghost Value = { Entry };

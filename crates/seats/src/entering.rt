@@ -2,7 +2,7 @@
 
 ghost use Rattle.std.specs.Prelude.{◌≡◌, ℕ, ◌+◌, ◌≤◌, ◌<◌, ◌∷◌, ◌++◌, [], false, Some, IfOk, IsSome, length, vec_len};
 ghost use Rattle.std.specs.Option.{IfSome};
-ghost use Rattle.node_events.specs.declared.event.Event.{Event as EventSpec};
+ghost use Rattle.journal.specs.parts.node_events.specs.declared.event.Event.{Event as EventSpec};
 ghost use Rattle.journal.specs.Journaled.{HasRoom, MayEnter, HasEntry, EntersOwn};
 ghost use Rattle.journal.specs.Logged.{KeepsLog, own_entry};
 ghost use Rattle.seats.specs.Inputs.{event_at, given_for, handed_by, IsCutAt};
@@ -12,9 +12,8 @@ ghost use Rattle.seats.specs.Steps.{TellsEntry};
 use crate::input::SeatInput;
 use crate::own_entries::OwnEntries;
 use ballots::{Message, NodeId};
-use journal::{Beginning, Journal, OwnEntry, Receipt, Retention};
+use journal::{Beginning, Journal, OwnEntry, Receipt, Retention, Step};
 use node_events::{Event, EventResult};
-use schedule_runner::Step;
 use std::alloc::{AllocError, Global};
 
 /// Copies of an input's event, one for each place where it stands, and of the messages that go out.

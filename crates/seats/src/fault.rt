@@ -1,6 +1,6 @@
 //! Why a running node did nothing.
 
-use node_core::Refusal;
+use agreement::Refusal;
 use stable_records::StoreFault;
 use thiserror::Error;
 

@@ -1,14 +1,15 @@
 //! What a node is handed: a copy of an input that it does not refuse.
 
 ghost use Rattle.std.specs.Prelude.{◌≡◌, IfOk, IfErr};
-ghost use Rattle.agreement_rules.specs.Views.{Views};
+ghost use Rattle.journal.specs.parts.agreement_rules.specs.Views.{Views};
 ghost use Rattle.node_core.specs.Inputs.{input_of as node_input};
 ghost use Rattle.node_core.specs.State.{NodeHas};
 ghost use Rattle.node_core.specs.Plans.{IsRefused};
 ghost use Rattle.seats.specs.Inputs.{input_of};
 
 use crate::input::SeatInput;
-use node_core::{Input, Node, Refusal};
+use agreement::Refusal;
+use node_core::{Input, Node};
 
 /// A copy of the input for the node, or why the node refuses it. What is refused is not copied.
 pub(crate) fn handed_over(node: &Node, input: &SeatInput) -> Result<Input, Refusal>

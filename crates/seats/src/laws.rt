@@ -1,11 +1,11 @@
 //! Laws of running nodes.
 
 ghost use Rattle.std.specs.Prelude.{◌≡◌, List, ◌++◌};
-ghost use Rattle.ballots.specs.declared.record.Record.{Record as Held};
-ghost use Rattle.agreement_rules.specs.Views.{Views};
-ghost use Rattle.histories.specs.Following.{Seat as HistorySeat, IsUp, at_first};
-ghost use Rattle.histories.specs.Keeping.{AreKept};
-ghost use Rattle.schedule_runner.specs.Told.{config_of};
+ghost use Rattle.journal.specs.parts.ballots.specs.declared.record.Record.{Record as Held};
+ghost use Rattle.journal.specs.parts.agreement_rules.specs.Views.{Views};
+ghost use Rattle.journal.specs.parts.histories.specs.Following.{Seat as HistorySeat, IsUp, at_first};
+ghost use Rattle.journal.specs.parts.histories.specs.Keeping.{AreKept};
+ghost use Rattle.journal.specs.parts.traces.specs.Told.{config_of};
 ghost use Rattle.seats.specs.State.{RunningSeat, IsLedTo};
 
 use agreement_rules::laws::plans_keep_what_they_send;

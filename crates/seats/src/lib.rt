@@ -34,6 +34,9 @@ mod taking;
 
 pub use fault::SeatFault;
 pub use input::{Prepared, SeatInput};
-pub use journal::{Beginning, Journal, OwnEntry, Receipt, Recent, Retention, Whole};
+pub use journal::{
+    Beginning, Config, Journal, MAX_JOURNAL_ENTRIES, MAX_SLOTS, OwnEntry, Receipt, Recent,
+    Retention, Whole, audit,
+};
 pub use query::{Found, Query};
 pub use seat::Seat;

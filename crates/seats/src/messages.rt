@@ -2,7 +2,7 @@
 
 ghost use Rattle.std.specs.Prelude.{◌≡◌, ◌↔◌, Option, true, IsTrue};
 ghost use Rattle.std.specs.Option.{option_map};
-ghost use Rattle.ballots.specs.declared.acceptance.Acceptance.{Acceptance as Voted};
+ghost use Rattle.journal.specs.parts.ballots.specs.declared.acceptance.Acceptance.{Acceptance as Voted};
 
 use ballots::{Acceptance, Body, Message};
 

@@ -6,8 +6,9 @@ ghost use Rattle.seats.specs.Steps.{NodeReads, ReadGives};
 use crate::fault::SeatFault;
 use crate::query::{Found, Query};
 use crate::seat::Seat;
+use agreement::Refusal;
 use journal::{Beginning, Retention};
-use node_core::{Node, Refusal};
+use node_core::Node;
 use node_events::EventResult;
 use stable_records::Stable;
 

@@ -1,8 +1,8 @@
 //! A restart.
 
 ghost use Rattle.std.specs.Prelude.{◌≡◌, ◌<◌, ◌∷◌, ◌++◌, [], length};
-ghost use Rattle.node_events.specs.declared.event.Event.TheVariants.{Restart};
-ghost use Rattle.node_events.specs.declared.event_result.EventResult.TheVariants.{Done};
+ghost use Rattle.journal.specs.parts.node_events.specs.declared.event.Event.TheVariants.{Restart};
+ghost use Rattle.journal.specs.parts.node_events.specs.declared.event_result.EventResult.TheVariants.{Done};
 ghost use Rattle.journal.specs.Journaled.{HasRoom, MayEnter, HasEntry, EntersOwn};
 ghost use Rattle.journal.specs.Logged.{KeepsLog};
 ghost use Rattle.seats.specs.Entries.{restart_step, restart_entry};
@@ -12,14 +12,13 @@ use crate::fault::SeatFault;
 use crate::own_entries::OwnEntries;
 use crate::seat::Seat;
 use crate::taking::make_room;
+use agreement::Refusal;
 use ballots::NodeId;
-use journal::{Beginning, Journal, OwnEntry, Receipt, Retention};
-use node_core::Refusal;
+use journal::{Beginning, Journal, OwnEntry, Receipt, Retention, Step};
 use node_events::{Event, EventResult};
-use node_seats::SeatFault as NodeFault;
-use schedule_runner::Step;
 use stable_records::Stable;
 use std::alloc::Global;
+use stored_nodes::StoredNodeFault;
 
 impl<S: Stable + Drop, J: Beginning, M: Retention> Seat<S, J, M> {
     /// Starts the node again, up or down, with the records that it kept and nothing else, and enters that.
@@ -31,7 +30,8 @@ impl<S: Stable + Drop, J: Beginning, M: Retention> Seat<S, J, M> {
     ///
     /// The journal knows its log still, if it did, unless it has seen it go on without it.
     ///
-    /// It takes time with the number of the journal's entries.
+    /// Where the seat and the journal know the log of their name, it takes the same time however many entries there are; else the
+    /// entries are compared, one by one.
     pub fn restart(&mut self, journal: &mut Journal<J, M>) -> Result<Receipt, SeatFault>
         ensures gives { RestartGives self.old self.new journal.old journal.new result }
         ensures counted { Counts S.tells result (S.faults self.old.node.store) (S.faults self.new.node.store) }
@@ -54,13 +54,13 @@ impl<S: Stable + Drop, J: Beginning, M: Retention> Seat<S, J, M> {
 }
 
 // Why the node was not started again.
-fn fault_for(fault: NodeFault) -> SeatFault
+fn fault_for(fault: StoredNodeFault) -> SeatFault
     ensures { IsFaultOf fault result }
 {
     match fault {
-        NodeFault::OutOfMemory => SeatFault::Refused(Refusal::OutOfMemory),
-        NodeFault::Store(fault) => SeatFault::Store(fault),
-        NodeFault::Lost => SeatFault::Lost,
+        StoredNodeFault::OutOfMemory => SeatFault::Refused(Refusal::OutOfMemory),
+        StoredNodeFault::Store(fault) => SeatFault::Store(fault),
+        StoredNodeFault::Lost => SeatFault::Lost,
     }
 }
 

@@ -2,22 +2,22 @@
 
 ghost use Rattle.std.specs.Prelude.{◌≡◌, ◌≢◌, ◌⊎◌, ◌↔◌, ℕ, ◌<◌, List, [], None, Some, Ok, Err, IsTrue, IfOk, IfErr, OnOk};
 ghost use Rattle.std.specs.Option.{IfSome};
-ghost use Rattle.ballots.specs.declared.record.Record.{Record as Held};
-ghost use Rattle.ballots.specs.declared.value.Value.{Value as Decided};
-ghost use Rattle.table_types.specs.Uploads.{Upload as Uploaded};
-ghost use Rattle.table_versions.specs.Values.{AreUploadsIn};
-ghost use Rattle.table_versions.specs.State.{HasTaken};
-ghost use Rattle.agreement_rules.specs.Views.{started_with, Views, HasPrefix};
-ghost use Rattle.histories.specs.Following.{Seat as HistorySeat, IsUp, at_first};
-ghost use Rattle.safe_histories.specs.Learning.{Runs, HasLearnedPrefix};
+ghost use Rattle.journal.specs.parts.ballots.specs.declared.record.Record.{Record as Held};
+ghost use Rattle.journal.specs.parts.ballots.specs.declared.value.Value.{Value as Decided};
+ghost use Rattle.journal.specs.parts.table_types.specs.Uploads.{Upload as Uploaded};
+ghost use Rattle.journal.specs.parts.table_versions.specs.Values.{AreUploadsIn};
+ghost use Rattle.journal.specs.parts.table_versions.specs.State.{HasTaken};
+ghost use Rattle.journal.specs.parts.agreement_rules.specs.Views.{started_with, Views, HasPrefix};
+ghost use Rattle.journal.specs.parts.histories.specs.Following.{Seat as HistorySeat, IsUp, at_first};
+ghost use Rattle.journal.specs.parts.safe_histories.specs.Learning.{Runs, HasLearnedPrefix};
 ghost use Rattle.stable_records.specs.declared.fault.StoreFault.TheVariants.{OutOfMemory};
 ghost use Rattle.stable_records.specs.Calls.{RaisesCount};
-ghost use Rattle.node_seats.specs.State.{IsPlaced, StandsUp};
-ghost use Rattle.schedule_runner.specs.Limits.{IsWithinLimits};
-ghost use Rattle.histories.specs.History.{History};
-ghost use Rattle.joined_histories.specs.Joined.{joined, Precedes};
-ghost use Rattle.schedule_runner.specs.Told.{config_of};
-ghost use Rattle.schedule_runner.specs.Traced.{history_of};
+ghost use Rattle.stored_nodes.specs.State.{IsPlaced, StandsUp};
+ghost use Rattle.journal.specs.parts.traces.specs.Limits.{IsWithinLimits};
+ghost use Rattle.journal.specs.parts.histories.specs.History.{History};
+ghost use Rattle.journal.specs.parts.joined_histories.specs.Joined.{joined, Precedes};
+ghost use Rattle.journal.specs.parts.traces.specs.Told.{config_of};
+ghost use Rattle.journal.specs.parts.traces.specs.Traced.{history_of};
 ghost use Rattle.journal.specs.Journaled.{seats_in, own_in};
 ghost use Rattle.seats.specs.declared.fault.SeatFault.TheVariants.{Down};
 ghost use Rattle.seats.specs.State.{StandsSo, CanTell, IsSeenToAgree, IsLedTo, IsLedNode};
@@ -28,20 +28,19 @@ use crate::fault::SeatFault;
 use crate::handing::handed_over;
 use crate::input::{Prepared, SeatInput};
 use crate::own_entries::OwnEntries;
-use agreement::Config as Agreed;
+use agreement::{AgreementConfig, Refusal};
 use ballots::NodeId;
-use growing_log::Reached;
+use ghost_log::Reached;
 use histories::laws::own_entries_decide_the_node;
 use joined_histories::laws::joined_histories_show;
-use journal::{Beginning, Journal, OwnEntry, Recent, Retention, Whole};
-use node_core::{Node, Refusal};
+use journal::{Beginning, Config, Journal, OwnEntry, Recent, Retention, Whole};
+use node_core::Node;
 use node_events::Reason;
-use node_seats::Seat as NodeSeat;
-use schedule_runner::Config;
 use stable_records::{Stable, StoreFault};
 use std::alloc::Global;
 use std::hash::RandomState;
 use std::marker::{Brand, Model, PhantomData};
+use stored_nodes::StoredNode;
 
 /// A node with the store of its records, up or down, and what it did itself. The type keeps that its own entries leave the
 /// node as it is: up or down, with what it has, and its records those that it kept by them.
@@ -52,7 +51,7 @@ pub struct Seat<S: Stable, J: Beginning = Brand, M: Retention = Whole> {
     pub(crate) alloc: Global,
     pub(crate) me: NodeId,
     pub(crate) config: Config,
-    pub(crate) node: NodeSeat<S>,
+    pub(crate) node: StoredNode<S>,
     pub(crate) own: OwnEntries,
     /// What is known of the log of all nodes' own entries.
     pub(crate) known: Option<Reached<OwnEntry, J>>,
@@ -138,10 +137,10 @@ impl<S: Stable + Drop, J: Beginning> Seat<S, J, Whole> {
         ensures fault { IfErr result (λ fault. (fault ≡ OutOfMemory)
             ⊎ ((left : S) × RaisesCount fault (S.faults store) (S.faults left))) }
     {
-        let Some(agreed) = Agreed::new(config.members, config.slot_limit) else {
+        let Some(agreed) = AgreementConfig::new(config.members, config.slot_limit) else {
             unreachable!();
         };
-        let Some(node) = NodeSeat::open(alloc, hashing, me, agreed, store)? else {
+        let Some(node) = StoredNode::open(alloc, hashing, me, agreed, store)? else {
             return Ok(None);
         };
         Ok(Some(Seat {
@@ -157,7 +156,7 @@ impl<S: Stable + Drop, J: Beginning> Seat<S, J, Whole> {
 
     /// The seat of a node that is where a journal of this name begins: it has no entry of its own, and the node stands as the
     /// name has it at its start ([`Beginning`]), up or down.
-    pub fn begin(alloc: Global, config: Config, node: NodeSeat<S>) -> Seat<S, J, Whole>
+    pub fn begin(alloc: Global, config: Config, node: StoredNode<S>) -> Seat<S, J, Whole>
         requires config { node.config ≡ config_of config }
         requires placed { IsPlaced node }
         requires stands { StandsSo node (seats_in J.start node.me) }

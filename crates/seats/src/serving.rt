@@ -1,7 +1,7 @@
 //! An answer that is served.
 
 ghost use Rattle.std.specs.Prelude.{◌≡◌, List, IfOk, OnOk, length};
-ghost use Rattle.table_types.specs.Uploads.{Upload as Uploaded};
+ghost use Rattle.journal.specs.parts.table_types.specs.Uploads.{Upload as Uploaded};
 ghost use Rattle.journal.specs.Journaled.{HasRoom, TellsSame};
 ghost use Rattle.journal.specs.Logged.{KeepsLog};
 ghost use Rattle.seats.specs.Steps.{asked_at, AnswersQuery, IsFoundBy, ServeGives, OthersAgree};
@@ -9,11 +9,10 @@ ghost use Rattle.seats.specs.Steps.{asked_at, AnswersQuery, IsFoundBy, ServeGive
 use crate::fault::SeatFault;
 use crate::query::{Found, Query};
 use crate::seat::Seat;
+use agreement::Refusal;
 use ballots::NodeId;
-use journal::{Beginning, Journal, Receipt, Retention};
-use node_core::Refusal;
+use journal::{Beginning, Journal, Receipt, Retention, Step};
 use node_events::{Event, EventResult, copy_of};
-use schedule_runner::Step;
 use stable_records::Stable;
 use std::alloc::{AllocError, Global};
 
@@ -36,7 +35,8 @@ impl<S: Stable + Drop, J: Beginning, M: Retention> Seat<S, J, M> {
     /// seen to agree with the journal; [`SeatFault::JournalFull`]. These, and [`SeatFault::Refused`] where memory was refused,
     /// change nothing. The journal knows its log still, if it did, unless it has seen it go on without it.
     ///
-    /// It takes time with the number of the journal's entries.
+    /// Where the seat and the journal know the log of their name, it takes the same time however many entries there are; else the
+    /// entries are compared, one by one.
     pub fn serve(&self, journal: &mut Journal<J, M>, found: Found) -> Result<Receipt, SeatFault>
         requires { IsFoundBy self.now found }
         ensures gives { ServeGives self.now journal.old journal.new found result }

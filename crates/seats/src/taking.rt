@@ -14,9 +14,9 @@ use crate::input::{Prepared, SeatInput};
 use crate::messages::same_message;
 use crate::own_entries::OwnEntries;
 use crate::seat::Seat;
+use agreement::Refusal;
 use ballots::{Message, NodeId};
 use journal::{Beginning, Journal, Receipt, Retention};
-use node_core::Refusal;
 use stable_records::Stable;
 use std::alloc::{AllocError, Global};
 
@@ -69,7 +69,8 @@ impl<S: Stable + Drop, J: Beginning, M: Retention> Seat<S, J, M> {
     ///
     /// The journal knows its log still, if it did, unless it has seen it go on without it.
     ///
-    /// It takes time with the number of the journal's entries.
+    /// Where the seat and the journal know the log of their name, it takes the same time however many entries there are; else the
+    /// entries are compared, one by one.
     pub fn take(
         &mut self,
         journal: &mut Journal<J, M>,

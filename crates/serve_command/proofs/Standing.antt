@@ -1,15 +1,15 @@
 -- Nodes that have started again, and where their journal begins.
 use Rattle.std.proofs.Common.{◌≡◌, ◌<◌, arith, List, [], ◌∷◌, ◌++◌, length, slice_index_or, refl, sym, ap, subst, ◌∙◌}
 use Rattle.std.proofs.lemmas.List.{length-map, length_push, get_or-map, get_or_append_left, get_or_push}
-use Rattle.ballots.specs.declared.record.Record.{Record}
-use Rattle.ballots.specs.declared.message.Message.{Message}
-use Rattle.agreement_rules.specs.Views.{Config as Agreed}
-use Rattle.histories.specs.Following.{Seat, IsUp, at_first}
-use Rattle.node_seats.specs.State.{SeatState}
-use Rattle.schedule_runner.specs.declared.config.Config.{Config}
-use Rattle.schedule_runner.specs.Told.{config_of}
-use Rattle.journal.specs.Journaled.{seats_in}
-use Rattle.seats.specs.State.{StandsSo}
+use Rattle.flight_service.specs.parts.ballots.specs.declared.record.Record.{Record}
+use Rattle.flight_service.specs.parts.ballots.specs.declared.message.Message.{Message}
+use Rattle.flight_service.specs.parts.agreement_rules.specs.Views.{Config as Agreed}
+use Rattle.flight_service.specs.parts.histories.specs.Following.{Seat, IsUp, at_first}
+use Rattle.stored_nodes.specs.State.{SeatState}
+use Rattle.flight_service.specs.parts.traces.specs.declared.config.Config.{Config}
+use Rattle.flight_service.specs.parts.traces.specs.Told.{config_of}
+use Rattle.flight_service.specs.journal.specs.Journaled.{seats_in}
+use Rattle.flight_service.specs.seats.specs.State.{StandsSo}
 use Rattle.resumed_nodes.specs.Heard.{heard, starts_of}
 use Rattle.resumed_nodes.specs.Starting.{AreStarted, records_of}
 use Rattle.serve_command.specs.Restarting.{IsAtStart, AreAtStart}

@@ -1,11 +1,11 @@
 -- Nodes that have started again over old records, and where a journal of theirs begins.
 use Rattle.std.specs.Prelude.{◌≡◌, ℕ, ◌<◌, List, length, slice_index_or}
-use Rattle.histories.specs.Following.{Seat}
-use Rattle.node_seats.specs.State.{SeatState, IsPlaced}
-use Rattle.schedule_runner.specs.declared.config.Config.{Config}
-use Rattle.schedule_runner.specs.Told.{config_of}
-use Rattle.journal.specs.Journaled.{seats_in}
-use Rattle.seats.specs.State.{StandsSo}
+use Rattle.flight_service.specs.parts.histories.specs.Following.{Seat}
+use Rattle.stored_nodes.specs.State.{SeatState, IsPlaced}
+use Rattle.flight_service.specs.parts.traces.specs.declared.config.Config.{Config}
+use Rattle.flight_service.specs.parts.traces.specs.Told.{config_of}
+use Rattle.flight_service.specs.journal.specs.Journaled.{seats_in}
+use Rattle.flight_service.specs.seats.specs.State.{StandsSo}
 
 -- it is of this configuration, and stands as the list has it
 pub record IsAtStart {S : Type 0} (config : Config) (start : List Seat) (node : SeatState S) : Type 0 where

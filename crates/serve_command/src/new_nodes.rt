@@ -8,7 +8,7 @@ use flight_service::{
     Beginning, Config, Journal, OwnEntry, Recent, Seat, ServiceFault, Started, config_of,
     open_counting_seat, start_nodes,
 };
-use growing_log::Opened;
+use ghost_log::Opened;
 use std::alloc::Global;
 use std::hash::RandomState;
 use std::sync::{Mutex, Wait};

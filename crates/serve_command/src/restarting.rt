@@ -3,7 +3,7 @@
 ghost use Rattle.std.specs.Prelude.{◌≡◌, [], length, IfOk, OnOk};
 ghost use Rattle.std.specs.List.{All};
 ghost use Rattle.chosen_records.specs.Chosen.{IsRecorded};
-ghost use Rattle.schedule_runner.specs.Told.{config_of};
+ghost use Rattle.flight_service.specs.parts.traces.specs.Told.{config_of};
 ghost use Rattle.resumed_nodes.specs.Starting.{AreStarted, GoesOn, MayBeTold, records_of};
 ghost use Rattle.resumed_nodes.specs.Knowing.{KnowsAcknowledged, TellsAll};
 ghost use Rattle.serve_command.specs.Restarting.{AreAtStart};
@@ -12,11 +12,10 @@ use crate::fault::ServeFault;
 use crate::new_nodes::{configured, started};
 use crate::progress::Progress;
 use crate::stores::FileStore;
-use agreement::Config as Agreed;
+use agreement::AgreementConfig;
 use ballots::{Message, NodeId};
 use chosen_records::ChosenFault;
 use flight_service::{Beginning, Config, Journal, Recent, Seat, Started, start_nodes};
-use node_seats::Seat as NodeSeat;
 use resumed_nodes::laws::{members_go_on, members_know_what_was_acknowledged};
 use resumed_nodes::{ReopenFault, chosen_by, hear_together, reopen_next};
 use shared_values::HeldValues;
@@ -27,15 +26,16 @@ use std::io::Eprint;
 use std::sync::{Mutex, Wait};
 use std::thread::Threads;
 use std::time::Clock;
+use stored_nodes::StoredNode;
 
 /// The nodes of a cluster that have started again, each over the records in its file.
-pub(crate) type FileNodes = Vec<NodeSeat<FileStore>>;
+pub(crate) type FileNodes = Vec<StoredNode<FileStore>>;
 
 // What nodes of this configuration agree on before they start.
-fn agreed_by(config: &Config) -> Result<Agreed, ServeFault>
+fn agreed_by(config: &Config) -> Result<AgreementConfig, ServeFault>
     ensures { IfOk result (λ agreed. agreed ≡ config_of config.now) }
 {
-    match Agreed::new(config.members, config.slot_limit) {
+    match AgreementConfig::new(config.members, config.slot_limit) {
         Some(agreed) => Ok(agreed),
         None => Err(ServeFault::Members),
     }
@@ -69,7 +69,7 @@ fn held_by_last(alloc: Global, nodes: &FileNodes) -> HeldValues {
 fn restart_next(
     alloc: Global,
     hashing: RandomState,
-    agreed: Agreed,
+    agreed: AgreementConfig,
     stores: &mut Vec<FileStore>,
     nodes: &mut FileNodes,
 ) -> Result<(), ServeFault>
@@ -99,7 +99,7 @@ fn restart_next(
 fn restarted<R: Clock + Eprint>(
     alloc: Global,
     hashing: RandomState,
-    agreed: Agreed,
+    agreed: AgreementConfig,
     stores: Vec<FileStore>,
     progress: &mut Progress<'_, R>,
 ) -> Result<FileNodes, ServeFault>
@@ -115,7 +115,11 @@ fn restarted<R: Clock + Eprint>(
 }
 
 // What the nodes' records say was chosen.
-fn chosen(alloc: Global, agreed: Agreed, nodes: &FileNodes) -> Result<Vec<Message>, ServeFault>
+fn chosen(
+    alloc: Global,
+    agreed: AgreementConfig,
+    nodes: &FileNodes,
+) -> Result<Vec<Message>, ServeFault>
     requires { AreStarted agreed [] nodes.now.items }
     ensures all { IfOk result (λ told. length nodes.now.items ≡ agreed.members) }
     ensures may { IfOk result (λ told. All (MayBeTold agreed) told.items) }
@@ -136,7 +140,7 @@ fn chosen(alloc: Global, agreed: Agreed, nodes: &FileNodes) -> Result<Vec<Messag
 fn heard<R: Threads + Clock + Eprint + Sync>(
     rt: &R,
     alloc: Global,
-    agreed: Agreed,
+    agreed: AgreementConfig,
     nodes: FileNodes,
     told: &[Message],
     progress: &mut Progress<'_, R>,

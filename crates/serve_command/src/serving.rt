@@ -3,7 +3,7 @@
 ghost use Rattle.std.specs.Prelude.{◌≡◌, ◌⊎◌, ℕ, List, OnOk, OnErr, []};
 ghost use Rattle.std.specs.Io.KnownBytes.{Appends, Keeps};
 ghost use Rattle.grpc_frames.specs.FrameFaults.{IsBeginning};
-ghost use Rattle.schedule_runner.specs.Told.{config_of};
+ghost use Rattle.flight_service.specs.parts.traces.specs.Told.{config_of};
 ghost use Rattle.resumed_nodes.specs.Heard.{starts_of};
 ghost use Rattle.resumed_nodes.specs.Starting.{AreStarted, records_of};
 ghost use Rattle.serve_command.specs.Addresses.{addresses_text};
@@ -23,7 +23,7 @@ use crossbeam_channel::Receiver;
 use flight_service::{
     Beginning, Config, NoReceipts, Note, OwnEntry, Works, join_all, open_service,
 };
-use growing_log::Opened;
+use ghost_log::Opened;
 use std::alloc::{Alloc, Global};
 use std::fs::{File, Files};
 use std::hash::RandomState;

@@ -3,7 +3,7 @@
 use crate::backoff::Backoff;
 use crate::fault::ServeFault;
 use crossbeam_channel::{Receiver, RecvTimeoutError, Sender, unbounded};
-use flight_service::{Beginning, Gate, NoReceipts, Retention, Running, Service, Works};
+use flight_service::{Beginning, Gate, NoReceipts, Retention, Running, SeatFault, Service, Works};
 use stable_records::Stable;
 use std::alloc::Global;
 use std::io::Eprint;
@@ -19,8 +19,8 @@ pub(crate) trait Restarts: Works {
     /// Whether the node is down.
     fn is_down<R: Wait>(&self, rt: &R, node: usize) -> bool;
 
-    /// Starts the node again with the records that its store gives back, and gives whether it is up then.
-    fn start_again<R: Wait>(&self, rt: &R, node: usize) -> bool;
+    /// Starts the node again with the records that its store gives back. The fault says why it is still down.
+    fn start_again<R: Wait>(&self, rt: &R, node: usize) -> Result<(), SeatFault>;
 }
 
 impl<
@@ -37,8 +37,11 @@ impl<
         }
     }
 
-    fn start_again<R: Wait>(&self, rt: &R, node: usize) -> bool {
-        self.restart(rt, node).is_ok()
+    fn start_again<R: Wait>(&self, rt: &R, node: usize) -> Result<(), SeatFault> {
+        match self.restart(rt, node) {
+            Ok(_) => Ok(()),
+            Err(fault) => Err(fault),
+        }
     }
 }
 
@@ -104,17 +107,15 @@ fn supervise<R: Wait + Clock + Eprint, C: Restarts>(
 fn look<R: Wait + Eprint, C: Restarts>(rt: &R, nodes: &C, count: u8, backoffs: &mut [Backoff; 5]) {
     for node in 0..usize::from(count).min(backoffs.len()) {
         if backoffs[node].is_due(nodes.is_down(rt, node)) {
-            let is_up = nodes.start_again(rt, node);
-            report(rt, node, is_up);
+            report(rt, node, nodes.start_again(rt, node));
         }
     }
 }
 
 // Says what became of a node that was down. Where this can't be written, nothing is lost.
-fn report<R: Eprint>(rt: &R, node: usize, is_up: bool) {
-    let _ = if is_up {
-        eprintln!(rt; "node {node} was down, and has started again")
-    } else {
-        eprintln!(rt; "node {node} is down, and can't be started again yet")
+fn report<R: Eprint>(rt: &R, node: usize, restarted: Result<(), SeatFault>) {
+    let _ = match restarted {
+        Ok(()) => eprintln!(rt; "node {node} was down, and has started again"),
+        Err(fault) => eprintln!(rt; "node {node} is down, and can't be started again yet: {fault}"),
     };
 }

@@ -17,8 +17,6 @@
 mod held;
 mod sharing;
 mod sharing_stable;
-#[cfg(test)]
-mod tests;
 
 pub use held::HeldValues;
 pub use sharing::{share, share_all};

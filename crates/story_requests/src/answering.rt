@@ -1,7 +1,7 @@
 //! Requests on standard input, answered one after the other.
 
-use crate::answer::Answer;
 use crate::fault::RequestFault;
+use crate::response::Response;
 use crate::words::Words;
 use std::alloc::Global;
 use std::io::{self, BufWriter, Write};
@@ -18,7 +18,7 @@ pub trait Answers: Sized + Drop {
         alloc: Global,
         asked: &str,
         words: &mut Words<'_>,
-        answer: &mut Answer,
+        answer: &mut Response,
     ) -> Result<(), RequestFault>;
 }
 
@@ -64,7 +64,7 @@ fn answer_line<T: Answers, W: Write>(
 ) -> Result<(), RequestFault> {
     let mut words = Words::new(line);
     let asked = words.next();
-    let mut answer = Answer::new(alloc);
+    let mut answer = Response::new(alloc);
     answers.answer(alloc, asked, &mut words, &mut answer)?;
     if !words.is_empty() {
         return Err(RequestFault::BadRequest);

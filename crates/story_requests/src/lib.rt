@@ -8,12 +8,12 @@
 //! Nothing is claimed here but that answering is safe and ends: what is answered is promised by the crates that do it.
 #![tactic(auto)]
 
-mod answer;
 mod answering;
 mod fault;
+mod response;
 mod words;
 
-pub use answer::Answer;
 pub use answering::{Answers, run};
 pub use fault::RequestFault;
+pub use response::Response;
 pub use words::Words;

@@ -8,8 +8,8 @@ use Rattle.table_versions.specs.Outcomes.{told}
 use Rattle.table_versions.specs.State.{TablesState, HasTaken, IsSame}
 use Rattle.table_versions.specs.declared.outcome.Outcome.{Outcome as Told}
 use Rattle.table_versions.specs.declared.outcome.Outcome.TheVariants as answers
-use Rattle.call_words.specs.declared.back_fault.BackFault.{BackFault}
-use Rattle.call_words.specs.declared.back_fault.BackFault.TheVariants as faults
+use Rattle.call_protocol.specs.declared.back_fault.BackFault.{BackFault}
+use Rattle.call_protocol.specs.declared.back_fault.BackFault.TheVariants as faults
 use Rattle.table_backend.specs.Backing.{BackendState, Takes, IsFull, IsUnknown, PutFault}
 
 -- an upload of whose id nothing had come is taken

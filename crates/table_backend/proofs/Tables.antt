@@ -15,7 +15,7 @@ use Rattle.table_types.specs.Tables.{Version, effective}
 use Rattle.table_types.proofs.Filtered.{all_effective, few_effective}
 use Rattle.table_versions.specs.Info.{IsLatest, IsInfoOf}
 use Rattle.table_versions.specs.declared.info.TableInfo.{TableInfo}
-use Rattle.upload_parts.proofs.CallerLemmas.{message_long}
+use Rattle.uploads.proofs.CallerLemmas.{message_long}
 use Rattle.flight_calls.specs.declared.table_description.TableDescription.{TableDescription}
 use Rattle.flight_calls.specs.Replies.{Description}
 use Rattle.flight_calls.specs.Backing.{Describes, DescribeAll}

@@ -11,8 +11,8 @@ use Rattle.table_types.specs.Tables.{effective, version_of, Outcome, applied, mi
 use Rattle.table_types.specs.Tables.{table_names, records_of}
 use Rattle.table_versions.specs.Values.{AreUploadsIn}
 use Rattle.table_versions.specs.State.{values_limit, TablesState, HasTaken, IsSame}
-use Rattle.call_words.specs.declared.back_fault.BackFault.{BackFault}
-use Rattle.call_words.specs.declared.back_fault.BackFault.TheVariants as faults
+use Rattle.call_protocol.specs.declared.back_fault.BackFault.{BackFault}
+use Rattle.call_protocol.specs.declared.back_fault.BackFault.TheVariants as faults
 use Rattle.call_reading.specs.Requests.{Request, describes, shows, lists, serves, puts}
 use Rattle.table_versions.specs.Info.{IsInfoOf}
 use Rattle.flight_calls.specs.declared.table_description.TableDescription.{TableDescription}

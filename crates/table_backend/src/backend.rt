@@ -4,11 +4,11 @@ ghost use Rattle.std.specs.Prelude.{◌≡◌, ◌⊎◌, ◌<◌, ◌++◌, ◌
 ghost use Rattle.ballots.specs.declared.value.Value.{Value as Agreed};
 ghost use Rattle.ballots.specs.declared.value.Value.TheVariants as agreed;
 ghost use Rattle.table_versions.specs.State.{HasTaken, IsSame};
-ghost use Rattle.call_words.specs.declared.back_fault.BackFault.TheVariants.{SlotsSpent, OutOfMemory};
+ghost use Rattle.call_protocol.specs.declared.back_fault.BackFault.TheVariants.{SlotsSpent, OutOfMemory};
 ghost use Rattle.table_backend.specs.Backing.{MayAnswer, Leaves, HoldsTheSame, IsFull};
 
 use crate::parts::{all_described, value_of};
-use call_words::BackFault;
+use call_protocol::BackFault;
 use flight_calls::{Backend, TableDescription};
 use std::alloc::Global;
 use std::hash::RandomState;

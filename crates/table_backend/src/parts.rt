@@ -8,11 +8,11 @@ ghost use Rattle.table_types.specs.Uploads.{Upload as Uploaded};
 ghost use Rattle.table_types.specs.Tables.{effective, table_names};
 ghost use Rattle.table_versions.specs.Values.{AreUploadsIn};
 ghost use Rattle.table_versions.specs.State.{HasTaken};
-ghost use Rattle.call_words.specs.declared.back_fault.BackFault.TheVariants.{OutOfMemory};
+ghost use Rattle.call_protocol.specs.declared.back_fault.BackFault.TheVariants.{OutOfMemory};
 ghost use Rattle.table_backend.specs.Backing.{TellsLatest};
 
 use ballots::{UploadBytes, Value};
-use call_words::BackFault;
+use call_protocol::BackFault;
 use flight_calls::TableDescription;
 use std::alloc::{AllocError, Global};
 use table_versions::Tables;

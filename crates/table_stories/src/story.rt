@@ -6,7 +6,7 @@ use std::alloc::{AllocError, Global};
 use std::hash::RandomState;
 use std::io;
 use std::random::RandomSource;
-use story_requests::{Answer, Answers, RequestFault, Words};
+use story_requests::{Answers, RequestFault, Response, Words};
 use table_types::{Ticket, TicketFault};
 use table_versions::{MAX_VALUES, Tables};
 
@@ -26,7 +26,7 @@ fn no_tables(alloc: Global, hashing: RandomState) -> Result<Box<Tables>, AllocEr
 fn read_upload(
     alloc: Global,
     words: &mut Words<'_>,
-    answer: &mut Answer,
+    answer: &mut Response,
 ) -> Result<(), RequestFault> {
     match &upload_of(alloc, words)? {
         Some(upload) => tell_upload(alloc, upload, answer),
@@ -37,7 +37,7 @@ fn read_upload(
 fn write_ticket(
     alloc: Global,
     words: &mut Words<'_>,
-    answer: &mut Answer,
+    answer: &mut Response,
 ) -> Result<(), RequestFault> {
     match &ticket_of(alloc, words)? {
         Some(ticket) => answer.bytes(ticket.encode(alloc)?.as_slice()),
@@ -48,7 +48,7 @@ fn write_ticket(
 fn read_ticket(
     alloc: Global,
     words: &mut Words<'_>,
-    answer: &mut Answer,
+    answer: &mut Response,
 ) -> Result<(), RequestFault> {
     let bytes = words.bytes(alloc)?;
     match Ticket::decode(alloc, bytes.as_slice()) {
@@ -62,7 +62,7 @@ fn take(
     alloc: Global,
     tables: &mut Tables,
     words: &mut Words<'_>,
-    answer: &mut Answer,
+    answer: &mut Response,
 ) -> Result<(), RequestFault> {
     let values = values_of(alloc, words)?;
     let taken = tables.taken();
@@ -78,7 +78,7 @@ fn outcome(
     alloc: Global,
     tables: &Tables,
     words: &mut Words<'_>,
-    answer: &mut Answer,
+    answer: &mut Response,
 ) -> Result<(), RequestFault> {
     match &upload_of(alloc, words)? {
         Some(upload) => tell_outcome(tables.outcome(upload), answer),
@@ -86,7 +86,7 @@ fn outcome(
     }
 }
 
-fn names(tables: &Tables, answer: &mut Answer) -> Result<(), RequestFault> {
+fn names(tables: &Tables, answer: &mut Response) -> Result<(), RequestFault> {
     let names = tables.tables()?;
     for name in &names {
         answer.bytes(name.as_bytes())?;
@@ -98,7 +98,7 @@ fn latest(
     alloc: Global,
     tables: &Tables,
     words: &mut Words<'_>,
-    answer: &mut Answer,
+    answer: &mut Response,
 ) -> Result<(), RequestFault> {
     let table = table_of(alloc, words)?;
     match &tables.latest(table.as_str())? {
@@ -110,7 +110,7 @@ fn latest(
 fn answered(
     tables: &Tables,
     ticket: &Option<Ticket>,
-    answer: &mut Answer,
+    answer: &mut Response,
 ) -> Result<(), RequestFault> {
     let Some(ticket) = ticket else {
         return Err(RequestFault::BadRequest);
@@ -142,7 +142,7 @@ impl Answers for Story {
         alloc: Global,
         asked: &str,
         words: &mut Words<'_>,
-        answer: &mut Answer,
+        answer: &mut Response,
     ) -> Result<(), RequestFault> {
         match asked {
             "upload" => read_upload(alloc, words, answer),

@@ -2,12 +2,12 @@
 
 use bytes::Bytes;
 use std::alloc::Global;
-use story_requests::{Answer, RequestFault};
+use story_requests::{RequestFault, Response};
 use table_types::Ticket;
 use table_versions::{Outcome, TableInfo};
 use uploads::Upload;
 
-fn tell_columns(alloc: Global, upload: &Upload, answer: &mut Answer) -> Result<(), RequestFault> {
+fn tell_columns(alloc: Global, upload: &Upload, answer: &mut Response) -> Result<(), RequestFault> {
     let schema = upload.schema(alloc)?;
     for field in &schema.fields {
         answer.bytes(field.name.as_bytes())?;
@@ -19,7 +19,7 @@ fn tell_columns(alloc: Global, upload: &Upload, answer: &mut Answer) -> Result<(
 pub(crate) fn tell_upload(
     alloc: Global,
     upload: &Upload,
-    answer: &mut Answer,
+    answer: &mut Response,
 ) -> Result<(), RequestFault> {
     answer.bytes(upload.table().as_bytes())?;
     answer.bytes(&upload.id())?;
@@ -29,7 +29,7 @@ pub(crate) fn tell_upload(
 }
 
 /// Tells what has become of an upload.
-pub(crate) fn tell_outcome(outcome: Outcome, answer: &mut Answer) -> Result<(), RequestFault> {
+pub(crate) fn tell_outcome(outcome: Outcome, answer: &mut Response) -> Result<(), RequestFault> {
     match outcome {
         Outcome::Applied(version) => answer.number(version),
         Outcome::SchemaMismatch => answer.word("SchemaMismatch"),
@@ -39,7 +39,7 @@ pub(crate) fn tell_outcome(outcome: Outcome, answer: &mut Answer) -> Result<(), 
 }
 
 /// Tells the latest version of a table.
-pub(crate) fn tell_info(info: &TableInfo, answer: &mut Answer) -> Result<(), RequestFault> {
+pub(crate) fn tell_info(info: &TableInfo, answer: &mut Response) -> Result<(), RequestFault> {
     answer.bytes(info.table.as_bytes())?;
     answer.number(info.version)?;
     answer.number(info.records)?;
@@ -48,7 +48,7 @@ pub(crate) fn tell_info(info: &TableInfo, answer: &mut Answer) -> Result<(), Req
 }
 
 /// Tells each frame of an answer.
-pub(crate) fn tell_frames(frames: &[Bytes], answer: &mut Answer) -> Result<(), RequestFault> {
+pub(crate) fn tell_frames(frames: &[Bytes], answer: &mut Response) -> Result<(), RequestFault> {
     for frame in frames {
         answer.bytes(frame.as_slice())?;
     }
@@ -56,7 +56,7 @@ pub(crate) fn tell_frames(frames: &[Bytes], answer: &mut Answer) -> Result<(), R
 }
 
 /// Tells the version and the table of a ticket.
-pub(crate) fn tell_ticket(ticket: &Ticket, answer: &mut Answer) -> Result<(), RequestFault> {
+pub(crate) fn tell_ticket(ticket: &Ticket, answer: &mut Response) -> Result<(), RequestFault> {
     answer.number(ticket.version())?;
     answer.bytes(ticket.table().as_bytes())
 }

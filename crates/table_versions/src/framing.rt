@@ -11,7 +11,7 @@ use bytes::Bytes;
 use grpc_frames::MESSAGE_FLAG;
 use proto_wire::FlightDataRef;
 use std::alloc::{AllocError, Global};
-use upload_parts::message_length;
+use uploads::message_length;
 
 /// How many bytes stand before the message of a frame.
 const PREFIX_BYTES: usize = 5;

@@ -9,7 +9,7 @@ use crate::story::{Limits, Story, told_of};
 use crate::support::{Why, check, told, upload};
 use crate::tested::{Holding, Tested};
 use crossbeam_channel::Receiver;
-use growing_log::Opened;
+use ghost_log::Opened;
 use node_threads::{Note, SeatFault};
 use stable_records::StoreFault;
 use std::alloc::Global;

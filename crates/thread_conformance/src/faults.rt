@@ -8,9 +8,9 @@ use crate::made::{
 use crate::story::{Limits, NEVER, Story, told_of};
 use crate::support::{Why, check, told, upload};
 use crate::tested::{Holding, Tested};
+use agreement::Refusal;
 use crossbeam_channel::Receiver;
-use growing_log::Opened;
-use node_core::Refusal;
+use ghost_log::Opened;
 use node_threads::{Note, SeatFault};
 use stable_records::StoreFault;
 use std::alloc::Global;

@@ -9,7 +9,7 @@ use crate::story::seat;
 use crate::support::{Why, check, config, had, told};
 use crate::tested::Tested;
 use ballots::Record;
-use growing_log::Opened;
+use ghost_log::Opened;
 use node_threads::{Beginning, Cluster, Journal, OpenGate, OwnEntry, Running, SeatFault};
 use stable_records::{Stable, StoreFault};
 use std::alloc::Global;

@@ -8,9 +8,10 @@ use crate::steps::{receipt_of, served};
 use crate::support::{Why, check, config, had, told};
 use crate::tested::Tested;
 use ballots::NodeId;
-use growing_log::Opened;
-use node_threads::{Beginning, Cluster, Journal, OpenGate, OwnEntry, Recent, Running, Seat};
-use schedule_runner::Config;
+use ghost_log::Opened;
+use node_threads::{
+    Beginning, Cluster, Config, Journal, OpenGate, OwnEntry, Recent, Running, Seat,
+};
 use stable_records::{MemoryStable, StoreFault};
 use std::alloc::Global;
 use std::hash::RandomState;

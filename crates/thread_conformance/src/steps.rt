@@ -6,7 +6,7 @@ use crate::story::{Limits, NEVER, Story, told_of};
 use crate::support::{Why, check, told};
 use crate::tested::{Holding, Tested};
 use crossbeam_channel::Receiver;
-use growing_log::Opened;
+use ghost_log::Opened;
 use node_threads::{Note, Pending, Receipt, SeatFault};
 use std::alloc::Global;
 use std::hash::RandomState;

@@ -2,7 +2,7 @@
 
 use ballots::Members;
 use header_types::Schema;
-use schedule_runner::Config;
+use node_threads::Config;
 use std::alloc::Global;
 use std::test::Fail;
 use table_types::Ticket;

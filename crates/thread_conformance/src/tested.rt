@@ -7,8 +7,8 @@ use crossbeam_channel::Receiver;
 use node_events::Event;
 use node_threads::{
     Beginning, Journal, Note, OpenGate, Pace, Pending, Receipt, Retention, Running, SeatFault,
+    audit,
 };
-use schedule_runner::audit;
 use stable_records::Stable;
 use std::alloc::Global;
 use std::mem;

@@ -6,7 +6,7 @@ use crate::events::events_of;
 use crate::plan::plan_in;
 use crate::runs::weight;
 use ballots::NodeId;
-use growing_log::Opened;
+use ghost_log::Opened;
 use part_tasks::{TaskFault, push};
 use schedule_runner::{Config, Event};
 use seats::{Beginning, Journal, OwnEntry, Query, Receipt, Seat, SeatFault, SeatInput};

@@ -5,8 +5,8 @@ use Rattle.std.proofs.Math.Seq.{take-length}
 use Rattle.std.proofs.lemmas.List.{length-map}
 use Rattle.table_types.specs.Uploads.{Upload, upload_text}
 use Rattle.table_types.specs.Valid.{IsUpload}
-use Rattle.upload_parts.specs.Parts.{batch_parts, batches_parts, batch_text, batches_text, HasLeft, Gives}
-use Rattle.upload_parts.proofs.CallerLemmas.{more_long, part_long, some_bytes}
+use Rattle.uploads.specs.Parts.{batch_parts, batches_parts, batch_text, batches_text, HasLeft, Gives}
+use Rattle.uploads.proofs.CallerLemmas.{more_long, part_long, some_bytes}
 
 -- ---- how many there are
 

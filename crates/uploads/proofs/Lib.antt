@@ -1,3 +1,13 @@
+pub mod CallerLemmas
+pub mod Walk
+pub mod Fronts
+pub mod Shown
+pub mod Batched
+pub mod Decoded
+pub mod Remade
+pub mod Counts
+pub mod Puts
+pub mod Apart
 pub mod Names
 pub mod Counting
 pub mod Reread

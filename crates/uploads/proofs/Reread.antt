@@ -7,8 +7,8 @@ use Rattle.batch_types.specs.Cells.{Rows}
 use Rattle.batch_types.specs.Written.{CanBeWritten}
 use Rattle.table_types.specs.Uploads.{Upload, upload_text, schema_text}
 use Rattle.table_types.specs.Valid.{IsUpload}
-use Rattle.upload_parts.specs.Parts.{batch_parts, batches_parts, batches_text, HasLeft}
-use Rattle.upload_parts.proofs.CallerLemmas.{part, more_long, parts_text}
+use Rattle.uploads.specs.Parts.{batch_parts, batches_parts, batches_text, HasLeft}
+use Rattle.uploads.proofs.CallerLemmas.{part, more_long, parts_text}
 
 pub if_ok : {A E : Type 0} (r : Result A E) (P Q : A → Type 0) → ((x : A) → P x → Q x) → IfOk r P → IfOk r Q
 if_ok (Ok x) P Q to p = to x p

@@ -10,20 +10,24 @@ ghost use Rattle.batch_columns.specs.Batches.{rows_of, IsBatchOf};
 ghost use Rattle.table_types.specs.Uploads.{Upload as Uploaded, upload_text, schema_text};
 ghost use Rattle.table_types.specs.Valid.{IsUpload};
 ghost use Rattle.table_types.specs.Texts.{IsUploadText};
-ghost use Rattle.upload_reading.specs.Found.{HasUploadFields};
-ghost use Rattle.upload_parts.specs.Parts.{HasLeft, batches_parts};
-ghost use Rattle.upload_writing.specs.Making.{AreMade, AreRefused, upload_of};
-ghost use Rattle.upload_reading.specs.declared.fault.DecodeFault.TheVariants.{NotAnUpload, OutOfMemory};
+ghost use Rattle.uploads.specs.Found.{HasUploadFields};
+ghost use Rattle.uploads.specs.Parts.{HasLeft, batches_parts};
+ghost use Rattle.uploads.specs.Making.{AreMade, AreRefused, upload_of};
+ghost use Rattle.uploads.specs.declared.decode_fault.DecodeFault.TheVariants.{NotAnUpload, OutOfMemory};
 
+use crate::decode_fault::DecodeFault;
+use crate::decoding::check_upload;
+use crate::encoded_batches::EncodedBatches;
+use crate::making::encode_upload;
+use crate::parts::parts_of;
+use crate::upload_fault::UploadFault;
+use crate::written::{written_batches, written_schema};
 use batch_columns::Batch;
 use bytes::Bytes;
 use header_types::Schema;
 use std::alloc::{AllocError, Global};
 use std::marker::Model;
 use table_types::laws::uploads_have_one_encoding;
-use upload_parts::{EncodedBatches, parts_of};
-use upload_reading::{DecodeFault, check_upload, written_batches, written_schema};
-use upload_writing::{UploadFault, encode_upload};
 
 /// What a client uploads: rows for a table, under an id that the client chose, in their one encoding. Contracts see the
 /// bytes of the encoding. A clone shares them: it copies no byte, and takes no memory but what a further owner of a

@@ -7,13 +7,13 @@ use proto_wire::{
     write_nonempty_bytes, write_nonzero_varint, write_varint,
 };
 use std::alloc::Global;
-use story_requests::{Answer, RequestFault, Words};
+use story_requests::{RequestFault, Response, Words};
 
 /// Answers with the name of the fault.
 pub(crate) fn name(
     alloc: Global,
     fault: WireFault,
-    answer: &mut Answer,
+    answer: &mut Response,
 ) -> Result<(), RequestFault> {
     let name = format!(in alloc; "{fault}")?;
     answer.word(name.as_str())
@@ -23,7 +23,7 @@ pub(crate) fn name(
 pub(crate) fn read_all(
     alloc: Global,
     bytes: &[u8],
-    answer: &mut Answer,
+    answer: &mut Response,
 ) -> Result<(), RequestFault> {
     match read_fields(alloc, bytes) {
         Ok(fields) => show_all(&fields, answer),
@@ -31,7 +31,7 @@ pub(crate) fn read_all(
     }
 }
 
-fn show_all(fields: &[(u32, Content)], answer: &mut Answer) -> Result<(), RequestFault> {
+fn show_all(fields: &[(u32, Content)], answer: &mut Response) -> Result<(), RequestFault> {
     for (number, content) in fields {
         answer.number(u64::from(*number))?;
         show(content, answer)?;
@@ -39,7 +39,7 @@ fn show_all(fields: &[(u32, Content)], answer: &mut Answer) -> Result<(), Reques
     Ok(())
 }
 
-fn show(content: &Content, answer: &mut Answer) -> Result<(), RequestFault> {
+fn show(content: &Content, answer: &mut Response) -> Result<(), RequestFault> {
     match content {
         Content::Varint(value) => {
             answer.word("varint")?;
@@ -51,7 +51,7 @@ fn show(content: &Content, answer: &mut Answer) -> Result<(), RequestFault> {
     }
 }
 
-fn show_bytes(kind: &str, bytes: &[u8], answer: &mut Answer) -> Result<(), RequestFault> {
+fn show_bytes(kind: &str, bytes: &[u8], answer: &mut Response) -> Result<(), RequestFault> {
     answer.word(kind)?;
     answer.bytes(bytes)
 }
@@ -60,7 +60,7 @@ fn show_bytes(kind: &str, bytes: &[u8], answer: &mut Answer) -> Result<(), Reque
 pub(crate) fn split_front(
     alloc: Global,
     bytes: &[u8],
-    answer: &mut Answer,
+    answer: &mut Response,
 ) -> Result<(), RequestFault> {
     match split_field(bytes) {
         Ok((number, content, rest)) => {
@@ -76,7 +76,7 @@ pub(crate) fn split_front(
 fn show_lent(
     alloc: Global,
     content: ContentRef<'_>,
-    answer: &mut Answer,
+    answer: &mut Response,
 ) -> Result<(), RequestFault> {
     show_copy(alloc, content, answer)?;
     if let Some(number) = content.number() {
@@ -91,7 +91,7 @@ fn show_lent(
 fn show_copy(
     alloc: Global,
     content: ContentRef<'_>,
-    answer: &mut Answer,
+    answer: &mut Response,
 ) -> Result<(), RequestFault> {
     let held = content.to_content(alloc)?;
     show(&held, answer)
@@ -102,7 +102,7 @@ pub(crate) fn write(
     alloc: Global,
     asked: &str,
     words: &mut Words<'_>,
-    answer: &mut Answer,
+    answer: &mut Response,
 ) -> Result<(), RequestFault> {
     let field = words.number()?;
     if field == 0 || field > u64::from(MAX_FIELD_NUMBER) {

@@ -2,14 +2,14 @@
 
 use proto_wire::{END_FLAG, Frame, MAX_FRAME_PAYLOAD, MESSAGE_FLAG, read_frame, write_frame};
 use std::alloc::Global;
-use story_requests::{Answer, RequestFault, Words};
+use story_requests::{RequestFault, Response, Words};
 
 /// The frames that stand one after the other, and then `NoMore` or the fault, and the bytes behind which the reader
 /// stands.
 pub(crate) fn read_all(
     alloc: Global,
     bytes: &[u8],
-    answer: &mut Answer,
+    answer: &mut Response,
 ) -> Result<(), RequestFault> {
     let mut rest = bytes;
     // Each frame has at least five bytes.
@@ -22,7 +22,7 @@ pub(crate) fn read_all(
 }
 
 // The frame at the front, or how the input ends; and whether there was a frame.
-fn read_one(alloc: Global, rest: &mut &[u8], answer: &mut Answer) -> Result<bool, RequestFault> {
+fn read_one(alloc: Global, rest: &mut &[u8], answer: &mut Response) -> Result<bool, RequestFault> {
     match read_frame(alloc, rest) {
         Ok(Some(frame)) => show(&frame, answer),
         Ok(None) => end("NoMore", answer),
@@ -30,13 +30,13 @@ fn read_one(alloc: Global, rest: &mut &[u8], answer: &mut Answer) -> Result<bool
     }
 }
 
-fn show(frame: &Frame, answer: &mut Answer) -> Result<bool, RequestFault> {
+fn show(frame: &Frame, answer: &mut Response) -> Result<bool, RequestFault> {
     answer.number(u64::from(frame.flag))?;
     answer.bytes(&frame.payload)?;
     Ok(true)
 }
 
-fn end(how: &str, answer: &mut Answer) -> Result<bool, RequestFault> {
+fn end(how: &str, answer: &mut Response) -> Result<bool, RequestFault> {
     answer.word(how)?;
     Ok(false)
 }
@@ -45,7 +45,7 @@ fn end(how: &str, answer: &mut Answer) -> Result<bool, RequestFault> {
 pub(crate) fn write(
     alloc: Global,
     words: &mut Words<'_>,
-    answer: &mut Answer,
+    answer: &mut Response,
 ) -> Result<(), RequestFault> {
     let flag = words.number()?;
     let payload = words.bytes(alloc)?;

@@ -18,7 +18,7 @@ mod shown;
 
 use std::alloc::Global;
 use std::process::ExitCode;
-use story_requests::{Answer, Answers, RequestFault, Words};
+use story_requests::{Answers, RequestFault, Response, Words};
 
 fn main(rt: HostRuntime) -> ExitCode {
     story_requests::run::<Wire>(&rt)
@@ -38,7 +38,7 @@ impl Answers for Wire {
         alloc: Global,
         asked: &str,
         words: &mut Words<'_>,
-        answer: &mut Answer,
+        answer: &mut Response,
     ) -> Result<(), RequestFault> {
         match asked {
             "frame" => frames::write(alloc, words, answer),
@@ -55,7 +55,7 @@ fn read(
     alloc: Global,
     asked: &str,
     words: &mut Words<'_>,
-    answer: &mut Answer,
+    answer: &mut Response,
 ) -> Result<(), RequestFault> {
     let bytes = words.bytes(alloc)?;
     match asked {

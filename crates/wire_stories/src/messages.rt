@@ -7,7 +7,7 @@ use proto_wire::{
     PutResult, SchemaResult, Ticket,
 };
 use std::alloc::Global;
-use story_requests::{Answer, RequestFault};
+use story_requests::{RequestFault, Response};
 
 /// What the bytes mean as the message of this name, field by field, and its one encoding; or the fault that stands in
 /// them.
@@ -15,7 +15,7 @@ pub(crate) fn read(
     alloc: Global,
     message: &str,
     bytes: &[u8],
-    answer: &mut Answer,
+    answer: &mut Response,
 ) -> Result<(), RequestFault> {
     match message {
         "descriptor" => read_as::<FlightDescriptor>(alloc, bytes, answer),
@@ -34,7 +34,7 @@ pub(crate) fn read(
 fn read_as<M: ProtoMessage + Shown + Drop>(
     alloc: Global,
     bytes: &[u8],
-    answer: &mut Answer,
+    answer: &mut Response,
 ) -> Result<(), RequestFault> {
     match M::decode(alloc, bytes) {
         Ok(message) => show(alloc, &message, answer),
@@ -45,7 +45,7 @@ fn read_as<M: ProtoMessage + Shown + Drop>(
 fn show<M: ProtoMessage + Shown>(
     alloc: Global,
     message: &M,
-    answer: &mut Answer,
+    answer: &mut Response,
 ) -> Result<(), RequestFault> {
     message.show(alloc, answer)?;
     let mut out = Vec::new(alloc);

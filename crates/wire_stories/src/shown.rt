@@ -6,15 +6,15 @@ use proto_wire::{
     SchemaResult, Ticket,
 };
 use std::alloc::Global;
-use story_requests::{Answer, RequestFault};
+use story_requests::{RequestFault, Response};
 
 /// A message that can be shown.
 pub(crate) trait Shown {
     /// Puts what its fields hold.
-    fn show(&self, alloc: Global, answer: &mut Answer) -> Result<(), RequestFault>;
+    fn show(&self, alloc: Global, answer: &mut Response) -> Result<(), RequestFault>;
 }
 
-fn show_signed(alloc: Global, number: i64, answer: &mut Answer) -> Result<(), RequestFault> {
+fn show_signed(alloc: Global, number: i64, answer: &mut Response) -> Result<(), RequestFault> {
     let digits = format!(in alloc; "{number}")?;
     answer.word(digits.as_str())
 }
@@ -22,7 +22,7 @@ fn show_signed(alloc: Global, number: i64, answer: &mut Answer) -> Result<(), Re
 fn show_one<M: Shown>(
     alloc: Global,
     message: &Option<M>,
-    answer: &mut Answer,
+    answer: &mut Response,
 ) -> Result<(), RequestFault> {
     match message {
         None => answer.number(0),
@@ -36,7 +36,7 @@ fn show_one<M: Shown>(
 fn show_each<M: Shown>(
     alloc: Global,
     messages: &[M],
-    answer: &mut Answer,
+    answer: &mut Response,
 ) -> Result<(), RequestFault> {
     answer.number(messages.len() as u64)?;
     for message in messages {
@@ -46,7 +46,7 @@ fn show_each<M: Shown>(
 }
 
 impl Shown for FlightDescriptor {
-    fn show(&self, alloc: Global, answer: &mut Answer) -> Result<(), RequestFault> {
+    fn show(&self, alloc: Global, answer: &mut Response) -> Result<(), RequestFault> {
         show_signed(alloc, i64::from(self.descriptor_type.0), answer)?;
         answer.bytes(&self.cmd)?;
         answer.number(self.path.len() as u64)?;
@@ -58,26 +58,26 @@ impl Shown for FlightDescriptor {
 }
 
 impl Shown for Ticket {
-    fn show(&self, _alloc: Global, answer: &mut Answer) -> Result<(), RequestFault> {
+    fn show(&self, _alloc: Global, answer: &mut Response) -> Result<(), RequestFault> {
         answer.bytes(&self.ticket)
     }
 }
 
 impl Shown for Location {
-    fn show(&self, _alloc: Global, answer: &mut Answer) -> Result<(), RequestFault> {
+    fn show(&self, _alloc: Global, answer: &mut Response) -> Result<(), RequestFault> {
         answer.bytes(self.uri.as_bytes())
     }
 }
 
 impl Shown for FlightEndpoint {
-    fn show(&self, alloc: Global, answer: &mut Answer) -> Result<(), RequestFault> {
+    fn show(&self, alloc: Global, answer: &mut Response) -> Result<(), RequestFault> {
         show_one(alloc, &self.ticket, answer)?;
         show_each(alloc, &self.location, answer)
     }
 }
 
 impl Shown for FlightInfo {
-    fn show(&self, alloc: Global, answer: &mut Answer) -> Result<(), RequestFault> {
+    fn show(&self, alloc: Global, answer: &mut Response) -> Result<(), RequestFault> {
         answer.bytes(&self.schema)?;
         show_one(alloc, &self.flight_descriptor, answer)?;
         show_each(alloc, &self.endpoint, answer)?;
@@ -88,19 +88,19 @@ impl Shown for FlightInfo {
 }
 
 impl Shown for SchemaResult {
-    fn show(&self, _alloc: Global, answer: &mut Answer) -> Result<(), RequestFault> {
+    fn show(&self, _alloc: Global, answer: &mut Response) -> Result<(), RequestFault> {
         answer.bytes(&self.schema)
     }
 }
 
 impl Shown for Criteria {
-    fn show(&self, _alloc: Global, answer: &mut Answer) -> Result<(), RequestFault> {
+    fn show(&self, _alloc: Global, answer: &mut Response) -> Result<(), RequestFault> {
         answer.bytes(&self.expression)
     }
 }
 
 impl Shown for FlightData {
-    fn show(&self, alloc: Global, answer: &mut Answer) -> Result<(), RequestFault> {
+    fn show(&self, alloc: Global, answer: &mut Response) -> Result<(), RequestFault> {
         show_one(alloc, &self.flight_descriptor, answer)?;
         answer.bytes(&self.data_header)?;
         answer.bytes(&self.app_metadata)?;
@@ -109,7 +109,7 @@ impl Shown for FlightData {
 }
 
 impl Shown for PutResult {
-    fn show(&self, _alloc: Global, answer: &mut Answer) -> Result<(), RequestFault> {
+    fn show(&self, _alloc: Global, answer: &mut Response) -> Result<(), RequestFault> {
         answer.bytes(&self.app_metadata)
     }
 }

@@ -5,14 +5,14 @@ use Rattle.ballots.specs.declared.message.Body.TheVariants as says
 use Rattle.ballots.specs.declared.fault.MessageFault.TheVariants.{OutOfMemory}
 use Rattle.ballots.specs.Message.{IsMessageText, CarriesUpload}
 use Rattle.acceptor.specs.Standing.{Standing}
-use Rattle.acceptor_command.specs.declared.fault.ServeFault.{ServeFault}
-use Rattle.acceptor_command.specs.declared.fault.ServeFault.TheVariants as faults
+use Rattle.acceptor_command.specs.declared.fault.AnswerFault.{AnswerFault}
+use Rattle.acceptor_command.specs.declared.fault.AnswerFault.TheVariants as faults
 use Rattle.acceptor_command.specs.Conversation.{IsRequest}
 use Rattle.acceptor_command.specs.Serving.{FrameEnds}
 use Rattle.acceptor_command.proofs.laws.faults_stand_at_their_frames.Goals as goal
 
 module _ (now : Standing) (f : Frame) (old new : List ℕ) where
-  end_flag : (fault : ServeFault) → FrameEnds fault now f old new → f.flag ≡ 128 → fault ≡ faults.EndFlag
+  end_flag : (fault : AnswerFault) → FrameEnds fault now f old new → f.flag ≡ 128 → fault ≡ faults.EndFlag
   end_flag faults.EndFlag h e = refl
   end_flag (faults.Message fault) h e = absurd (omega (arith, e, h.0))
   end_flag faults.AnswerTooLong h e = absurd (omega (arith, e, h.1.flag))
@@ -21,7 +21,7 @@ module _ (now : Standing) (f : Frame) (old new : List ℕ) where
   end_flag (faults.Frame fault) h e = absurd h
   end_flag faults.FrameLimit h e = absurd h
 
-  silent : (fault : ServeFault) → FrameEnds fault now f old new → fault ≢ faults.Write → new ≡ old
+  silent : (fault : AnswerFault) → FrameEnds fault now f old new → fault ≢ faults.Write → new ≡ old
   silent faults.EndFlag h other = h.1
   silent (faults.Message fault) h other = h.2
   silent faults.AnswerTooLong h other = h.3
@@ -32,7 +32,7 @@ module _ (now : Standing) (f : Frame) (old new : List ℕ) where
 
 pub returns-clause-end_flag : goal.returns-clause-end_flag
 returns-clause-end_flag g = λ fault now f old new h.
-    ((λ e. (subst (λ (x : ServeFault). FrameEnds x now f old new) e h).0), end_flag now f old new fault h)
+    ((λ e. (subst (λ (x : AnswerFault). FrameEnds x now f old new) e h).0), end_flag now f old new fault h)
 
 pub returns-clause-silent : goal.returns-clause-silent
 returns-clause-silent g = λ fault now f old new h. silent now f old new fault h
@@ -53,8 +53,8 @@ module _ (one : MessagesAreOne) (now : Standing) (f : Frame) (old new : List ℕ
 
 pub returns-clause-ask : goal.returns-clause-ask
 returns-clause-ask c = λ fault now f old new m h means is_ask. (
-  (λ e. no_request c.messages_are_one.ensures now f old new m means is_ask (subst (λ (x : ServeFault). FrameEnds x now f old new) e h)),
+  (λ e. no_request c.messages_are_one.ensures now f old new m means is_ask (subst (λ (x : AnswerFault). FrameEnds x now f old new) e h)),
   (λ e.
       no_upload c.messages_are_one.ensures now f old new m means is_ask c.only_uploads_take_memory.ensures.ask
-      (subst (λ (x : ServeFault). FrameEnds x now f old new) e h)),
+      (subst (λ (x : AnswerFault). FrameEnds x now f old new) e h)),
 )

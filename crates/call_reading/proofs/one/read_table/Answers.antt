@@ -2,7 +2,7 @@ use Rattle.std.proofs.Common.{ℕ, List, String, string_bytes}
 use Rattle.std.specs.declared.alloc.Global.{Global}
 use Rattle.std.proofs.lemmas.Result.{err_from_is_err_and}
 use Rattle.proto_wire.specs.Flight.{flight_descriptor_descriptor}
-use Rattle.call_words.specs.Names.{TableFault}
+use Rattle.call_protocol.specs.Names.{TableFault}
 use Rattle.call_reading.specs.Requests.{AsksForTable}
 use Rattle.call_reading.specs.Faults.{MeansAtFault}
 use Rattle.call_reading.proofs.Steps.{one_breaks}

@@ -1,6 +1,6 @@
 use Rattle.std.proofs.Common.{refl}
 use Rattle.std.proofs.lemmas.Result.{err_from_is_err_and}
-use Rattle.call_words.specs.declared.method.Method.TheVariants as methods
+use Rattle.call_protocol.specs.declared.method.Method.TheVariants as methods
 use Rattle.call_reading.specs.declared.request.FlightRequest.TheVariants as asks
 use Rattle.call_reading.proofs.Calls.{table_known, table_fails, info_one}
 use Rattle.call_reading.proofs.reading.info_asked.Goals as goal

@@ -1,5 +1,5 @@
 use Rattle.std.proofs.lemmas.Result.{err_from_is_err_and}
-use Rattle.call_words.specs.Texts.{end_text}
+use Rattle.call_protocol.specs.Texts.{end_text}
 use Rattle.table_types.specs.Served.{in_frame}
 use Rattle.client_calls.proofs.Sent.{first_fails, second_fails, all_three}
 use Rattle.client_calls.proofs.requesting.send_one.Goals as goal

@@ -1,7 +1,7 @@
 use Rattle.std.proofs.Common.{[], ◌∷◌}
 use Rattle.std.proofs.lemmas.Result.{err_from_is_err_and}
-use Rattle.call_words.specs.Methods.{path_text}
-use Rattle.call_words.specs.Texts.{call_text}
+use Rattle.call_protocol.specs.Methods.{path_text}
+use Rattle.call_protocol.specs.Texts.{call_text}
 use Rattle.client_calls.proofs.Sent.{nothing_sent}
 use Rattle.client_calls.proofs.requesting.send_request.Goals as goal
 

@@ -1,7 +1,7 @@
 use Rattle.std.proofs.Common.{refl, subst, ◌∙◌, [], List, ℕ}
 use Rattle.grpc_frames.specs.FrameFaults.{WhereKnown}
 use Rattle.table_types.specs.Served.{in_frame, data_text}
-use Rattle.call_words.specs.declared.call_fault.CallFault.TheVariants as calls
+use Rattle.call_protocol.specs.declared.call_fault.CallFault.TheVariants as calls
 use Rattle.client_calls.specs.Sending.{Sends}
 use Rattle.client_calls.proofs.Sent.{nothing_sent}
 use Rattle.client_calls.proofs.uploading.send_batch.Goals as goal

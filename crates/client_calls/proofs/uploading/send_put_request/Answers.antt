@@ -1,9 +1,9 @@
 use Rattle.std.proofs.Common.{Ok, Err, ◌++◌}
 use Rattle.std.proofs.lemmas.Result.{err_from_is_err_and}
 use Rattle.table_types.specs.Served.{in_frame}
-use Rattle.call_words.specs.declared.method.Method.TheVariants as methods
-use Rattle.call_words.specs.Methods.{path_text}
-use Rattle.call_words.specs.Texts.{messages_text, end_text}
+use Rattle.call_protocol.specs.declared.method.Method.TheVariants as methods
+use Rattle.call_protocol.specs.Methods.{path_text}
+use Rattle.call_protocol.specs.Texts.{messages_text, end_text}
 use Rattle.client_calls.specs.Requests.{put_messages}
 use Rattle.client_calls.proofs.Sent.{send_fails, send_follows}
 use Rattle.client_calls.proofs.uploading.send_put_request.Goals as goal

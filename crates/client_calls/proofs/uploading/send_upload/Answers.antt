@@ -1,7 +1,7 @@
 use Rattle.std.proofs.Common.{map}
 use Rattle.std.proofs.lemmas.Result.{err_from_is_err_and}
 use Rattle.table_types.specs.Served.{in_frame}
-use Rattle.call_words.specs.Texts.{messages_text}
+use Rattle.call_protocol.specs.Texts.{messages_text}
 use Rattle.client_calls.specs.Requests.{opening_message, further_message}
 use Rattle.client_calls.proofs.Sent.{send_fails, send_follows}
 use Rattle.client_calls.proofs.uploading.send_upload.Goals as goal

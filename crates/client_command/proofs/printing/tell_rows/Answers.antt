@@ -1,6 +1,6 @@
 use Rattle.header_types.specs.Views.{schema_of}
 use Rattle.downloads.specs.Taken.{downloaded_in}
-use Rattle.row_calls.specs.Prints.{batches_in}
+use Rattle.json_client.specs.Prints.{batches_in}
 use Rattle.client_command.proofs.Got.{cut_rows}
 use Rattle.client_command.proofs.printing.tell_rows.Goals as goal
 

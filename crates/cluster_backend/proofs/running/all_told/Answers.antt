@@ -2,7 +2,7 @@ use Rattle.std.proofs.Common.{map, string_bytes, sym, ap, subst, arith, ◌∙�
 use Rattle.std.proofs.lemmas.List.{take_all}
 use Rattle.std.specs.List.{AllZip, list_any}
 use Rattle.std.specs.Str.{bytes_eq}
-use Rattle.table_types.specs.Tables.{effective}
+use Rattle.node_threads.specs.parts.table_types.specs.Tables.{effective}
 use Rattle.table_backend.specs.Backing.{TellsLatest}
 use Rattle.table_backend.proofs.Tables.{is_named, one_more_told}
 use Rattle.cluster_backend.proofs.running.all_told.Goals as goal

@@ -1,7 +1,7 @@
 use Rattle.std.specs.Prelude.{List, map, take, string_bytes}
 use Rattle.std.specs.List.{AllZip}
-use Rattle.table_types.specs.Uploads.{Upload}
-use Rattle.table_types.specs.Tables.{effective}
+use Rattle.node_threads.specs.parts.table_types.specs.Uploads.{Upload}
+use Rattle.node_threads.specs.parts.table_types.specs.Tables.{effective}
 use Rattle.table_backend.specs.Backing.{TellsLatest}
 use Rattle.cluster_backend.specs.Backing.{HasTables}
 use Rattle.cluster_backend.proofs.running.all_told.Given as goal

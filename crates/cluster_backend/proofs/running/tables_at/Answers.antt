@@ -1,7 +1,7 @@
 use Rattle.std.proofs.Common.{subst, map, string_bytes, ap, ◌∙◌}
 use Rattle.std.specs.List.{AllZip}
-use Rattle.histories.specs.Texts.{HasUploads}
-use Rattle.table_types.specs.Tables.{effective}
+use Rattle.node_threads.specs.parts.histories.specs.Texts.{HasUploads}
+use Rattle.node_threads.specs.parts.table_types.specs.Tables.{effective}
 use Rattle.table_backend.specs.Backing.{TellsLatest}
 use Rattle.cluster_backend.proofs.running.tables_at.Goals as goal
 

@@ -1,7 +1,7 @@
 use Rattle.std.proofs.Common.{map, string_bytes, subst}
 use Rattle.std.proofs.lemmas.Result.{IfOk-weaker}
-use Rattle.table_types.specs.Tables.{effective}
-use Rattle.table_versions.specs.Info.{IsLatest}
+use Rattle.node_threads.specs.parts.table_types.specs.Tables.{effective}
+use Rattle.node_threads.specs.parts.table_versions.specs.Info.{IsLatest}
 use Rattle.table_backend.proofs.Tables.{tells_latest}
 use Rattle.cluster_backend.proofs.running.told.Goals as goal
 

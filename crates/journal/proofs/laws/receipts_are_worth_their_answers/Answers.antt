@@ -1,5 +1,5 @@
-use Rattle.schedule_runner.specs.Told.{config_of}
-use Rattle.schedule_runner.specs.Traced.{history_of}
+use Rattle.node_parts.specs.traces.specs.Told.{config_of}
+use Rattle.node_parts.specs.traces.specs.Traced.{history_of}
 use Rattle.journal.specs.Journaled.{seats_in}
 use Rattle.journal.proofs.Worth.{are_worth}
 use Rattle.journal.proofs.laws.receipts_are_worth_their_answers.Goals as goal

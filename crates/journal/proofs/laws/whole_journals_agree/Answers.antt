@@ -1,4 +1,4 @@
-use Rattle.schedule_runner.specs.Traced.{history_of}
+use Rattle.node_parts.specs.traces.specs.Traced.{history_of}
 use Rattle.journal.proofs.Worth.{are_worth, follows}
 use Rattle.journal.proofs.laws.whole_journals_agree.Goals as goal
 

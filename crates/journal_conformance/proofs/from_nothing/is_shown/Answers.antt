@@ -1,7 +1,7 @@
 use Rattle.std.proofs.Common.{◌↔◌, inl}
-use Rattle.agreement_rules.specs.Views.{HasPrefix}
-use Rattle.histories.specs.History.{History}
-use Rattle.safe_histories.specs.Learning.{Runs, HasLearnedPrefix}
+use Rattle.seats.specs.parts.agreement_rules.specs.Views.{HasPrefix}
+use Rattle.seats.specs.parts.histories.specs.History.{History}
+use Rattle.seats.specs.parts.safe_histories.specs.Learning.{Runs, HasLearnedPrefix}
 use Rattle.seats.specs.Steps.{IsDown}
 use Rattle.journal_conformance.proofs.Beginnings.{alone}
 use Rattle.journal_conformance.proofs.from_nothing.is_shown.Goals as goal

@@ -4,7 +4,7 @@ use Rattle.std.proofs.lemmas.List.{length_push}
 use Rattle.serde_json.specs.Data.{Data}
 use Rattle.serde_json.specs.View.{view}
 use Rattle.serde_json.specs.declared.value.Value.{Value}
-use Rattle.json_rows.specs.declared.fault.RowsFault.TheVariants.{OutOfMemory}
+use Rattle.json_rows.specs.declared.fault.JsonFault.TheVariants.{OutOfMemory}
 use Rattle.json_rows.specs.Lines.{TellsLine, lines_of}
 use Rattle.json_rows.proofs.Cut.{zip_middle, zip_joined}
 use Rattle.json_rows.proofs.Zipped.{told_on, mapped_push}

@@ -6,7 +6,7 @@ use Rattle.header_types.specs.Limits.{forest_depth}
 use Rattle.json_rows.specs.Cells.{TellsFields, forest_in}
 use Rattle.json_rows.specs.Lines.{TellsLine, cell_at}
 use Rattle.json_rows.specs.Written.{WritesValue}
-use Rattle.json_rows.specs.declared.fault.RowsFault.TheVariants.{OutOfMemory}
+use Rattle.json_rows.specs.declared.fault.JsonFault.TheVariants.{OutOfMemory}
 use Rattle.json_rows.proofs.Texts.{read_back}
 use Rattle.json_rows.proofs.Zipped.{told_on}
 use Rattle.json_rows.proofs.row_lines.row_text.Goals as goal

@@ -1,6 +1,6 @@
 use Rattle.std.proofs.Common.{◌++◌, length, arith}
 use Rattle.table_types.specs.Answers.{answer_of}
-use Rattle.call_words.specs.Statuses.{ok_trailer}
+use Rattle.call_protocol.specs.Statuses.{ok_trailer}
 use Rattle.request_laws.proofs.Versions.{made_can, is_answer}
 use Rattle.request_laws.proofs.laws.versions_can_be_got.Goals as goal
 

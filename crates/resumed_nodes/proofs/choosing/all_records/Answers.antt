@@ -1,7 +1,7 @@
 use Rattle.std.proofs.Common.{◌≡◌, List, [], ◌∷◌, ◌++◌, map, take, sym, ap, ◌∙◌}
 use Rattle.std.proofs.lemmas.List.{map-append, take_all}
 use Rattle.ballots.specs.declared.record.Record.{Record}
-use Rattle.node_seats.specs.State.{SeatState}
+use Rattle.stored_nodes.specs.State.{SeatState}
 use Rattle.resumed_nodes.specs.Starting.{records_of}
 use Rattle.resumed_nodes.proofs.Told.{one_further}
 use Rattle.resumed_nodes.proofs.choosing.all_records.Goals as goal

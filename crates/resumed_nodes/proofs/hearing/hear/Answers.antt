@@ -1,7 +1,7 @@
 use Rattle.std.proofs.Common.{◌≡◌, rules, subst}
 use Rattle.ballots.specs.declared.message.Message.{Message}
 use Rattle.agreement_rules.specs.Views.{Views}
-use Rattle.node_seats.specs.State.{IsPlaced, StandsUp}
+use Rattle.stored_nodes.specs.State.{IsPlaced, StandsUp}
 use Rattle.resumed_nodes.specs.Hearing.{HearAnswers}
 use Rattle.resumed_nodes.proofs.hearing.hear.Goals as goal
 

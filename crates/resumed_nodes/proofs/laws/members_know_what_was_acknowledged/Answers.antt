@@ -2,7 +2,7 @@ use Rattle.std.proofs.Common.{◌≡◌, length, take, refl, ◌∙◌}
 use Rattle.std.proofs.lemmas.List.{length-map}
 use Rattle.histories.specs.History.{History}
 use Rattle.histories.specs.Following.{Follows, at_first}
-use Rattle.node_seats.specs.State.{SeatState}
+use Rattle.stored_nodes.specs.State.{SeatState}
 use Rattle.resumed_nodes.specs.Heard.{heard, learner_calls_from}
 use Rattle.resumed_nodes.specs.Starting.{records_of}
 use Rattle.resumed_nodes.proofs.Learned.{goes_further}

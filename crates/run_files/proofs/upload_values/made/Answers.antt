@@ -1,7 +1,7 @@
 use Rattle.std.proofs.Common.{◌∙◌, ap, subst}
 use Rattle.header_types.specs.Fields.{SchemaTree}
 use Rattle.table_types.specs.Uploads.{upload_text}
-use Rattle.upload_writing.specs.Making.{AreRefused, upload_of as uploaded}
+use Rattle.uploads.specs.Making.{AreRefused, upload_of as uploaded}
 use Rattle.run_files.proofs.UploadValues.{parts_make, only_memory}
 use Rattle.run_files.proofs.upload_values.made.Goals as goal
 

@@ -3,7 +3,7 @@ use Rattle.std.specs.List.{AllByRecursion}
 use Rattle.serde_json.specs.View.{view}
 use Rattle.batch_columns.specs.declared.batch.Batch.{Batch}
 use Rattle.table_types.specs.Valid.{IsUpload}
-use Rattle.upload_writing.specs.Making.{upload_of as uploaded}
+use Rattle.uploads.specs.Making.{upload_of as uploaded}
 use Rattle.run_files.specs.UploadValue.{IsByteBatch, column_schema}
 use Rattle.run_files.specs.declared.fault.ValueFault.TheVariants.{OutOfMemory}
 use Rattle.run_files.proofs.Reading.{told_on}

@@ -1,6 +1,6 @@
 use Rattle.std.proofs.Common.{rules, ◌≡◌}
 use Rattle.grpc_frames.specs.FrameFaults.{WhereKnown}
-use Rattle.run_files.specs.declared.script.Asked.TheVariants as asked
+use Rattle.run_files.specs.declared.script.CallRequest.TheVariants as asked
 use Rattle.client_calls.specs.Answers.{Receives, Requests}
 use Rattle.script_calls.specs.Asking.{Question, request_of, Tells, CanTell}
 use Rattle.script_calls.proofs.Questions.{put_asked, get_asked, info_asked}

@@ -1,6 +1,6 @@
 use Rattle.std.proofs.Common.{◌≡◌, ◌↔◌, drop}
-use Rattle.histories.specs.Owning.{own}
-use Rattle.schedule_runner.specs.Told.{steps_of}
+use Rattle.journal.specs.parts.histories.specs.Owning.{own}
+use Rattle.journal.specs.parts.traces.specs.Told.{steps_of}
 use Rattle.seats.proofs.agreeing.are_own.Given as goal
 
 -- what is left of the steps has what is left of the entries exactly where all of them have all

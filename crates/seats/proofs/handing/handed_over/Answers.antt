@@ -1,5 +1,5 @@
 use Rattle.std.proofs.Common.{Option, sym, subst}
-use Rattle.agreement.specs.declared.refusal.Refusal.{Refusal}
+use Rattle.journal.specs.parts.agreement.specs.declared.refusal.Refusal.{Refusal}
 use Rattle.node_core.specs.Plans.{IsRefused, JudgesPut}
 use Rattle.seats.specs.declared.input.SeatInput.{SeatInput}
 use Rattle.seats.specs.Inputs.{input_of}

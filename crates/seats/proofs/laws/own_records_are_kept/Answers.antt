@@ -1,12 +1,12 @@
 use Rattle.std.proofs.Common.{◌≡◌, List, sym, subst, ◌∙◌}
-use Rattle.ballots.specs.declared.record.Record.{Record}
-use Rattle.histories.specs.Following.{Seat, IsUp, at_first}
-use Rattle.histories.specs.Following as following
-use Rattle.histories.specs.Keeping.{AreKept, records_in}
-use Rattle.histories.specs.Owning.{OwnReaches}
-use Rattle.histories.proofs.Keeping.{TicksKeep, PartsKeep, own_keeps, kept_from_nothing}
-use Rattle.node_seats.specs.State.{SeatState}
-use Rattle.schedule_runner.specs.Told.{config_of}
+use Rattle.journal.specs.parts.ballots.specs.declared.record.Record.{Record}
+use Rattle.journal.specs.parts.histories.specs.Following.{Seat, IsUp, at_first}
+use Rattle.journal.specs.parts.histories.specs.Following as following
+use Rattle.journal.specs.parts.histories.specs.Keeping.{AreKept, records_in}
+use Rattle.journal.specs.parts.histories.specs.Owning.{OwnReaches}
+use Rattle.journal.specs.parts.histories.proofs.Keeping.{TicksKeep, PartsKeep, own_keeps, kept_from_nothing}
+use Rattle.stored_nodes.specs.State.{SeatState}
+use Rattle.journal.specs.parts.traces.specs.Told.{config_of}
 use Rattle.seats.specs.State.{StandsSo}
 use Rattle.seats.proofs.laws.own_records_are_kept.Goals as goal
 

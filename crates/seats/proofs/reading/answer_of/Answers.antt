@@ -1,6 +1,6 @@
 use Rattle.std.proofs.Common.{refl, sym, ap, subst, ◌∙◌}
-use Rattle.histories.specs.EventResult as results
-use Rattle.node_events.specs.declared.event_result.EventResult.TheVariants as given
+use Rattle.journal.specs.parts.histories.specs.EventResult as results
+use Rattle.journal.specs.parts.node_events.specs.declared.event_result.EventResult.TheVariants as given
 use Rattle.seats.specs.declared.query.Query.{Query}
 use Rattle.seats.specs.Steps.{AnswersQuery, HasAnswer}
 use Rattle.seats.proofs.Told.{an_answer, no_answer}

@@ -1,8 +1,8 @@
 use Rattle.std.proofs.Common.{List, sym, subst, ◌∙◌}
 use Rattle.std.specs.List.{All}
-use Rattle.ballots.specs.declared.message.Message.{Message}
-use Rattle.ballots.specs.declared.record.Record.{Record}
-use Rattle.agreement_rules.specs.Views.{Config}
+use Rattle.flight_service.specs.parts.ballots.specs.declared.message.Message.{Message}
+use Rattle.flight_service.specs.parts.ballots.specs.declared.record.Record.{Record}
+use Rattle.flight_service.specs.parts.agreement_rules.specs.Views.{Config}
 use Rattle.chosen_records.specs.Chosen.{IsRecorded}
 use Rattle.resumed_nodes.specs.Starting.{AreStarted, GoesOn, records_of}
 use Rattle.resumed_nodes.specs.Knowing.{TellsAll, KnowsAcknowledged}

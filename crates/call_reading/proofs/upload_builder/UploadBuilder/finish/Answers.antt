@@ -2,7 +2,7 @@ use Rattle.std.proofs.Common.{arith, refl, ap, subst, inl, inr, ◌∙◌}
 use Rattle.header_types.specs.Views.{schema_of}
 use Rattle.table_types.specs.Uploads.{upload_text}
 use Rattle.table_types.specs.Valid.{IsUpload}
-use Rattle.upload_writing.specs.Making.{IsSmall, AreRefused}
+use Rattle.uploads.specs.Making.{IsSmall, AreRefused}
 use Rattle.call_reading.proofs.Batches.{made_is, none_made}
 use Rattle.call_reading.proofs.upload_builder.UploadBuilder.finish.Goals as goal
 

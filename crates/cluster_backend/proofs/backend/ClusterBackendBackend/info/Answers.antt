@@ -1,5 +1,5 @@
 use Rattle.std.proofs.Common.{map, string_bytes, subst, arith}
-use Rattle.table_types.specs.Tables.{effective}
+use Rattle.node_threads.specs.parts.table_types.specs.Tables.{effective}
 use Rattle.call_reading.specs.Requests.{describes}
 use Rattle.flight_calls.specs.Replies.{described}
 use Rattle.table_backend.proofs.Tables.{describes_latest, tells_latest}

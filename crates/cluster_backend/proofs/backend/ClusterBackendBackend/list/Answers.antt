@@ -1,4 +1,4 @@
-use Rattle.table_types.specs.Tables.{table_names}
+use Rattle.node_threads.specs.parts.table_types.specs.Tables.{table_names}
 use Rattle.std.proofs.Common.{map, string_bytes, subst, arith}
 use Rattle.call_reading.specs.Requests.{lists}
 use Rattle.flight_calls.specs.Replies.{listed}

@@ -1,5 +1,5 @@
 use Rattle.std.proofs.Common.{sym, subst, refl, ◌∙◌}
-use Rattle.table_types.specs.Valid.{FitsFrame}
+use Rattle.node_threads.specs.parts.table_types.specs.Valid.{FitsFrame}
 use Rattle.call_reading.specs.Requests.{shows}
 use Rattle.flight_calls.specs.Replies.{shown}
 use Rattle.table_backend.proofs.Tables.{schema_of_latest}

@@ -1,6 +1,6 @@
 use Rattle.std.proofs.Common.{subst}
 use Rattle.std.specs.Prelude.{IfOk}
-use Rattle.seats.specs.declared.query.Query.TheVariants as query
+use Rattle.node_threads.specs.seats.specs.declared.query.Query.TheVariants as query
 use Rattle.cluster_backend.specs.Backing.{IsAnswered, IsAnswerTo}
 use Rattle.cluster_backend.proofs.running.RunningNodes.outcome.Goals as goal
 

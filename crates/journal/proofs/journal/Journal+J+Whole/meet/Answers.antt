@@ -1,6 +1,6 @@
 use Rattle.std.proofs.Common.{subst, sym}
-use Rattle.schedule_runner.specs.Told.{config_of, steps_of}
-use Rattle.schedule_runner.specs.Traced.{Traced, history_of}
+use Rattle.node_parts.specs.traces.specs.Told.{config_of, steps_of}
+use Rattle.node_parts.specs.traces.specs.Traced.{Traced, history_of}
 use Rattle.journal.specs.Journaled.{seats_in}
 use Rattle.journal.proofs.Worth.{KeepsPromises, are_worth}
 use Rattle.journal.proofs.journal.Journal+J+Whole.meet.Goals as goal

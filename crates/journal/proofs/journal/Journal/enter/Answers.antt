@@ -1,7 +1,7 @@
 use Rattle.std.proofs.Common.{List, Option, Bool, Bor, IfSome, refl, sym, ap, subst, ◌∙◌}
 use Rattle.std.specs.Option.{option_map}
-use Rattle.histories.specs.Owning.{Entry}
-use Rattle.schedule_runner.specs.Traced.{TraceReachesFrom}
+use Rattle.node_parts.specs.histories.specs.Owning.{Entry}
+use Rattle.node_parts.specs.traces.specs.Traced.{TraceReachesFrom}
 use Rattle.journal.specs.Journaled.{seats_in, Journaled, journaled, HasEntry, MayEnter, EntersOwn}
 use Rattle.journal.specs.Logged.{own_entry, GoesOn}
 use Rattle.journal.proofs.Entering.{enters, own_grows, own_leaves}

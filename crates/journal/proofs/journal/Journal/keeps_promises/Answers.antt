@@ -1,10 +1,10 @@
 use Rattle.std.proofs.Common.{◌++◌, subst}
-use Rattle.lawful_histories.specs.Lawful.{IsLawful}
-use Rattle.histories.specs.History.{History}
-use Rattle.safe_histories.specs.Safe.{IsSafe}
-use Rattle.joined_histories.specs.Joined.{joined, Precedes}
-use Rattle.schedule_runner.specs.Told.{config_of}
-use Rattle.schedule_runner.specs.Traced.{history_of}
+use Rattle.node_parts.specs.lawful_histories.specs.Lawful.{IsLawful}
+use Rattle.node_parts.specs.histories.specs.History.{History}
+use Rattle.node_parts.specs.safe_histories.specs.Safe.{IsSafe}
+use Rattle.node_parts.specs.joined_histories.specs.Joined.{joined, Precedes}
+use Rattle.node_parts.specs.traces.specs.Told.{config_of}
+use Rattle.node_parts.specs.traces.specs.Traced.{history_of}
 use Rattle.journal.specs.Journaled.{seats_in, Journaled, journaled}
 use Rattle.journal.proofs.journal.Journal.keeps_promises.Goals as goal
 

@@ -1,5 +1,5 @@
 use Rattle.std.proofs.Common.{◌≡◌, ◌+◌, List, ◌++◌, length}
-use Rattle.ballots.specs.declared.message.Message.{Message as Sent}
+use Rattle.node_parts.specs.ballots.specs.declared.message.Message.{Message as Sent}
 use Rattle.journal.specs.Recalled.{IsEndOf}
 use Rattle.journal.proofs.last_messages.LastMessages.extend.Given as goal
 

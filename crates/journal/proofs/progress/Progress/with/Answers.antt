@@ -1,7 +1,7 @@
 use Rattle.std.proofs.Common.{◌≡◌, ℕ, ◌<◌, ◌++◌, ◌∷◌, [], List, arith, length, slice_index_or, sym, ap, subst, ◌∙◌}
-use Rattle.ballots.specs.Limits.{max_members}
-use Rattle.histories.specs.Event.{node_of}
-use Rattle.histories.specs.Owning.{Entry}
+use Rattle.node_parts.specs.ballots.specs.Limits.{max_members}
+use Rattle.node_parts.specs.histories.specs.Event.{node_of}
+use Rattle.node_parts.specs.histories.specs.Owning.{Entry}
 use Rattle.journal.specs.Logged.{own_of, AreCounted}
 use Rattle.journal.proofs.Counting.{fewer, counted_more, counted_still}
 use Rattle.journal.proofs.progress.Progress.with.Goals as goal

@@ -1,10 +1,10 @@
 use Rattle.std.proofs.Common.{◌≡◌, List, [], sym, ap, subst, ◌∙◌}
 use Rattle.std.specs.Option.{IfSome}
-use Rattle.agreement_rules.specs.Views.{started_with}
-use Rattle.histories.specs.Following.{Seat, IsUp}
-use Rattle.histories.specs.Owning.{Entry, OwnReaches}
-use Rattle.node_seats.specs.State.{SeatState, IsPlaced, Stands}
-use Rattle.schedule_runner.specs.Told.{config_of}
+use Rattle.journal.specs.parts.agreement_rules.specs.Views.{started_with}
+use Rattle.journal.specs.parts.histories.specs.Following.{Seat, IsUp}
+use Rattle.journal.specs.parts.histories.specs.Owning.{Entry, OwnReaches}
+use Rattle.stored_nodes.specs.State.{SeatState, IsPlaced, Stands}
+use Rattle.journal.specs.parts.traces.specs.Told.{config_of}
 use Rattle.journal.specs.Journaled.{seats_in}
 use Rattle.seats.proofs.seat.Seat+S+J+Whole.open.Goals as goal
 

@@ -1,5 +1,5 @@
 use Rattle.std.proofs.Common.{◌≡◌, List, sym, ap, subst, ◌∙◌}
-use Rattle.histories.specs.Following.{Seat}
+use Rattle.journal.specs.parts.histories.specs.Following.{Seat}
 use Rattle.journal.specs.Journaled.{seats_in}
 use Rattle.seats.specs.State.{RunningSeat}
 use Rattle.seats.proofs.seat.Seat.has_own.Goals as goal

@@ -1,7 +1,7 @@
 use Rattle.std.proofs.Common.{ℕ, List, [], ◌∷◌, ◌++◌, refl, sym, ap, subst, ◌∙◌}
-use Rattle.histories.specs.Following.{IsUp, recovered_in}
-use Rattle.agreement_rules.specs.Views.{started_with}
-use Rattle.histories.specs.Owning.{Entry}
+use Rattle.journal.specs.parts.histories.specs.Following.{IsUp, recovered_in}
+use Rattle.journal.specs.parts.agreement_rules.specs.Views.{started_with}
+use Rattle.journal.specs.parts.histories.specs.Owning.{Entry}
 use Rattle.journal.specs.Journaled.{seats_in, Journaled, MayEnter}
 use Rattle.seats.specs.Entries.{restart_step, restart_entry}
 use Rattle.seats.specs.State.{RunningSeat}

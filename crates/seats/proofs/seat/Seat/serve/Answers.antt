@@ -1,9 +1,9 @@
 use Rattle.std.proofs.Common.{◌≡◌, ℕ, List, false, sym, ap, subst, ◌∙◌}
-use Rattle.ballots.specs.declared.message.Message.{Message}
-use Rattle.node_events.specs.declared.event.Event.{Event}
-use Rattle.node_events.specs.declared.event_result.EventResult.{EventResult}
+use Rattle.journal.specs.parts.ballots.specs.declared.message.Message.{Message}
+use Rattle.journal.specs.parts.node_events.specs.declared.event.Event.{Event}
+use Rattle.journal.specs.parts.node_events.specs.declared.event_result.EventResult.{EventResult}
 use Rattle.journal.specs.declared.receipt.Receipt.{Receipt}
-use Rattle.schedule_runner.specs.declared.step.Step.{Step}
+use Rattle.journal.specs.parts.traces.specs.declared.step.Step.{Step}
 use Rattle.journal.specs.Journaled.{Journaled, MayEnter}
 use Rattle.seats.specs.State.{RunningSeat}
 use Rattle.seats.specs.Steps.{IsOpen, IsFoundBy, AnswersQuery, asked_at}

@@ -1,7 +1,7 @@
 use Rattle.std.proofs.Common.{Result, ◌≡◌, ℕ, arith, length, vec_len, List, [], ◌∷◌, ◌++◌, ap, false, Some, Ok, Err, refl, sym, subst, ◌∙◌}
-use Rattle.histories.specs.Owning.{Entry}
+use Rattle.journal.specs.parts.histories.specs.Owning.{Entry}
 use Rattle.journal.specs.Journaled.{seats_in, Journaled}
-use Rattle.histories.specs.Following as following
+use Rattle.journal.specs.parts.histories.specs.Following as following
 use Rattle.seats.specs.declared.fault.SeatFault.TheVariants as fault
 use Rattle.seats.specs.State.{RunningSeat}
 use Rattle.seats.specs.Entries.{done_step, done_entry, cut_step, cut_entry}

@@ -3,7 +3,7 @@ use Rattle.table_types.specs.Answers.{answer_of}
 use Rattle.table_types.specs.Tables.{Version, version_of}
 use Rattle.table_types.specs.Ticket.{TableVersion}
 use Rattle.call_reading.specs.Requests.{serves}
-use Rattle.call_words.specs.declared.back_fault.BackFault.{BackFault}
+use Rattle.call_protocol.specs.declared.back_fault.BackFault.{BackFault}
 use Rattle.flight_calls.specs.Replies.{served}
 use Rattle.table_backend.specs.Backing.{BackendState, MayAnswer}
 use Rattle.table_backend.proofs.Tables.{answered_version}

@@ -1,0 +1,10 @@
+use Rattle.std.proofs.Common.{ap, subst, List}
+use mathlib.Core.List.{IsPrefix}
+use Rattle.ghost_log.proofs.Beginnings.{one_begins_the_other}
+use Rattle.ghost_log.proofs.reached.Reached.beside.Goals as goal
+
+pub returns : goal.returns
+returns g c =
+    let both = c.learn.new.self.log in
+    let this : IsPrefix c.self.inside.seen.log both = subst (λ (l : List _). IsPrefix l both) (ap (λ s. s.log) c.again-both.ensures) c.learn.ensures.2 in
+    rw (← c.self.view_is, ← c.other.view_is) (one_begins_the_other c.self.inside.seen.log c.other.inside.seen.log both this c.learn.ensures.3)

@@ -1,0 +1,10 @@
+use Rattle.std.proofs.Common.{Ok, take}
+use Rattle.std.specs.List.{flat_map}
+use Rattle.grpc_frames.specs.FrameFaults.{WhereKnown}
+use Rattle.header_types.specs.Views.{schema_of}
+use Rattle.json_client.specs.Prints.{Prints, rows_alone}
+use Rattle.json_client.proofs.printing.write_batches.Given as goal
+
+abbrev pub invariant-loop-batch : goal.invariant-loop-batch
+invariant-loop-batch g l =
+    WhereKnown (g.O.Write.contents l.initial.out) (g.O.Write.contents l.out) (Prints (schema_of l.schema).fields (flat_map rows_alone (take l.batch-index l.batches)) (Ok tt))

@@ -1,0 +1,11 @@
+pub use Rattle.joined_histories as joined_histories
+pub use Rattle.traces as traces
+pub use Rattle.traces.specs.agreement as agreement
+pub use Rattle.traces.specs.agreement_rules as agreement_rules
+pub use Rattle.traces.specs.ballots as ballots
+pub use Rattle.traces.specs.histories as histories
+pub use Rattle.traces.specs.lawful_histories as lawful_histories
+pub use Rattle.traces.specs.node_events as node_events
+pub use Rattle.traces.specs.safe_histories as safe_histories
+pub use Rattle.traces.specs.table_types as table_types
+pub use Rattle.traces.specs.table_versions as table_versions

@@ -1,8 +1,0 @@
-use Rattle.std.proofs.Common.{List}
-use Rattle.node_work.specs.Deeds.{Deed, Did, ForEach}
-use Rattle.node_work.specs.Stepping.{EndsAt}
-use Rattle.node_work.proofs.settling.end_each.Given as goal
-
-abbrev pub invariant-loop-at : goal.invariant-loop-at
-invariant-loop-at g l =
-    (deeds : List (Deed g.row.P-Settled.Denot)) × Did g.P.Workplace.does l.initial.place deeds l.place × ForEach (EndsAt l.fn.end) l.at deeds

@@ -1,8 +1,0 @@
-use Rattle.std.proofs.Common.{List}
-use Rattle.node_work.specs.Deeds.{Deed, Did}
-use Rattle.node_work.specs.Stepping.{TellsEach}
-use Rattle.node_work.proofs.telling.tell_each.Given as goal
-
-abbrev pub invariant-loop-node : goal.invariant-loop-node
-invariant-loop-node g l =
-    (deeds : List (Deed g.row.P-Settled.Denot)) × Did g.P.Workplace.does l.initial.place deeds l.place × TellsEach l.node l.fn.number deeds

@@ -1,9 +1,0 @@
-use Rattle.upload_reading.proofs.Fronts.{StillNext}
-use Rattle.std.proofs.Common.{length}
-use Rattle.upload_reading.proofs.finding.are_batches.Given as goal
-
-abbrev pub invariant-loop-rest : goal.invariant-loop-rest
-invariant-loop-rest l = StillNext l.id l.batches l.rest l.count
-
-abbrev pub decreases-loop-rest : goal.decreases-loop-rest
-decreases-loop-rest l = length l.rest

@@ -1,3 +1,0 @@
-pub mod Making
-pub mod Sized
-pub mod Written
