@@ -1,7 +1,7 @@
 //! The commands of the command line, and what each of them takes.
 
-ghost use Rattle.std.specs.Prelude.{◌≡◌, false, codes, IfOk};
-ghost use Rattle.clap.specs.Words.{app_of, new_app, new_rule, rule_of, with_subcommand};
+ghost use Rattle.std.specs.Prelude.{◌≡◌, true, false, codes, IfOk};
+ghost use Rattle.clap.specs.Words.{App, app_of, new_app, new_rule, rule_of, with_subcommand};
 ghost use Rattle.command_line.specs.CommandLine.{accepting, app_for, auditing, command_line, flag_rule, getting, informing, listing, local_commands, operand_rule, option_rule, putting, replaying, scripting, serving, showing, with_version};
 
 use crate::help;
@@ -12,8 +12,11 @@ use std::alloc::{AllocError, Global};
 pub(crate) fn command_line<'a>(alloc: Global) -> Result<Command<'a>, AllocError>
     ensures { IfOk result (λ made. app_of made ≡ command_line) }
 {
-    let program = with_put(alloc, with_local(alloc, program(alloc))?)?;
-    with_info(alloc, with_list(alloc, with_get(alloc, program)?)?)
+    let program = with_local(alloc, program(alloc))?;
+    let program = with_command(program, put(alloc))?;
+    let program = with_command(program, get(alloc))?;
+    let program = with_command(program, list(alloc))?;
+    with_command(program, info(alloc))
 }
 
 fn program<'a>(alloc: Global) -> Command<'a>
@@ -29,8 +32,23 @@ fn program<'a>(alloc: Global) -> Command<'a>
 fn with_local<'a>(alloc: Global, program: Command<'a>) -> Result<Command<'a>, AllocError>
     ensures { IfOk result (λ made. app_of made ≡ local_commands (app_of program.entry)) }
 {
-    let program = with_replay(alloc, with_audit(alloc, with_acceptor(alloc, program)?)?)?;
-    with_records(alloc, with_script(alloc, with_serve(alloc, program)?)?)
+    let program = with_acceptor(alloc, program)?;
+    let program = with_command(program, audit(alloc))?;
+    let program = with_command(program, replay(alloc))?;
+    let program = with_command(program, serve(alloc))?;
+    let program = with_command(program, script(alloc))?;
+    with_command(program, records(alloc))
+}
+
+// The program with one command more. A command is made apart from the program, whose drop at each `?` would be proved there too.
+fn with_command<'a>(
+    program: Command<'a>,
+    command: Result<Command<'a>, AllocError>,
+) -> Result<Command<'a>, AllocError>
+    ensures { (app : App) → app.top.is_plain ≡ true → IfOk command.entry (λ made. app_of made ≡ app)
+        → IfOk result (λ made. app_of made ≡ with_subcommand (app_of program.entry) app.top) }
+{
+    program.subcommand(command?)
 }
 
 fn with_acceptor<'a>(alloc: Global, program: Command<'a>) -> Result<Command<'a>, AllocError>
@@ -42,106 +60,97 @@ fn with_acceptor<'a>(alloc: Global, program: Command<'a>) -> Result<Command<'a>,
     program.subcommand(acceptor)
 }
 
-fn with_audit<'a>(alloc: Global, program: Command<'a>) -> Result<Command<'a>, AllocError>
-    ensures { IfOk result (λ made. app_of made ≡ with_subcommand (app_of program.entry) (app_for auditing).top) }
+fn audit<'a>(alloc: Global) -> Result<Command<'a>, AllocError>
+    ensures { IfOk result (λ made. app_of made ≡ app_for auditing) }
 {
-    let audit = Command::new(alloc, "audit")
+    Command::new(alloc, "audit")
         .about(help::AUDIT)
         .after_help(help::AUDIT_MORE)
         .arg(operand(alloc, "FILE", help::RUN_FILE))?
-        .arg(flag(alloc, "explain", help::EXPLAIN))?;
-    program.subcommand(audit)
+        .arg(flag(alloc, "explain", help::EXPLAIN))
 }
 
-fn with_replay<'a>(alloc: Global, program: Command<'a>) -> Result<Command<'a>, AllocError>
-    ensures { IfOk result (λ made. app_of made ≡ with_subcommand (app_of program.entry) (app_for replaying).top) }
+fn replay<'a>(alloc: Global) -> Result<Command<'a>, AllocError>
+    ensures { IfOk result (λ made. app_of made ≡ app_for replaying) }
 {
-    let replay = Command::new(alloc, "replay")
+    Command::new(alloc, "replay")
         .about(help::REPLAY)
         .after_help(help::REPLAY_MORE)
-        .arg(operand(alloc, "FILE", help::SCHEDULE_FILE))?;
-    program.subcommand(replay)
+        .arg(operand(alloc, "FILE", help::SCHEDULE_FILE))
 }
 
-fn with_serve<'a>(alloc: Global, program: Command<'a>) -> Result<Command<'a>, AllocError>
-    ensures { IfOk result (λ made. app_of made ≡ with_subcommand (app_of program.entry) (app_for serving).top) }
+fn serve<'a>(alloc: Global) -> Result<Command<'a>, AllocError>
+    ensures { IfOk result (λ made. app_of made ≡ app_for serving) }
 {
-    let serve = Command::new(alloc, "serve")
+    Command::new(alloc, "serve")
         .about(help::SERVE)
         .after_help(help::SERVE_MORE)
         .arg(option(alloc, "nodes", "N", help::NODES))?
         .arg(option(alloc, "port", "P", help::PORT))?
         .arg(option(alloc, "data", "DIR", help::DATA))?
-        .arg(flag(alloc, "resume", help::RESUME))?;
-    program.subcommand(serve)
+        .arg(flag(alloc, "resume", help::RESUME))
 }
 
-fn with_script<'a>(alloc: Global, program: Command<'a>) -> Result<Command<'a>, AllocError>
-    ensures { IfOk result (λ made. app_of made ≡ with_subcommand (app_of program.entry) (app_for scripting).top) }
+fn script<'a>(alloc: Global) -> Result<Command<'a>, AllocError>
+    ensures { IfOk result (λ made. app_of made ≡ app_for scripting) }
 {
-    let script = Command::new(alloc, "script")
+    Command::new(alloc, "script")
         .about(help::SCRIPT)
         .after_help(help::SCRIPT_MORE)
-        .arg(operand(alloc, "FILE", help::SCRIPT_FILE))?;
-    program.subcommand(script)
+        .arg(operand(alloc, "FILE", help::SCRIPT_FILE))
 }
 
-fn with_records<'a>(alloc: Global, program: Command<'a>) -> Result<Command<'a>, AllocError>
-    ensures { IfOk result (λ made. app_of made ≡ with_subcommand (app_of program.entry) (app_for showing).top) }
+fn records<'a>(alloc: Global) -> Result<Command<'a>, AllocError>
+    ensures { IfOk result (λ made. app_of made ≡ app_for showing) }
 {
-    let records = Command::new(alloc, "records")
+    Command::new(alloc, "records")
         .about(help::RECORDS)
         .after_help(help::RECORDS_MORE)
-        .arg(operand(alloc, "FILE", help::RECORDS_FILE))?;
-    program.subcommand(records)
+        .arg(operand(alloc, "FILE", help::RECORDS_FILE))
 }
 
-fn with_put<'a>(alloc: Global, program: Command<'a>) -> Result<Command<'a>, AllocError>
-    ensures { IfOk result (λ made. app_of made ≡ with_subcommand (app_of program.entry) (app_for putting).top) }
+fn put<'a>(alloc: Global) -> Result<Command<'a>, AllocError>
+    ensures { IfOk result (λ made. app_of made ≡ app_for putting) }
 {
-    let put = Command::new(alloc, "put")
+    Command::new(alloc, "put")
         .about(help::PUT)
         .after_help(help::PUT_MORE)
         .arg(operand(alloc, "ADDRESS", help::ADDRESS))?
         .arg(operand(alloc, "TABLE", help::TABLE))?
         .arg(operand(alloc, "FILE", help::ROWS_FILE))?
         .arg(option(alloc, "id", "ID", help::ID))?
-        .arg(option(alloc, "schema", "SCHEMA", help::SCHEMA))?;
-    program.subcommand(put)
+        .arg(option(alloc, "schema", "SCHEMA", help::SCHEMA))
 }
 
-fn with_get<'a>(alloc: Global, program: Command<'a>) -> Result<Command<'a>, AllocError>
-    ensures { IfOk result (λ made. app_of made ≡ with_subcommand (app_of program.entry) (app_for getting).top) }
+fn get<'a>(alloc: Global) -> Result<Command<'a>, AllocError>
+    ensures { IfOk result (λ made. app_of made ≡ app_for getting) }
 {
-    let get = Command::new(alloc, "get")
+    Command::new(alloc, "get")
         .about(help::GET)
         .after_help(help::GET_MORE)
         .arg(operand(alloc, "ADDRESS", help::ADDRESS))?
         .arg(operand(alloc, "TABLE", help::TABLE))?
         .arg(Arg::new(alloc, "VERSION").help(help::VERSION))?
-        .arg(flag(alloc, "all-locations", help::ALL_LOCATIONS))?;
-    program.subcommand(get)
+        .arg(flag(alloc, "all-locations", help::ALL_LOCATIONS))
 }
 
-fn with_list<'a>(alloc: Global, program: Command<'a>) -> Result<Command<'a>, AllocError>
-    ensures { IfOk result (λ made. app_of made ≡ with_subcommand (app_of program.entry) (app_for listing).top) }
+fn list<'a>(alloc: Global) -> Result<Command<'a>, AllocError>
+    ensures { IfOk result (λ made. app_of made ≡ app_for listing) }
 {
-    let list = Command::new(alloc, "list")
+    Command::new(alloc, "list")
         .about(help::LIST)
         .after_help(help::LIST_MORE)
-        .arg(operand(alloc, "ADDRESS", help::ADDRESS))?;
-    program.subcommand(list)
+        .arg(operand(alloc, "ADDRESS", help::ADDRESS))
 }
 
-fn with_info<'a>(alloc: Global, program: Command<'a>) -> Result<Command<'a>, AllocError>
-    ensures { IfOk result (λ made. app_of made ≡ with_subcommand (app_of program.entry) (app_for informing).top) }
+fn info<'a>(alloc: Global) -> Result<Command<'a>, AllocError>
+    ensures { IfOk result (λ made. app_of made ≡ app_for informing) }
 {
-    let info = Command::new(alloc, "info")
+    Command::new(alloc, "info")
         .about(help::INFO)
         .after_help(help::INFO_MORE)
         .arg(operand(alloc, "ADDRESS", help::ADDRESS))?
-        .arg(operand(alloc, "TABLE", help::TABLE))?;
-    program.subcommand(info)
+        .arg(operand(alloc, "TABLE", help::TABLE))
 }
 
 // An operand that has to be there.

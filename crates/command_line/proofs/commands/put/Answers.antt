@@ -2,8 +2,8 @@ use Rattle.std.proofs.Common.{◌≡◌, ap, codes, refl, ◌∙◌}
 use Rattle.std.proofs.lemmas.Result.{IfOk-weaker}
 use Rattle.clap.specs.Simple.{app_of_fields}
 use Rattle.clap.specs.Words.{app_of, new_app}
-use Rattle.command_line.proofs.Made.{made_more, made_subcommand}
-use Rattle.command_line.proofs.commands.with_put.Goals as goal
+use Rattle.command_line.proofs.Made.{made_more}
+use Rattle.command_line.proofs.commands.put.Goals as goal
 
 pub returns : goal.returns
 returns c =
@@ -12,5 +12,4 @@ returns c =
     let made_2 = made_more _ _ _ _ _ made_1 c.in_ok-arg-2.ensures c.operand-2.ensures.rule c.operand-2.ensures.local in
     let made_3 = made_more _ _ _ _ _ made_2 c.in_ok-arg-3.ensures c.operand-3.ensures.rule c.operand-3.ensures.local in
     let made_4 = made_more _ _ _ _ _ made_3 c.in_ok-arg-4.ensures c.option.ensures.rule c.option.ensures.local in
-    let made_5 = made_more _ _ _ _ _ made_4 c.in_ok-put.ensures c.option-2.ensures.rule c.option-2.ensures.local in
-    IfOk-weaker c.subcommand.result _ _ (λ made adds. made_subcommand _ _ _ _ refl made_5 adds) c.subcommand.ensures
+    IfOk-weaker c.arg-5.result _ _ (λ made adds. made_more _ _ _ _ _ made_4 adds c.option-2.ensures.rule c.option-2.ensures.local) c.arg-5.ensures
