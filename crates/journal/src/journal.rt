@@ -46,7 +46,6 @@ use std::marker::{Brand, Model, PhantomData};
 /// It holds all of its steps ([`Whole`]), or their number and its last messages alone ([`Recent`], made by
 /// [`Journal::recent`]). Of the second kind the steps exist in proofs alone, with the same promises; it takes no more memory
 /// as it grows, and has no receipts to confirm.
-#[derive(Drop)]
 pub struct Journal<J: Beginning = Brand, M: Retention = Whole> {
     kept: Kept,
     progress: Option<Progress<J>>,
@@ -68,6 +67,21 @@ impl<J: Beginning, M: Retention> Model for Journal<J, M> {
     ghost invariant = { λ j. HasFollowed (journaled J.start j.kept j.progress j.outrun)
         × IfSome j.progress (λ log. HasLogged log (journaled J.start j.kept j.progress j.outrun))
         × (j.kept.whole ≡ M.whole) };
+}
+
+// Written out, so that a crate above drops a journal by one call, and does not prove again what is inside it.
+impl<J: Beginning, M: Retention> Drop for Journal<J, M> {
+    fn drop(self) {
+        let Journal {
+            kept,
+            progress,
+            outrun,
+            of: _,
+        } = self;
+        drop(kept);
+        drop(progress);
+        drop(outrun);
+    }
 }
 
 impl<J: Beginning> Journal<J, Whole> {

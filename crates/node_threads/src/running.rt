@@ -43,7 +43,6 @@ impl Pending {
 }
 
 /// A cluster whose nodes have a worker each.
-#[derive(Drop)]
 pub struct Running<
     const N: usize,
     S: Stable + Drop,
@@ -56,6 +55,24 @@ pub struct Running<
     gate: G,
     desks: Vec<Desk>,
     is_stopping: AtomicBool,
+}
+
+// Written out, so that whoever drops nodes does so by one call, and does not prove again what is inside them.
+impl<const N: usize, S: Stable + Drop, J: Beginning, G: Gate + Drop, M: Retention> Drop
+    for Running<N, S, J, G, M> {
+    fn drop(self) {
+        let Running {
+            alloc: _,
+            cluster,
+            gate,
+            desks,
+            is_stopping,
+        } = self;
+        drop(cluster);
+        drop(gate);
+        drop(desks);
+        drop(is_stopping);
+    }
 }
 
 impl<const N: usize, S: Stable + Drop, J: Beginning, G: Gate + Drop, M: Retention> Running<
