@@ -48,34 +48,60 @@ fn got<R: Wait, J: Beginning>(
     node: usize,
     version: u64,
 ) -> Result<Result<Answer, BackFault>, Why> {
+    let ticket = ticket(alloc, version)?;
     let mut backend = ClusterBackend::new(alloc, rt, nodes, receipts, node, &[]);
-    Ok(backend.get(alloc, &ticket(alloc, version)?))
+    Ok(backend.get(alloc, &ticket))
 }
 
-// An upload is put and decided, and each node is asked for it.
-fn puts_and_gets<R: Wait, J: Beginning>(
+// An upload is put and decided.
+fn puts<R: Wait, J: Beginning>(
     rt: &R,
     alloc: Global,
     nodes: &Nodes<J, OpenGate>,
     receipts: &AllReceipts,
 ) -> Result<(), Why> {
-    let upload = upload(alloc, 1)?;
+    let upload = had(Box::new(alloc, upload(alloc, 1)?))?;
     let mut backend = ClusterBackend::new(alloc, rt, nodes, receipts, 0, &[]);
-    check(
-        matches!(backend.outcome(&upload), Err(BackFault::Unavailable)),
-        "an outcome of what was not put",
-    )?;
-    check(backend.put(&upload).is_ok(), "a put fails")?;
-    decide(rt, nodes)?;
+    let is_unknown = matches!(backend.outcome(&upload), Err(BackFault::Unavailable));
+    let is_put = backend.put(&upload).is_ok();
+    let decided = decide(rt, nodes);
     nodes.settle_all(rt, 0);
-    check(
-        matches!(backend.outcome(&upload), Ok(Outcome::Applied(1))),
-        "another outcome",
-    )?;
-    let first = had(got(rt, alloc, nodes, receipts, 0, 1)?)?;
-    let second = had(got(rt, alloc, nodes, receipts, 1, 1)?)?;
-    let third = had(got(rt, alloc, nodes, receipts, 2, 1)?)?;
-    check(first == second && second == third, "answers differ")?;
+    let is_applied = matches!(backend.outcome(&upload), Ok(Outcome::Applied(1)));
+    drop(backend);
+    drop(upload);
+    decided?;
+    check(is_unknown, "an outcome of what was not put")?;
+    check(is_put, "a put fails")?;
+    check(is_applied, "another outcome")
+}
+
+// What this node answers to the ticket for the first version.
+fn first_version<R: Wait, J: Beginning>(
+    rt: &R,
+    alloc: Global,
+    nodes: &Nodes<J, OpenGate>,
+    receipts: &AllReceipts,
+    node: usize,
+) -> Result<Box<Answer>, Why> {
+    let answer = had(got(rt, alloc, nodes, receipts, node, 1)?)?;
+    had(Box::new(alloc, answer))
+}
+
+// Each node is asked for the upload, and for versions that it has not.
+fn gets<R: Wait, J: Beginning>(
+    rt: &R,
+    alloc: Global,
+    nodes: &Nodes<J, OpenGate>,
+    receipts: &AllReceipts,
+) -> Result<(), Why> {
+    let first = first_version(rt, alloc, nodes, receipts, 0)?;
+    let second = first_version(rt, alloc, nodes, receipts, 1)?;
+    let third = first_version(rt, alloc, nodes, receipts, 2)?;
+    let is_one = *first == *second && *second == *third;
+    drop(first);
+    drop(second);
+    drop(third);
+    check(is_one, "answers differ")?;
     check(
         matches!(
             got(rt, alloc, nodes, receipts, 0, 2)?,
@@ -89,6 +115,25 @@ fn puts_and_gets<R: Wait, J: Beginning>(
     )
 }
 
+// Whether the table is described as it is, and its schema is the same by itself.
+fn describes_the_table<R: Wait, J: Beginning>(
+    rt: &R,
+    alloc: Global,
+    nodes: &Nodes<J, OpenGate>,
+    receipts: &AllReceipts,
+    locations: &[String],
+) -> bool {
+    let mut backend = ClusterBackend::new(alloc, rt, nodes, receipts, 1, locations);
+    match (backend.info(alloc, "t"), backend.schema(alloc, "t")) {
+        (Ok(found), Ok(schema)) => {
+            found.info.version == 1
+                && found.locations.as_slice() == locations
+                && schema == found.info.schema
+        }
+        _ => false,
+    }
+}
+
 // What is told of the table, and of all tables.
 fn describes<R: Wait, J: Beginning>(
     rt: &R,
@@ -98,26 +143,17 @@ fn describes<R: Wait, J: Beginning>(
 ) -> Result<(), Why> {
     let mut locations = Vec::new(alloc);
     had(locations.push(had(String::from_str(alloc, "plain+tcp://127.0.0.1:42000"))?))?;
+    let is_described = describes_the_table(rt, alloc, nodes, receipts, &locations);
     let mut backend = ClusterBackend::new(alloc, rt, nodes, receipts, 1, &locations);
-    let Ok(found) = backend.info(alloc, "t") else {
-        return Err("no table");
+    let is_listed = match backend.list(alloc) {
+        Ok(all) => all.len() == 1,
+        Err(_) => false,
     };
-    check(
-        found.info.version == 1 && found.locations == locations,
-        "another table",
-    )?;
-    let Ok(schema) = backend.schema(alloc, "t") else {
-        return Err("no schema");
-    };
-    check(schema == found.info.schema, "another schema")?;
-    let Ok(all) = backend.list(alloc) else {
-        return Err("no list");
-    };
-    check(all.len() == 1, "another list")?;
-    check(
-        matches!(backend.info(alloc, "u"), Err(BackFault::NoTable)),
-        "there is another table",
-    )
+    let is_alone = matches!(backend.info(alloc, "u"), Err(BackFault::NoTable));
+    drop(backend);
+    check(is_described, "another table")?;
+    check(is_listed, "another list")?;
+    check(is_alone, "there is another table")
 }
 
 // A client's request over bytes, and the answer.
@@ -154,7 +190,8 @@ fn plays<R: Wait, J: Beginning>(
     let (nodes, notes) = three::<R, J, OpenGate>(rt, alloc, hashing, log, OpenGate)?;
     drop(notes);
     let receipts = AllReceipts::new(alloc);
-    puts_and_gets(rt, alloc, &nodes, &receipts)?;
+    puts(rt, alloc, &nodes, &receipts)?;
+    gets(rt, alloc, &nodes, &receipts)?;
     describes(rt, alloc, &nodes, &receipts)?;
     answers(rt, alloc, &nodes, &receipts)?;
     let journal = nodes.cluster().journal().lock(rt);

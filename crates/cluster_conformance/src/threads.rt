@@ -112,6 +112,7 @@ fn got<R: Threads + Wait + Clock, C: Nodes + Drop>(
     node: usize,
     version: u64,
 ) -> Result<Vec<u8>, Why> {
+    let ticket = ticket(alloc, version)?;
     let mut backend = ClusterBackend::new(
         alloc,
         rt,
@@ -120,7 +121,6 @@ fn got<R: Threads + Wait + Clock, C: Nodes + Drop>(
         node,
         &[],
     );
-    let ticket = ticket(alloc, version)?;
     for _ in 0..TRIES {
         if let Ok(answer) = backend.get(alloc, &ticket) {
             return had(answer.to_vec(alloc));
@@ -197,7 +197,8 @@ fn serve_all<R: Threads + Wait + Clock, C: Nodes + Drop>(
         got(rt, alloc, service, 2, 2 * PUTS)? == answer,
         "one that was started again differs",
     )?;
-    let download = downloaded(rt, alloc, service, 2, 2 * PUTS)?;
+    drop(answer);
+    let download = had(Box::new(alloc, downloaded(rt, alloc, service, 2, 2 * PUTS)?))?;
     check(
         download.uploads.len() as u64 == 2 * PUTS,
         "another number of uploads",
@@ -228,8 +229,8 @@ fn revive<R: Threads + Wait + Clock, C: Tested + Drop>(
     version: u64,
 ) -> Result<(), Why> {
     let (nodes, receipts) = (service.nodes(), service.receipts());
-    let mut backend = ClusterBackend::new(alloc, rt, nodes, receipts, 2, &[]);
     let ticket = ticket(alloc, version)?;
+    let mut backend = ClusterBackend::new(alloc, rt, nodes, receipts, 2, &[]);
     for _ in 0..TRIES {
         match backend.get(alloc, &ticket) {
             Ok(_) => return Ok(()),

@@ -5,7 +5,7 @@
 //! Run with every allocation refused in turn, each test ends as before or for want of memory.
 
 use crate::support::{ballot, long_value, node, slot};
-use ballots::{Acceptance, Body, LineFault, Message, MessageFault, Record, Value};
+use ballots::{Acceptance, Body, LineFault, Message, MessageFault, NodeId, Record, Slot, Value};
 use std::alloc::Global;
 use std::test::Fail;
 
@@ -51,12 +51,12 @@ fn read_message(alloc: Global, bytes: &[u8]) -> Result<Message, MessageFault> {
 
 #[test]
 fn a_promise_comes_back(rt: HostRuntime) -> Result<(), Fail> {
-    let message = promise(rt.alloc())?;
+    let message = Box::new(rt.alloc(), promise(rt.alloc())?)?;
     let mut out = Vec::from_slice(rt.alloc(), &BEFORE)?;
     write_message(&message, &mut out)?;
     let text = out.get(2..).ok_or("no message")?;
     let read = read_message(rt.alloc(), text)?;
-    assert!(rt; read == message);
+    assert!(rt; read == *message);
     Ok(())
 }
 
@@ -80,11 +80,12 @@ fn read_record(alloc: Global, bytes: &[u8]) -> Result<Record, MessageFault> {
 #[test]
 fn a_record_comes_back(rt: HostRuntime) -> Result<(), Fail> {
     let record = Record::Accepted(slot(5)?, acceptance(rt.alloc())?);
+    let record = Box::new(rt.alloc(), record)?;
     let mut out = Vec::from_slice(rt.alloc(), &BEFORE)?;
     write_record(&record, &mut out)?;
     let text = out.get(2..).ok_or("no record")?;
     let read = read_record(rt.alloc(), text)?;
-    assert!(rt; read == record);
+    assert!(rt; read == *record);
     Ok(())
 }
 
@@ -122,26 +123,27 @@ fn is_its_line(alloc: Global, message: &Message) -> Result<bool, Fail> {
 
 #[test]
 fn a_promise_of_a_line_comes_back(rt: HostRuntime) -> Result<(), Fail> {
-    let message = promise(rt.alloc())?;
+    let message = Box::new(rt.alloc(), promise(rt.alloc())?)?;
     assert!(rt; is_its_line(rt.alloc(), &message)?);
     Ok(())
 }
 
 /// Whether the message of this body is what its own line says.
-fn body_is_its_line(alloc: Global, body: Body) -> Result<bool, Fail> {
-    let sender = node(0)?;
-    let slot = slot(5)?;
-    is_its_line(alloc, &Message { sender, slot, body })
+fn body_is_its_line(alloc: Global, at: (NodeId, Slot), body: Body) -> Result<bool, Fail> {
+    let (sender, slot) = at;
+    let message = Box::new(alloc, Message { sender, slot, body })?;
+    is_its_line(alloc, &message)
 }
 
 /// An upload that is proposed, that is accepted and that is decided.
 #[test]
 fn messages_of_lines_come_back(rt: HostRuntime) -> Result<(), Fail> {
     let alloc = rt.alloc();
-    assert!(rt; body_is_its_line(alloc, Body::Accept(acceptance(alloc)?))?);
-    assert!(rt; body_is_its_line(alloc, Body::Accepted(acceptance(alloc)?))?);
+    let at = (node(0)?, slot(5)?);
+    assert!(rt; body_is_its_line(alloc, at, Body::Accept(acceptance(alloc)?))?);
+    assert!(rt; body_is_its_line(alloc, at, Body::Accepted(acceptance(alloc)?))?);
     let value = long_value(alloc, 300)?;
-    assert!(rt; body_is_its_line(alloc, Body::Decided { value })?);
+    assert!(rt; body_is_its_line(alloc, at, Body::Decided { value })?);
     Ok(())
 }
 
