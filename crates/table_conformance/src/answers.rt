@@ -59,11 +59,8 @@ fn many(alloc: Global, count: u64) -> Result<Vec<Value>, Fail> {
 fn each_frame_stands_by_itself(rt: HostRuntime) -> Result<(), Fail> {
     let alloc = rt.alloc();
     let mut tables = no_tables(&rt)?;
-    let values = [
-        with_batches(alloc, &[3, 0])?,
-        value_of(&small(alloc, "t", 2)?)?,
-    ];
-    take(&mut tables, &values)?;
+    take(&mut tables, &[with_batches(alloc, &[3, 0])?])?;
+    take(&mut tables, &[value_of(&small(alloc, "t", 2)?)?])?;
     let answer = answer_at(alloc, &tables, 2)?;
     let lengths = lengths(alloc, &answer)?;
     assert!(rt; matches!(lengths.as_slice(), [152, _, _, 23]));

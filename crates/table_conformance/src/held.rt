@@ -28,6 +28,7 @@ fn applied(alloc: Global, tables: &mut Tables, is_before: bool) -> Result<u64, F
         let upload = small(alloc, "t", number)?;
         let held = small(alloc, "t", if is_before { number - 1 } else { number })?;
         take_with(tables, &upload, &held)?;
+        drop(held);
         if tables.outcome(&upload) == Outcome::Applied(number) {
             count = count.saturating_add(1);
         }
@@ -48,8 +49,9 @@ fn uploads_are_taken_whatever_is_held(rt: HostRuntime) -> Result<(), Fail> {
 fn an_upload_is_found_by_its_bytes(rt: HostRuntime) -> Result<(), Fail> {
     let alloc = rt.alloc();
     let upload = small(alloc, "t", 1)?;
-    let (same, other) = (small(alloc, "t", 1)?, small(alloc, "t", 2)?);
-    assert!(rt; upload.find(same.as_slice()) == Some(&upload));
+    let same = small(alloc, "t", 1)?;
+    let other = small(alloc, "t", 2)?;
+    assert!(rt; upload.find(same.as_slice()) == Some(&*upload));
     assert!(rt; upload.find(other.as_slice()).is_none());
     assert!(rt; upload.find(&[]).is_none() && NoUploads.find(same.as_slice()).is_none());
     Ok(())

@@ -59,11 +59,11 @@ pub(crate) fn made(
     Ok(Upload::new(alloc, table, id(1), &schema, batches.as_slice()))
 }
 
-/// The upload without batches to this table, of this number.
-pub(crate) fn small(alloc: Global, table: &str, number: u64) -> Result<Upload, Fail> {
+/// The upload without batches to this table, of this number, in a box as tables are.
+pub(crate) fn small(alloc: Global, table: &str, number: u64) -> Result<Box<Upload>, Fail> {
     let schema = schema(alloc)?;
     match Upload::new(alloc, table, id(number), &schema, &[]) {
-        Ok(upload) => Ok(upload),
+        Ok(upload) => Ok(Box::new(alloc, upload)?),
         Err(_) => Err(Fail::from("no upload")),
     }
 }
