@@ -46,7 +46,7 @@ fn put_one<R: Wait, C: Nodes + Drop>(
     node: usize,
     number: u64,
 ) -> Result<u64, Why> {
-    let upload = upload(alloc, number)?;
+    let upload = had(Box::new(alloc, upload(alloc, number)?))?;
     let mut backend = ClusterBackend::new(
         alloc,
         rt,

@@ -39,13 +39,23 @@ impl Trio {
     }
 
     fn takes(&mut self, node: u64, input: SeatInput) -> Result<Gave, Fail> {
-        let seat = self.seats.get_mut(node as usize).ok_or("no seat")?;
-        Ok(take(seat, &mut self.journal, input))
+        match self.seats.get_mut(node as usize) {
+            Some(seat) => Ok(take(seat, &mut self.journal, input)),
+            None => {
+                drop(input);
+                Err(Fail::from("no seat"))
+            }
+        }
     }
 
     fn serves(&mut self, node: u64, query: Query) -> Result<Gave, Fail> {
-        let seat = self.seats.get_mut(node as usize).ok_or("no seat")?;
-        Ok(serve(seat, &mut self.journal, query))
+        match self.seats.get_mut(node as usize) {
+            Some(seat) => Ok(serve(seat, &mut self.journal, query)),
+            None => {
+                drop(query);
+                Err(Fail::from("no seat"))
+            }
+        }
     }
 
     // The same by calls of the seats, behind so many entries.

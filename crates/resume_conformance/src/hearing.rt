@@ -26,11 +26,13 @@ fn seat(alloc: Global, hashing: RandomState) -> Result<Box<StoredNode<MemoryStab
 
 // A message of this node about this slot.
 fn message(sender: u8, slot: u32, body: Body) -> Result<Message, Fail> {
-    Ok(Message {
-        sender: NodeId::new(sender).ok_or("no sender")?,
-        slot: Slot::new(slot).ok_or("no slot")?,
-        body,
-    })
+    match (NodeId::new(sender), Slot::new(slot)) {
+        (Some(sender), Some(slot)) => Ok(Message { sender, slot, body }),
+        _ => {
+            drop(body);
+            Err(Fail::from("no message"))
+        }
+    }
 }
 
 // This node accepted a no-op for the slot, at the ballot 1.0.

@@ -53,6 +53,17 @@ pub(crate) fn send(sent: &mut Vec<Message>, sends: &[Message]) -> Result<(), Fai
     Ok(())
 }
 
+// What is due, behind what was kept and what was sent.
+fn copy_of(
+    kept: &mut Vec<Record>,
+    sent: &mut Vec<Message>,
+    due: Option<&Record>,
+    sends: &[Message],
+) -> Result<(), Fail> {
+    keep(kept, due)?;
+    send(sent, sends)
+}
+
 /// Lets the node do what is due to an input: its record goes behind its others, and its messages behind those that were
 /// sent.
 pub(crate) fn take(
@@ -66,10 +77,16 @@ pub(crate) fn take(
         Err(Refusal::OutOfMemory) => return Err(Fail::from("OutOfMemory")),
         Err(_) => return Err(Fail::from("refused")),
     };
-    keep(kept, plan.record())?;
-    send(sent, plan.sends())?;
-    node.commit(plan);
-    Ok(())
+    match copy_of(kept, sent, plan.record(), plan.sends()) {
+        Ok(()) => {
+            node.commit(plan);
+            Ok(())
+        }
+        Err(fail) => {
+            drop(plan);
+            Err(fail)
+        }
+    }
 }
 
 /// A node, and what it kept.

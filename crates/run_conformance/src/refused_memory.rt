@@ -97,55 +97,80 @@ fn a_duel_is_lawful_or_wants_memory(rt: HostRuntime) -> Result<(), Fail> {
     Ok(())
 }
 
-// What is due to an input. Where memory is refused the same input is planned again.
-fn planned(node: &mut Node, input: Input, again: Input) -> Result<Plan, Refusal>
-    ensures can { IfOk result (CanCommit node.new) }
-{
-    match node.plan(input) {
-        Err(Refusal::OutOfMemory) => node.plan(again),
-        planned => planned,
+// What comes to a node.
+#[derive(Clone, Copy)]
+enum Coming {
+    Put,
+    Tick,
+    Message(usize),
+}
+
+// The input that it is.
+fn input_of(alloc: Global, sent: &[Message], coming: Coming) -> Result<Input, Fail> {
+    match coming {
+        Coming::Put => Ok(Input::Put(upload(alloc, 1)?)),
+        Coming::Tick => Ok(Input::Tick(0)),
+        Coming::Message(number) => {
+            let message = sent.get(number).ok_or("not sent")?;
+            Ok(Input::Deliver(message.clone()?))
+        }
     }
 }
 
-// Lets the node do what is due to an input, of which there are two: how many records and messages that are.
-fn take(
-    node: &mut Node,
-    sent: &mut Vec<Message>,
-    input: Input,
-    again: Input,
-) -> Result<usize, Fail> {
-    let plan = match planned(node, input, again) {
-        Ok(plan) => plan,
+// What is due to an input. Where memory is refused the same input is planned again.
+fn planned(alloc: Global, node: &mut Node, sent: &[Message], coming: Coming) -> Result<Plan, Fail>
+    ensures can { IfOk result (CanCommit node.new) }
+{
+    match node.plan(input_of(alloc, sent, coming)?) {
+        Ok(plan) => return Ok(plan),
+        Err(Refusal::OutOfMemory) => {}
         Err(_) => return Err(Fail::from("refused")),
-    };
-    let kept = usize::from(plan.record().is_some());
-    send(sent, plan.sends())?;
-    node.commit(plan);
-    Ok(kept)
+    }
+    match node.plan(input_of(alloc, sent, coming)?) {
+        Ok(plan) => Ok(plan),
+        Err(_) => Err(Fail::from("refused")),
+    }
 }
 
-// Hands the node the message of this number.
-fn come(node: &mut Node, sent: &mut Vec<Message>, number: usize) -> Result<usize, Fail> {
-    let message = sent.get(number).ok_or("not sent")?;
-    let input = Input::Deliver(message.clone()?);
-    let again = Input::Deliver(message.clone()?);
-    take(node, sent, input, again)
+// Lets the node do what is due to an input: how many records that are.
+fn take(
+    alloc: Global,
+    node: &mut Node,
+    sent: &mut Vec<Message>,
+    coming: Coming,
+) -> Result<usize, Fail> {
+    let plan = planned(alloc, node, sent.as_slice(), coming)?;
+    let kept = usize::from(plan.record().is_some());
+    match send(sent, plan.sends()) {
+        Ok(()) => {
+            node.commit(plan);
+            Ok(kept)
+        }
+        Err(fail) => {
+            drop(plan);
+            Err(fail)
+        }
+    }
 }
 
 // Hands the node the upload, and lets time pass.
-fn begin(node: &mut Node, sent: &mut Vec<Message>, alloc: Global) -> Result<usize, Fail> {
-    let input = Input::Put(upload(alloc, 1)?);
-    let again = Input::Put(upload(alloc, 1)?);
-    let put = take(node, sent, input, again)?;
-    let ticked = take(node, sent, Input::Tick(0), Input::Tick(0))?;
+fn begin(alloc: Global, node: &mut Node, sent: &mut Vec<Message>) -> Result<usize, Fail> {
+    let put = take(alloc, node, sent, Coming::Put)?;
+    let ticked = take(alloc, node, sent, Coming::Tick)?;
     Ok(put.saturating_add(ticked))
 }
 
 // The messages of these numbers come to the node: how many records are kept.
-fn come_all(node: &mut Node, sent: &mut Vec<Message>, numbers: &[usize]) -> Result<usize, Fail> {
+fn come_all(
+    alloc: Global,
+    node: &mut Node,
+    sent: &mut Vec<Message>,
+    numbers: &[usize],
+) -> Result<usize, Fail> {
     let mut kept = 0_usize;
     for number in numbers {
-        kept = kept.saturating_add(come(node, sent, *number)?);
+        let more = take(alloc, node, sent, Coming::Message(*number))?;
+        kept = kept.saturating_add(more);
     }
     Ok(kept)
 }
@@ -157,12 +182,12 @@ fn a_plan_that_is_refused_is_made_again(rt: HostRuntime) -> Result<(), Fail> {
     let mut first = node(alloc, hashing, 0, &[])?;
     let mut second = node(alloc, hashing, 1, &[])?;
     let mut sent = Vec::new(alloc);
-    let begun = begin(&mut first, &mut sent, alloc)?;
-    let promised = come_all(&mut first, &mut sent, &[0])?;
-    let promised_too = come_all(&mut second, &mut sent, &[0])?;
-    let accepted = come_all(&mut first, &mut sent, &[1, 2, 3])?;
-    let accepted_too = come_all(&mut second, &mut sent, &[3])?;
-    let learned = come_all(&mut first, &mut sent, &[4, 5])?;
+    let begun = begin(alloc, &mut first, &mut sent)?;
+    let promised = come_all(alloc, &mut first, &mut sent, &[0])?;
+    let promised_too = come_all(alloc, &mut second, &mut sent, &[0])?;
+    let accepted = come_all(alloc, &mut first, &mut sent, &[1, 2, 3])?;
+    let accepted_too = come_all(alloc, &mut second, &mut sent, &[3])?;
+    let learned = come_all(alloc, &mut first, &mut sent, &[4, 5])?;
     assert!(rt; begun == 1 && promised == 1 && promised_too == 1);
     assert!(rt; accepted == 1 && accepted_too == 1 && learned == 0);
     assert!(rt; sent.len() == 6 && first.outcome(&upload(alloc, 1)?) == Outcome::Applied(1));

@@ -98,14 +98,30 @@ fn takes(member: &mut OnDisk, sent: &mut Vec<Message>, input: Input) -> Result<b
         Ok(plan) => plan,
         Err(_) => return Err(Fail::from("refused")),
     };
-    if let Some(record) = plan.record() {
-        if member.store.keep(record).is_err() {
-            return Ok(false);
+    let is_kept = match plan.record() {
+        Some(record) => member.store.keep(record).is_ok(),
+        None => true,
+    };
+    if !is_kept {
+        drop(plan);
+        return Ok(false);
+    }
+    match send(sent, plan.sends()) {
+        Ok(()) => {
+            member.node.commit(plan);
+            Ok(true)
+        }
+        Err(fail) => {
+            drop(plan);
+            Err(fail)
         }
     }
-    send(sent, plan.sends())?;
-    member.node.commit(plan);
-    Ok(true)
+}
+
+// Hands the node the message of this number, and says whether its record was kept.
+fn hands(member: &mut OnDisk, sent: &mut Vec<Message>, number: usize) -> Result<bool, Fail> {
+    let message = sent.get(number).ok_or("not sent")?.clone()?;
+    takes(member, sent, Input::Deliver(message))
 }
 
 // Hands the node the message of this number. Where its disk fails it crashes, is reopened, and is handed the message again.
@@ -117,13 +133,11 @@ fn hand(
     number: usize,
 ) -> Result<OnDisk, Fail> {
     let mut member = member;
-    let message = sent.get(number).ok_or("not sent")?.clone()?;
-    let again = Input::Deliver(message.clone()?);
-    if takes(&mut member, sent, Input::Deliver(message))? {
+    if hands(&mut member, sent, number)? {
         return Ok(member);
     }
     let mut member = restarted(alloc, hashing, &member.store, member.crash)?;
-    if takes(&mut member, sent, again)? {
+    if hands(&mut member, sent, number)? {
         Ok(member)
     } else {
         Err(Fail::from("a disk failed twice"))

@@ -6,7 +6,7 @@ use crate::made::{
     what_stands,
 };
 use crate::story::{Limits, Story, told_of};
-use crate::support::{Why, check, told, upload};
+use crate::support::{Why, check, held, told};
 use crate::tested::{Holding, Tested};
 use crossbeam_channel::Receiver;
 use ghost_log::Opened;
@@ -53,7 +53,7 @@ fn goes_down<R: Wait, C: Holding>(
     node: u64,
     call: Call,
 ) -> Result<(), Why> {
-    let upload = upload(alloc, 1)?;
+    let upload = held(alloc, 1)?;
     let before = what_stands(rt, nodes, &upload)?;
     let gave = nodes.make(rt, alloc, node as usize, call)?;
     check(gave == Gave::Failed(DEVICE), "the store does not fail")?;

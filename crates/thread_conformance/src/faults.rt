@@ -6,7 +6,7 @@ use crate::made::{
     decides, each_is_done, each_refuses, ended_as, gives, put, refuses, what_stands,
 };
 use crate::story::{Limits, NEVER, Story, told_of};
-use crate::support::{Why, check, told, upload};
+use crate::support::{Why, check, held, told};
 use crate::tested::{Holding, Tested};
 use agreement::Refusal;
 use crossbeam_channel::Receiver;
@@ -79,7 +79,7 @@ fn looks_at_inputs<R: Wait, C: Tested>(rt: &R, alloc: Global, nodes: &C) -> Resu
 // Every call at a node that there is not.
 fn looks_for_a_node<R: Wait, C: Tested>(rt: &R, alloc: Global, nodes: &C) -> Result<(), Why> {
     each_refuses(rt, alloc, nodes, 3, &EACH, SeatFault::Down)?;
-    let upload = upload(alloc, 1)?;
+    let upload = held(alloc, 1)?;
     let before = what_stands(rt, nodes, &upload)?;
     nodes.settle_all(rt, 3);
     nodes.end_all(rt, 3, SeatFault::Down);
@@ -125,7 +125,7 @@ fn inputs_and_nodes_that_are_none_are_refused(rt: HostRuntime) -> Result<(), Fai
 // The first node has an entry, which another journal has not: it does nothing there, while a node without one answers.
 fn one_is_strange<R: Wait, C: Holding>(rt: &R, alloc: Global, nodes: &C) -> Result<(), Why> {
     gives(rt, alloc, nodes, 0, Call::TakePut(1), Gave::Done)?;
-    let upload = upload(alloc, 1)?;
+    let upload = held(alloc, 1)?;
     let before = what_stands(rt, nodes, &upload)?;
     let own = nodes.exchanged(rt, C::another_journal(alloc)?);
     let refused = each_refuses(rt, alloc, nodes, 0, &WITHOUT_A_MESSAGE, SeatFault::Strange);

@@ -5,7 +5,7 @@ use crate::made::{
     decides, deliver_from, each_is_done, each_refuses, ended_as, gives, put, refuses, what_stands,
 };
 use crate::story::{Limits, NEVER, Story, told_of};
-use crate::support::{Why, check, told, upload};
+use crate::support::{Why, check, held, told};
 use crate::tested::{Holding, Tested};
 use agreement::Refusal;
 use crossbeam_channel::Receiver;
@@ -80,7 +80,7 @@ fn is_full<R: Wait, C: Tested>(rt: &R, alloc: Global, nodes: &C) -> Result<(), W
 // Puts that wait at two nodes are looked at where the journal is full, which does not grow: the one whose outcome is known
 // ends, since that can't be entered, and the other waits on.
 fn settles_nothing<R: Wait, C: Tested>(rt: &R, alloc: Global, nodes: &C) -> Result<(), Why> {
-    let upload = upload(alloc, 1)?;
+    let upload = held(alloc, 1)?;
     let before = what_stands(rt, nodes, &upload)?;
     nodes.settle_all(rt, 0);
     nodes.settle_all(rt, 1);

@@ -1,7 +1,7 @@
 //! What the nodes and their journal are like before a call and after it.
 
 use crate::calls::{Call, Gave, name_of};
-use crate::support::{Why, check, upload};
+use crate::support::{Why, check, held, upload};
 use crate::tested::{AtNode, Counts, Holding, Tested};
 use node_threads::{Pending, SeatFault};
 use std::alloc::Global;
@@ -81,7 +81,7 @@ pub(crate) fn refuses<R: Wait, C: Tested>(
     call: Call,
     fault: SeatFault,
 ) -> Result<(), Why> {
-    let upload = upload(alloc, 1)?;
+    let upload = held(alloc, 1)?;
     let before = what_stands(rt, nodes, &upload)?;
     let gave = nodes.make(rt, alloc, node, call)?;
     check(gave == Gave::Failed(fault), name_of(call))?;

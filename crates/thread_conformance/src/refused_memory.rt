@@ -5,7 +5,7 @@
 use crate::calls::{Call, Gave};
 use crate::made::{Standing, at, ended_as, has_one_entry_more, is_cut, what_stands};
 use crate::story::{Limits, NEVER, Story, told_of};
-use crate::support::{Why, check, told, upload};
+use crate::support::{Why, check, held, told};
 use crate::tested::{Holding, Tested};
 use agreement::Refusal;
 use crossbeam_channel::Receiver;
@@ -205,7 +205,7 @@ impl Story for Refused {
         nodes: &C,
         _notes: &[Receiver<Note>],
     ) -> Result<(), Why> {
-        let upload = upload(alloc, 1)?;
+        let upload = held(alloc, 1)?;
         let pending = put_again(rt, nodes, &upload)?;
         make_all(rt, alloc, nodes, &upload)?;
         ends(rt, nodes, &upload, &pending)

@@ -38,6 +38,11 @@ pub(crate) fn upload(alloc: Global, number: u64) -> Result<Upload, Why> {
     }
 }
 
+/// The same in a box, for a test that holds it while something may fail: as it is, it would be proved long.
+pub(crate) fn held(alloc: Global, number: u64) -> Result<Box<Upload>, Why> {
+    had(Box::new(alloc, upload(alloc, number)?))
+}
+
 /// The ticket for this version of the table `t`.
 pub(crate) fn ticket(alloc: Global, version: u64) -> Result<Ticket, Why> {
     let table = had(String::from_str(alloc, "t"))?;

@@ -26,15 +26,24 @@ fn number(word: &str) -> Result<u64, Why> {
 
 // A message of this node for the slot whose digit stands at this place of the word.
 fn message(sender: u8, word: &[u8], place: usize, body: Body) -> Result<Message, Why> {
+    match head(sender, word, place) {
+        Ok((sender, slot)) => Ok(Message { sender, slot, body }),
+        Err(why) => {
+            drop(body);
+            Err(why)
+        }
+    }
+}
+
+// Its sender, and the slot whose digit stands at this place of the word, 0 where none does.
+fn head(sender: u8, word: &[u8], place: usize) -> Result<(NodeId, Slot), Why> {
     let slot = match word.get(place) {
         Some(_) => digit(word, place)?,
         None => 0,
     };
-    Ok(Message {
-        sender: NodeId::new(sender).ok_or("no node")?,
-        slot: Slot::new(u32::from(slot)).ok_or("no slot")?,
-        body,
-    })
+    let sender = NodeId::new(sender).ok_or("no node")?;
+    let slot = Slot::new(u32::from(slot)).ok_or("no slot")?;
+    Ok((sender, slot))
 }
 
 // The ballot of node 1 of the round whose digit stands at this place of the word.
