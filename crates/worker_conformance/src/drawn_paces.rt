@@ -88,14 +88,29 @@ fn happen(pace: &mut Pace, word: &str) -> Result<(), Why> {
         Some(b'p') => pace.pass(number(word)?),
         Some(b'a') => pace.hear_event(),
         Some(b't') => pace.tick(None),
-        Some(b'q') => pace.tick(Some(&message(1, bytes, 1, Body::Ask)?)),
-        Some(b'b') => {
-            let ballot = ballot(bytes, 1)?;
-            pace.tick(Some(&message(1, bytes, 2, Body::Prepare { ballot })?));
-        }
-        Some(b'c') => pace.hear(&coming(bytes)?),
+        Some(b'q') => return ticks(pace, message(1, bytes, 1, Body::Ask)),
+        Some(b'b') => return ticks(pace, prepare(bytes)),
+        Some(b'c') => return hears(pace, coming(bytes)),
         _ => return Err("no word"),
     }
+    Ok(())
+}
+
+// The Prepare of the ballot whose round is the word's second character.
+fn prepare(word: &[u8]) -> Result<Message, Why> {
+    let ballot = ballot(word, 1)?;
+    message(1, word, 2, Body::Prepare { ballot })
+}
+
+// A tick at which the node sends this message.
+fn ticks(pace: &mut Pace, message: Result<Message, Why>) -> Result<(), Why> {
+    pace.tick(Some(&message?));
+    Ok(())
+}
+
+// This message comes to the node.
+fn hears(pace: &mut Pace, message: Result<Message, Why>) -> Result<(), Why> {
+    pace.hear(&message?);
     Ok(())
 }
 
