@@ -39,13 +39,13 @@ fn failing_behind(
 }
 
 impl Failing {
-    fn apply(&mut self, event: &Event) -> Gave {
+    fn apply(&mut self, event: Event) -> Gave {
         apply(&mut self.seat, &mut self.sent, event)
     }
 
     fn put(&mut self) -> Result<Gave, Fail> {
         let event = Event::Put(0, upload(self.alloc, 1)?);
-        Ok(self.apply(&event))
+        Ok(self.apply(event))
     }
 
     fn is_down(&mut self) -> Result<bool, Fail> {
@@ -54,10 +54,10 @@ impl Failing {
 
     // The round at which the node begins behind a restart.
     fn restarts_and_begins(&mut self) -> Result<u32, Fail> {
-        if self.apply(&Event::Restart(0)) != Gave::Done || self.put()? != Gave::Done {
+        if self.apply(Event::Restart(0)) != Gave::Done || self.put()? != Gave::Done {
             return Ok(0);
         }
-        let _ = self.apply(&Event::Tick(0, 0));
+        let _ = self.apply(Event::Tick(0, 0));
         Ok(last_round(self.sent.as_slice()))
     }
 }
@@ -67,7 +67,7 @@ fn fails_in_a_tick(alloc: Global, hashing: RandomState, keeps_last: bool) -> Res
     let mut failing = failing_behind(alloc, hashing, 1, keeps_last)?;
     check(failing.put()? == Gave::Done, "the put is not done")?;
     check(
-        failing.apply(&Event::Tick(0, 0)) == DEVICE,
+        failing.apply(Event::Tick(0, 0)) == DEVICE,
         "the tick does not fail",
     )?;
     check(
@@ -90,7 +90,7 @@ fn fails_in_a_cut(alloc: Global, hashing: RandomState, keeps_last: bool) -> Resu
     let mut failing = failing_behind(alloc, hashing, 1, keeps_last)?;
     check(failing.put()? == Gave::Done, "the put is not done")?;
     check(
-        failing.apply(&Event::TickCut(0, 0)) == Gave::Done,
+        failing.apply(Event::TickCut(0, 0)) == Gave::Done,
         "the cut is not done",
     )?;
     check(
@@ -111,9 +111,9 @@ fn a_cut_is_done_whatever_the_store_answers(rt: HostRuntime) -> Result<(), Fail>
 #[test]
 fn a_restart_that_recalls_nothing_leaves_the_node_up(rt: HostRuntime) -> Result<(), Fail> {
     let mut failing = failing_behind(rt.alloc(), RandomState::new(&rt)?, 1, false)?;
-    assert!(rt; failing.apply(&Event::Restart(0)) == DEVICE && !failing.is_down()?);
+    assert!(rt; failing.apply(Event::Restart(0)) == DEVICE && !failing.is_down()?);
     assert!(rt; failing.put()? == Gave::Done);
-    assert!(rt; failing.apply(&Event::Tick(0, 0)) == BROKEN && failing.is_down()?);
+    assert!(rt; failing.apply(Event::Tick(0, 0)) == BROKEN && failing.is_down()?);
     assert!(rt; failing.restarts_and_begins()? == 1);
     Ok(())
 }

@@ -55,17 +55,17 @@ fn a_node_does_not_restart_without_its_records(rt: HostRuntime) -> Result<(), Fa
     };
     let mut sent = Vec::new(alloc);
     // Nothing was kept yet, so nothing is lost.
-    assert!(rt; apply(&mut seat, &mut sent, &Event::Restart(0)) == Gave::Done);
-    assert!(rt; apply(&mut seat, &mut sent, &Event::Put(0, upload(alloc, 1)?)) == Gave::Done);
-    assert!(rt; apply(&mut seat, &mut sent, &Event::Tick(0, 0)) == Gave::Sent(0, 1));
+    assert!(rt; apply(&mut seat, &mut sent, Event::Restart(0)) == Gave::Done);
+    assert!(rt; apply(&mut seat, &mut sent, Event::Put(0, upload(alloc, 1)?)) == Gave::Done);
+    assert!(rt; apply(&mut seat, &mut sent, Event::Tick(0, 0)) == Gave::Sent(0, 1));
     let lost = Gave::Failed(StoredNodeFault::Lost);
-    assert!(rt; apply(&mut seat, &mut sent, &Event::Restart(0)) == lost);
+    assert!(rt; apply(&mut seat, &mut sent, Event::Restart(0)) == lost);
     // The node that there is goes on.
-    assert!(rt; apply(&mut seat, &mut sent, &Event::Tick(0, 0)) == Gave::Sent(1, 1));
+    assert!(rt; apply(&mut seat, &mut sent, Event::Tick(0, 0)) == Gave::Sent(1, 1));
     assert!(rt; last_round(sent.as_slice()) == 2);
-    assert!(rt; apply(&mut seat, &mut sent, &Event::TickCut(0, 0)) == Gave::Done);
+    assert!(rt; apply(&mut seat, &mut sent, Event::TickCut(0, 0)) == Gave::Done);
     assert!(rt;
-        apply(&mut seat, &mut sent, &Event::Restart(0)) == lost && is_down(alloc, &mut seat)?
+        apply(&mut seat, &mut sent, Event::Restart(0)) == lost && is_down(alloc, &mut seat)?
     );
     Ok(())
 }

@@ -3,13 +3,12 @@
 use crate::support::{Gave, apply, check, seat, upload};
 use ballots::{Members, Message};
 use lawful_histories::are_lawful;
-use node_events::{Event, EventResult};
+use node_events::Event;
 use stable_records::{FailingStable, MemoryStable};
 use std::alloc::Global;
 use std::hash::RandomState;
 use std::test::Fail;
 use stored_nodes::{StoredNode, StoredNodeFault};
-use table_versions::Outcome;
 
 const UPLOADS: u64 = 8;
 
@@ -18,17 +17,18 @@ type Failing = StoredNode<FailingStable<MemoryStable>>;
 // The version of which the upload is, 0 where none is known.
 fn version_of(alloc: Global, seat: &mut Failing, number: u64) -> Result<u64, Fail> {
     let mut sent = Vec::new(alloc);
-    match seat.apply(&mut sent, &Event::Outcome(0, upload(alloc, number)?)) {
-        Ok(EventResult::Outcome(Outcome::Applied(version))) => Ok(version),
+    let asked = Event::Outcome(0, upload(alloc, number)?);
+    match apply(seat, &mut sent, asked) {
+        Gave::Applied(version) => Ok(version),
         _ => Ok(0),
     }
 }
 
 // The event is applied; where the store fails in it, the node restarts.
-fn apply_or_restart(seat: &mut Failing, sent: &mut Vec<Message>, event: &Event) -> u64 {
+fn apply_or_restart(seat: &mut Failing, sent: &mut Vec<Message>, event: Event) -> u64 {
     match apply(seat, sent, event) {
         Gave::Failed(StoredNodeFault::Store(_)) => {
-            let _ = apply(seat, sent, &Event::Restart(0));
+            let _ = apply(seat, sent, Event::Restart(0));
             1
         }
         _ => 0,
@@ -52,14 +52,14 @@ fn decide(
         failures = failures.saturating_add(apply_or_restart(
             seat,
             sent,
-            &Event::Put(0, upload(alloc, number)?),
+            Event::Put(0, upload(alloc, number)?),
         ));
-        failures = failures.saturating_add(apply_or_restart(seat, sent, &Event::Tick(0, 0)));
+        failures = failures.saturating_add(apply_or_restart(seat, sent, Event::Tick(0, 0)));
         for place in next..next.saturating_add(4) {
             failures = failures.saturating_add(apply_or_restart(
                 seat,
                 sent,
-                &Event::Deliver(0, place),
+                Event::Deliver(0, place),
             ));
         }
     }
@@ -82,9 +82,9 @@ fn fails_behind(
     for number in 0..UPLOADS {
         failures = failures.saturating_add(decide(alloc, &mut seat, &mut sent, number)?);
     }
-    let _ = apply(&mut seat, &mut sent, &Event::Restart(0));
+    let _ = apply(&mut seat, &mut sent, Event::Restart(0));
     for message in 0..sent.len() as u64 {
-        let _ = apply(&mut seat, &mut sent, &Event::Deliver(0, message));
+        let _ = apply(&mut seat, &mut sent, Event::Deliver(0, message));
     }
     for number in 0..UPLOADS {
         let version = version_of(alloc, &mut seat, number)?;

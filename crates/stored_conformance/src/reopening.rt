@@ -44,9 +44,9 @@ fn begins_at<S: Stable + Drop>(alloc: Global, hashing: RandomState, store: S) ->
     };
     check(!is_down(alloc, &mut seat)?, "the node is down")?;
     let mut sent = Vec::new(alloc);
-    let put = apply(&mut seat, &mut sent, &Event::Put(0, upload(alloc, 1)?));
+    let put = apply(&mut seat, &mut sent, Event::Put(0, upload(alloc, 1)?));
     check(put == Gave::Done, "the put is not done")?;
-    let _ = apply(&mut seat, &mut sent, &Event::Tick(0, 0));
+    let _ = apply(&mut seat, &mut sent, Event::Tick(0, 0));
     Ok(last_round(sent.as_slice()))
 }
 

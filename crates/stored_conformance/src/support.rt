@@ -9,6 +9,7 @@ use std::alloc::Global;
 use std::hash::RandomState;
 use std::test::Fail;
 use stored_nodes::{StoredNode, StoredNodeFault};
+use table_versions::Outcome;
 use uploads::{Upload, UploadFault};
 
 /// The upload without batches to the table `t`, of this number.
@@ -54,21 +55,23 @@ pub(crate) enum Gave {
     Sent(u64, u64),
     Done,
     NoTable,
+    Applied(u64),
     Other,
     Refused(Reason),
     Failed(StoredNodeFault),
 }
 
-/// Applies the event.
+/// Applies the event. It takes the event, so that this is the one place where one is dropped.
 pub(crate) fn apply<S: Stable + Drop>(
     seat: &mut StoredNode<S>,
     sent: &mut Vec<Message>,
-    event: &Event,
+    event: Event,
 ) -> Gave {
-    match seat.apply(sent, event) {
+    match seat.apply(sent, &event) {
         Ok(EventResult::Sent { first, count }) => Gave::Sent(first, count),
         Ok(EventResult::Done) => Gave::Done,
         Ok(EventResult::NoTable) => Gave::NoTable,
+        Ok(EventResult::Outcome(Outcome::Applied(version))) => Gave::Applied(version),
         Ok(EventResult::Refused(reason)) => Gave::Refused(reason),
         Ok(_) => Gave::Other,
         Err(fault) => Gave::Failed(fault),
@@ -87,7 +90,7 @@ pub(crate) fn is_down<S: Stable + Drop>(
     seat: &mut StoredNode<S>,
 ) -> Result<bool, Fail> {
     let mut sent = Vec::new(alloc);
-    Ok(apply(seat, &mut sent, &info(alloc)?) == Gave::Refused(Reason::Down))
+    Ok(apply(seat, &mut sent, info(alloc)?) == Gave::Refused(Reason::Down))
 }
 
 /// The round of the Prepare that was sent last, 0 where none was.
