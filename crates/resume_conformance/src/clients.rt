@@ -25,7 +25,9 @@ fn version_told(
 ) -> Result<Option<u64>, Fail> {
     let mut sent = Vec::new(alloc);
     let asked = Event::Outcome(u64::from(node.me().number()), upload(alloc, number)?);
-    match node.apply(&mut sent, &asked) {
+    let told = node.apply(&mut sent, &asked);
+    drop(asked);
+    match told {
         Ok(EventResult::Outcome(Outcome::Applied(version))) => Ok(Some(version)),
         Ok(EventResult::Outcome(Outcome::Unknown)) => Ok(None),
         _ => Err(Fail::from("an outcome that no upload here has")),
@@ -44,7 +46,9 @@ fn answer_told(
         u64::from(node.me().number()),
         ticket(alloc, number, version)?,
     );
-    match node.apply(&mut sent, &asked) {
+    let told = node.apply(&mut sent, &asked);
+    drop(asked);
+    match told {
         Ok(EventResult::Answer(answer)) => Ok(answer),
         _ => Err(Fail::from("a version that was told has no answer")),
     }

@@ -46,17 +46,26 @@ fn accepted(sender: u8, slot: u32) -> Result<Message, Fail> {
 // How many values the node tells to whoever asks it from this slot on.
 fn tells_from(seat: &mut StoredNode<MemoryStable>, slot: u32) -> Result<usize, Fail> {
     match seat.plan(Input::Deliver(message(1, slot, Body::Ask)?)) {
-        Ok(plan) => Ok(plan.sends().len()),
+        Ok(plan) => {
+            let count = plan.sends().len();
+            drop(plan);
+            Ok(count)
+        }
         Err(_) => Err(Fail::from("nothing is due")),
     }
+}
+
+// The node hears the message. It takes the message, so that this is the one place where one is dropped.
+fn heard(seat: &mut StoredNode<MemoryStable>, message: Message) -> Result<(), HearFault> {
+    hear(seat, &message)
 }
 
 #[test]
 fn a_majority_is_heard(rt: HostRuntime) -> Result<(), Fail> {
     let mut seat = seat(rt.alloc(), RandomState::new(&rt)?)?;
-    assert!(rt; hear(&mut seat, &accepted(0, 0)?).is_ok());
+    assert!(rt; heard(&mut seat, accepted(0, 0)?).is_ok());
     assert!(rt; tells_from(&mut seat, 0)? == 0);
-    assert!(rt; hear(&mut seat, &accepted(2, 0)?).is_ok());
+    assert!(rt; heard(&mut seat, accepted(2, 0)?).is_ok());
     assert!(rt; tells_from(&mut seat, 0)? == 1);
     Ok(())
 }
@@ -64,9 +73,9 @@ fn a_majority_is_heard(rt: HostRuntime) -> Result<(), Fail> {
 #[test]
 fn what_tells_no_value_is_not_heard(rt: HostRuntime) -> Result<(), Fail> {
     let mut seat = seat(rt.alloc(), RandomState::new(&rt)?)?;
-    assert!(rt; hear(&mut seat, &message(1, 0, Body::Ask)?) == Err(HearFault::NoValue));
-    assert!(rt; hear(&mut seat, &accepted(3, 0)?) == Err(HearFault::OutOfRange));
-    assert!(rt; hear(&mut seat, &accepted(0, 5_000)?) == Err(HearFault::OutOfRange));
+    assert!(rt; heard(&mut seat, message(1, 0, Body::Ask)?) == Err(HearFault::NoValue));
+    assert!(rt; heard(&mut seat, accepted(3, 0)?) == Err(HearFault::OutOfRange));
+    assert!(rt; heard(&mut seat, accepted(0, 5_000)?) == Err(HearFault::OutOfRange));
     Ok(())
 }
 
@@ -91,6 +100,14 @@ fn thousands_of_slots_are_heard(rt: HostRuntime) -> Result<(), Fail> {
     Ok(())
 }
 
+// The store keeps the record.
+fn keep(store: &mut MemoryStable, record: Record) -> Result<(), Fail> {
+    match store.keep(&record) {
+        Ok(()) => Ok(()),
+        Err(_) => Err(Fail::from("it is not kept")),
+    }
+}
+
 // A store of what this node kept: it promised a ballot of node 0, and accepted a no-op at each of so many slots.
 fn store(alloc: Global, slots: u32) -> Result<MemoryStable, Fail> {
     let node = NodeId::new(0).ok_or("no node")?;
@@ -99,7 +116,10 @@ fn store(alloc: Global, slots: u32) -> Result<MemoryStable, Fail> {
     for number in 0..slots {
         let slot = Slot::new(number).ok_or("no slot")?;
         let value = Value::Noop;
-        store.keep(&Record::Accepted(slot, Acceptance { ballot, value }))?;
+        keep(
+            &mut store,
+            Record::Accepted(slot, Acceptance { ballot, value }),
+        )?;
     }
     Ok(store)
 }
@@ -140,7 +160,7 @@ fn records_of_others_are_refused(rt: HostRuntime) -> Result<(), Fail> {
     let node = NodeId::new(0).ok_or("no node")?;
     let ballot = Ballot::new(1, node).ok_or("no ballot")?;
     let mut other = MemoryStable::new(alloc);
-    other.keep(&Record::Began(ballot))?;
+    keep(&mut other, Record::Began(ballot))?;
     assert!(rt; fault_over(alloc, hashing, other)? == ReopenFault::AnotherNode);
     Ok(())
 }
