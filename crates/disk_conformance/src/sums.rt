@@ -231,10 +231,11 @@ fn sums_of(alloc: Global, records: &[Record], last: &Record) -> Result<Vec<u8>, 
     for record in records {
         plain.keep(record)?;
     }
-    let mut store = store_of(alloc, plain.disk().bytes()?, &[])?;
+    let file = plain.disk().bytes()?;
+    let mut store = store_of(alloc, file.as_slice(), &[])?;
     drop(store.recall(alloc)?);
     store.keep(last)?;
-    Ok(store.sums().bytes()?.to_vec(alloc)?)
+    Ok(store.sums().bytes()?)
 }
 
 #[test]

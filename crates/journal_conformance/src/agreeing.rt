@@ -90,7 +90,7 @@ fn only_messages_of_the_journal_are_taken(rt: HostRuntime) -> Result<(), Fail> {
     let put = SeatInput::Put(upload(alloc, 1)?);
     assert!(rt; take(&mut seat, &mut journal, put) == Gave::Entered(0));
     assert!(rt; take(&mut seat, &mut journal, SeatInput::Tick(0)) == Gave::Entered(1));
-    let prepare = journal.message(0).ok_or("no message")?.clone()?;
+    let prepare = Box::new(alloc, journal.message(0).ok_or("no message")?.clone()?)?;
     // Under a number that has no message, and another message under a number that has one.
     let late = SeatInput::Deliver(1, prepare.clone()?);
     assert!(rt; take(&mut seat, &mut journal, late) == NOT_SENT);
@@ -101,7 +101,13 @@ fn only_messages_of_the_journal_are_taken(rt: HostRuntime) -> Result<(), Fail> {
     };
     assert!(rt; take(&mut seat, &mut journal, SeatInput::Deliver(0, ask)) == NOT_SENT);
     assert!(rt; journal.trace().steps().len() == 2 && journal.message(1).is_none());
-    assert!(rt; take(&mut seat, &mut journal, SeatInput::Deliver(0, prepare)) == Gave::Entered(2));
+    assert!(rt;
+        take(
+            &mut seat,
+            &mut journal,
+            SeatInput::Deliver(0, prepare.clone()?)
+        ) == Gave::Entered(2)
+    );
     assert!(rt; deliver(&mut seat, &mut journal, 0)? == Gave::Entered(3));
     Ok(())
 }

@@ -11,7 +11,9 @@ use ballots::NodeId;
 use ghost_log::Opened;
 use journal::RECENT_MESSAGES;
 use schedule_runner::Config;
-use seats::{Beginning, Journal, OwnEntry, Query, Recent, Retention, Seat, SeatFault, SeatInput};
+use seats::{
+    Beginning, Journal, OwnEntry, Query, Receipt, Recent, Retention, Seat, SeatFault, SeatInput,
+};
 use stable_records::MemoryStable;
 use std::alloc::Global;
 use std::hash::RandomState;
@@ -58,6 +60,30 @@ fn counting<J: Beginning>(
     }
 }
 
+// Ninety-nine entries behind a put.
+fn has_a_hundred_entries<J: Beginning>(
+    alloc: Global,
+    seat: &mut Seat<MemoryStable, J, Recent>,
+    journal: &mut Journal<J, Recent>,
+) -> Result<(), Fail> {
+    let put = take(seat, journal, SeatInput::Put(upload(alloc, 1)?));
+    check(put == Gave::Entered(0), "a put is not taken")?;
+    for number in 1..100 {
+        let given = match number % 3 {
+            0 => take(seat, journal, SeatInput::Tick(0)),
+            1 => serve(seat, journal, Query::Get(ticket(alloc, 1)?)),
+            _ => restart(seat, journal),
+        };
+        check(given == Gave::Entered(number), "an entry is refused")?;
+    }
+    check(
+        !journal.is_full() && journal.step_count() == 100,
+        "it is full",
+    )?;
+    check(journal.steps().is_none(), "it holds its steps")?;
+    check(seat.agrees(journal), "the seat does not agree")
+}
+
 // More entries than the configuration allows a journal that holds them.
 fn goes_on<J: Beginning>(
     alloc: Global,
@@ -70,22 +96,7 @@ fn goes_on<J: Beginning>(
     let config = config(3, 3)?;
     let mut journal = forgetting::<J>(alloc, config, log)?;
     let mut seat = counting::<J>(alloc, hashing, 0, config, &journal)?;
-    let put = take(&mut seat, &mut journal, SeatInput::Put(upload(alloc, 1)?));
-    check(put == Gave::Entered(0), "a put is not taken")?;
-    for number in 1..100 {
-        let given = match number % 3 {
-            0 => take(&mut seat, &mut journal, SeatInput::Tick(0)),
-            1 => serve(&mut seat, &mut journal, Query::Get(ticket(alloc, 1)?)),
-            _ => restart(&mut seat, &mut journal),
-        };
-        check(given == Gave::Entered(number), "an entry is refused")?;
-    }
-    check(
-        !journal.is_full() && journal.step_count() == 100,
-        "it is full",
-    )?;
-    check(journal.steps().is_none(), "it holds its steps")?;
-    check(seat.agrees(&journal), "the seat does not agree")
+    has_a_hundred_entries(alloc, &mut seat, &mut journal)
 }
 
 #[test]
@@ -187,6 +198,14 @@ fn a_second_seat_of_a_node_is_strange_to_one_that_forgets(rt: HostRuntime) -> Re
     two_of_one_node::<Brand>(rt.alloc(), RandomState::new(&rt)?, Opened::new())
 }
 
+// Appends what a call gave. It takes that, so that this is the one place where it is dropped.
+fn push_given(text: &mut String, given: Result<Receipt, SeatFault>) -> Result<(), Fail> {
+    match write!(text, "{given:?} ") {
+        Ok(()) => Ok(()),
+        Err(_) => Err(Fail::from("OutOfMemory")),
+    }
+}
+
 // What a node that is the only member gives, put by put, as text.
 fn given_by<J: Beginning, M: Retention>(
     alloc: Global,
@@ -196,14 +215,14 @@ fn given_by<J: Beginning, M: Retention>(
     let mut text = String::new(alloc);
     for number in 1..4 {
         let put = SeatInput::Put(upload(alloc, number)?);
-        write!(text, "{:?} ", take_in(seat, journal, put))?;
+        push_given(&mut text, take_in(seat, journal, put))?;
         let first = journal.sent_count();
-        write!(text, "{:?} ", take_in(seat, journal, SeatInput::Tick(0)))?;
+        push_given(&mut text, take_in(seat, journal, SeatInput::Tick(0)))?;
         for message in first..first.saturating_add(4) {
             write!(text, "{:?} ", deliver(seat, journal, message)?)?;
         }
         let asked = Query::Get(ticket(alloc, number)?);
-        write!(text, "{:?}\n", serve_in(seat, journal, asked))?;
+        push_given(&mut text, serve_in(seat, journal, asked))?;
     }
     Ok(text)
 }

@@ -75,19 +75,24 @@ fn restarted(
     hashing: RandomState,
     before: &DiskStable<MemoryDisk>,
     crash: Crash,
-) -> Result<OnDisk, Fail> {
+) -> Result<Box<OnDisk>, Fail> {
     let mut store = crashed(alloc, before, crash)?;
     match reopened(alloc, hashing, &mut store)? {
-        Some(node) => Ok(OnDisk { node, store, crash }),
+        Some(node) => Ok(Box::new(alloc, OnDisk { node, store, crash })?),
         None => Err(Fail::from("a disk failed twice")),
     }
 }
 
 // The node with a new disk that stops behind so many calls, and crashes then.
-fn opened(alloc: Global, hashing: RandomState, calls: u64, crash: Crash) -> Result<OnDisk, Fail> {
+fn opened(
+    alloc: Global,
+    hashing: RandomState,
+    calls: u64,
+    crash: Crash,
+) -> Result<Box<OnDisk>, Fail> {
     let mut store = store(alloc, Vec::new(alloc), Some(calls));
     match reopened(alloc, hashing, &mut store)? {
-        Some(node) => Ok(OnDisk { node, store, crash }),
+        Some(node) => Ok(Box::new(alloc, OnDisk { node, store, crash })?),
         None => restarted(alloc, hashing, &store, crash),
     }
 }
@@ -128,10 +133,10 @@ fn hands(member: &mut OnDisk, sent: &mut Vec<Message>, number: usize) -> Result<
 fn hand(
     alloc: Global,
     hashing: RandomState,
-    member: OnDisk,
+    member: Box<OnDisk>,
     sent: &mut Vec<Message>,
     number: usize,
-) -> Result<OnDisk, Fail> {
+) -> Result<Box<OnDisk>, Fail> {
     let mut member = member;
     if hands(&mut member, sent, number)? {
         return Ok(member);
@@ -148,10 +153,10 @@ fn hand(
 fn hand_all(
     alloc: Global,
     hashing: RandomState,
-    member: OnDisk,
+    member: Box<OnDisk>,
     sent: &mut Vec<Message>,
     (first, end): (usize, usize),
-) -> Result<OnDisk, Fail> {
+) -> Result<Box<OnDisk>, Fail> {
     let mut member = member;
     for number in first..end {
         member = hand(alloc, hashing, member, sent, number)?;
@@ -163,10 +168,10 @@ fn hand_all(
 fn decide(
     alloc: Global,
     hashing: RandomState,
-    member: OnDisk,
+    member: Box<OnDisk>,
     sent: &mut Vec<Message>,
     number: u8,
-) -> Result<OnDisk, Fail> {
+) -> Result<Box<OnDisk>, Fail> {
     let mut member = member;
     let mut other = node(alloc, hashing, number, &[])?;
     let mut kept = Vec::new(alloc);

@@ -1,6 +1,6 @@
 //! What answers tickets: frames that are shared, of few uploads and of many.
 
-use crate::support::{made, no_tables, small, value_of};
+use crate::support::{made, no_tables, small_value, value_of};
 use ballots::Value;
 use std::alloc::{AllocError, Global};
 use std::test::Fail;
@@ -50,7 +50,7 @@ fn with_batches(alloc: Global, lens: &[usize]) -> Result<Value, Fail> {
 fn many(alloc: Global, count: u64) -> Result<Vec<Value>, Fail> {
     let mut values = Vec::new(alloc);
     for number in 0..count {
-        values.push(value_of(&small(alloc, "t", number)?)?)?;
+        values.push(small_value(alloc, "t", number)?)?;
     }
     Ok(values)
 }
@@ -60,7 +60,7 @@ fn each_frame_stands_by_itself(rt: HostRuntime) -> Result<(), Fail> {
     let alloc = rt.alloc();
     let mut tables = no_tables(&rt)?;
     take(&mut tables, &[with_batches(alloc, &[3, 0])?])?;
-    take(&mut tables, &[value_of(&small(alloc, "t", 2)?)?])?;
+    take(&mut tables, &[small_value(alloc, "t", 2)?])?;
     let answer = answer_at(alloc, &tables, 2)?;
     let lengths = lengths(alloc, &answer)?;
     assert!(rt; matches!(lengths.as_slice(), [152, _, _, 23]));

@@ -1,7 +1,7 @@
 //! Calls that are refused memory, and then are asked again: a refusal changes nothing, and takes no other fault's place.
 //! Run with every allocation refused in turn, each test ends as before or for want of memory.
 
-use crate::support::{batches, id, no_tables, schema, small, value_of};
+use crate::support::{batches, id, no_tables, schema, small, small_value};
 use ballots::Value;
 use batch_columns::Batch;
 use bytes::Bytes;
@@ -179,16 +179,16 @@ fn take(tables: &mut Tables, values: &[Value]) -> Result<(), Fail> {
 /// Two uploads to the table `t` and one to `s`.
 fn three(alloc: Global) -> Result<Vec<Value>, Fail> {
     let mut values = Vec::new(alloc);
-    values.push(value_of(&small(alloc, "t", 1)?)?)?;
-    values.push(value_of(&small(alloc, "s", 2)?)?)?;
-    values.push(value_of(&small(alloc, "t", 3)?)?)?;
+    values.push(small_value(alloc, "t", 1)?)?;
+    values.push(small_value(alloc, "s", 2)?)?;
+    values.push(small_value(alloc, "t", 3)?)?;
     Ok(values)
 }
 
 /// Tables that took one upload, and then three.
 fn taken(rt: &HostRuntime) -> Result<Box<Tables>, Fail> {
     let alloc = rt.alloc();
-    let first = value_of(&small(alloc, "r", 0)?)?;
+    let first = small_value(alloc, "r", 0)?;
     let three = three(alloc)?;
     let mut tables = no_tables(rt)?;
     take(&mut tables, std::slice::from_ref(&first))?;

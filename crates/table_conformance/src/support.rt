@@ -81,6 +81,12 @@ pub(crate) fn value_of(upload: &Upload) -> Result<Value, Fail> {
     value_in(upload.encode()?)
 }
 
+/// The value that nodes agree on of the upload without batches to this table, of this number.
+pub(crate) fn small_value(alloc: Global, table: &str, number: u64) -> Result<Value, Fail> {
+    let upload = small(alloc, table, number)?;
+    value_of(&upload)
+}
+
 /// Tables that took nothing, in a box: a test that held them as they are would be proved long.
 pub(crate) fn no_tables(rt: &HostRuntime) -> Result<Box<Tables>, Fail> {
     let hashing = RandomState::new(rt)?;

@@ -3,7 +3,7 @@
 use crate::calls::{Call, Gave};
 use crate::made::{deliver_from, ended_as, gives, put};
 use crate::story::{Limits, NEVER, Story, told_of};
-use crate::support::{Why, check, told};
+use crate::support::{Why, check, had, told};
 use crate::tested::{Holding, Tested};
 use crossbeam_channel::Receiver;
 use ghost_log::Opened;
@@ -14,7 +14,7 @@ use std::marker::Brand;
 use std::sync::Wait;
 use std::test::Fail;
 use std::time::Clock;
-use table_versions::Outcome;
+use table_versions::{Answer, Outcome};
 
 // The put is settled at the first node once its upload is decided, and no earlier.
 fn settles<R: Wait, C: Tested>(rt: &R, alloc: Global, nodes: &C) -> Result<(), Why> {
@@ -36,17 +36,30 @@ pub(crate) fn receipt_of<R: Wait>(rt: &R, pending: &Pending) -> Result<Receipt, 
     Ok(settled.receipt)
 }
 
-/// All three nodes have the same first version, whose receipts the first two give.
+/// A version that a node has, with the receipt of its answer.
+pub(crate) type Served = Box<(Answer, Receipt)>;
+
+// The first version, as this node has it.
+fn served_at<R: Wait, C: Tested>(
+    rt: &R,
+    alloc: Global,
+    nodes: &C,
+    node: usize,
+) -> Result<Served, Why> {
+    had(Box::new(alloc, nodes.first_version(rt, alloc, node)?))
+}
+
+/// All three nodes have the same first version, as the first two give it.
 pub(crate) fn served<R: Wait, C: Tested>(
     rt: &R,
     alloc: Global,
     nodes: &C,
-) -> Result<(Receipt, Receipt), Why> {
-    let (first, got) = nodes.first_version(rt, alloc, 0)?;
-    let (second, got_too) = nodes.first_version(rt, alloc, 1)?;
-    let (third, _) = nodes.first_version(rt, alloc, 2)?;
-    check(first == second && second == third, "answers differ")?;
-    Ok((got, got_too))
+) -> Result<(Served, Served), Why> {
+    let first = served_at(rt, alloc, nodes, 0)?;
+    let second = served_at(rt, alloc, nodes, 1)?;
+    let third = served_at(rt, alloc, nodes, 2)?;
+    check(first.0 == second.0 && second.0 == third.0, "answers differ")?;
+    Ok((first, second))
 }
 
 // An upload is put, decided and served; every receipt is confirmed by the journal, which is lawful.
@@ -56,11 +69,11 @@ fn decides<R: Wait, C: Holding>(rt: &R, alloc: Global, nodes: &C) -> Result<(), 
     let settled = receipt_of(rt, &pending)?;
     let (got, got_too) = served(rt, alloc, nodes)?;
     check(
-        nodes.meets(rt, &settled, &got),
+        nodes.meets(rt, &settled, &got.1),
         "a receipt is not confirmed",
     )?;
     check(
-        nodes.meets(rt, &settled, &got_too),
+        nodes.meets(rt, &settled, &got_too.1),
         "another is not confirmed",
     )?;
     check(nodes.is_lawful(rt), "what was sent is not lawful")
