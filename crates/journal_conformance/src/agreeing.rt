@@ -92,7 +92,7 @@ fn only_messages_of_the_journal_are_taken(rt: HostRuntime) -> Result<(), Fail> {
     assert!(rt; take(&mut seat, &mut journal, SeatInput::Tick(0)) == Gave::Entered(1));
     let prepare = Box::new(alloc, journal.message(0).ok_or("no message")?.clone()?)?;
     // Under a number that has no message, and another message under a number that has one.
-    let late = SeatInput::Deliver(1, prepare.clone()?);
+    let late = SeatInput::Deliver(1, (*prepare).clone()?);
     assert!(rt; take(&mut seat, &mut journal, late) == NOT_SENT);
     let ask = Message {
         sender: prepare.sender,
@@ -105,7 +105,7 @@ fn only_messages_of_the_journal_are_taken(rt: HostRuntime) -> Result<(), Fail> {
         take(
             &mut seat,
             &mut journal,
-            SeatInput::Deliver(0, prepare.clone()?)
+            SeatInput::Deliver(0, (*prepare).clone()?)
         ) == Gave::Entered(2)
     );
     assert!(rt; deliver(&mut seat, &mut journal, 0)? == Gave::Entered(3));

@@ -58,38 +58,33 @@ fn two_of_one_node<J: Beginning>(
     let mut one = seat::<MemoryStable, J>(alloc, hashing, 0, config, MemoryStable::new(alloc))?;
     let mut twin = seat::<MemoryStable, J>(alloc, hashing, 0, config, MemoryStable::new(alloc))?;
     let mut other = seat::<MemoryStable, J>(alloc, hashing, 1, config, MemoryStable::new(alloc))?;
-    one_of_two_goes_on(alloc, &mut one, &mut twin, &mut other, &mut journal)?;
-    counts(&journal)
-}
-
-// The second seat of a node asks, and the first puts: the second is strange from then on.
-fn one_of_two_goes_on<J: Beginning>(
-    alloc: Global,
-    one: &mut Seat<MemoryStable, J>,
-    twin: &mut Seat<MemoryStable, J>,
-    other: &mut Seat<MemoryStable, J>,
-    journal: &mut Journal<J>,
-) -> Result<(), Fail> {
-    let asked = serve(twin, journal, Query::Get(ticket(alloc, 1)?));
+    let asked = serve(&mut twin, &mut journal, Query::Get(ticket(alloc, 1)?));
     check(asked == Gave::Entered(0), "a question is not entered")?;
-    let put = take(one, journal, SeatInput::Put(upload(alloc, 1)?));
+    let put = take(&mut one, &mut journal, SeatInput::Put(upload(alloc, 1)?));
     check(put == Gave::Entered(1), "a put is not taken")?;
     check(
-        one.agrees(journal) && !twin.agrees(journal) && other.agrees(journal),
+        one.agrees(&journal) && !twin.agrees(&journal) && other.agrees(&journal),
         "who agrees",
     )?;
-    check(restart(twin, journal) == STRANGE, "the twin is not strange")?;
     check(
-        restart(other, journal) == Gave::Entered(2),
+        restart(&mut twin, &mut journal) == STRANGE,
+        "the twin is not strange",
+    )?;
+    check(
+        restart(&mut other, &mut journal) == Gave::Entered(2),
         "no restart of the other",
     )?;
-    check(restart(one, journal) == Gave::Entered(3), "no restart")?;
     check(
-        one.agrees(journal) && other.agrees(journal),
+        restart(&mut one, &mut journal) == Gave::Entered(3),
+        "no restart",
+    )?;
+    check(
+        one.agrees(&journal) && other.agrees(&journal),
         "a seat does not agree",
     )?;
-    let put = take(twin, journal, SeatInput::Put(upload(alloc, 1)?));
-    check(put == STRANGE, "the twin takes a put")
+    let put = take(&mut twin, &mut journal, SeatInput::Put(upload(alloc, 1)?));
+    check(put == STRANGE, "the twin takes a put")?;
+    counts(&journal)
 }
 
 // The two members have two entries of their own, and one; whoever is no member has no count.

@@ -60,30 +60,6 @@ fn counting<J: Beginning>(
     }
 }
 
-// Ninety-nine entries behind a put.
-fn has_a_hundred_entries<J: Beginning>(
-    alloc: Global,
-    seat: &mut Seat<MemoryStable, J, Recent>,
-    journal: &mut Journal<J, Recent>,
-) -> Result<(), Fail> {
-    let put = take(seat, journal, SeatInput::Put(upload(alloc, 1)?));
-    check(put == Gave::Entered(0), "a put is not taken")?;
-    for number in 1..100 {
-        let given = match number % 3 {
-            0 => take(seat, journal, SeatInput::Tick(0)),
-            1 => serve(seat, journal, Query::Get(ticket(alloc, 1)?)),
-            _ => restart(seat, journal),
-        };
-        check(given == Gave::Entered(number), "an entry is refused")?;
-    }
-    check(
-        !journal.is_full() && journal.step_count() == 100,
-        "it is full",
-    )?;
-    check(journal.steps().is_none(), "it holds its steps")?;
-    check(seat.agrees(journal), "the seat does not agree")
-}
-
 // More entries than the configuration allows a journal that holds them.
 fn goes_on<J: Beginning>(
     alloc: Global,
@@ -96,7 +72,22 @@ fn goes_on<J: Beginning>(
     let config = config(3, 3)?;
     let mut journal = forgetting::<J>(alloc, config, log)?;
     let mut seat = counting::<J>(alloc, hashing, 0, config, &journal)?;
-    has_a_hundred_entries(alloc, &mut seat, &mut journal)
+    let put = take(&mut seat, &mut journal, SeatInput::Put(upload(alloc, 1)?));
+    check(put == Gave::Entered(0), "a put is not taken")?;
+    for number in 1..100 {
+        let given = match number % 3 {
+            0 => take(&mut seat, &mut journal, SeatInput::Tick(0)),
+            1 => serve(&mut seat, &mut journal, Query::Get(ticket(alloc, 1)?)),
+            _ => restart(&mut seat, &mut journal),
+        };
+        check(given == Gave::Entered(number), "an entry is refused")?;
+    }
+    check(
+        !journal.is_full() && journal.step_count() == 100,
+        "it is full",
+    )?;
+    check(journal.steps().is_none(), "it holds its steps")?;
+    check(seat.agrees(&journal), "the seat does not agree")
 }
 
 #[test]

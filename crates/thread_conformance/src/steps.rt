@@ -66,7 +66,7 @@ pub(crate) fn served<R: Wait, C: Tested>(
 fn decides<R: Wait, C: Holding>(rt: &R, alloc: Global, nodes: &C) -> Result<(), Why> {
     let pending = put(rt, alloc, nodes, 0, 1)?;
     settles(rt, alloc, nodes)?;
-    let settled = receipt_of(rt, &pending)?;
+    let settled = had(Box::new(alloc, receipt_of(rt, &pending)?))?;
     let (got, got_too) = served(rt, alloc, nodes)?;
     check(
         nodes.meets(rt, &settled, &got.1),
