@@ -25,8 +25,6 @@ mod disk_stable;
 pub mod laws;
 mod memory_disk;
 mod reading;
-#[cfg(test)]
-mod tests;
 
 pub use block::block_of;
 pub use disk::{Disk, DiskFailed};

@@ -1,7 +1,7 @@
 //! Files, byte by byte, and what stops leave of them.
 
-use crate::{Disk, DiskFailed, DiskStable, MemoryDisk, Pick};
 use ballots::{Ballot, NodeId, Record, Slot};
+use disk_records::{Disk, DiskFailed, DiskStable, MemoryDisk, Pick};
 use stable_records::{Stable, StoreFault};
 use std::alloc::Global;
 use std::test::Fail;
