@@ -6,11 +6,11 @@
 #![tactic(auto)]
 
 #[cfg(test)]
-mod bytes;
-#[cfg(test)]
 mod files;
 #[cfg(test)]
 mod real_files;
+#[cfg(test)]
+mod record_bytes;
 #[cfg(test)]
 mod refused_memory;
 #[cfg(test)]
