@@ -20,7 +20,8 @@ use Rattle.node_threads.specs.seats.specs.declared.query.Query.{Query}
 use Rattle.node_threads.specs.seats.specs.declared.query.Query.TheVariants as query
 use Rattle.node_threads.specs.seats.specs.declared.fault.SeatFault.{SeatFault}
 use Rattle.node_threads.specs.seats.specs.declared.fault.SeatFault.TheVariants as fault
-use Rattle.node_threads.specs.seats.specs.Steps.{AnswersQuery}
+use Rattle.node_threads.specs.journal.specs.declared.receipt.Receipt.{Receipt}
+use Rattle.node_threads.specs.Told.{IsAskedAt}
 use Rattle.call_protocol.specs.declared.back_fault.BackFault.{BackFault}
 use Rattle.call_protocol.specs.declared.back_fault.BackFault.TheVariants as faults
 use Rattle.call_reading.specs.Requests.{Request, describes, shows, lists, serves, puts}
@@ -60,9 +61,9 @@ abbrev pub HasTables : NodeState → List Upload → Type 0
 HasTables node uploads =
     (views : Views) × NodeHas node views × HasUploads node.agreement.config.members views.learner_calls uploads
 
--- some tables give this answer to the question
-abbrev pub IsAnswered : Query → EventResult → Type 0
-IsAnswered asked answer = (uploads : List Upload) × AnswersQuery uploads asked answer
+-- there is a receipt of this question at this node, with this answer
+abbrev pub IsEntered : ℕ → Query → EventResult → Type 0
+IsEntered node asked answer = (receipt : Receipt) × IsAskedAt node asked receipt × (receipt.answer ≡ answer)
 
 -- a node's fault, as clients are told it
 abbrev pub told_as : SeatFault → BackFault

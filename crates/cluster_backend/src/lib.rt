@@ -22,4 +22,4 @@ pub use node_threads::{
     OwnEntry, Pace, Recent, Retention, Running, Seat, SeatFault, SeatInput, Whole, audit,
 };
 pub use nodes::Nodes;
-pub use receipts::{AllReceipts, NoReceipts, Receipts, all_are_held};
+pub use receipts::{AllReceipts, KeptReceipts, NoReceipts, Receipts, all_are_held};

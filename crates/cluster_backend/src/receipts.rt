@@ -1,10 +1,11 @@
 //! The receipts of answers.
 
-ghost use Rattle.std.specs.Prelude.{◌↔◌, All, IsTrue};
-ghost use Rattle.cluster_backend.specs.Held.{IsHeldReceipt};
+ghost use Rattle.std.specs.Prelude.{◌≡◌, ◌↔◌, false, [], All, IsTrue};
+ghost use Rattle.cluster_backend.specs.Held.{IsHeldReceipt, KeepsOrLoses};
 
 use node_threads::{Beginning, Journal, Receipt, Retention};
 use std::alloc::Global;
+use std::marker::Model;
 use std::sync::{Mutex, Wait};
 
 /// Where the receipts of answers are kept: each says which entry of the journal has the question and the answer that was
@@ -24,27 +25,60 @@ impl Receipts for NoReceipts {
     }
 }
 
+/// Receipts, in the order in which they were kept, and whether one was lost since memory for it was refused.
+#[derive(Drop)]
+pub struct KeptReceipts {
+    receipts: Vec<Receipt>,
+    is_short: bool,
+}
+
+impl Model for KeptReceipts {
+    ghost use Rattle.cluster_backend.specs.Held.{Kept};
+
+    ghost Value = { Kept };
+
+    ghost view = { λ k. record { receipts = k.receipts.items; is_short = k.is_short } };
+}
+
+impl KeptReceipts {
+    /// None yet.
+    pub fn new(alloc: Global) -> KeptReceipts
+        ensures { result ≡ record { receipts = []; is_short = false } }
+    {
+        KeptReceipts {
+            receipts: Vec::new(alloc),
+            is_short: false,
+        }
+    }
+
+    /// Keeps a receipt. Where memory for it is refused it is lost, which is known from then on.
+    pub fn keep(&mut self, receipt: Receipt)
+        ensures { KeepsOrLoses self.old receipt self.new }
+    {
+        if self.receipts.push(receipt).is_err() {
+            self.is_short = true;
+        }
+    }
+
+    /// Whether none was lost and the journal holds the entry of each. A journal that forgets holds none.
+    pub fn are_held<J: Beginning, M: Retention>(&self, journal: &Journal<J, M>) -> bool
+        ensures { IsTrue result ↔ (self.now.is_short ≡ false) × All (IsHeldReceipt journal.now) self.now.receipts }
+    {
+        !self.is_short && all_are_held(journal, &self.receipts)
+    }
+}
+
 /// Keeps all.
 #[derive(Drop)]
 pub struct AllReceipts {
-    kept: Mutex<Kept>,
-}
-
-/// Receipts, and whether memory for one was refused.
-#[derive(Drop)]
-struct Kept {
-    receipts: Vec<Receipt>,
-    is_short: bool,
+    kept: Mutex<KeptReceipts>,
 }
 
 impl AllReceipts {
     /// No receipt yet.
     pub fn new(alloc: Global) -> AllReceipts {
         AllReceipts {
-            kept: Mutex::new(Kept {
-                receipts: Vec::new(alloc),
-                is_short: false,
-            }),
+            kept: Mutex::new(KeptReceipts::new(alloc)),
         }
     }
 
@@ -54,17 +88,13 @@ impl AllReceipts {
         rt: &R,
         journal: &Journal<J, M>,
     ) -> bool {
-        let kept = self.kept.lock(rt);
-        !kept.is_short && all_are_held(journal, &kept.receipts)
+        self.kept.lock(rt).are_held(journal)
     }
 }
 
 impl Receipts for AllReceipts {
     fn keep<R: Wait>(&self, rt: &R, receipt: Receipt) {
-        let mut kept = self.kept.lock(rt);
-        if kept.receipts.push(receipt).is_err() {
-            kept.is_short = true;
-        }
+        self.kept.lock(rt).keep(receipt);
     }
 }
 

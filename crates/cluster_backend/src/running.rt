@@ -6,7 +6,7 @@ ghost use Rattle.node_threads.specs.parts.table_types.specs.Uploads.{Upload as U
 ghost use Rattle.node_threads.specs.parts.table_types.specs.Tables.{effective, table_names};
 ghost use Rattle.node_threads.specs.parts.table_versions.specs.Info.{IsLatest};
 ghost use Rattle.table_backend.specs.Backing.{TellsLatest};
-ghost use Rattle.cluster_backend.specs.Backing.{AreAgreed, HasTables, IsAnswered};
+ghost use Rattle.cluster_backend.specs.Backing.{AreAgreed, HasTables, IsEntered};
 
 use crate::nodes::Nodes;
 use agreement::Refusal;
@@ -22,7 +22,7 @@ use uploads::Upload;
 
 impl<const N: usize, S: Stable + Drop, J: Beginning, G: Gate + Drop, M: Retention> Nodes
     for Running<N, S, J, G, M> {
-    ghost entered = { λ node query answer. IsAnswered query answer };
+    ghost entered = { IsEntered };
 
     ghost holds = { λ node uploads. AreAgreed uploads };
 
@@ -41,12 +41,12 @@ impl<const N: usize, S: Stable + Drop, J: Beginning, G: Gate + Drop, M: Retentio
     ) -> Result<Receipt, SeatFault> {
         let ended = pending.wait(rt);
         drop(pending);
-        drop(ended?);
-        let copy: Result<Upload, AllocError> = upload.clone();
-        let Ok(copy) = copy else {
-            return Err(SeatFault::Refused(Refusal::OutOfMemory));
-        };
-        self.ask(rt, node, Query::Outcome(copy))
+        let settled = ended?;
+        if !settled.is_of(node, upload) {
+            drop(settled);
+            return Err(SeatFault::Strange);
+        }
+        Ok(settled.into_receipt())
     }
 
     fn ask<R: Wait>(&self, rt: &R, node: usize, query: Query) -> Result<Receipt, SeatFault> {

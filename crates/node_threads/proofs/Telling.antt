@@ -1,8 +1,8 @@
 -- What a node's step tells.
-use Rattle.std.proofs.Common.{◌≡◌, ℕ, ◌-◌, inl, inr, List, ◌++◌, length, length-append, arith, sym, ap, ◌∙◌}
+use Rattle.std.proofs.Common.{◌≡◌, ℕ, ◌-◌, inl, inr, List, ◌++◌, length, length-append, arith, sym, ap, subst, ◌∙◌, Some}
 use Rattle.seats.specs.parts.ballots.specs.declared.message.Message.{Message}
 use Rattle.seats.specs.parts.table_types.specs.Uploads.{Upload}
-use Rattle.seats.specs.parts.table_types.specs.Tables.{Version}
+use Rattle.seats.specs.parts.table_types.specs.Tables.{Version, version_of}
 use Rattle.seats.specs.parts.table_types.specs.Answers.{answer_of}
 use Rattle.seats.specs.parts.histories.specs.EventResult as results
 use Rattle.seats.specs.parts.histories.specs.Following.{GetGives}
@@ -11,15 +11,20 @@ use Rattle.seats.specs.parts.node_events.specs.declared.event_result.EventResult
 use Rattle.seats.specs.parts.node_events.specs.Told.{result_of}
 use Rattle.seats.specs.journal.specs.declared.receipt.Receipt.{Receipt}
 use Rattle.seats.specs.journal.specs.Journaled.{Journaled}
+use Rattle.seats.specs.parts.node_events.specs.declared.event.Event.TheVariants as event
+use Rattle.seats.specs.parts.table_types.specs.Ticket.{TableVersion}
 use Rattle.seats.specs.declared.input.Prepared.{Prepared}
+use Rattle.seats.specs.declared.query.Query.{Query}
+use Rattle.seats.specs.declared.query.Query.TheVariants as query
+use Rattle.seats.specs.declared.query.Found.{Found}
 use Rattle.seats.specs.declared.input.SeatInput.{SeatInput}
 use Rattle.seats.specs.Inputs.{event_at, given_for}
 use Rattle.seats.specs.State.{RunningSeat}
-use Rattle.seats.specs.Steps.{IsTaken}
+use Rattle.seats.specs.Steps.{IsTaken, IsServed, asked_at, AnswersQuery}
 use Rattle.node_worker.specs.declared.workplace.WorkInput.{WorkInput as Input}
 use Rattle.node_worker.specs.declared.workplace.Sent.{Sent}
 use Rattle.node_threads.specs.declared.steps.Taken.{Taken}
-use Rattle.node_threads.specs.Told.{IsTold}
+use Rattle.node_threads.specs.Told.{IsTold, IsAskedAt, IsGotAt}
 use Rattle.node_threads.specs.Working.{seat_input, IsHanded}
 
 -- an answer is the text of a version
@@ -29,34 +34,68 @@ same_bytes x y is = cc
 answer_is_none : (x : List ℕ) → results.Answer x ≡ results.Unavailable → ⊥
 answer_is_none x is = cc
 
-pub got_version : (uploads : List Upload) (table : List ℕ) (version : ℕ) (given : EventResult) (x : List ℕ) → GetGives uploads table version (result_of given) → given ≡ Answer x
-    → (found : Version) × (x ≡ answer_of found)
-got_version uploads table version given x (inl (found, of, is)) same = (found, same_bytes x (answer_of found) (sym (ap result_of same) ∙ is))
+same_outcome : (a b : ℕ) (x y : List ℕ) → event.Outcome a x ≡ event.Outcome b y → (a ≡ b) × (x ≡ y)
+same_outcome a b x y is = (cc, cc)
+
+got_version : (uploads : List Upload) (table : List ℕ) (version : ℕ) (given : EventResult) (x : List ℕ) → GetGives uploads table version (result_of given) → given ≡ Answer x
+    → (found : Version) × (version_of table version uploads ≡ Some found) × (x ≡ answer_of found)
+got_version uploads table version given x (inl (found, of, is)) same = (found, of, same_bytes x (answer_of found) (sym (ap result_of same) ∙ is))
 got_version uploads table version given x (inr (none, is)) same = absurd (answer_is_none x (sym (ap result_of same) ∙ is))
+
+-- the receipt of a ticket has the frames of its version
+pub got_at : (node : ℕ) (ticket : TableVersion) (receipt : Receipt) (x frames : List ℕ) → IsAskedAt node (query.Get ticket) receipt → receipt.answer ≡ Answer x
+    → frames ≡ x → IsGotAt node ticket.table ticket.version frames receipt
+got_at node ticket receipt x frames asked is same =
+    let got = got_version asked.uploads ticket.table ticket.version receipt.answer x asked.answers is in record {
+      event_is = asked.event_is;
+      answer_is = is ∙ ap (λ (l : List ℕ). Answer l) (sym same);
+      uploads = asked.uploads;
+      found = got.0;
+      of = got.1;
+      frames_are = same ∙ got.2;
+    }
+
+-- a question that was served has its receipt
+pub asked_so : {S : Type 0} (seat : RunningSeat S) (before after : Journaled) (found : Found) (receipt : Receipt) (asked : Query) (node : ℕ) (uploads : List Upload)
+    → IsServed seat before after found receipt → found.query ≡ asked → seat.node.me ≡ node → AnswersQuery uploads found.query receipt.answer → IsAskedAt node asked receipt
+asked_so seat before after found receipt asked node uploads served same placed answers = record {
+  event_is = ap (λ (r : Receipt). r.event) served.told ∙ (ap (λ (q : Query). asked_at seat.node.me q) same ∙ ap (λ (n : ℕ). asked_at n asked) placed);
+  uploads = uploads;
+  answers = subst (λ (q : Query). AnswersQuery uploads q receipt.answer) same answers;
+}
+
+-- the input that was prepared at this node is the one that its receipt tells
+pub told_at : (me node : ℕ) (prepared input : SeatInput) (taken : Taken) → IsTold me prepared taken → prepared ≡ input → me ≡ node → IsTold node input taken
+told_at me node prepared input taken told same placed =
+    subst (λ (n : ℕ). IsTold n input taken) placed (subst (λ (i : SeatInput). IsTold me i taken) same told)
+
+-- the receipt of a question about an upload says of which, and at which node
+pub settled_event : (node me : ℕ) (upload text : List ℕ) (receipt : Receipt) → IsAskedAt node (query.Outcome upload) receipt → receipt.event ≡ event.Outcome me text
+    → (me ≡ node) × (text ≡ upload)
+settled_event node me upload text receipt asked is = same_outcome me node text upload (sym is ∙ asked.event_is)
 
 -- a step that was taken tells its messages
 pub told_so : {S : Type 0} (old new : RunningSeat S) (before after : Journaled) (prepared : Prepared) (receipt : Receipt) (first next : ℕ) → IsTaken old new before after prepared receipt
-    → first ≡ length before.trace.sent → next ≡ length after.trace.sent → IsTold prepared.input (record { receipt = receipt; sent = record { start = first; end = next } })
+    → first ≡ length before.trace.sent → next ≡ length after.trace.sent → IsTold old.node.me prepared.input (record { receipt = receipt; sent = record { start = first; end = next } })
 told_so old new before after prepared receipt first next taken begins ends =
     let grown : length after.trace.sent ≡ length (before.trace.sent ++ taken.plan.sends) = ap (λ (ms : List Message). length ms) taken.entry.trace.sent_is in
     let added = length-append before.trace.sent taken.plan.sends in
     let count : next - first ≡ length taken.plan.sends = omega (arith, begins, ends, grown, added) in
     record {
-      me = old.node.me;
       event_is = ap (λ (r : Receipt). r.event) taken.told;
       forth = omega (arith, begins, ends, grown, added);
       answer_is = taken.answer_is ∙ (ap (λ (k : ℕ). given_for prepared.input k (length taken.plan.sends)) (sym begins) ∙ ap (λ (k : ℕ). given_for prepared.input first k) (sym count));
     }
 
 -- and so it is told by a worker's input and the numbers of its messages
-pub handed_so : (input : Input) (given : SeatInput) (taken : Taken) (sent : Sent) → given ≡ seat_input input → IsTold given taken
+pub handed_so : {node : ℕ} (input : Input) (given : SeatInput) (taken : Taken) (sent : Sent) → given ≡ seat_input input → IsTold node given taken
     → sent.first ≡ taken.sent.start → sent.next ≡ taken.sent.end → IsHanded input sent
-handed_so input given taken sent same told first next =
+handed_so {node} input given taken sent same told first next =
     let count : taken.sent.end - taken.sent.start ≡ sent.next - sent.first = omega (arith, first, next) in (
       taken.receipt,
+      node,
       record {
-        me = told.me;
-        event_is = told.event_is ∙ ap (λ (i : SeatInput). event_at told.me i) same;
+        event_is = told.event_is ∙ ap (λ (i : SeatInput). event_at node i) same;
         forth = omega (arith, told.forth, first, next);
         answer_is =
             told.answer_is ∙ (ap (λ (i : SeatInput). given_for i taken.sent.start (taken.sent.end - taken.sent.start)) same

@@ -1,5 +1,8 @@
 //! A cluster.
 
+ghost use Rattle.std.specs.Prelude.{◌≡◌};
+ghost use Rattle.std.specs.Option.{IfSome};
+
 use crate::locks::Locks;
 use seats::{Beginning, Journal, Retention, Seat, Whole};
 use stable_records::Stable;
@@ -51,7 +54,9 @@ impl<const N: usize, S: Stable + Drop, J: Beginning, M: Retention> Cluster<N, S,
     }
 
     /// The locks that the calls of this node take, `None` where there is no such node.
-    pub(crate) fn locks(&self, node: usize) -> Option<Locks<'_, S, J, M>> {
+    pub(crate) fn locks(&self, node: usize) -> Option<Locks<'_, S, J, M>>
+        ensures { IfSome result (λ locks. locks.node ≡ node) }
+    {
         let seat = self.seats.get(node)?;
         Some(Locks::new(node, seat, &self.journal))
     }

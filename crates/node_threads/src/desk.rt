@@ -3,7 +3,7 @@
 ghost use Rattle.std.specs.Prelude.{◌≡◌};
 ghost use Rattle.std.specs.Option.{IfSome};
 
-use crate::steps::Settled;
+use crate::settled::Settled;
 use agreement::Refusal;
 use crossbeam_channel::Sender;
 use node_worker::{Note, PutId};

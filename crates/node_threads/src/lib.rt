@@ -20,6 +20,7 @@ mod faults;
 mod gate;
 mod locks;
 mod running;
+mod settled;
 mod steps;
 mod stopwatch;
 mod worker;
@@ -34,4 +35,5 @@ pub use seats::{
     Beginning, Config, Found, Journal, MAX_JOURNAL_ENTRIES, MAX_SLOTS, OwnEntry, Prepared, Query,
     Receipt, Recent, Retention, Seat, SeatFault, SeatInput, Whole, audit,
 };
-pub use steps::{Settled, Taken};
+pub use settled::Settled;
+pub use steps::Taken;

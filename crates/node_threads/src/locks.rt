@@ -1,17 +1,17 @@
 //! The two locks of a node's calls.
 
-ghost use Rattle.std.specs.Prelude.{◌≡◌, List, IfOk};
+ghost use Rattle.std.specs.Prelude.{◌≡◌, IfOk};
 ghost use Rattle.std.specs.Option.{IfSome};
-ghost use Rattle.seats.specs.parts.table_types.specs.Uploads.{Upload as Uploaded};
-ghost use Rattle.seats.specs.parts.node_events.specs.declared.event_result.EventResult.TheVariants.{Outcome as Told};
-ghost use Rattle.seats.specs.Steps.{AnswersQuery, IsPreparedFor};
-ghost use Rattle.node_threads.specs.Told.{IsTold};
+ghost use Rattle.seats.specs.declared.query.Query.TheVariants.{Outcome as Asked};
+ghost use Rattle.seats.specs.Steps.{IsPreparedFor};
+ghost use Rattle.node_threads.specs.Told.{IsTold, IsAskedAt, IsOfTables};
 
 use crate::gate::Gate;
-use crate::steps::{Settled, Taken};
+use crate::settled::Settled;
+use crate::steps::Taken;
 use agreement::Refusal;
 use ballots::Message;
-use node_events::EventResult;
+use node_events::{Event, EventResult};
 use seats::{Beginning, Journal, Prepared, Query, Receipt, Retention, Seat, SeatFault, SeatInput};
 use stable_records::Stable;
 use std::alloc::AllocError;
@@ -34,7 +34,9 @@ impl<'a, S: Stable + Drop, J: Beginning, M: Retention> Locks<'a, S, J, M> {
         node: usize,
         seat: &'a Mutex<Seat<S, J, M>>,
         journal: &'a Mutex<Journal<J, M>>,
-    ) -> Locks<'a, S, J, M> {
+    ) -> Locks<'a, S, J, M>
+        ensures { result.node ≡ node }
+    {
         Locks {
             node,
             seat,
@@ -51,9 +53,10 @@ impl<'a, S: Stable + Drop, J: Beginning, M: Retention> Locks<'a, S, J, M> {
         gate: &G,
         input: SeatInput,
     ) -> Result<Taken, SeatFault>
-        ensures { IfOk result (IsTold input) }
+        ensures { IfOk result (IsTold self.now.node input) }
     {
         let mut seat = self.seat.lock(rt);
+        is_at(&seat, self.node)?;
         let prepared = seat.prepare(input)?;
         gate.pass(self.node);
         let mut journal = self.journal.lock(rt);
@@ -65,7 +68,7 @@ impl<'a, S: Stable + Drop, J: Beginning, M: Retention> Locks<'a, S, J, M> {
         message_in(rt, self.journal, number)
     }
 
-    /// Asks the node, and enters the question with its answer, which stands in the receipt and is that of some tables.
+    /// Asks the node, and enters the question with its answer, which is in the receipt and is that of some tables.
     ///
     /// The faults are those of `Seat::read` and `Seat::serve`.
     pub(crate) fn ask<R: Wait, G: Gate>(
@@ -74,7 +77,7 @@ impl<'a, S: Stable + Drop, J: Beginning, M: Retention> Locks<'a, S, J, M> {
         gate: &G,
         query: Query,
     ) -> Result<Receipt, SeatFault>
-        ensures { IfOk result (λ receipt. (uploads : List Uploaded) × AnswersQuery uploads query receipt.answer) }
+        ensures { IfOk result (IsAskedAt self.now.node query) }
     {
         let seat = self.seat.lock(rt);
         self.ask_at(rt, gate, &seat, query)
@@ -88,8 +91,9 @@ impl<'a, S: Stable + Drop, J: Beginning, M: Retention> Locks<'a, S, J, M> {
         seat: &Seat<S, J, M>,
         query: Query,
     ) -> Result<Receipt, SeatFault>
-        ensures { IfOk result (λ receipt. (uploads : List Uploaded) × AnswersQuery uploads query receipt.answer) }
+        ensures { IfOk result (IsAskedAt self.now.node query) }
     {
+        is_at(seat, self.node)?;
         let found = seat.read(query)?;
         gate.pass(self.node);
         let mut journal = self.journal.lock(rt);
@@ -106,7 +110,8 @@ impl<'a, S: Stable + Drop, J: Beginning, M: Retention> Locks<'a, S, J, M> {
         gate: &G,
         upload: &Upload,
     ) -> Result<Option<Settled>, SeatFault>
-        ensures { IfOk result (λ found. IfSome found (λ settled. settled.receipt.answer ≡ Told settled.outcome)) }
+        ensures { IfOk result (λ found. IfSome found (λ settled.
+            (settled.node ≡ self.now.node) × (settled.upload ≡ upload.now) × IsOfTables settled)) }
     {
         let seat = self.seat.lock(rt);
         if seat.node()?.outcome(upload) == Outcome::Unknown {
@@ -117,10 +122,7 @@ impl<'a, S: Stable + Drop, J: Beginning, M: Retention> Locks<'a, S, J, M> {
             return Err(SeatFault::Refused(Refusal::OutOfMemory));
         };
         let receipt = self.ask_at(rt, gate, &seat, Query::Outcome(copy))?;
-        match receipt.answer {
-            EventResult::Outcome(outcome) => Ok(Some(Settled { outcome, receipt })),
-            _ => Ok(None),
-        }
+        Ok(settled_by(self.node, upload, receipt))
     }
 
     /// Starts the node again, up or down, with the records that it kept, and enters that.
@@ -151,6 +153,45 @@ pub(crate) fn message_in<R: Wait, J: Beginning, M: Retention>(
     }
 }
 
+// Whether it is the seat of the node of this number: a cluster is made of seats that are each at the place of their number.
+fn is_at<S: Stable + Drop, J: Beginning, M: Retention>(
+    seat: &Seat<S, J, M>,
+    node: usize,
+) -> Result<(), SeatFault>
+    ensures { IfOk result (λ done. seat.now.node.me ≡ node) }
+{
+    if usize::from(seat.me().number()) == node {
+        Ok(())
+    } else {
+        Err(SeatFault::Strange)
+    }
+}
+
+// What has become of this upload by the receipt of the question at this node.
+fn settled_by(node: usize, upload: &Upload, receipt: Receipt) -> Option<Settled>
+    requires { IsAskedAt node (Asked upload.now) receipt }
+    ensures { IfSome result (λ settled.
+        (settled.node ≡ node) × (settled.upload ≡ upload.now) × IsOfTables settled) }
+{
+    let Receipt {
+        number,
+        event,
+        answer,
+    } = receipt;
+    match event {
+        Event::Outcome(node, upload) => match answer {
+            EventResult::Outcome(outcome) => Some(Settled {
+                number,
+                node,
+                upload,
+                outcome,
+            }),
+            _ => None,
+        },
+        _ => None,
+    }
+}
+
 // Does what was prepared, and tells the numbers of the messages that went out.
 fn take_prepared<S: Stable + Drop, J: Beginning, M: Retention>(
     seat: &mut Seat<S, J, M>,
@@ -158,7 +199,7 @@ fn take_prepared<S: Stable + Drop, J: Beginning, M: Retention>(
     prepared: Prepared,
 ) -> Result<Taken, SeatFault>
     requires { IsPreparedFor seat.old prepared }
-    ensures { IfOk result (IsTold prepared.input) }
+    ensures { IfOk result (IsTold seat.old.node.me prepared.input) }
 {
     let first = journal.sent_count();
     let receipt = seat.take(journal, prepared)?;

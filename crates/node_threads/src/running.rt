@@ -1,9 +1,8 @@
 //! Nodes that run.
 
-ghost use Rattle.std.specs.Prelude.{◌≡◌, IfOk};
+ghost use Rattle.std.specs.Prelude.{IfOk};
 ghost use Rattle.std.specs.Option.{IfSome};
-ghost use Rattle.seats.specs.parts.table_types.specs.Tables.{Version};
-ghost use Rattle.seats.specs.parts.table_types.specs.Answers.{answer_of};
+ghost use Rattle.node_threads.specs.Told.{IsTold, IsGotAt};
 
 use crate::cluster::Cluster;
 use crate::desk::{Desk, Ending};
@@ -18,9 +17,7 @@ use seats::{Beginning, Receipt, Retention, SeatFault, SeatInput, Whole};
 use stable_records::Stable;
 use std::alloc::{AllocError, Global};
 use std::ops::Range;
-use std::sync::Wait;
-use std::sync::atomic::AtomicBool;
-use std::sync::atomic::Ordering::SeqCst;
+use std::sync::{Mutex, Wait};
 use table_types::Ticket;
 use table_versions::Answer;
 use uploads::Upload;
@@ -54,7 +51,7 @@ pub struct Running<
     cluster: Cluster<N, S, J, M>,
     gate: G,
     desks: Vec<Desk>,
-    is_stopping: AtomicBool,
+    is_stopping: Mutex<bool>,
 }
 
 // Written out, so that whoever drops nodes does so by one call, and does not prove again what is inside them.
@@ -100,7 +97,7 @@ impl<const N: usize, S: Stable + Drop, J: Beginning, G: Gate + Drop, M: Retentio
             cluster,
             gate,
             desks,
-            is_stopping: AtomicBool::new(false),
+            is_stopping: Mutex::new(false),
         };
         Ok((running, receivers))
     }
@@ -157,7 +154,9 @@ impl<const N: usize, S: Stable + Drop, J: Beginning, G: Gate + Drop, M: Retentio
         rt: &R,
         node: usize,
         input: SeatInput,
-    ) -> Result<Taken, SeatFault> {
+    ) -> Result<Taken, SeatFault>
+        ensures { IfOk result (IsTold node input) }
+    {
         self.cluster.take(rt, &self.gate, node, input)
     }
 
@@ -168,7 +167,7 @@ impl<const N: usize, S: Stable + Drop, J: Beginning, G: Gate + Drop, M: Retentio
         node: usize,
         ticket: Ticket,
     ) -> Result<Option<(Answer, Receipt)>, SeatFault>
-        ensures { IfOk result (λ got. IfSome got (λ found. (version : Version) × (found.0 ≡ answer_of version))) }
+        ensures { IfOk result (λ got. IfSome got (λ found. IsGotAt node ticket.table ticket.version found.0 found.1)) }
     {
         self.cluster.get(rt, &self.gate, node, ticket)
     }
@@ -189,14 +188,14 @@ impl<const N: usize, S: Stable + Drop, J: Beginning, G: Gate + Drop, M: Retentio
     pub fn stop<R: Wait>(&self, rt: &R) {
         for desk in &self.desks {
             if !desk.tell(rt, Note::Stop) {
-                self.is_stopping.store(true, SeqCst);
+                *self.is_stopping.lock(rt) = true;
             }
         }
     }
 
     /// Whether the work of all nodes is to end though a worker could not be told.
-    pub(crate) fn is_stopping(&self) -> bool {
-        self.is_stopping.load(SeqCst)
+    pub(crate) fn is_stopping<R: Wait>(&self, rt: &R) -> bool {
+        *self.is_stopping.lock(rt)
     }
 
     /// Starts the node again, with the records that it kept, and enters that. The puts that wait at it end as

@@ -1,19 +1,15 @@
 //! The steps of a cluster's nodes.
 
-ghost use Rattle.std.specs.Prelude.{◌≡◌, List, IfOk};
+ghost use Rattle.std.specs.Prelude.{◌≡◌, IfOk};
 ghost use Rattle.std.specs.Option.{IfSome};
-ghost use Rattle.seats.specs.parts.table_types.specs.Uploads.{Upload as Uploaded};
-ghost use Rattle.seats.specs.parts.table_types.specs.Tables.{Version};
-ghost use Rattle.seats.specs.parts.table_types.specs.Answers.{answer_of};
 ghost use Rattle.seats.specs.parts.ballots.specs.declared.message.Message.{Message as Sent};
-ghost use Rattle.seats.specs.parts.node_events.specs.declared.event_result.EventResult.TheVariants.{Outcome as Told};
 ghost use Rattle.seats.specs.declared.input.SeatInput.TheVariants.{Deliver};
-ghost use Rattle.seats.specs.Steps.{AnswersQuery};
-ghost use Rattle.node_threads.specs.Told.{IsTold};
+ghost use Rattle.node_threads.specs.Told.{IsTold, IsAskedAt, IsGotAt, IsOfTables};
 
 use crate::cluster::Cluster;
 use crate::gate::Gate;
 use crate::locks::message_in;
+use crate::settled::Settled;
 use agreement::Refusal;
 use ballots::Message;
 use node_events::EventResult;
@@ -23,7 +19,7 @@ use std::alloc::AllocError;
 use std::ops::Range;
 use std::sync::Wait;
 use table_types::Ticket;
-use table_versions::{Answer, Outcome};
+use table_versions::Answer;
 use uploads::Upload;
 
 /// What came of an input that a node took.
@@ -33,15 +29,6 @@ pub struct Taken {
     pub receipt: Receipt,
     /// The numbers of the messages that went out.
     pub sent: Range<u64>,
-}
-
-/// What has become of an upload that is known.
-#[derive(Debug, Drop)]
-pub struct Settled {
-    /// What became of it.
-    pub outcome: Outcome,
-    /// Its entry.
-    pub receipt: Receipt,
 }
 
 impl<const N: usize, S: Stable + Drop, J: Beginning, M: Retention> Cluster<N, S, J, M> {
@@ -55,7 +42,7 @@ impl<const N: usize, S: Stable + Drop, J: Beginning, M: Retention> Cluster<N, S,
         node: usize,
         input: SeatInput,
     ) -> Result<Taken, SeatFault>
-        ensures { IfOk result (IsTold input) }
+        ensures { IfOk result (IsTold node input) }
     {
         match self.locks(node) {
             Some(locks) => locks.take(rt, gate, input),
@@ -76,7 +63,7 @@ impl<const N: usize, S: Stable + Drop, J: Beginning, M: Retention> Cluster<N, S,
         node: usize,
         number: u64,
     ) -> Result<Taken, SeatFault>
-        ensures { IfOk result (λ taken. (message : Sent) × IsTold (Deliver number message) taken) }
+        ensures { IfOk result (λ taken. (message : Sent) × IsTold node (Deliver number message) taken) }
     {
         let message = self.message(rt, number)?;
         self.take(rt, gate, node, SeatInput::Deliver(number, message))
@@ -87,7 +74,7 @@ impl<const N: usize, S: Stable + Drop, J: Beginning, M: Retention> Cluster<N, S,
         message_in(rt, self.journal(), number)
     }
 
-    /// Asks the node, and enters the question with its answer, which stands in the receipt and is that of some tables.
+    /// Asks the node, and enters the question with its answer, which is in the receipt and is that of some tables.
     ///
     /// The faults are those of `Seat::read` and `Seat::serve`; [`SeatFault::Down`] also where there is no such node.
     pub fn ask<R: Wait, G: Gate>(
@@ -97,7 +84,7 @@ impl<const N: usize, S: Stable + Drop, J: Beginning, M: Retention> Cluster<N, S,
         node: usize,
         query: Query,
     ) -> Result<Receipt, SeatFault>
-        ensures { IfOk result (λ receipt. (uploads : List Uploaded) × AnswersQuery uploads query receipt.answer) }
+        ensures { IfOk result (IsAskedAt node query) }
     {
         match self.locks(node) {
             Some(locks) => locks.ask(rt, gate, query),
@@ -108,7 +95,7 @@ impl<const N: usize, S: Stable + Drop, J: Beginning, M: Retention> Cluster<N, S,
         }
     }
 
-    /// What the node answers to a ticket, entered: the frames of a version, or `None` where it has none.
+    /// What the node answers to a ticket, entered: the frames of the ticket's version, or `None` where the node has none.
     ///
     /// The faults are those of [`Cluster::ask`]; and want of memory for a copy of the answer, where the question stands entered.
     pub fn get<R: Wait, G: Gate>(
@@ -118,7 +105,7 @@ impl<const N: usize, S: Stable + Drop, J: Beginning, M: Retention> Cluster<N, S,
         node: usize,
         ticket: Ticket,
     ) -> Result<Option<(Answer, Receipt)>, SeatFault>
-        ensures { IfOk result (λ got. IfSome got (λ found. (version : Version) × (found.0 ≡ answer_of version))) }
+        ensures { IfOk result (λ got. IfSome got (λ found. IsGotAt node ticket.table ticket.version found.0 found.1)) }
     {
         let receipt = self.ask(rt, gate, node, Query::Get(ticket))?;
         match &receipt.answer {
@@ -144,7 +131,8 @@ impl<const N: usize, S: Stable + Drop, J: Beginning, M: Retention> Cluster<N, S,
         node: usize,
         upload: &Upload,
     ) -> Result<Option<Settled>, SeatFault>
-        ensures { IfOk result (λ found. IfSome found (λ settled. settled.receipt.answer ≡ Told settled.outcome)) }
+        ensures { IfOk result (λ found. IfSome found (λ settled.
+            (settled.node ≡ node) × (settled.upload ≡ upload.now) × IsOfTables settled)) }
     {
         match self.locks(node) {
             Some(locks) => locks.settle(rt, gate, upload),

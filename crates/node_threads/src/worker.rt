@@ -33,7 +33,7 @@ impl<const N: usize, S: Stable + Drop, J: Beginning, G: Gate + Drop, M: Retentio
         let mut watch = Stopwatch::start(rt);
         for _ in rt.forever() {
             let (waited, heard) = next_note(rt, &mut watch, notes);
-            let note = if self.is_stopping() {
+            let note = if self.is_stopping(rt) {
                 Some(Note::Stop)
             } else {
                 heard

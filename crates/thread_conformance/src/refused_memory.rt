@@ -183,7 +183,7 @@ fn ends<R: Wait, C: Tested>(
     let Ok(settled) = pending.wait(rt) else {
         return Err("what is known of the upload is not told");
     };
-    check(settled.outcome == Outcome::Applied(1), "another outcome")
+    check(settled.outcome() == Outcome::Applied(1), "another outcome")
 }
 
 /// Each call is made, and again where memory was refused.

@@ -32,8 +32,8 @@ pub(crate) fn receipt_of<R: Wait>(rt: &R, pending: &Pending) -> Result<Receipt, 
     let Ok(settled) = pending.wait(rt) else {
         return Err("the put ends with a fault");
     };
-    check(settled.outcome == Outcome::Applied(1), "another outcome")?;
-    Ok(settled.receipt)
+    check(settled.outcome() == Outcome::Applied(1), "another outcome")?;
+    Ok(settled.into_receipt())
 }
 
 /// A version that a node has, with the receipt of its answer.

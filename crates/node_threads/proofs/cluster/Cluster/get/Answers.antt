@@ -1,11 +1,6 @@
-use Rattle.std.proofs.Common.{◌∙◌}
-use Rattle.node_threads.proofs.Telling.{got_version}
+use Rattle.node_threads.proofs.Telling.{got_at}
 use Rattle.node_threads.proofs.cluster.Cluster.get.Goals as goal
 
 pub returns-in-Ok : goal.returns-in-Ok
 returns-in-Ok g c =
-    let told = c.in_ok-receipt.ensures in
-    let found = got_version told.0 c.args.ticket.table c.args.ticket.version c.in_ok-receipt.receipt.answer c.in-Answer.answer told.1 c.in-Answer.is in (
-      found.0,
-      c.in-Ok.ensures ∙ found.1,
-    )
+    got_at c.args.node c.args.ticket c.in_ok-receipt.receipt c.in-Answer.answer c.in-Ok.copy c.in_ok-receipt.ensures c.in-Answer.is c.in-Ok.ensures
