@@ -1,8 +1,9 @@
 #!/usr/bin/env bash
-# Times `flightd acceptor` on 200,000 frames over 1,000 slots beside the same job in plain Rust
-# (bench/plain_acceptor.rs, rustc -O) on the same file, and prints the time of one frame by both, the best of five runs,
-# its instructions where valgrind is there, and the ratios. Then it shows that memory grows with the slots and not with
-# the frames: peak resident size for 1,000 and for 999,999 frames on ten slots.
+# Times `flightd acceptor` on 200,000 frames over 1,000 slots, compared with the same job in plain Rust.
+#
+# Plain Rust (bench/plain_acceptor.rs, rustc -O) gets the same file. It prints the time of one frame by both, the best of
+# five runs, its instructions if valgrind is installed, and the ratios. Then it shows that memory grows with the slots and
+# not with the frames: peak resident size for 1,000 and for 999,999 frames on ten slots.
 source "$(dirname "${BASH_SOURCE[0]}")/start.sh"
 rustc -O --edition 2021 -o "$work/plain" bench/plain_acceptor.rs
 build_flightd
@@ -25,7 +26,7 @@ def frame(words):
 print(compared("a frame", frame(["crates/flightd/out/flightd", "acceptor"]), frame([f"{work}/plain"]), "flightd"))
 P
 
-peak() { # peak resident size in KiB, once every frame of the file is answered and before the input ends
+peak() { # peak resident size in KiB, after every frame of the file is answered and before the input ends
   mkfifo "$work/input"
   crates/flightd/out/flightd acceptor <"$work/input" >/dev/null &
   local pid=$!

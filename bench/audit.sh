@@ -1,13 +1,14 @@
 #!/usr/bin/env bash
-# Times `flightd audit` on lawful recorded runs (bench/recorded_run.py): of 1,000 to 8,000 messages over ten slots, and of
-# 25,000 to 200,000 with ten of a slot. For each it prints the best time of five, the instructions where valgrind is
-# there, by what factors both grew as the messages doubled, and the peak resident size. The factor is at most about 4
-# over ten slots, since each message is held against those of its slot before it, and about 2 where slots grow in number.
+# Times `flightd audit` on lawful recorded runs: of 1,000 to 8,000 messages over ten slots, and of 25,000 to 200,000 with ten per slot.
+#
+# The runs are from bench/recorded_run.py. For each it prints the best time of five, the instructions if valgrind is
+# installed, by what factors both grew as the messages doubled, and the peak resident size. The factor is at most about 4
+# over ten slots, since each message is compared with the earlier ones of its slot, and about 2 if the number of slots grows.
 source "$(dirname "${BASH_SOURCE[0]}")/start.sh"
 build_flightd
 flightd=crates/flightd/out/flightd
 
-peak() { # peak resident size in KiB of an audit that is over but for its line, which waits since the pipe is full
+peak() { # peak resident size in KiB of an audit that has only its line left to print, which waits since the pipe is full
   mkfifo "$work/full"
   exec 3<>"$work/full"
   head -c 65536 /dev/zero >&3

@@ -1,13 +1,14 @@
 #!/usr/bin/env bash
-# Times the reading and the writing of batches of Arrow's columnar format by `flight_bench`: a million rows of numbers,
-# of texts of eight bytes, of bits, of lists of three numbers and of structs of four, with every tenth null or none, and
-# 100 rows of 512 columns. Beside it stand the same work in plain Rust (bench/plain_batches.rs, rustc -O) and a copy of
-# the same bytes. Each line gives the processor time of one batch, the least of fifteen short runs of each in turn
-# without the time that an empty run takes, its instructions where valgrind is there, and the ratios. First it shows
-# that both programs read the same and write the same bytes. Then it times one reading of hostile bodies of 4 MiB,
-# beside that of a plain one of that size: numbers with every tenth null.
+# Times how `flight_bench` reads and writes batches of Arrow's columnar format, compared with plain Rust and with a copy of the bytes.
 #
-# Seen on four processors beside three other tasks, in milliseconds (a page of memory asked for anew counts):
+# The batches are a million rows of numbers, of texts of eight bytes, of bits, of lists of three numbers and of structs of
+# four, with every tenth null or none, and 100 rows of 512 columns. Plain Rust is bench/plain_batches.rs, by rustc -O.
+# Each line has the processor time of one batch, the least of fifteen short runs of each in turn minus the time of an
+# empty run, its instructions if valgrind is installed, and the ratios. First it checks that both programs read the same
+# and write the same bytes. Then it times one reading of hostile bodies of 4 MiB, compared with that of a plain one of that
+# size: numbers with every tenth null.
+#
+# Seen on four processors beside three other tasks, in milliseconds (including newly requested pages of memory):
 #
 #                  read: ours  plain Rust  ratio  a copy  instructions, ratio   write: ours  plain Rust  ratio
 #   int64                0.62        0.61   1.01    0.60          0.9 M  1.00           0.61        0.60   1.02
@@ -19,7 +20,7 @@
 #   struct-nulls         18.6        23.6   0.79     4.9         79.5 M  0.38            5.4         5.6   0.98
 #   wide                 0.11        0.09   1.24    0.01          0.8 M  1.32           0.02        0.01   1.53
 #
-# Of bodies of 4 MiB, plain numbers took 2.7 ms, deep lists 2.2 times as long, deep structs 2.6 times, all ones 0.6,
+# Of the bodies of 4 MiB, plain numbers took 2.7 ms, deep lists 2.2 times as long, deep structs 2.6 times, all ones 0.6,
 # offsets that fall at the end 0.4, a text that ends badly 0.3, and hidden texts 2.3 times.
 source "$(dirname "${BASH_SOURCE[0]}")/start.sh"
 source bench/programs.sh plain_batches

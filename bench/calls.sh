@@ -1,12 +1,13 @@
 #!/usr/bin/env bash
-# Times Flight calls that `call_server` serves over two pipes, beside the same calls in plain Rust (bench/plain_calls.rs,
-# rustc -O): DoGet of a version of 64 uploads of one batch of 1 MiB, beside a raw copy of the answer's bytes too; DoPut of
-# 15 batches of 1 MiB; GetFlightInfo of one table; and DoGet of versions of 1,000, 10,000 and 100,000 uploads of three numbers,
-# to see whether an upload takes longer in a long answer. First it shows that both programs answer with the same bytes. Then it
-# times `flightd replay` of 500 uploads that a leader of three members has decided, 10,000 events, beside `run` itself of the
-# same events by `flight_bench`. Each line gives the processor time of one call, the least of five runs of each program in turn,
-# less that of a run without these calls; and how many bytes the server held at most, or, where that is less, what this script
-# held when it started the server.
+# Times Flight calls that `call_server` serves over two pipes, compared with the same calls in plain Rust.
+#
+# Plain Rust is bench/plain_calls.rs, by rustc -O. The calls are DoGet of a version of 64 uploads of one batch of 1 MiB, also
+# compared with a raw copy of the answer's bytes; DoPut of 15 batches of 1 MiB; GetFlightInfo of one table; and DoGet of versions
+# of 1,000, 10,000 and 100,000 uploads of three numbers, to see whether an upload takes longer in a long answer. First it checks
+# that both programs answer with the same bytes. Last it times `flightd replay` of 500 uploads that a leader of three members
+# has decided, 10,000 events, compared with `run` itself on the same events by `flight_bench`. Each line has the processor time
+# of one call, the least of five runs of each program in turn, minus that of a run without these calls; and the most bytes that
+# the server held, or what this script held when it started the server if that was more.
 #
 # Seen on four processors, four runs on two machines, two of them beside other tasks:
 #
@@ -19,14 +20,14 @@
 #   of 100,000                   0.3 to 0.4 us             0.1 us  2.1 to 2.9    105 MiB held
 #   replay of 10,000 events    15.7 to 19.5 ms, and 9.5 to 11.3 ms `run` itself: 1.66 to 1.78
 #
-# An answer shares the frames that the tables keep, and each is written where it stands: a server that answered eight such gets
-# held 56 KiB more than one that answered none. Before that an answer was made whole, one copy of all its frames, and a DoGet
-# took three times as long as in plain Rust. A body is copied three times on its way into the tables: out of its frame into a
-# column, into the upload's encoding, and into the frame that is served of it (47.3 MB for the 15.7 MB of a DoPut, by valgrind
-# --tool=dhat --mode=copy). It was five times while a message was read with copies of its bytes and a body written apart, and
-# nine times while an upload was decoded again when it was taken. Of the 110 million instructions of the replay (valgrind, an
-# earlier run) 64 are those of `run`; 16 read the file as one value of JSON and 5 let go of it, which alone makes 1.33; some 10
-# make the 500 uploads, and the others the events, and a line for each.
+# An answer shares the frames that the tables keep, and each is written from its place: a server that answered eight such gets
+# held 56 KiB more than one that answered none. Before that an answer was one copy of all its frames, and a DoGet took three
+# times as long as in plain Rust. A body is copied three times on its way into the tables: from its frame into a column, into
+# the upload's encoding, and into the frame in which it is served (47.3 MB for the 15.7 MB of a DoPut, by valgrind
+# --tool=dhat --mode=copy). It was five times while a message was read with copies of its bytes and a body was written
+# separately, and nine times while an upload was decoded again when it was taken. Of the 110 million instructions of the replay
+# (valgrind, an earlier run) 64 are those of `run`; 16 read the file as one JSON value and 5 free it, which alone makes 1.33;
+# some 10 make the 500 uploads, and the others the events, and a line for each.
 source "$(dirname "${BASH_SOURCE[0]}")/start.sh"
 rustc -O --edition 2021 -o "$work/calls" bench/plain_calls.rs
 rustc -O --edition 2021 -o "$work/runs" bench/plain_runs.rs
@@ -54,7 +55,7 @@ UPLOADS, EVENTS, ANSWERED, RUNS = 500, 20, count_of(2_000_000, 1_000), count_of(
 
 
 def generated(path, *calls):
-    """A file of these calls."""
+    """Writes a file of these calls."""
     with open(path, "wb") as out:
         for words in calls:
             out.write(subprocess.run([PLAIN, "generate", *map(str, words)], stdout=subprocess.PIPE, check=True).stdout)
@@ -81,7 +82,7 @@ def least(programs, path):
 
 
 def timed(name, count, path, without, size=0):
-    """Prints what one call costs both programs; the seconds of ours."""
+    """Prints what one call costs both programs, and returns the seconds of ours."""
     programs = ([SERVER], [PLAIN])
     costs = []
     for (whole, held), (empty, _) in zip(least(programs, path), least(programs, without)):
@@ -107,7 +108,7 @@ for count in counts_of(1_000, 10_000, 100_000):
 for path in (*files.values(), small, many[1_000][0]):
     served([SERVER], path, f"{work}/ours"), served([PLAIN], path, f"{work}/theirs")
     if subprocess.run(["cmp", f"{work}/ours", f"{work}/theirs"]).returncode:
-        sys.exit(f"calls.sh: the programs answer {path} otherwise")
+        sys.exit(f"calls.sh: the programs answer {path} differently")
 print("all answers agree")
 
 answer = f"{work}/answer"

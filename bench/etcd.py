@@ -1,5 +1,5 @@
 #!/usr/bin/env python3
-"""Measures etcd as bench/serve.py measures this service: acknowledged puts of one small value each, by 1, 16 and 64 callers at once.
+"""Measures etcd in the way of bench/serve.py: acknowledged puts of one small value each, by 1, 16 and 64 callers at once.
 
     bench/etcd.py [ETCD]
 
@@ -38,7 +38,7 @@ def put(connection, key, value):
 
 
 def put_values(port, caller, count, start, times):
-    """Puts so many values, and gives how long each took, in milliseconds."""
+    """Puts `count` values, and reports how long each took, in milliseconds."""
     connection = http.client.HTTPConnection("127.0.0.1", port, timeout=60)
     start.wait()
     taken = []
@@ -51,7 +51,7 @@ def put_values(port, caller, count, start, times):
 
 @contextlib.contextmanager
 def members(program):
-    """The ports of three members that have a leader."""
+    """Starts three members, and yields their ports once they have a leader."""
     with tempfile.TemporaryDirectory() as folder, contextlib.ExitStack() as stack:
         port = free_port(2 * MEMBERS)
         names = [f"m{number}" for number in range(MEMBERS)]
@@ -77,7 +77,7 @@ def members(program):
 
 
 def puts(program, callers):
-    """Puts a second by so many callers, and the middle and the 99th hundredth of how long they took."""
+    """The puts a second by this many callers, and the median and the 99th percentile of how long they took."""
     times, start = multiprocessing.Queue(), multiprocessing.Event()
     with members(program) as ports:
         each = PUTS // callers
@@ -98,4 +98,4 @@ if __name__ == "__main__":
     show_help(__doc__)
     for callers in CALLERS:
         rate, middle, high = puts(sys.argv[1] if len(sys.argv) > 1 else "etcd", callers)
-        print(f"{callers} callers: {rate:,.0f} puts a second; {middle:.1f} ms in the middle, {high:.1f} ms at 99 of 100", flush=True)
+        print(f"{callers} callers: {rate:,.0f} puts a second; median {middle:.1f} ms, 99th percentile {high:.1f} ms", flush=True)

@@ -1,10 +1,10 @@
 #!/usr/bin/env bash
-# Times the reading and the writing of two messages of Arrow Flight by `flight_bench`: a FlightData with a body of 1
-# MiB, and a FlightInfo with 64 endpoints of three locations. Beside it stand the same work in plain Rust
-# (bench/plain_messages.rs, rustc -O) and a copy of the same bytes. Each line gives the time of one operation, the best
-# of five runs of about a second without the time that an empty run takes, its instructions where valgrind is there, and
-# the ratios. First it shows that both programs write the same bytes, which are those of the file, and add up to the
-# same sums.
+# Times how `flight_bench` reads and writes two messages of Arrow Flight, compared with plain Rust and with a copy of the bytes.
+#
+# They are a FlightData with a body of 1 MiB, and a FlightInfo with 64 endpoints of three locations. Plain Rust is
+# bench/plain_messages.rs, by rustc -O. Each line has the time of one operation, the best of five runs of about a second
+# minus the time of an empty run, its instructions if valgrind is installed, and the ratios. First it checks that both
+# programs write the same bytes, which are those of the file, and print the same sums.
 source "$(dirname "${BASH_SOURCE[0]}")/start.sh"
 source bench/programs.sh plain_messages
 

@@ -1,11 +1,12 @@
 #!/usr/bin/env bash
-# Times the reading and the writing of headers of Arrow's metadata by `flight_bench`: a schema of 500 fields side by
-# side, and one of structs in structs, 16 levels deep. Beside it stands the same work in plain Rust
-# (bench/plain_headers.rs, rustc -O). Each line gives the time of one header by both, the best of five runs of about a
-# second without the time that an empty run takes, its instructions where valgrind is there, and the ratios. First it
-# shows that both programs write the same bytes, which are those of the file, and add up to the same sums. Then it times
-# one reading of hostile texts of 4 MiB, the best of twenty, beside that of a plain text of that size: a schema with as
-# much as one may have, and zero bytes behind it.
+# Times how `flight_bench` reads and writes headers of Arrow's metadata, compared with plain Rust.
+#
+# They are a schema of 500 fields side by side, and one of nested structs, 16 levels deep. Plain Rust is
+# bench/plain_headers.rs, by rustc -O. Each line has the time of one header by both, the best of five runs of about a
+# second minus the time of an empty run, its instructions if valgrind is installed, and the ratios. First it checks that
+# both programs write the same bytes, which are those of the file, and print the same sums. Then it times one reading of
+# hostile texts of 4 MiB, the best of twenty, compared with that of a plain text of that size: the largest schema,
+# followed by zero bytes.
 source "$(dirname "${BASH_SOURCE[0]}")/start.sh"
 source bench/programs.sh plain_headers
 
@@ -34,7 +35,7 @@ for header in ("flat", "deep"):
         ours, theirs = (one(program, task, f"{work}/{header}") for program in (proved, plain))
         print(compared(f"{header}, {task}", ours, theirs))
 
-def reading(text):  # what one reading costs, which may refuse the text, and what it said
+def reading(text):  # the cost of one reading, which may refuse the text, and its message
     words = lambda count: [proved, "decode-header", str(count), f"{work}/{text}"]
     whole, empty = (cost(words(count), runs=20, check=False) for count in (1, 0))
     return less(whole, empty, 1), run(words(1), check=False).strip()

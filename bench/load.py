@@ -1,14 +1,14 @@
 #!/usr/bin/env python3
-"""Loads a server with calls, half of them cut off, and looks at what it answers and holds afterwards.
+"""Loads a server with calls, half of them cut off, and checks its answers and its memory afterwards.
 
     bench/load.py [SECONDS [PROGRAM]]
 
 It starts `PROGRAM serve` (crates/flightd/out/flightd, which the gate builds) with three nodes and their records in a folder for temporary files. 200
-callers at once, each a thread with the library in clients/python, make calls for so many seconds (60), each over a connection of its own
-to a node that is drawn: puts of one row, gets of a version that was acknowledged, questions about a table, lists. Half of the connections
-are requests that end before any of their bytes, some with a reset. Afterwards each upload that was acknowledged has to stand once, in its
-version's place, at each node. It says how many connections, calls and refusals there were, how long calls took, and what the server held in
-memory before the load, at its end and 5 seconds behind it. The status is 1 where an upload is not as it was acknowledged."""
+callers at once, each a thread with the library in clients/python, make calls for SECONDS (60), each over a connection of its own to a
+random node: puts of one row, gets of a version that was acknowledged, questions about a table, lists. Half of the connections are requests
+that are cut at any byte, some with a reset. Afterwards each acknowledged upload must be served once, at its version's place, by each node.
+It prints how many connections, calls and refusals there were, how long calls took, and how much memory the server held before the load, at
+its end and 5 seconds after it. The status is 1 if an upload is not served as it was acknowledged."""
 import collections
 import random
 import socket
@@ -32,7 +32,7 @@ QUIET_SECONDS = count_of(5, 0)
 
 
 class Load:
-    """What the callers share: the server, the uploads that were acknowledged, and what came of the calls."""
+    """What the callers share: the server, the uploads that were acknowledged, and the results of the calls."""
 
     def __init__(self, port):
         self.port, self.lock = port, threading.Lock()
@@ -62,7 +62,7 @@ class Load:
         drawn.choice((lambda: client.info(table), lambda: client.schema(table), client.list))()
 
     def call(self, drawn):
-        """One call, and how long it took."""
+        """Makes one call, and records how long it took."""
         name, act = drawn.choice((("put", self.put), ("get", self.get), ("ask", self.ask)))
         before = time.perf_counter()
         try:
@@ -74,7 +74,7 @@ class Load:
             self.times.append(1000 * (time.perf_counter() - before))
 
     def cut(self, drawn):
-        """A request that ends before any of its bytes."""
+        """A request that is cut at any byte."""
         text = request_of(drawn.choice((lambda to: to.put("t0", {"row": [0]}, schema={"row": "int64"}), lambda to: to.get("t0", 1))))
         with socket.create_connection(("127.0.0.1", self.port + drawn.randrange(NODES)), CALL_SECONDS) as peer:
             peer.sendall(text[: drawn.randrange(len(text))])
@@ -94,7 +94,7 @@ class Load:
 
 
 def check(load, clients):
-    """Each upload that was acknowledged stands once, in its place, at each node."""
+    """Checks that each acknowledged upload is served once, at its place, by each node."""
     for table, known in load.acknowledged.items():
         if known:
             for client in clients:
@@ -125,8 +125,8 @@ def main(seconds, program):
             process.communicate()
     times = sorted(load.times)
     print(f"{sum(load.counts.values())} connections in {seconds} s, by {CALLERS} callers at once: {dict(load.counts.most_common())}")
-    print(f"{sum(map(len, load.acknowledged.values()))} uploads were acknowledged, and each stands once, in its place, at each node")
-    print(f"a call took {times[len(times) // 2]:.0f} ms in the middle, {times[99 * len(times) // 100]:.0f} ms at 99 of 100, {times[-1]:.0f} ms at most")
+    print(f"{sum(map(len, load.acknowledged.values()))} uploads were acknowledged, and each is served once, at its place, by each node")
+    print(f"calls took {times[len(times) // 2]:.0f} ms (median), {times[99 * len(times) // 100]:.0f} ms (99th percentile), {times[-1]:.0f} ms at most")
     for when, found in zip(("before", "at the end", f"{QUIET_SECONDS} s later"), held):
         print(f"{when}: {found.now / 2**20:.1f} MiB, {found.threads} threads")
 

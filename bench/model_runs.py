@@ -1,6 +1,6 @@
-"""`model_runs.py PROGRAM FILE COUNT` plays schedules by `PROGRAM play FILE`, each written into the file, and ends with
-status 1 where a line is not that of tools/runs_model.py: those of examples/, those of leaders that lose no message, and
-COUNT drawn ones."""
+"""`model_runs.py PROGRAM FILE COUNT` plays schedules with `PROGRAM play FILE`, each written into the file, and ends with
+status 1 if a line differs from that of tools/runs_model.py. The schedules are those of examples/, those of leaders that
+lose no message, and COUNT random ones."""
 import subprocess
 import sys
 from pathlib import Path
@@ -13,13 +13,13 @@ from toolbox import show_help
 
 
 def told(run, events):
-    """A run's configuration, its uploads and these events as the program reads them."""
+    """A run's configuration, its uploads and these events in the form that the program reads."""
     lines = [f"{run.members} {run.slot_limit}", *(it.text.hex() for it in run.uploads)]
     return "\n".join([*lines, *(" ".join(map(str, it)) for it in events)]) + "\n"
 
 
 def loss_free(members, uploads):
-    """A leader that has so many uploads decided, of which every message is delivered to all whom it is for."""
+    """A run of a leader that has this many uploads decided, in which every message is delivered to all its receivers."""
     events, prepare = [], 0
     for upload in range(uploads):
         everyone = range(members)
@@ -35,7 +35,7 @@ def loss_free(members, uploads):
     for event in events:
         run.play(event)
     if [gave for _, gave in run.steps[-members:]] != [[f"applied {uploads}"]] * members:
-        sys.exit("model_runs: the leader's uploads were not all learned")
+        sys.exit("model_runs: not all of the leader's uploads were learned")
     return run
 
 
@@ -56,9 +56,9 @@ def main():
         lines = [" ".join([str(place), *map(str, gave)]) for place, (_, gave) in enumerate(run.steps)]
         printed = subprocess.run([program, "play", str(file)], stdout=subprocess.PIPE, check=True).stdout.decode()
         if printed != "".join(f"{it}\n" for it in lines):
-            sys.exit(f"model_runs: {program} plays {file} otherwise than tools/runs_model.py")
+            sys.exit(f"model_runs: {program} differs from tools/runs_model.py for {file}")
         count += len(lines)
-    print(f"{count:,} events give what the model says")
+    print(f"{count:,} events have the model's results")
 
 
 if __name__ == "__main__":

@@ -1,11 +1,12 @@
 #!/usr/bin/env bash
-# Times the calls of an acceptor, a learner and a log by `flight_bench`, over 1,000 and over 100,000 slots, beside the
-# same parts in plain Rust over the maps of std (bench/plain_parts.rs, rustc -O). Of the learner and the log each call
-# is told beforehand what it will give, with its room made, as a node does. The plain log is told so too, so that both
-# make the same copies; the plain learner is just called. Each line gives the time of one call by both, from the best
-# of five runs of about a second without the time that an empty run takes, its instructions where valgrind is there,
-# and the ratios; the last of each part gives by what factor a call's time grew as there were a hundred times as many
-# slots. First it shows that the tallies of both agree.
+# Times calls of an acceptor, a learner and a log by `flight_bench`, over 1,000 and 100,000 slots, compared with plain Rust.
+#
+# Plain Rust has the same parts over the maps of std (bench/plain_parts.rs, rustc -O). The results of the learner and the
+# log are foretold before each call, with room for them, as a node does. So are those of the plain log, so that both make
+# the same copies; the plain learner is just called. Each line has the time of one call by both, from the best of five
+# runs of about a second minus the time of an empty run, its instructions if valgrind is installed, and the ratios; the
+# last line of each part shows by what factor a call's time grew with a hundred times as many slots. First it checks that
+# both print the same tallies.
 source "$(dirname "${BASH_SOURCE[0]}")/start.sh"
 source bench/programs.sh plain_parts
 
@@ -23,7 +24,7 @@ from timing import Cost, compared, counts_of, less, one
 
 proved, plain, work = sys.argv[1:]
 
-def call(program, part, slots):  # what one call costs
+def call(program, part, slots):  # the cost of one call
     return less(one(program, f"call-{part}", f"{work}/{slots}"), Cost(0, 0), slots * (3 if part == "learner" else 1))
 
 for part in ("acceptor", "learner", "log"):

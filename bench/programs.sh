@@ -1,5 +1,5 @@
-# To be sourced after start.sh, with the name of a plain program where there is one: builds it, has `flight_bench` as the gate built
-# it, or builds it where that is older than some source. The programs' paths are $plain and $proved then.
+# To be sourced after start.sh, with the name of a plain program if there is one. Builds that, and uses `flight_bench` as the gate built
+# it, or builds it if it is older than a source. The programs' paths are then $plain and $proved.
 plain=$work/plain
 proved=$PWD/crates/flight_bench/out/flight_bench
 if (($#)); then rustc -O --edition 2021 -o "$plain" "bench/$1.rs"; fi
@@ -10,20 +10,20 @@ if [ ! -x "$proved" ] || [ -n "$(find crates -name '*.rt' -newer "$proved" -prin
   fi
 fi
 
-# At these words both programs print the same.
+# Checks that both programs print the same for these words.
 agree() {
   "$plain" "$@" >"$work/plain.printed"
   "$proved" "$@" >"$work/proved.printed"
   cmp "$work/plain.printed" "$work/proved.printed"
 }
 
-# Both write the file's message as it stands, and report the same fault of it cut short.
+# Checks that both write the file's message unchanged, and report the same fault if it is cut short.
 agree_on_message() {
   agree "$1" 1 "$2"
   cmp "$2" "$work/proved.printed"
   head -c -1 "$2" >"$2.cut"
   if "$plain" "$1" 1 "$2.cut" 2>"$work/plain.fault" || "$proved" "$1" 1 "$2.cut" 2>"$work/proved.fault"; then
-    echo "$1: no fault of a message cut short" >&2
+    echo "$1: no fault for a message that is cut short" >&2
     exit 1
   fi
   cmp "$work/plain.fault" <(sed 's/^flight_bench: //' "$work/proved.fault")

@@ -1,7 +1,7 @@
-"""Writes a lawful recorded run of MESSAGES messages over SLOTS slots, ten if none are named, to standard output, as
-`flightd audit` reads it.
+"""Writes a lawful recorded run of MESSAGES messages over SLOTS slots, ten by default, to standard output, in the form
+that `flightd audit` reads.
 
-Three nodes. Each round of a slot is nine messages: a Prepare by one of the nodes at the next ballot,
+There are three nodes. Each round of a slot has nine messages: a Prepare by one of the nodes at the next ballot,
 the promises of all three, its Accept, the three Accepteds, and a Decided. What was accepted in one round is reported
 and proposed again in the next, so every promise from the second round on has a report. Slots take turns, round by
 round.

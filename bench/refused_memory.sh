@@ -1,10 +1,11 @@
 #!/usr/bin/env bash
-# Plays a short run of a seat at its journal (bench/refused_memory/main.rt.txt) again and again, and each time has another of its
-# allocations refused: behind each refusal seat and journal have to be as before, or have the one entry of a node that went down.
-# `bench/refused_memory.sh STEP` takes each STEP-th allocation, or each of them. The run is built once, with checks and without
-# proofs, and the 1,000th allocation of the program is refused; it begins with as many as its input has bytes.
+# Plays a short run of a seat at its journal again and again, and refuses another of its allocations each time.
 #
-# Its last line counts the runs with a refused call in which all was as promised, and those in which none was.
+# The run is bench/refused_memory/main.rt.txt. After each refusal seat and journal must be as before, or have the one entry of a node
+# that went down. `bench/refused_memory.sh STEP` takes each STEP-th allocation, or each of them. The run is built once, with checks
+# and without proofs, and the 1,000th allocation of the program is refused; the program first makes as many as its input has bytes.
+#
+# Its last line counts the runs with a refused call in which all was as promised, and those in which none was refused.
 source "$(dirname "${BASH_SOURCE[0]}")/start.sh"
 mkdir -p "$work/cases" "$work/crates/refused_memory/src"
 cp HANDLES crates.txt "$work"

@@ -1,15 +1,15 @@
 #!/usr/bin/env python3
-"""How long a server takes to start over the records of an earlier one, and what it holds then.
+"""Measures how long a server takes to start over the records of an earlier one, and how much memory it then holds.
 
     bench/resume.py [COUNT [BYTES]]
 
-A server takes one upload, and its record is written COUNT times into the files of three nodes, with other ids and in slots of their own, as
-if a cluster had taken as many: 100,000 where nothing is said. With BYTES the uploads have a column of texts of as many bytes together. Then a
-server goes on over these files: the seconds until it has told its addresses, those that `cat` takes for the files, and the most memory that it
-held. Each node has to report all versions at once.
+A server takes one upload, and its record is written COUNT (100,000) times into the files of three nodes, with other ids and in other slots,
+as if a cluster had taken as many. With BYTES the uploads have a column of texts with that many bytes together. Then a server is started over
+these files, first without files of sums and then with them. It prints the seconds until the server has reported its addresses, those that
+`cat` takes for the files, and the most memory that the server held. Each node must report all versions at once.
 
-Seen of three nodes, on four processors: 100,000 uploads of 542 bytes served after 4.9 and 5.0 s, with at most 382 MiB held; 70 of 15 MB after
-25.9 and 27.8 s, where `cat` took 1.3 s, with at most 4,066 MiB. When each node still held its own values and heard alone it was 489 and 6,015 MiB.
+Seen with three nodes, on four processors: 100,000 uploads of 542 bytes served after 4.9 and 5.0 s, with at most 382 MiB held; 70 of 15 MB after
+25.9 and 27.8 s, while `cat` took 1.3 s, with at most 4,066 MiB. Before nodes shared values and what they heard it was 489 and 6,015 MiB.
 """
 import struct
 import subprocess
@@ -27,7 +27,7 @@ from wire_model import bytes_field, number_field, values_by_number
 
 NODES, COUNT = 3, count_of(100_000, 2)
 ROWS = [{"shop": "Bern", "sold": 3}, {"shop": "Zürich", "sold": None}]
-# The most bytes of one text of a row, as many rows are made.
+# The most bytes of a row's text; there are as many rows as needed.
 TEXT_BYTES = 1 << 16
 
 
@@ -45,7 +45,7 @@ def template_of(program, size):
 
 
 def write_files(folder, count, upload, name):
-    """The files of nodes that have accepted so many uploads, each of node 0 at the ballot of round 1."""
+    """Writes the files of nodes that have accepted `count` uploads, each at round 1 of node 0."""
     at = upload.index(name)
     with open(f"{folder}/node-0.rec", "wb") as file:
         for slot in range(count):

@@ -1,14 +1,15 @@
 #!/usr/bin/env bash
-# Times runs of whole nodes by `flight_bench`, beside the same nodes in plain Rust over the maps of std
-# (bench/plain_runs.rs, rustc -O): a leader of three members that loses no message and has uploads decided, one after
-# the other: 100, 1,000 and 10,000 of one batch of three numbers of eight bits, and 100 and 1,000 of 64 KiB. An upload
-# is twenty events: it is put, a tick begins, its Prepare goes to all, their three promises to the leader, its Accept to
-# all, and what each of the three accepted to all. Each line gives the processor time of one event, the least of fifteen
-# short runs of each program in turn without the time that an empty run takes, its instructions where valgrind is there,
-# and the ratios. Then it measures memory: the peak resident size of a run, and what of it, without the file itself and
-# the program, there is for each byte of the uploads: the uploads, what three nodes hold of them, their records, all
-# messages that were sent and all steps. First it shows that the plain nodes give what tools/runs_model.py says of each
-# event of many schedules, and that both programs add up to the same sums over all messages and steps.
+# Times runs of whole nodes by `flight_bench`, compared with the same nodes in plain Rust.
+#
+# Plain Rust uses the maps of std (bench/plain_runs.rs, rustc -O). A leader of three members that loses no message has
+# uploads decided one after another: 100, 1,000 and 10,000 of one batch of three numbers of eight bits, and 100 and 1,000
+# of 64 KiB. An upload is twenty events: it is put, a tick begins, its Prepare goes to all, their three promises to the
+# leader, its Accept to all, and what each of the three accepted to all. Each line has the processor time of one event,
+# the least of fifteen short runs of each program in turn minus the time of an empty run, its instructions if valgrind is
+# installed, and the ratios. Then it measures memory: the peak resident size of a run, and how much of it, without the
+# file itself and the program, there is for each byte of the uploads: the uploads, what three nodes hold of them, their
+# records, all messages that were sent and all steps. First it checks that the plain nodes agree with tools/runs_model.py
+# on each event of many schedules, and that both programs print the same sums over all messages and steps.
 #
 # Seen on four processors that four other tasks shared, in microseconds for an event:
 #
@@ -19,10 +20,10 @@
 #   100 uploads of 64 KiB   7.90        9.08   0.87        58,125   1.65        4.16        4.08
 #   1,000                   10.8        9.34   1.16        57,970   1.65        4.10        4.06
 #
-# The times swing: beside one or two tasks the first three ratios were 2.07, 1.83 and 1.79. From 100 to 10,000 small uploads an
+# The times vary: beside one or two tasks the first three ratios were 2.07, 1.83 and 1.79. From 100 to 10,000 small uploads an
 # event took 1.27 times as long (plain Rust 1.48), with 0.95 times the instructions: a run holds 7 KB for each upload, and soon no
-# cache holds a run. A node knows its records beside its store, which costs a twentieth of the instructions and of the memory.
-# What is more than in plain Rust: of the 131,000 instructions of a small upload (plain Rust 74,000) 43,000 read it at
+# cache holds a run. A node knows its records besides its store, which costs a twentieth of the instructions and of the memory.
+# The difference to plain Rust: of the 131,000 instructions of a small upload (plain Rust 74,000) 43,000 read it at
 # the three nodes (39,000), 10,000 find its parts again, 7,000 read its schema and its header once more, and 25,000
 # move plans and steps from one function to the next. An upload took 140 allocations, in plain Rust 102.
 source "$(dirname "${BASH_SOURCE[0]}")/start.sh"
@@ -52,7 +53,7 @@ EVENTS = 20  # for each upload, of three members
 NAMES = {"small": "a batch of three numbers", "large": "64 KiB"}
 COUNTS = {"small": counts_of(100, 1_000, 10_000), "large": counts_of(100, 1_000)}
 
-def timed(size, uploads):  # what one event costs both
+def timed(size, uploads):  # the cost of one event in both
     runs = in_turn([(proved, "run-events"), (plain, "run-events")], f"{work}/{size}-{uploads}")
     return [less(run, Cost(0, 0), EVENTS * uploads + 3) for run in runs]
 

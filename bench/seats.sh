@@ -1,12 +1,13 @@
 #!/usr/bin/env bash
-# Times three nodes that share a journal by `flight_bench`, beside the same nodes, own lists and journal in plain Rust
-# (bench/plain_runs.rs, rustc -O), which ask nobody whether they agree. A leader that loses no message has 50, 5,000 and 49,500
-# uploads of one batch of three numbers decided, one after the other: twenty entries of the journal each. Each line gives the
-# processor time of an entry, the least of some short runs of each program in turn without the time that an empty run takes, its
-# instructions where valgrind is there, and the ratios; then how an entry's time grows with the journal, and what an entry costs
-# where the journal has no log, so that each call compares all entries. Last it measures memory: the peak resident size of a run of
-# seats without that of the same run of nodes alone, for each entry. First it shows that both programs, with a log and without, add
-# up to the same sums over all messages and steps as a run of the same events.
+# Times three nodes that share a journal by `flight_bench`, compared with the same nodes, own lists and journal in plain Rust.
+#
+# Plain Rust (bench/plain_runs.rs, rustc -O) does not check whether they agree. A leader that loses no message has 50, 5,000 and
+# 49,500 uploads of one batch of three numbers decided, one after another: twenty entries of the journal each. Each line has the
+# processor time of an entry, the least of some short runs of each program in turn minus the time of an empty run, its
+# instructions if valgrind is installed, and the ratios; then how an entry's time grows with the journal, and what an entry costs
+# if the journal has no log, so that each call compares all entries. Last it measures memory: the peak resident size of a run of
+# seats minus that of the same run of nodes alone, per entry. First it checks that both programs, with a log and without, print
+# the same sums over all messages and steps as a run of the same events.
 #
 # Seen on four processors with nothing else running, in microseconds for an entry:
 #
@@ -18,9 +19,9 @@
 #   2,000 without a log              17.3        0.79   21.9        126,728  29.1
 #
 # The instructions of an entry do not grow with the journal; its time does by 1.32 times up to 990,000 entries (plain Rust 1.65), since
-# no cache holds the journal. What is more than in plain Rust is the node itself, whose run alone has 1.9 times plain Rust's
-# instructions (bench/runs.sh). Seats, their own lists and the journal took 183 bytes an entry beside a run of the same events, plain
-# Rust's 161.
+# no cache holds the journal. The difference to plain Rust is the node itself, whose run alone has 1.9 times plain Rust's instructions
+# (bench/runs.sh). Seats, their own lists and the journal took 183 bytes an entry more than a run of the same events, plain Rust's
+# 161.
 source "$(dirname "${BASH_SOURCE[0]}")/start.sh"
 source bench/programs.sh plain_runs
 
@@ -41,7 +42,7 @@ from timing import Cost, compared, count_of, counts_of, in_turn, less
 proved, plain, work = sys.argv[1:]
 ENTRIES = 20  # for each upload, of three members; three questions at the end
 
-def timed(uploads, words=("seat-events", "seat-events"), most=None):  # what one entry costs both
+def timed(uploads, words=("seat-events", "seat-events"), most=None):  # the cost of one entry in both
     runs = in_turn([(proved, words[0]), (plain, words[1])], f"{work}/{uploads}", runs=5, most=most)
     return [less(run, Cost(0, 0), ENTRIES * uploads + 3) for run in runs]
 

@@ -4,8 +4,8 @@
     bench/serve.py [PROGRAM]
 
 It starts `PROGRAM serve` (crates/flightd/out/flightd, which the gate builds) with three nodes for each number of callers. Callers are
-processes, each with the library in clients/python, and call the nodes in turn; the time of a put is theirs. A get is read from a
-socket as bytes that nobody looks at, beside as many bytes that another process of Python sends. Records are kept in files of a folder for
+processes, each with the library in clients/python, and call the nodes in turn; they measure the time of a put. A get is read from a
+socket without decoding it, and compared with as many bytes that another Python process sends. Records are kept in files of a folder for
 temporary files (TMPDIR), each synced before its node answers."""
 import multiprocessing
 import socket
@@ -29,7 +29,7 @@ GETS = count_of(5, 1)
 
 
 def put_rows(port, caller, count, start, times):
-    """Puts so many rows, and gives how long each took, in milliseconds; or nothing, where one of them failed."""
+    """Puts `count` rows, and reports how long each took, in milliseconds; or nothing if one of them failed."""
     client, taken = felzoren.connect(f"127.0.0.1:{port}", timeout=PUT_SECONDS), []
     start.wait()
     try:
@@ -44,7 +44,7 @@ def put_rows(port, caller, count, start, times):
 
 
 def puts(program, callers, count=PUTS):
-    """Puts a second by so many callers, and the middle and the 99th hundredth of how long they took."""
+    """The puts a second by this many callers, and the median and the 99th percentile of how long they took."""
     times, start = multiprocessing.Queue(), multiprocessing.Event()
     with server(program, 3) as (_, port):
         each = count // callers
@@ -72,7 +72,7 @@ def read_all(peer):
 
 
 def gets(program):
-    """Mebibytes a second of a version of some 64 MiB, the best of a few gets, and how many it has."""
+    """Mebibytes a second of a version of some 64 MiB, the best of a few gets, and how many bytes it has."""
     with server(program, 3) as (clients, port):
         batch = {"row": list(range(ROWS))}
         for _ in range(UPLOADS):
@@ -95,7 +95,7 @@ def send_all(listener, text):
 
 
 def raw(count):
-    """Mebibytes a second of as many bytes over a plain socket, the best of a few."""
+    """Mebibytes a second of this many bytes over a plain socket, the best of a few."""
     best, text = 0.0, bytes(count)
     for _ in range(GETS):
         with socket.create_server(("127.0.0.1", 0)) as listener:
@@ -111,9 +111,9 @@ def raw(count):
 
 def main(program):
     for callers in CALLERS:
-        print("{} callers: {:.0f} puts a second, {:.1f} ms in the middle, {:.1f} ms at most of 99 of 100".format(callers, *puts(program, callers)))
+        print("{} callers: {:.0f} puts a second, median {:.1f} ms, 99th percentile {:.1f} ms".format(callers, *puts(program, callers)))
     rate, count = gets(program)
-    print(f"a get of {count / (1 << 20):.0f} MiB: {rate:.0f} MiB/s, beside {raw(count):.0f} MiB/s of a plain socket")
+    print(f"a get of {count / (1 << 20):.0f} MiB: {rate:.0f} MiB/s, and {raw(count):.0f} MiB/s over a plain socket")
 
 
 if __name__ == "__main__":

@@ -1,8 +1,9 @@
 #!/usr/bin/env bash
-# Shows that a value is shared and not copied: an acceptor accepts an upload's value of 16 MiB, and then promises so many
-# ballots for the slot. Each promise reports the value, and all are kept. Prints the peak resident size for one promise
-# and for more, and what each further promise took. It ends with status 1 where a thousand promises take as much as one
-# more copy of the value would.
+# Checks that a value is shared and not copied, by the memory of promises that all report a value of 16 MiB.
+#
+# An acceptor accepts an upload's value of 16 MiB, and then promises many ballots for the slot. Each promise reports the
+# value, and all are kept. It prints the peak resident size for one promise and for more, and what each further promise
+# took. The status is 1 if a thousand promises take as much as one more copy of the value would.
 source "$(dirname "${BASH_SOURCE[0]}")/start.sh"
 source bench/programs.sh
 head -c 16777216 /dev/zero >"$work/value"

@@ -1,14 +1,15 @@
 #!/usr/bin/env bash
-# Times a store of records over a file by `flight_bench`, beside the same calls of the system in plain Rust (bench/plain_store.rs,
-# rustc -O): a keep writes a record behind the closed gate, syncs (fdatasync), opens the gate, and syncs again. Beside both it times
-# SQLite, by Python's module sqlite3, with one insert a transaction, journal_mode=WAL and synchronous=FULL, which syncs once for each.
-# All files are in one folder for temporary files (TMPDIR), which has to be on a disk: on a file system in memory a sync does
-# nothing. Each round keeps a hundred records by each of the three in turn, each time in a new file; the time of a run that keeps
-# none is taken off. A line gives the middle of all rounds, and of the rounds' ratios the middle and the quarters around it, since a
-# disk that others use takes now twice as long and now half; then the processor time of a keep. Then it times the recall of 100,000
-# records of 32 bytes by a store that is open, in processor time, beside plain Rust, and beside a reader that syncs, reads the file's
-# bytes and makes no records of them. First it shows that each program, where it keeps the records of a file in turn, writes just that
-# file, and that both recall the same.
+# Times a store of records in a file by `flight_bench`, compared with the same system calls in plain Rust and with SQLite.
+#
+# A keep writes a record after the closed gate, syncs (fdatasync), opens the gate, and syncs again. Plain Rust is
+# bench/plain_store.rs, by rustc -O. SQLite runs in Python's module sqlite3, with one insert a transaction, journal_mode=WAL and
+# synchronous=FULL, which syncs once for each. All files are in one folder for temporary files (TMPDIR), which must be on a disk:
+# on a file system in memory a sync does nothing. Each round keeps a hundred records by each of the three in turn, each time in a
+# new file; the time of a run that keeps none is subtracted. A line has the median of all rounds, and of the rounds' ratios the
+# median and the quartiles, since a disk that others use takes sometimes twice as long and sometimes half; then the processor time
+# of a keep. Then it times the recall of 100,000 records of 32 bytes by an open store, in processor time, compared with plain Rust,
+# and with a reader that syncs and reads the file's bytes but makes no records of them. First it checks that each program, if it
+# keeps the records of a file in turn, writes exactly that file, and that both recall the same.
 #
 # Seen on four processors and a disk (ext4, of a virtual machine) that nothing else used, with SQLite 3.40.1:
 #
@@ -19,7 +20,7 @@
 source "$(dirname "${BASH_SOURCE[0]}")/start.sh"
 source bench/programs.sh plain_store
 
-# Each program keeps the file's records, and has written that file then.
+# Checks that each program, if it keeps the file's records, writes that file.
 keep_alike() {
   for program in "$plain" "$proved"; do
     rm -f "$1.kept"
@@ -59,7 +60,7 @@ def remove(*paths):
         if os.path.exists(path):
             os.remove(path)
 
-def kept(program, size, count):  # a run that keeps so many records in a new file
+def kept(program, size, count):  # the time of a run that keeps this many records in a new file
     remove(f"{work}/one-{size}.kept")
     start = time.monotonic()
     child = subprocess.Popen([program, "keep-records", str(count), f"{work}/one-{size}"], stdout=subprocess.DEVNULL)
@@ -68,7 +69,7 @@ def kept(program, size, count):  # a run that keeps so many records in a new fil
         sys.exit(f"keep-records {count}: status {status}")
     return Time(time.monotonic() - start, usage.ru_utime + usage.ru_stime)
 
-def inserted(size, count):  # as many inserts in a new file, without what is done around them
+def inserted(size, count):  # the time of as many inserts in a new file, without what is done around them
     path, record = f"{work}/sqlite", bytes(range(256)) * (size // 256) or bytes(range(size))
     remove(path, f"{path}-wal", f"{path}-shm")
     base = sqlite3.connect(path, isolation_level=None)  # each statement is a transaction
@@ -82,7 +83,7 @@ def inserted(size, count):  # as many inserts in a new file, without what is don
     base.close()
     return taken
 
-def rounds(size):  # of each way, what a record took in each round
+def rounds(size):  # for each way, what a record took in each round
     ways = [lambda count: kept(proved, size, count), lambda count: kept(plain, size, count), lambda count: inserted(size, count)]
     whole, empty = ([[] for _ in ways] for _ in range(2))
     for first in range(ROUNDS):
@@ -92,7 +93,7 @@ def rounds(size):  # of each way, what a record took in each round
             whole[way].append(ways[way](KEEPS))
     return [each(*both) for both in zip(whole, empty)]
 
-def each(whole, empty):  # what a record took in each run, without what the middle one of the empty runs did
+def each(whole, empty):  # what a record took in each run, minus the median of the empty runs
     around = Time(*map(statistics.median, zip(*empty)))
     return [Time((run.clock - around.clock) / KEEPS, (run.processor - around.processor) / KEEPS) for run in whole]
 

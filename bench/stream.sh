@@ -1,22 +1,22 @@
 #!/usr/bin/env bash
-# Measures how fast a server streams: DoGet of 64 MiB over loopback, beside a loop that sends the same bytes over a raw socket, and beside
-# gRPC in C++ (bench/plain_stream.cc, bench/plain_stream.proto), whose one server stream has messages of the same sizes as the frames.
+# Measures DoGet of 64 MiB over loopback, compared with the same bytes over a raw socket and with gRPC in C++.
 #
 #   bench/stream.sh [PROGRAM]
 #
-# It starts `PROGRAM serve` (crates/flightd/out/flightd, which the gate builds) with three nodes, and puts six uploads of three batches. All
-# servers are read by one program in C++, which looks at no byte but the heads of frames, in turn: five calls each in each of five rounds.
+# It starts `PROGRAM serve` (crates/flightd/out/flightd, which the gate builds) with three nodes, and puts six uploads of three batches. gRPC's
+# one server stream (bench/plain_stream.cc, bench/plain_stream.proto) has messages of the same sizes as the frames. One program in C++, which
+# reads only the heads of frames, reads from all servers in turn: five calls each in each of five rounds.
 #
-# gRPC is measured three times. Its messages are made and taken apart by protoc's code, as most services do. Its bytes stand encoded, and
-# are left as they come: what is left of gRPC's cost where a service goes past protoc's code, as Arrow's own C++ does for Flight. Last, the
-# reader of these has frames and windows of many MiB. gRPC's channel is connected beforehand, where the others open a connection for each call.
+# gRPC is measured three times. First protoc's code makes and parses its messages, as in most services. Then its bytes are sent encoded, and
+# not decoded: this is gRPC's cost in a service that bypasses protoc's code, as Arrow's own C++ does for Flight. Last, the reader of these
+# bytes has frames and windows of many MiB. gRPC's channel is connected beforehand, while the others open a connection for each call.
 #
-# For each it prints the mebibytes a second of the best call and of the one in the middle, and how long a call took the processors, which
-# depends less on what else runs; and then what the server's rates are of the others'. It is to have twice the rate of gRPC's messages,
-# and 0.8 of a raw socket's. It wants g++, pkg-config, and Debian's libgrpc++-dev and protobuf-compiler-grpc, and takes a minute.
+# For each it prints the mebibytes a second of the best call and of the median one, and the processor time of a call, which depends less on
+# what else runs; and then the ratios of the server's rates to the others'. The aim is twice the rate of gRPC's messages, and 0.8 of a raw
+# socket's. It needs g++, pkg-config, and Debian's libgrpc++-dev and protobuf-compiler-grpc, and takes a minute.
 #
-# Seen on four processors that nothing else used, in MiB a second of the best of 25 calls and of the one in the middle, and in milliseconds of
-# the processors a call, of the server and of the reader:
+# Seen on four processors that nothing else used, in MiB a second of the best of 25 calls and of the median one, and in milliseconds of
+# processor time a call, of the server and of the reader:
 #
 #                                   best   middle   server   reader
 #   flightd                        3,433    3,217       18       15
@@ -46,19 +46,19 @@ STREAM, MIB, ROUNDS, CALLS = f"{work}/stream", 1 << 20, count_of(5, 1), count_of
 
 
 class Stream:
-    """A server, how its stream is read, the rate of each call, and the seconds of processors of all."""
+    """A server, how its stream is read, the rate of each call, and the processor seconds of all."""
 
     def __init__(self, name, server, *words):
         self.name, self.server, self.words = name, server, words
         self.counts, self.rates, self.seconds = set(), [], [0, 0]
 
     def used(self):
-        """What the server has used, and all readers so far."""
+        """The processor seconds of the server, and of all readers so far."""
         readers = resource.getrusage(resource.RUSAGE_CHILDREN)
         return look(self.server).seconds, readers.ru_utime + readers.ru_stime
 
     def call(self):
-        """Some calls, each with a line of how many bytes its messages had, and how many seconds it took."""
+        """Makes some calls: for each the reader prints how many bytes its messages had, and how many seconds it took."""
         before = self.used()
         done = subprocess.run([STREAM, *self.words, str(CALLS)], stdout=subprocess.PIPE, check=True, text=True)
         self.seconds = [total + now - was for total, now, was in zip(self.seconds, self.used(), before)]
@@ -72,11 +72,11 @@ class Stream:
     def __str__(self):
         ours, readers = (1000 * it / len(self.rates) for it in self.seconds)
         best, middle = self.best()
-        return f"{self.name}: {best:,.0f} MiB/s at best, {middle:,.0f} in the middle; a call takes processors {ours:.0f} ms, and {readers:.0f} ms of the reader"
+        return f"{self.name}: {best:,.0f} MiB/s at best, median {middle:,.0f}; a call takes {ours:.0f} ms of processor time, and {readers:.0f} ms of the reader"
 
     def beside(self, other):
         best, middle = (one / two for one, two in zip(self.best(), other.best()))
-        return f"{self.name} beside {other.name}: {best:.2f} at best, {middle:.2f} in the middle"
+        return f"{self.name} to {other.name}: {best:.2f} at best, median {middle:.2f}"
 
 
 def put_and_get(port):

@@ -1,14 +1,15 @@
 #!/usr/bin/env bash
-# Times uploads and the tables that they make by `flight_bench`, beside the same work in plain Rust over the maps of std
-# (bench/plain_tables.rs, rustc -O): uploads of one batch of three numbers of eight bits, read and taken one by one, over
-# 1 and over 100 tables, by 1,000, 10,000 and 100,000 of them; and the reading and the answering of uploads of 1 MiB, of
-# one batch and of sixteen. Each line gives the processor time of one upload, or of one repetition, the least of fifteen
-# short runs of each program in turn without the time that an empty run takes, its instructions where valgrind is there,
-# and the ratios. Then it measures what tables hold in memory beside the uploads themselves, which who agreed on them
-# holds and shares: the peak resident size of a run that keeps tables, less that of one that makes none. First it shows
-# that both programs add up to the same sums.
+# Times uploads and the tables that they make by `flight_bench`, compared with the same work in plain Rust.
 #
-# Seen on four processors beside six other tasks, in microseconds (a page of memory asked for anew counts); the last three lines on
+# Plain Rust uses the maps of std (bench/plain_tables.rs, rustc -O). Uploads of one batch of three numbers of eight bits are
+# read and taken one by one, over 1 and over 100 tables, 1,000, 10,000 and 100,000 of them; and uploads of 1 MiB, of one batch
+# and of sixteen, are read and answered. Each line has the processor time of one upload, or of one repetition, the least of
+# fifteen short runs of each program in turn minus the time of an empty run, its instructions if valgrind is installed, and
+# the ratios. Then it measures what tables hold in memory besides the uploads themselves, which are held and shared by those
+# that agreed on them: the peak resident size of a run that keeps tables, minus that of one that makes none. First it checks
+# that both programs print the same sums.
+#
+# Seen on four processors beside six other tasks, in microseconds (including newly requested pages of memory); the last three lines on
 # a processor that did nothing else:
 #
 #                                    ours  plain Rust  ratio  instructions, ratio
@@ -22,12 +23,12 @@
 #   1 MiB read, sixteen batches       156          76   2.04         3.3 M   1.41
 #   1 MiB answered                   0.08          37   0.00         1,234   0.00
 #
-# From 1,000 to 100,000 held an upload took 1.27 to 1.31 times as long, for memory (plain Rust 1.21). What is more than in plain
-# Rust: the frames that are served of an upload are made once, when it is made ready, and answers share them, where plain Rust makes
+# From 1,000 to 100,000 held an upload took 1.27 to 1.31 times as long, due to memory (plain Rust 1.21). The difference to plain
+# Rust: the frames in which an upload is served are made once, when it is made ready, and answers share them, while plain Rust makes
 # them anew for each answer; an upload's schema and each header are read once to be checked and once more to be kept; and each part
 # is compared with itself when its one encoding is checked.
 #
-# Beside the uploads tables held as many bytes as uploads of 1 MiB have, as plain Rust does; of uploads of 344 bytes, of which
+# Besides the uploads, tables held as many bytes as uploads of 1 MiB have, as plain Rust does; for uploads of 344 bytes, of which
 # 189 are served, 1.6 over one table and 1.9 over a hundred (plain Rust 1.2 and 1.6).
 source "$(dirname "${BASH_SOURCE[0]}")/start.sh"
 source bench/programs.sh plain_tables
@@ -88,5 +89,5 @@ for file, uploads in counts_of(("1000-100", 1_000), ("100000-1", 100_000), ("man
     least, most = (100, 200) if file == "1000-100" else (1, 3)
     for program, name in ((proved, "flight_bench"), (plain, "plain Rust")):
         held = (peak(program, most, path) - peak(program, least, path)) / (most - least)
-        print(f"tables of {file}, {size:,} bytes uploaded: {name} holds {held / size:.3f} bytes for each beside the upload")
+        print(f"tables of {file}, {size:,} bytes uploaded: {name} holds {held / size:.3f} bytes for each besides the upload")
 P

@@ -1,4 +1,4 @@
-"""Times programs from outside, and counts their instructions where valgrind is there."""
+"""Times programs from outside, and counts their instructions if valgrind is installed."""
 import collections
 import os
 import re
@@ -6,7 +6,7 @@ import shutil
 import subprocess
 import time
 
-# Whether the smallest counts are wanted, as a smoke test: then each program runs once, and no instructions are counted.
+# Whether the smallest counts are wanted, for a smoke test: then each program runs once, and no instructions are counted.
 SMALLEST = bool(os.environ.get("SMALLEST"))
 COUNTING = ["valgrind", "--tool=callgrind", "--callgrind-out-file=/dev/null"]
 
@@ -15,17 +15,17 @@ Cost = collections.namedtuple("Cost", "seconds instructions")
 
 
 def count_of(usual, smallest):
-    """The usual count, or the smallest one where that is wanted."""
+    """The usual count, or the smallest one if that is wanted."""
     return smallest if SMALLEST else usual
 
 
 def counts_of(*usual):
-    """All of these counts, or the first one where the smallest are wanted."""
+    """All of these counts, or the first one if the smallest are wanted."""
     return usual[:1] if SMALLEST else usual
 
 
 def run(words, file="/dev/null", check=True):
-    """Runs a program on a file as its standard input, and gives what it said on standard error."""
+    """Runs a program with a file as its standard input, and returns what it printed on standard error."""
     with open(file, "rb") as source:
         done = subprocess.run(words, stdin=source, stdout=subprocess.DEVNULL, stderr=subprocess.PIPE, check=check)
     return done.stderr.decode()
@@ -46,20 +46,20 @@ def instructions(words, file="/dev/null", check=True):
 
 
 def less(whole, empty, count):
-    """What one repetition costs, where so many and none of them cost so much."""
+    """The cost of one repetition, from the costs of `count` repetitions and of none."""
     counted = None if whole.instructions is None else (whole.instructions - empty.instructions) / count
     return Cost(max(whole.seconds - empty.seconds, 1e-9) / count, counted)
 
 
 def cost(words, file="/dev/null", runs=5, check=True):
-    """What one run costs: the best time of some, and its instructions."""
+    """The cost of one run: the best time of some, and its instructions."""
     best = min(seconds(words, file, check) for _ in range(count_of(runs, 1)))
     return Cost(best, instructions(words, file, check))
 
 
 def one(program, task, file):
-    """What one repetition of `PROGRAM TASK COUNT FILE` costs: the best time of five runs of about a second, less an
-    empty run, and the instructions of fewer repetitions, less those of none."""
+    """The cost of one repetition of `PROGRAM TASK COUNT FILE`: the best time of five runs of about a second, minus an
+    empty run, and the instructions of fewer repetitions, minus those of none."""
     words = lambda count: [program, task, str(count), file]
     count = 1
     while (taken := seconds(words(count))) < 0.2 and not SMALLEST:
@@ -79,9 +79,9 @@ def processor_seconds(words):
 
 
 def in_turn(tasks, file, runs=15, most=None):
-    """What one repetition of each `PROGRAM TASK COUNT FILE` costs: the least processor time of some runs of a twentieth
-    of a second, or of no more than so many repetitions, of all the tasks in turn, so that all see the same machine;
-    each less an empty run, and the instructions of one repetition, less those of none."""
+    """The cost of one repetition of each `PROGRAM TASK COUNT FILE`: the least processor time of some runs of a twentieth
+    of a second, or of at most `most` repetitions, of all the tasks in turn, so that all see the same machine; each minus
+    an empty run, and the instructions of one repetition, minus those of none."""
     words = lambda task, count: [*task, str(count), file]
     taken = lambda task, count: processor_seconds(words(task, count))
     empty = {task: taken(task, 0) for task in tasks}
@@ -96,7 +96,7 @@ def in_turn(tasks, file, runs=15, most=None):
 
 
 def repetitions(taken, most):
-    """How many repetitions take a twentieth of a second and more, or the most that there may be."""
+    """How many repetitions take a twentieth of a second or more, or the most that there may be."""
     count = 1
     while count != most and taken(count) < 0.05:
         count *= 2
@@ -104,14 +104,14 @@ def repetitions(taken, most):
 
 
 def one_of(best, empty, count, words):
-    """One repetition of so many, by their least time and that of none of them, and by instructions of one and of none."""
+    """The cost of one repetition, from the least times of `count` repetitions and of none, and the instructions of one and of none."""
     timed = less(Cost(best, None), Cost(empty, None), count)
     whole, none = (Cost(0, instructions(words(count), check=False)) for count in (1, 0))
     return Cost(timed.seconds, less(whole, none, 1).instructions)
 
 
 def compared(name, ours, theirs, program="flight_bench"):
-    """A line of what one operation costs a program of ours, and plain Rust."""
+    """A line with the costs of one operation in a program of ours and in plain Rust."""
     both = [f"{cost.seconds * 1e6:,.3f} us ({1 / cost.seconds:,.0f}/s)" for cost in (ours, theirs)]
     line = f"{name}: {program} {both[0]}, plain Rust {both[1]}, ratio {ours.seconds / theirs.seconds:.2f}"
     if ours.instructions is None:

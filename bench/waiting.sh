@@ -1,9 +1,10 @@
 #!/usr/bin/env bash
-# Times puts that wait. `flightd replay` plays 10,000 to 80,000 puts of small uploads at one node, where nothing is ever
-# decided, so that all of them wait: each upload has a name of its own, and then all of them have one name, so that
-# they are told apart by their encodings. For each it prints the least processor time of five runs, less that of as many
-# puts to a node that is no member, which are refused; what that is for a put; and by what factor it grew as the puts
-# doubled. The factor is about 2, since a put is looked up among those that wait, and not held against each.
+# Times puts that wait: 10,000 to 80,000 puts of small uploads at one node of `flightd replay`, at which nothing is ever decided.
+#
+# First each upload has its own id, and then all have the same id, so that only their encodings differ. For each it prints
+# the least processor time of five runs, minus that of as many puts to a node that is no member, which are refused; the
+# time per put; and by what factor it grew as the puts doubled. The factor is about 2, since a put is looked up among
+# those that wait, and not compared with each.
 source "$(dirname "${BASH_SOURCE[0]}")/start.sh"
 build_flightd
 
@@ -14,7 +15,7 @@ from timing import count_of, counts_of, processor_seconds
 
 flightd, schedule = sys.argv[1:]
 
-def least(puts, named, node):  # the least time of so many puts to this node, each of another upload
+def least(puts, named, node):  # the least time of this many puts to this node, each of another upload
     values = lambda put: [[put % 100, put // 100 % 100, put // 10_000]]
     uploads = [{"table": "t", "id": f"{named(put):032x}", "values": values(put)} for put in range(puts)]
     events = [["put", node, put] for put in range(puts)]

@@ -1,12 +1,13 @@
 #!/usr/bin/env python3
-"""Makes the table of crates in docs/ARCHITECTURE.md, between the two comments that mark its place: the layers of crates.txt,
-each with its crates, and of each crate the first paragraph of its `src/lib.rt` or `src/main.rt`.
+"""Writes the table of crates in docs/ARCHITECTURE.md: each layer of crates.txt with its crates, and what each crate is.
+
+The table is between the two comments that mark its place. A crate's text is the first paragraph of its `src/lib.rt` or `src/main.rt`.
 
     tools/architecture.py [--check]
 
-With --check it changes nothing. It says whether the table is what it would make, whether each crate of crates.txt comes before
-those that use it, whether each stands under the heading of a layer, and whether more than MOST_PATHS paths lead down from crates to those
-that they use. The status is 1 where one of these is not so."""
+With --check it changes nothing. It checks that the table is up to date, that each crate of crates.txt comes before those that use it
+and is under the heading of a layer, and that at most MOST_PATHS paths lead down from crates to those that they use. The status is 1 if
+one of these checks fails."""
 import re
 import sys
 from pathlib import Path
@@ -23,7 +24,7 @@ HEADING = re.compile(r"# (?:Layer (\w+), (.*)|(Tests and benches))$")
 
 
 def layers():
-    """The layers of crates.txt, each as its heading and its crates, each with what it uses."""
+    """The layers of crates.txt: the heading of each, and its crates with those that they use."""
     found = [("", {})]
     for line in (TOP / "crates.txt").read_text(encoding="utf-8").splitlines():
         heading, row = HEADING.match(line), line.partition("#")[0]
@@ -37,7 +38,7 @@ def layers():
 
 
 def first_paragraph(crate):
-    """What the head of a crate's root says of it, up to the first empty line."""
+    """The doc comment at the top of a crate's root file, up to the first empty line."""
     sources = TOP / "crates" / crate / "src"
     root = next(file for name in ("lib.rt", "main.rt") if (file := sources / name).is_file())
     words = []
@@ -63,7 +64,7 @@ def table(found):
 
 
 def with_table(text, lines):
-    """The page with this table in its place."""
+    """The page with this table between the two comments."""
     head, first, rest = text.partition(FIRST)
     _, last, tail = rest.partition(LAST)
     if not first or not last:
@@ -72,9 +73,9 @@ def with_table(text, lines):
 
 
 def out_of_order(found):
-    """What is wrong with the order of crates.txt, a line each."""
+    """The faults in the order of crates.txt, one per line."""
     places = {crate: place for place, crate in enumerate(crate for _, crates in found for crate in crates)}
-    wrong = [f"crates.txt: {crate} stands under no layer" for crate in found[0][1]]
+    wrong = [f"crates.txt: {crate} is under no layer" for crate in found[0][1]]
     for _, crates in found:
         for crate, uses in crates.items():
             above = [used for used in uses if places.get(used, -1) >= places[crate]]
@@ -83,7 +84,7 @@ def out_of_order(found):
 
 
 def too_many_paths(found):
-    """A line where too many paths lead down from libraries to the crates that they use, each library by itself counted as one."""
+    """A line if too many paths lead down from libraries to the crates that they use; a library by itself counts as one path."""
     paths, libraries = {}, set()
     for _, crates in found:
         for crate, uses in crates.items():

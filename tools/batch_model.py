@@ -1,7 +1,7 @@
-"""Arrow record batches, from the Apache Arrow Columnar Format alone ("Physical memory layout", "RecordBatch message",
-and the tables of Schema.fbs and Message.fbs), in three parts that share types and heads, and nothing else: `lay_out`
-lays cells out as nodes, buffers and a body, in one of many ways; `meaning` says which cells a head and a body lay out,
-or why they lay out none; `canonical` gives the one head and body that are written of cells.
+"""A model of Arrow record batches, written from the Apache Arrow Columnar Format alone ("Physical memory layout",
+"RecordBatch message", and the tables of Schema.fbs and Message.fbs). Its three parts share only types and heads:
+`lay_out` lays cells out as nodes, buffers and a body, in one of many ways; `meaning` returns the cells of a head and a
+body, or the name of their first fault; `canonical` returns the one head and body that are written for cells.
 
 A cell is None (a null), a bool, bytes, a list of cells (List, FixedSizeList) or a tuple of cells (Struct). A column is
 a list of cells, and a batch a number of rows and a column for each type."""
@@ -43,7 +43,7 @@ def type_of(word):
 
 
 def width(type):
-    """How many bytes an item has ("Fixed-size primitive layout"), or None where items have other layouts."""
+    """How many bytes an item has ("Fixed-size primitive layout"), or None if items have another layout."""
     eight = dict.fromkeys(("SECOND", "MILLISECOND", "MICROSECOND", "NANOSECOND"), 8)
     units = {
         "FloatingPoint": {"HALF": 2, "SINGLE": 4, "DOUBLE": 8},
@@ -62,9 +62,9 @@ def width(type):
 
 # Part 1: cells laid out in many ways.
 
-FREE = object()  # Where a cell is not the batch's: under a null, outside each span, or behind the last row.
+FREE = object()  # A cell that is not the batch's: under a null, outside each span, or after the last row.
 
-WAYS = {  # What a layout may do that the canonical one does not.
+WAYS = {  # How a layout may differ from the canonical one.
     "sixty-four": "each buffer begins at a multiple of 64",
     "unaligned": "each buffer begins at the next byte",
     "gaps": "the bytes between buffers and behind the last one are not zero",
@@ -84,7 +84,7 @@ WAYS = {  # What a layout may do that the canonical one does not.
 
 
 class Layout:
-    """Nodes, and contents of buffers, as they come depth first."""
+    """Nodes, and contents of buffers, in depth-first order."""
 
     def __init__(self, ways, seed):
         self.ways, self.draw = frozenset(ways), random.Random(seed)
@@ -94,7 +94,7 @@ class Layout:
         return self.draw.randbytes(count) if "junk" in self.ways else bytes(count)
 
     def free_cell(self, type):
-        """A cell where the batch has none."""
+        """What is in the place of a cell that the batch doesn't have."""
         is_junk = "junk" in self.ways
         if type.name == "Null" or is_junk and self.draw.random() < 0.3:
             return None
@@ -111,7 +111,7 @@ class Layout:
         return [FREE] * int(type.parameters[0])
 
     def unused(self, empty, is_wanted):
-        """Bytes or items that no cell of the batch has, where they are wanted, else none of them."""
+        """Bytes or items that no cell of the batch uses, or none if they are not wanted."""
         count = self.draw.randrange(1, 4) if is_wanted else 0
         if isinstance(empty, list):
             return [FREE] * count
@@ -154,7 +154,7 @@ class Layout:
             self.equal_parts(type, cells)
 
     def equal_parts(self, type, cells):
-        """The children of a Struct or a FixedSizeList, as many items of each for one item as for another."""
+        """The children of a Struct or a FixedSizeList, where each item has equally many items of a child."""
         more = [FREE] * self.draw.randrange(1, 4) if "children" in self.ways else []
         for place, child in enumerate(type.children):
             if type.name == "Struct":
@@ -186,7 +186,7 @@ class Layout:
 
 
 def lay_out(types, rows, columns, ways=(), seed=0):
-    """A head and a body that lay the columns out in these ways, in the canonical one where there are none."""
+    """A head and a body that lay the columns out in these ways, or in the canonical one if there are none."""
     layout = Layout(ways, seed)
     for type, cells in zip(types, columns):
         layout.column(type, cells + [FREE] * ("children" in layout.ways))
@@ -212,7 +212,7 @@ def whole_tree(type):
 
 
 class Column:
-    """A column as its nodes and buffers show it."""
+    """A column as its nodes and buffers describe it."""
 
     def __init__(self, type, nodes, buffers, body, end):
         self.type, self.body, self.end = type, body, end
@@ -238,7 +238,7 @@ class Column:
         return self.content("data")[self.offset(item):self.offset(item + 1)]
 
     def reach(self, item):
-        """The items of each child that a valid item has."""
+        """The items of each child that belong to a valid item."""
         if self.type.name == "List":
             return range(self.offset(item), self.offset(item + 1))
         return range(item * self.size, (item + 1) * self.size)
@@ -257,7 +257,7 @@ class Column:
         return self.content("data")[item * width(self.type):(item + 1) * width(self.type)]
 
     def stands(self, kind):
-        """The buffer lies in the body, and is long enough for the items or, where it may be, empty."""
+        """Whether the buffer is inside the body, and long enough for the items or, if it may be, empty."""
         offset, length = self.buffers[kind]
         in_bits = (self.length + 7) // 8
         least = {"validity": in_bits, "bits": in_bits, "offsets": 4 * (self.length + 1),
@@ -267,7 +267,7 @@ class Column:
         return is_inside and (length >= least or length == 0 and may_be_empty)
 
     def offsets_rise(self):
-        """None is negative, below the one before, or more than there is. Where there are no offsets, all is well."""
+        """Whether no offset is negative, below the one before, or past the end. True if there are no offsets."""
         if self.buffers["offsets"][1] == 0:
             return True
         there = self.children[0].length if self.children else self.buffers["data"][1]
@@ -275,8 +275,8 @@ class Column:
         return offsets == sorted(offsets)
 
     def faults(self, asked, reached):
-        """The column's faults, then its children's. `asked` is how many items it has to have, and `reached` are those
-        that are the batch's. What comes behind a fault may rest on what that fault denies."""
+        """The column's faults, then its children's. `asked` is how many items it must have, and `reached` are those that
+        belong to the batch. A fault after the first may only be due to the first."""
         if not all(map(self.stands, self.buffers)):
             yield "BufferRange"
         if self.buffers and self.null_count != sum(not self.is_valid(item) for item in range(self.length)):
@@ -306,7 +306,7 @@ def all_columns(types, head, body):
 
 
 def all_faults(types, head, body):
-    """The faults of a batch, in the order in which the first is told."""
+    """The faults of a batch, in the order in which they are looked for: the first is the one reported."""
     if head.compressed:
         yield "Compressed"
     lengths = [length for length, _ in head.nodes]
@@ -348,7 +348,7 @@ def packed(flags):
 
 
 def canonical_parts(type, cells):
-    """The nodes, and the contents of the buffers, of a column and of those inside it."""
+    """The nodes and the contents of the buffers of a column and of its children."""
     if type.name == "Null":
         return [(len(cells), len(cells))], []
     nulls = sum(cell is None for cell in cells)
@@ -374,7 +374,7 @@ def canonical_parts(type, cells):
 
 
 def canonical(types, rows, columns):
-    """The one head and body that are written of the columns."""
+    """The one head and body that are written for the columns."""
     parts = [canonical_parts(type, cells) for type, cells in zip(types, columns)]
     nodes, contents = [tuple(chain(*lists)) for lists in zip(*parts)] or [(), ()]
     padded = [content + bytes(-len(content) % 8) for content in contents]

@@ -1,9 +1,10 @@
 #!/usr/bin/env python3
-"""Makes the stories of batches in crates/batch_stories/data: `flat.txt`, `nested.txt`, `depths.txt`, `layouts.txt` and
-`faults.txt` from the model in batch_model.py; `examples.txt`, `borders.txt` and `heads.txt` were worked out by hand. First the
-model is tried: what it lays out means the cells that were laid out, what is written of them means them too and is written so
-again, and each story, also by hand, is told as it stands. With --check no file is changed, and those that differ are
-named."""
+"""Makes the stories of batches in crates/batch_stories/data from the model in batch_model.py.
+
+They are `flat.txt`, `nested.txt`, `depths.txt`, `layouts.txt` and `faults.txt`; `examples.txt`, `borders.txt` and `heads.txt`
+were worked out by hand. First it tests the model: a layout is read as the cells that were laid out; so is what is written for them,
+and that is written the same way again; and the model gives the results in each story, also in those worked out by hand. With --check
+it changes no file, and names those that differ."""
 import itertools
 import random
 import re
@@ -42,7 +43,7 @@ MIXED = "Bool List(Utf8) Struct(Int(16,true),Utf8) FixedSizeList(2,Binary) Null"
 
 
 def shown(cell):
-    """A cell as it is printed."""
+    """A cell as the program prints it."""
     if cell is None or isinstance(cell, bool):
         return {None: "null", True: "true", False: "false"}[cell]
     if isinstance(cell, bytes):
@@ -51,7 +52,7 @@ def shown(cell):
 
 
 def spelled(body):
-    """The digits of the bytes, eight bytes a word, with letters where three words or more are zero."""
+    """The bytes in hexadecimal, eight bytes a word; three or more zero words are written as letters."""
     words = []
     for is_zero, run in itertools.groupby((body[place:place + 8] for place in range(0, len(body), 8)), bytes(8).__eq__):
         run = [word.hex() for word in run]
@@ -80,7 +81,7 @@ def read_line(head, body):
 
 
 def batch_of(line):
-    """The head and the body of a `read`."""
+    """The head and the body in a `read` line."""
     front, buffers, back = line.split("|")
     compressed, length = re.match(r"read (compressed )?(-?\d+)", front).groups()
     body_length, _, digits = back.strip().partition(" ")
@@ -105,7 +106,7 @@ def batch_told(types, head, body):
 
 
 def tell(text):
-    """The text with the answers told anew: what the story program has to print of it."""
+    """The story with the model's answers: what the story program must print for it."""
     lines, types = [], []
     for line in text.splitlines():
         if line.startswith("  "):
@@ -120,7 +121,7 @@ def tell(text):
 
 
 class Story:
-    """Comments and commands; the answers are told in the end."""
+    """Comments and commands; the answers are added at the end."""
 
     def __init__(self, beginning):
         self.lines, self.types = [], []
@@ -135,7 +136,7 @@ class Story:
         self.lines.append(f"schema {words}")
 
     def lay_out(self, rows, columns, ways=(), seed=0):
-        """A batch that is laid out in these ways, and so has these columns."""
+        """Adds a batch that is laid out in these ways, and so has these columns."""
         head, body = lay_out(self.types, rows, columns, ways, seed)
         assert meaning(self.types, head, body) == columns, (self.types, columns, ways)
         self.lines.append(read_line(head, body))
@@ -149,8 +150,8 @@ class Story:
 
 
 def drawn(type, draw, nulls, most=3):
-    """A cell of the type, as often null as `nulls` says, and its parts too; a list has so many elements at most, or
-    one where that is none."""
+    """A random cell of the type. It and its parts are null with the chance `nulls`; a list has at most `most` elements,
+    or one if `most` is 0."""
     if type.name == "Null" or draw.random() < nulls:
         return None
     if type.name == "Bool":
@@ -189,7 +190,7 @@ def flat():
 
 
 def deep(wrap, leaf, cell, depth):
-    """Types in one another to the depth, and a row for each depth that has its null there, and one without."""
+    """Types nested to this depth, and rows: for each depth one with a null at that depth, and one without nulls."""
     word, rows = leaf, [None, cell]
     for _ in range(depth - 1):
         word = wrap(word)
@@ -275,7 +276,7 @@ def layouts():
 
 
 def altered(laid, nodes={}, buffers={}, places={}, **others):
-    """A batch with other nodes and buffers of these numbers, other bytes at these places, and other parts of a head."""
+    """The batch with the nodes and buffers of these numbers, the bytes at these places, and other parts of the head replaced."""
     head, body = laid
     nodes = tuple(nodes.get(number, node) for number, node in enumerate(head.nodes))
     buffers = tuple(buffers.get(number, buffer) for number, buffer in enumerate(head.buffers))
@@ -283,7 +284,7 @@ def altered(laid, nodes={}, buffers={}, places={}, **others):
     return head._replace(**{"nodes": nodes, "buffers": buffers, **others}), body
 
 
-IN_TURN = [  # Of a column of texts: the fault, and a change of the batch that makes it stand, whichever others stand.
+IN_TURN = [  # Of a column of texts: a fault, and a change of the batch that causes it, whichever other faults there are.
     ("Compressed", lambda laid: altered(laid, compressed=True)),
     ("TooManyRows", lambda laid: altered(laid, length=(1 << 20) + 1)),
     ("NodeCount", lambda laid: (laid[0]._replace(nodes=laid[0].nodes + ((0, 0),)), laid[1])),
@@ -296,7 +297,7 @@ IN_TURN = [  # Of a column of texts: the fault, and a change of the batch that m
     ("NotUtf8", lambda laid: altered(laid, places={laid[0].buffers[2][0]: 0xff})),
 ]
 NUMBERS, WORDS = [b"\1", None, b"\3", b"\4"], [b"a", b"bc", None, b"joe"]
-AT_COLUMN = [  # A fault, the column's type and cells, and the change, given the numbers of its node and first buffer.
+AT_COLUMN = [  # A fault, the column's type and cells, and the change, a function of the numbers of its node and first buffer.
     ("TooManyRows", "Int(8,true)", NUMBERS, lambda head, node, first: {"nodes": {node: ((1 << 24) + 1, 1)}}),
     ("BufferRange", "Int(8,true)", NUMBERS,
      lambda head, node, first: {"buffers": {first + 1: (head.buffers[first + 1][0], 3)}}),
@@ -314,7 +315,7 @@ AT_COLUMN = [  # A fault, the column's type and cells, and the change, given the
 
 
 def surroundings(word, cells):
-    """The column by itself and inside each type of column that has others inside, with its node and first buffer."""
+    """The column by itself and inside each nested type, with the numbers of its node and first buffer."""
     halves = [cells[:2], cells[2:]]
     yield word, cells, 0, 0
     yield f"List({word})", halves, 1, 2
@@ -322,7 +323,7 @@ def surroundings(word, cells):
     yield f"FixedSizeList(2,{word})", halves, 1, 1
 
 
-INSIDE = [  # Of texts inside: the fault, and its change, given the length that the column says it has, as those above.
+INSIDE = [  # Of nested texts: a fault and its change, as above; here the change keeps the column's stated length.
     ("BufferRange", lambda head, node, first: {"buffers": {first + 2: (head.buffers[first + 2][0], 99)}}),
     ("NullCount", lambda head, node, first: {"nodes": {node: (head.nodes[node][0], 2)}}),
     ("OffsetsFall", lambda head, node, first: {"places": {head.buffers[first + 1][0] + 8: 0}}),
@@ -332,7 +333,7 @@ INSIDE = [  # Of texts inside: the fault, and its change, given the length that 
 
 
 def inside_columns(story):
-    """Two faults of one column inside others."""
+    """Two faults of one nested column."""
     story.say("Of two faults of texts inside a List, a Struct and a FixedSizeList the first is told, as of those at "
               "the top. A List asks for no length of what is inside it.")
     for outer, column, node, first in list(surroundings("Utf8", WORDS))[1:]:
@@ -396,7 +397,7 @@ def faults():
 
 
 def try_model():
-    """What is laid out, in whichever ways, means what was laid out; so does what is written, which is written again."""
+    """Tests the model: a layout in any of the ways is read as its cells; so is what is written, and it is written the same again."""
     draw = random.Random(11)
     for number in range(200):
         words = draw.sample(NESTED + FLAT, 3)
@@ -421,7 +422,7 @@ def main():
         if file.exists() and file.read_text(encoding="utf-8") == text:
             continue
         if is_check or name in BY_HAND:
-            print(f"batches: {name} is not what tools/batches.py makes or tells")
+            print(f"batches: {name} differs from what tools/batches.py makes")
             status = 1
         else:
             file.write_text(text, encoding="utf-8")

@@ -1,7 +1,8 @@
 #!/usr/bin/env python3
-"""Makes the stories of bitmaps, and of columns of bits and nulls, in crates/batch_stories/data: `bitmaps.txt` and
-`columns.txt`. Bits are a list here, and a byte is a sum of powers of two (Apache Arrow Columnar Format, "Validity bitmaps": the
-lowest bit first). With --check no file is changed, and those that differ are named."""
+"""Makes the stories of bitmaps, and of columns of bits and nulls, in crates/batch_stories/data: `bitmaps.txt` and `columns.txt`.
+
+Bits are a list here, and a byte is a sum of powers of two (Apache Arrow Columnar Format, "Validity bitmaps": the lowest bit first).
+With --check it changes no file, and names those that differ."""
 import itertools
 import sys
 from pathlib import Path
@@ -12,7 +13,7 @@ from toolbox import show_help
 
 DATA = Path(__file__).resolve().parent.parent / "crates" / "batch_stories" / "data"
 RUN_BYTES = bytes([0b1010_0110, 0xFF, 0x00, 0x81, 0b0011_1101])
-STARTS, COUNTS = 18, 41  # where runs begin, and how long they are: below these
+STARTS, COUNTS = 18, 41  # upper bounds of where runs begin and of their lengths
 NAMES = {"Bool": "Bits", "List": "List", "Struct": "Struct", "Null": "Null", "Binary": "Binary", "Utf8": "Utf8"}
 
 
@@ -22,7 +23,7 @@ def packed(bits):
 
 
 def bits_in(content, start, count):
-    """So many bits from one on; behind the last byte none is set."""
+    """`count` bits from `start` on; after the last byte none is set."""
     all_bits = [bit == "1" for byte in content for bit in reversed(f"{byte:08b}")]
     return [place < len(all_bits) and all_bits[place] for place in range(start, start + count)]
 
@@ -76,7 +77,7 @@ def bitmaps():
 
 
 def column(name, cells):
-    """A column of bits and nulls: no bitmap where nothing is null, and a bit that is not set under a null."""
+    """A column of bits and nulls: without nulls it has no bitmap, and under a null the bit is not set."""
     nulls = cells.count("n")
     validity = packed([cell != "n" for cell in cells]) if nulls and name == "Bits" else b""
     second = packed([cell == "1" for cell in cells]) if name == "Bits" else b""
@@ -118,7 +119,7 @@ def main():
         if file.exists() and file.read_text(encoding="utf-8") == text:
             continue
         if "--check" in sys.argv[1:]:
-            print(f"bits: {file.name} is not what tools/bits.py makes")
+            print(f"bits: {file.name} differs from what tools/bits.py makes")
             status = 1
         else:
             file.write_text(text, encoding="utf-8")

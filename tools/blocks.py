@@ -1,8 +1,9 @@
-"""Which basic blocks of a built program its inputs reach, without another build of it.
+"""Finds which basic blocks of a built program its inputs reach, without building it again.
 
-The blocks are found in what objdump (GNU binutils) disassembles: where a function begins, where a jump leads, and what stands behind a
-jump, a call or a return. `traced.c`, which cc builds into a folder, has a copy of the program stop at each block that no run has reached
-yet. So what is looked at is the program as two compilers built it, x86-64 and ELF, and a block that was reached costs nothing from then on."""
+The blocks are read from the disassembly by objdump (GNU binutils): one begins at the start of a function, at the target of a jump, and
+after a jump, a call or a return. `traced.c`, which cc builds into a folder, stops a copy of the program at each block that no run has
+reached yet. So the program measured is the one that two compilers built, x86-64 and ELF, and a block that was reached costs nothing from
+then on."""
 import re
 import struct
 import subprocess
@@ -19,8 +20,8 @@ LOADED, EXECUTED = 1, 1
 
 
 class Outcome(NamedTuple):
-    """How a run ended: as wait(2) has it; the seconds of the processor, the bytes of memory; the blocks that it was the first to reach;
-    and what it wrote."""
+    """How a run ended: its status of wait(2), processor seconds, bytes of memory, the blocks that it was the first to reach, and its
+    output."""
 
     status: int
     seconds: float
@@ -31,7 +32,7 @@ class Outcome(NamedTuple):
 
 
 def executed_parts(content):
-    """Where the parts of a program that are executed begin in memory, as the file has it, and in the file, and their lengths."""
+    """The executable parts of a program: the address of each, its place in the file, and its length."""
     if content[:5] != b"\x7fELF\x02":
         raise OSError("the program is no ELF of 64 bits")
     first, size, count = *struct.unpack_from("<Q", content, 32), *struct.unpack_from("<HH", content, 54)
@@ -42,7 +43,7 @@ def executed_parts(content):
 
 
 def block_addresses(listing):
-    """The addresses at which blocks begin, of what objdump lists."""
+    """The addresses at which blocks begin, in the listing of objdump."""
     starts, instructions, is_behind = set(), set(), False
     for line in listing.splitlines():
         if symbol := SYMBOL.match(line):
@@ -64,7 +65,7 @@ def block_addresses(listing):
 
 
 def blocks_of(program):
-    """The blocks of a program: of each its address and its place in the file."""
+    """The blocks of a program: the address of each and its place in the file."""
     content = Path(program).read_bytes()
     listing = subprocess.run(["objdump", "-d", "--no-show-raw-insn", program], capture_output=True, encoding="utf-8", check=True).stdout
     parts = list(executed_parts(content))
@@ -73,7 +74,7 @@ def blocks_of(program):
 
 
 class Traced:
-    """A program that runs on one input after the other, and the blocks that no run has reached yet."""
+    """A program that runs on one input after another, and the blocks that no run has reached yet."""
 
     def __init__(self, program, words, folder, most_seconds):
         self.folder = Path(folder)
@@ -91,7 +92,7 @@ class Traced:
         return self.folder / f"{number}.{end}"
 
     def run(self, inputs, again=()):
-        """How the runs on these inputs end, one after the other. These blocks count as not yet reached, before each of them."""
+        """Runs the program on these inputs in turn, and returns their outcomes. Before each, the blocks in `again` count as not reached."""
         marked = "".join(f" {it}" for it in again)
         for number, given in enumerate(inputs):
             self.file(number, "input").write_bytes(given)
@@ -102,7 +103,7 @@ class Traced:
     def outcome(self, number):
         line = self.process.stdout.readline()
         if not line:
-            raise OSError("the runs of the program have come to an end")
+            raise OSError("the program `traced` has ended")
         status, spent, held, *reached = map(int, line.split())
         return Outcome(status, spent / 1e6, held << 10, reached, self.file(number, "output").read_bytes(), self.file(number, "errors").read_bytes())
 

@@ -1,12 +1,13 @@
 #!/usr/bin/env python3
-"""Proves and builds the program `flightd` where it isn't built from the sources as they stand: crates side by side, as many as
-there are processors and memory for, each once those that it uses are built. How many of how many are done stands on
-standard error, with the time so far. Interrupted, the next call goes on where this one was.
+"""Proves and builds the program `flightd` from the present sources, with several crates at once.
+
+It checks as many crates at once as there are processors and memory for, each once those that it uses are built. It prints progress and
+the time so far on standard error. If it is interrupted, the next call continues where this one stopped.
 
     tools/build.py
 
-`rt` lets one command at a time work in a crate and in those below it. So each of the checks that run side by side has a copy of
-the sources in a folder of the user's cache, takes there what is built of the crates below, and hands back what it built."""
+`rt` lets one command at a time work in a crate and in those below it. So each of the checks that run at once has a copy of the sources
+in a folder of the user's cache. It copies the built crates below into it, and moves its own result back."""
 import contextlib
 import hashlib
 import os
@@ -56,13 +57,13 @@ def below(crate, used):
 
 
 def lines_of(crate):
-    """How many lines a check of the crate reads, which says how long it takes beside others."""
+    """How many lines a check of the crate reads, a measure of how long it takes."""
     files = [file for part in SOURCES for file in (TOP / "crates" / crate / part).rglob("*") if file.suffix in (".rt", ".antt")]
     return sum(file.read_bytes().count(b"\n") for file in files)
 
 
 def chain_lengths(used):
-    """For each crate, the lines of the longest chain of crates above it that wait for each other, its own included."""
+    """For each crate, the number of lines in the longest chain of crates above it that wait for each other, its own included."""
     lengths = {}
     for crate in reversed(used):
         above = [lengths[name] for name in lengths if crate in used[name]]
@@ -71,7 +72,7 @@ def chain_lengths(used):
 
 
 def side_by_side():
-    """How many checks may run at once: one a processor, as long as memory lasts."""
+    """How many checks may run at once: one per processor, if there is memory for them."""
     lines = Path("/proc/meminfo").read_text(encoding="utf-8").splitlines()
     available = next((int(line.split()[1]) * 1024 for line in lines if line.startswith("MemAvailable:")), CHECK_BYTES)
     return max(1, min(len(os.sched_getaffinity(0)), available // CHECK_BYTES))
@@ -91,7 +92,7 @@ def link_or_copy(source, target):
 
 
 def move(source, target):
-    """Moves a folder in the place of another one, if there is something to move."""
+    """Moves a folder into the place of another, if there is something to move."""
     if source.is_dir():
         target.parent.mkdir(parents=True, exist_ok=True)
         shutil.rmtree(target, ignore_errors=True)
@@ -104,7 +105,7 @@ class Lane:
     def __init__(self, number, names):
         self.folder, self.crate = cache() / str(number), None
         for name in names:
-            # What a check left here that was killed.
+            # What a killed check left here.
             if not (TOP / "crates" / name / "out").exists():
                 move(self.folder / "crates" / name / "out", TOP / "crates" / name / "out")
         shutil.rmtree(self.folder, ignore_errors=True)
@@ -121,7 +122,7 @@ class Lane:
         return self.folder / "crates" / crate / "out"
 
     def start(self, crate, used, jobs):
-        """Starts the check of a library, over what is built of those below it."""
+        """Starts the check of a library, with the built libraries below it."""
         self.crate, self.jobs = crate, jobs
         for name in below(crate, used):
             if not self.out(name).exists():
@@ -133,7 +134,7 @@ class Lane:
             self.running = subprocess.Popen(["rt", "lib", "--jobs", str(jobs)], cwd=self.out(crate).parent, **how)
 
     def end(self):
-        """Hands back what the check left, and gives the crate."""
+        """Moves the result of the check back, and returns the crate."""
         crate, self.crate = self.crate, None
         move(self.out(crate), TOP / "crates" / crate / "out")
         return crate
@@ -150,7 +151,7 @@ class Lane:
 
 
 class Progress:
-    """The line that says how far the proof is."""
+    """The line that reports progress."""
 
     def __init__(self, total):
         self.total, self.began, self.next = total, time.monotonic(), 0
@@ -171,7 +172,7 @@ class Progress:
 
 
 def prove_libraries(used, lanes, progress):
-    """Proves and builds the libraries, those with the longest chain above them first. Gives the log of one that fails."""
+    """Proves and builds the libraries, those with the longest chain above them first. Returns the log of one that fails."""
     lengths, built = chain_lengths(used), set()
     left = sorted((name for name in used if name != PROGRAM), key=lambda name: -lengths[name])
     while left or any(lane.crate for lane in lanes):
@@ -186,7 +187,7 @@ def prove_libraries(used, lanes, progress):
         idle = len(lanes) - sum(lane.jobs for lane in lanes if lane.crate)
         for lane in free[: max(idle, 0)]:
             if ready and idle > 0:
-                # A check gets the processors that no other one waits for.
+                # A check gets the processors that no other check waits for.
                 jobs = max(1, min(MOST_JOBS, idle // len(ready)))
                 lane.start(ready[0], used, jobs)
                 left.remove(ready.pop(0))
@@ -197,7 +198,7 @@ def prove_libraries(used, lanes, progress):
 
 
 def build_program(used, lanes, progress):
-    """Proves and builds the program over its libraries. Gives the log if it fails."""
+    """Proves and builds the program over its libraries. Returns the log if it fails."""
     how = {"stdin": subprocess.DEVNULL, "stdout": subprocess.PIPE, "stderr": subprocess.STDOUT, "start_new_session": True}
     words = ["rt", "run", "--jobs", str(len(lanes)), "--", "--version"]
     running = subprocess.Popen(words, cwd=TOP / "crates" / PROGRAM, **how)

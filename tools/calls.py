@@ -1,9 +1,8 @@
 #!/usr/bin/env python3
-"""Makes the stories of Flight calls in crates/call_stories/data, and what crates/call_server is asked and answers, from the model
-in calls_model.py.
+"""Makes the stories of Flight calls in crates/call_stories/data, and the input and output of crates/call_server, from calls_model.py.
 
-    tools/calls.py --write   makes them
-    tools/calls.py --check   says which of them differ"""
+    tools/calls.py --write   writes them
+    tools/calls.py --check   names those that differ"""
 import hashlib
 import random
 import sys
@@ -35,7 +34,7 @@ NOTATION = """\
 ELSEWHERE = "The notation is that of rows.txt. Made by tools/calls.py, and not by hand."
 
 
-# ---- stories, told as the program tells them
+# ---- stories, with results as the program prints them
 
 
 class Story:
@@ -99,7 +98,7 @@ def message_told(text):
 
 
 def told(lines):
-    """The story of these lines, with what each command gives; a command that the model does not judge is left out."""
+    """The story of these lines, with the result of each command; a command that the model does not judge is left out."""
     story, out = Story(), []
     for line in lines:
         if line and not line.startswith("#"):
@@ -121,7 +120,7 @@ def descriptor(*path, kind=PATH, command=b""):
 
 
 def data(header=b"", body=b"", said=None, metadata=b""):
-    """A message with data: its descriptor, header, metadata and body, those that it has."""
+    """A FlightData message with those of a descriptor, header, metadata and body that are given."""
     parts = [] if said is None else [bytes_field(1, said)]
     parts += [bytes_field(number, held) for number, held in ((2, header), (3, metadata), (1000, body)) if held]
     return b"".join(parts)
@@ -132,7 +131,7 @@ def opening(upload):
 
 
 def put(upload, name):
-    """The names of the messages of a put, and the commands that give them these names."""
+    """The commands that name the messages of a put, and the parts of its call by these names."""
     messages = [opening(upload), *(data(*it) for it in upload.parts)]
     names = [f"{name}{place}" for place in range(len(messages))]
     return [f"bytes {it} {spelled(text)}" for it, text in zip(names, messages)], " ".join(["/DoPut", *names, "end"])
@@ -144,7 +143,7 @@ W, Z = upload_of(POOL["w"]), upload_of(POOL["z"])
 
 
 def rows():
-    """Puts, gets and questions, one after the other."""
+    """Puts, gets and questions, one after another."""
     names = {"u": U, "c": C, "x": X, "y": Y, "w": W, "z": Z}
     made = {name: put(upload, name) for name, upload in names.items()}
     lines = ["# Puts, gets and questions, one after the other (Apache Arrow, \"Flight.proto\"; docs/FORMATS.md, \"Flight calls\").", "#", *NOTATION,
@@ -174,7 +173,7 @@ def rows():
 
 
 def faults():
-    """Each refusal once at least, with what is left behind it."""
+    """Each refusal at least once, with what is left unread after it."""
     commands, whole = put(U, "u")
     schema_message, batch = opening(U), data(*U.parts[0])
     header, body = U.parts[0]
@@ -241,7 +240,7 @@ def cuts():
 
 
 def drawn():
-    """Drawn calls to drawn services, many of which are refused."""
+    """Random calls to random services, many of which are refused."""
     draw = random.Random(20261125)
     known = {name: upload_of(text) for name, text in POOL.items()}
     lines, whole = ["# Drawn calls, in which messages are left out, said twice, swapped and cut.", f"# {ELSEWHERE}", ""], {}
@@ -259,7 +258,7 @@ def drawn():
 
 
 def call(draw, whole, tables):
-    """A call, whole or not."""
+    """A random call, complete or not."""
     table = draw.randrange(tables)
     asked = {
         "GetFlightInfo": f"table{table}", "GetSchema": f"table{table}", "ListFlights": "empty", "DoGet": f"ticket{table}.{draw.randint(1, 3)}",
@@ -272,11 +271,11 @@ def call(draw, whole, tables):
     return " ".join(parts)
 
 
-# ---- calls one behind the other
+# ---- calls one after another
 
 
 def asked_over_pipes():
-    """The bytes of calls of which each is read to its end: puts, gets and questions."""
+    """The bytes of puts, gets and questions, each of which is read to its end."""
     story = Story()
     for commands, _ in (put(it, name) for it, name in ((U, "u"), (C, "c"), (X, "x"), (Z, "z"))):
         for command in commands:
@@ -308,7 +307,7 @@ def main():
         if file.exists() and file.read_bytes() == text:
             continue
         if is_check:
-            print(f"calls: {file.relative_to(CRATES)} is told otherwise")
+            print(f"calls: {file.relative_to(CRATES)} differs from what tools/calls.py makes")
             status = 1
         else:
             file.write_bytes(text)

@@ -1,8 +1,8 @@
-"""A model of Flight calls: what is answered to bytes that come in, by a service that holds the tables of all uploads that it took. It
+"""A model of Flight calls: the answers of a service to the bytes that come in, from the tables of all uploads that it took. It
 is written from gRPC, "gRPC over HTTP2", from Arrow Flight ("Flight.proto", "Arrow Flight RPC") and from docs/FORMATS.md, and not
-from the code. Uploads, tables and tickets are those of tables_model.py, and messages those of wire_model.py.
+from the code. Uploads, tables and tickets are those of tables_model.py, messages those of wire_model.py.
 
-Headers are those of headers_model.py. Which fault is told of a header or a message with several is not judged here."""
+Headers are those of headers_model.py. The model does not judge which fault is reported of a header or message with several."""
 import headers_model
 from batch_model import Head, meaning
 from tables_model import MOST_BATCHES, Upload, answer, effective, is_table_name, latest, outcome, table_names, ticket_of, ticket_text, type_in
@@ -25,7 +25,7 @@ STATUS_OF = {name: status for status, names in STATUSES.items() for name in name
 
 
 class Refusal(Exception):
-    """A call is refused by this name, and this is left of the text."""
+    """A call is refused with this name, and `left` is what remains of the text."""
 
     def __init__(self, name, left):
         super().__init__(name)
@@ -33,7 +33,7 @@ class Refusal(Exception):
 
 
 class Unjudged(Exception):
-    """This model does not say what such a call is answered."""
+    """The model does not judge how such a call is answered."""
 
 
 # ---- frames, and messages
@@ -62,7 +62,7 @@ def meant(text, table, left):
     return message
 
 
-# ---- what is asked
+# ---- requests
 
 
 def path_in(descriptor, left):
@@ -96,7 +96,7 @@ ASKED = {b"GetFlightInfo": table_asked, b"GetSchema": table_asked, b"ListFlights
 
 
 def one_message(method, text):
-    """What the one message of a method asks for, and what stands behind its end."""
+    """What the one message of a method asks for, and the text after the call's end."""
     is_end, message, text = next_frame(text)
     if is_end:
         raise Refusal("MessageCount", text)
@@ -111,11 +111,11 @@ def one_message(method, text):
 
 
 def header_of(text, left):
-    """The schema or the head that the bytes show: a pair of its kind and of itself."""
+    """The schema or the head that the bytes encode: a pair of its kind and of itself."""
     try:
         said = headers_model.header_of(text)
     except Faults as found:
-        # a fault that holds the number of a type is told without it
+        # a fault that has the number of a type is reported without it
         names = {it.partition("(")[0] for it in found.names}
         if len(names) > 1:
             raise Unjudged(text) from None
@@ -164,7 +164,7 @@ def addition(schema, batches, text, left):
 
 
 def upload_asked(text):
-    """The upload of the messages, and what stands behind their end."""
+    """The upload of the messages, and the text after their end."""
     is_end, message, text = next_frame(text)
     if is_end:
         raise Refusal("NoSchema", text)
@@ -184,7 +184,7 @@ def upload_asked(text):
 
 
 def call_asked(text):
-    """The method, what it asks for, and what stands behind the call."""
+    """The method, what it asks for, and the text after the call."""
     is_end, path, text = next_frame(text)
     if is_end or not path.startswith(SERVICE):
         raise Refusal("BadPath", text)
@@ -202,7 +202,7 @@ def encapsulated(text):
 
 
 class Service:
-    """All uploads that were taken, in order; how many it takes; where it is; and the names of those that were handed over."""
+    """The uploads that were taken, in order; how many it takes; its locations; and the ids of the uploads that were handed over."""
 
     def __init__(self, slots, locations):
         self.slots, self.locations, self.uploads, self.handed = slots, locations, [], []

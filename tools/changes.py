@@ -1,5 +1,5 @@
-"""Changes of inputs, drawn at random: of bytes, and of what they say, as numbers, fields, frames, offsets and values of JSON, which are
-written again with right lengths."""
+"""Random changes of inputs: of their bytes, and of the numbers, fields, frames, offsets and JSON values in them, which are written
+again with right lengths."""
 import json
 import re
 
@@ -35,7 +35,7 @@ def bytes_changed(draw, text):
 
 
 def places_changed(draw, text):
-    """A text that is read at places with some of its numbers changed: each is another one, or leads to another place."""
+    """A text that has offsets, with some of its numbers changed: each to another number, or to the offset of another place."""
     text = bytearray(text)
     for _ in range(draw.choice((1, 1, 2, 3))):
         size = draw.choice((1, 2, 4, 4, 4, 8))
@@ -54,7 +54,7 @@ def places_changed(draw, text):
 
 
 def fields_in(text):
-    """The fields that a text begins with, by their bytes, as far as they are numbers and lengths; and the rest."""
+    """The numbers and length-delimited fields that a text begins with, as their bytes; and the rest."""
     found, at = [], 0
     while at < len(text) and text[at] & 7 in (0, 2):
         key = at
@@ -72,7 +72,7 @@ def fields_in(text):
 
 
 def field_text(field):
-    """The bytes of a field: its key, its number or length, which is put right, and what it holds."""
+    """The bytes of a field: its key, its number or its corrected length, and its content."""
     key, told, held = field
     return key + (varint(len(held)) + held if key and key[0] & 7 == 2 else told)
 
@@ -85,8 +85,8 @@ def drawn_field(draw):
 
 
 def fields_changed(draw, text, inside=None, levels=3):
-    """A message with other fields: one less, one more, one twice, another number, or a change of what one holds, which is itself
-    a message, or is changed by `inside`."""
+    """A message with other fields: one less, one more, one twice, another number, or one with changed content, which is changed as a
+    message or by `inside`."""
     fields, rest = fields_in(text)
     for _ in range(draw.choice((1, 1, 1, 2, 4))):
         place = draw.randrange(len(fields)) if fields else 0
@@ -104,7 +104,7 @@ def fields_changed(draw, text, inside=None, levels=3):
 
 
 def parts_in(text, order, is_flagged):
-    """The payloads of frames, or the records of a file, with the byte in front of each."""
+    """The payloads of frames, or the records of a file, with the byte before each."""
     at, found = 0, []
     while at + 5 <= len(text) and (is_flagged or text[at] == 1):
         size = int.from_bytes(text[at + 1 : at + 5], order)
@@ -118,7 +118,7 @@ def parts_text(parts, order):
 
 
 def list_changed(draw, items, others, change):
-    """A list in which items are changed, left out, said twice, put elsewhere or come from another list."""
+    """A list in which items are changed, left out, repeated, moved or taken from another list."""
     items = list(items)
     for _ in range(draw.choice((1, 1, 2, 3))):
         place, kind = draw.randrange(len(items)) if items else 0, draw.random()
@@ -136,7 +136,7 @@ def list_changed(draw, items, others, change):
 
 
 def frames_changed(draw, text, other, order="big", inside=fields_changed):
-    """Frames, or the records of a file, written again with right lengths; the flag of one may be another."""
+    """Changed frames, or records of a file, written again with right lengths; a flag may be changed too."""
     parts, others = parts_in(text, order, order == "big"), parts_in(other, order, order == "big")
 
     def change(draw, part):
@@ -151,7 +151,7 @@ def frames_changed(draw, text, other, order="big", inside=fields_changed):
 
 
 def value_changed(draw, value, rate, of_text):
-    """A value of JSON in which each value that it has is another with this chance; `of_text` changes texts."""
+    """A JSON value in which each value is replaced with this chance; `of_text` changes texts."""
     if isinstance(value, dict):
         value = {key: value_changed(draw, it, rate, of_text) for key, it in value.items()}
     elif isinstance(value, list):
@@ -160,7 +160,7 @@ def value_changed(draw, value, rate, of_text):
 
 
 def other_value(draw, value, of_text):
-    """Another value, mostly one of its kind."""
+    """Another value, mostly of the same kind."""
     if draw.random() < 0.1:
         return draw.choice((None, True, [], {}, "", "0" * 64, "\U0001f600", -1, 0.5, 1e300, number(draw), [value] * 20, {"members": value}))
     if isinstance(value, dict):
@@ -175,7 +175,7 @@ def other_value(draw, value, of_text):
 
 
 def digits_changed(draw, digits):
-    """Hexadecimal digits of a message that is another one, or another text."""
+    """The hexadecimal digits of a changed message, or another text."""
     if re.fullmatch("(?:[0-9a-f]{2})+", digits):
         return fields_changed(draw, bytes.fromhex(digits)).hex()
     return draw.choice((digits + "a", digits[1:], "", "t"))
@@ -187,7 +187,7 @@ TOKENS = ("{", "}", "[", "]", ":", ",", '"', "\\", "\\u00e9", "\\ud83d\\ude00", 
 
 
 def tokens_changed(draw, text):
-    """The text of a value of JSON with another piece at some place, between its pieces or instead of some."""
+    """The text of a JSON value with another token inserted or in place of some."""
     pieces = re.findall(rb"[0-9.eE+-]+|[a-z_]+|\s+|.", text, re.DOTALL)
     place, drawn = draw.randint(0, len(pieces)), draw.choice(TOKENS).encode()
     new = draw.choice(([], [drawn], [drawn], pieces[place : place + 3] * 2))
@@ -196,7 +196,7 @@ def tokens_changed(draw, text):
 
 
 def json_changed(draw, text, of_text=digits_changed):
-    """The text of a value of JSON, written again with some values changed; or with other pieces, or other bytes."""
+    """The text of a JSON value with some values changed, or with other tokens, or with other bytes."""
     kind = draw.random()
     if kind < 0.5:
         return (bytes_changed if kind < 0.08 else tokens_changed)(draw, text)
@@ -208,11 +208,11 @@ def json_changed(draw, text, of_text=digits_changed):
         return bytes_changed(draw, text)
 
 
-# ---- smaller ones
+# ---- smaller inputs
 
 
 def shorter(text):
-    """The text, or list, without a part of it: first halves, then ever smaller parts, and single ones at last."""
+    """The text, or list, without a part of it: first without halves, then without ever smaller parts, last without single items."""
     size = len(text)
     while size > 1:
         size = (size + 1) // 2
@@ -221,7 +221,7 @@ def shorter(text):
 
 
 def shorter_json(text):
-    """The text of an object of JSON, with one of its lists shorter; nothing where it is none."""
+    """The text of a JSON object with one of its lists shorter; nothing if it is no object."""
     try:
         value = json.loads(text)
     except (ValueError, RecursionError):

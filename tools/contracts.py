@@ -1,19 +1,20 @@
 #!/usr/bin/env python3
-"""Prints the contracts of public functions, as the sources have them: of each its path, its file and line, the first sentence
-of its doc comment, its signature, and its clauses with the comments above them. Of a type it prints what its model keeps
-(`invariant`), of a trait and of an `impl` its ghost members, which the clauses of its functions cite.
+"""Prints the contracts of public functions, as the sources have them.
+
+For each function it prints its path, its file and line, the first sentence of its doc comment, its signature, and its clauses with the
+comments above them; for a type its `invariant`; for a trait or an `impl` the ghost members that the clauses of its functions cite.
 
     tools/contracts.py                        each crate with the number of its public functions that have clauses, and of the others
     tools/contracts.py CRATE [NAME ..]        the contracts of a crate: all, or those of the functions, types and traits of these names,
-                                              as `read_frame`, `Column` or `Column::from_bits`
+                                              such as `read_frame`, `Column` or `Column::from_bits`
     tools/contracts.py --all                  those of all crates
     tools/contracts.py --markdown ..          the same as Markdown, with links from the top of the repository
-    tools/contracts.py --check                whether docs/PROOFS.md cites what is there, and what --selftest says
-    tools/contracts.py --selftest             whether the samples in tools/contracts/ are printed and judged as they have to be
+    tools/contracts.py --check                checks that what docs/PROOFS.md cites exists, and does what --selftest does
+    tools/contracts.py --selftest             checks that the samples in tools/contracts/ are printed and judged as expected
 
-A table row of the page cites in its second cell functions, as `CRATE`: `NAME` (`CLAUSE`, `CLAUSE`), `NAME`; `CRATE`: `NAME`, and in
-its third cell definitions and laws, as `NAME` (`CRATE`) and law `NAME` (`CRATE`), of the row's first crate where none is named. With
---check each that is not there is printed, and so is each other word of the page in backticks that nothing has; the status is then 1."""
+A table row of the page cites functions in its second cell, as `CRATE`: `NAME` (`CLAUSE`, `CLAUSE`), `NAME`; `CRATE`: `NAME`, and
+definitions and laws in its third, as `NAME` (`CRATE`) and law `NAME` (`CRATE`), of one of the row's crates if none is named. With
+--check it prints each that does not exist, and each other word of the page in backticks that names nothing; the status is then 1."""
 import difflib
 import functools
 import re
@@ -41,7 +42,7 @@ class Found(NamedTuple):
 
 
 class Crate:
-    """The sources of a crate, from its root on."""
+    """The sources of a crate, read from its root file on."""
 
     def __init__(self, folder):
         self.folder, self.name = folder, folder.name
@@ -66,14 +67,14 @@ class Crate:
         return tuple(item for item in items if item.name == name and IMPL.match(item.signature))
 
     def resolve(self, path, segments):
-        """The item that a path names from a module, in this crate, or None where it is of another crate."""
+        """The item of this crate that a path names in a module, or None if it is of another crate."""
         place = {"crate": (), "self": path, "super": path[:-1]}.get(segments[0])
         base, rest = (place, segments[1:]) if place is not None else (path, segments)
         module, name = (*base, *rest[:-1]), rest[-1]
         for item in self.modules.get(module, ()):
             if item.name == name and item.kind not in ("mod", "use"):
                 return item
-            # A crate that is passed on under its own name is of another crate.
+            # A crate that is re-exported under its own name is another crate.
             known = [parts for parts, known in item.names if known == name and parts != segments] if item.kind == "use" else []
             found = self.resolve(module, known[0]) if known else None
             if found:
@@ -81,7 +82,7 @@ class Crate:
         return None
 
     def public(self, path=()):
-        """What a module makes public, with what is in its public modules: each item, and each path of another crate."""
+        """What a module and its public modules make public: each item, and each path of another crate."""
         for item in self.modules.get(path, ()):
             if not item.public:
                 continue
@@ -105,13 +106,13 @@ class Crate:
 
     @functools.cached_property
     def passed_on(self):
-        """The names of other crates that this one makes public too, each with its path there."""
+        """The names that this crate re-exports from other crates, each with its path there."""
         return [(path, "::".join(parts)) for path, item, parts in self.public() if not item]
 
 
 @functools.cache
 def crate(name):
-    """The crate of this name, or None where there is none."""
+    """The crate of this name, or None if there is none."""
     folder = TOP / "crates" / name
     return Crate(folder) if (folder / "src").is_dir() else None
 
@@ -134,7 +135,7 @@ class Contract(NamedTuple):
 
 
 def contracts_of(found):
-    """What a public item promises: the item itself, then what its blocks have."""
+    """The contracts of a public item: its own, then those in its blocks."""
     kept = ("invariant",)
     if found.item.kind == "fn":
         yield Contract(found.path, found.item)
@@ -154,13 +155,13 @@ def contracts_of(found):
 
 
 def all_of(of):
-    """The contracts of a crate: its public functions, and what has ghost members."""
+    """The contracts of a crate: of its public functions, and of what has ghost members."""
     told = [contract for found in of.found for contract in contracts_of(found)]
     return [contract for contract in told if contract.ghosts or contract.item.kind == "fn"]
 
 
 def is_named(path, name):
-    """Whether a name is that of a path, or of its last parts: of a type all that it has."""
+    """Whether a path has the parts of a name in a row: a type's name matches all its members."""
     plain = path.partition(" as ")[0].split("::")
     parts = name.split("::")
     return any(plain[at : at + len(parts)] == parts for at in range(len(plain)))
@@ -189,7 +190,7 @@ def source_of(contract):
 
 
 def place_of(of, contract):
-    """The file of a contract from the folder on that has the crates, and its line."""
+    """The file of a contract, relative to the folder that has the crates' folder, and its line."""
     return contract.item.file.relative_to(of.folder.parent.parent), contract.item.line
 
 
@@ -212,7 +213,7 @@ def as_markdown(of, contract):
 
 
 def show(name, words, shape):
-    """Prints the contracts of a crate, or of those that the words name; returns whether there was one."""
+    """Prints the contracts of a crate, or those that the words name; returns whether there was one."""
     told = [it for it in all_of(crate(name)) if not words or any(is_named(it.path, word) for word in words)]
     for contract in told:
         print(shape(crate(name), contract))
@@ -223,7 +224,7 @@ def show(name, words, shape):
 
 
 def show_counts():
-    """Prints for each crate how many public functions have clauses, and how many have none."""
+    """Prints for each crate how many public functions have clauses and how many have none."""
     print("with clauses, without, crate")
     for name in crate_names():
         functions = [it.item for it in all_of(crate(name)) if it.item.kind == "fn"]
@@ -245,12 +246,12 @@ DECLARED = re.compile(DECLARING + r"|^ +(?:pub )?([A-Za-z]\w*)\s*(?:[,({:=]|$)",
 
 
 def unread(cell, pattern):
-    """What is left of a cell without what the pattern reads, and without separators."""
+    """What is left of a cell without what the pattern matches and without separators."""
     return re.sub(r"[,;\s]|\band\b", "", pattern.sub("", cell))
 
 
 def cited_functions(cell):
-    """The functions that a cell cites, each as its crate, its name and its clauses; and what the cell has besides."""
+    """The functions that a cell cites, each as its crate, its name and its clauses; and the rest of the cell."""
     name, cited, besides = "", [], ""
     for part in cell.split(";"):
         found = OF_CRATE.match(part)
@@ -261,7 +262,7 @@ def cited_functions(cell):
 
 
 def wrong_function(of, name, clauses):
-    """What is wrong with a function of a crate that is cited with these clauses, a line each."""
+    """What is wrong with a citation of a function of a crate and of these clauses, one fault per line."""
     if of is None:
         return [f"`{name}` is cited of no crate"]
     told = [it for found in of.found for it in contracts_of(found) if f"::{it.path.partition(' as ')[0]}".endswith(f"::{name}")]
@@ -275,7 +276,7 @@ def wrong_function(of, name, clauses):
 
 @functools.cache
 def definitions_of(folder):
-    """The names that the definitions of a crate have, also of constructors and fields."""
+    """The names in the definitions of a crate, also those of constructors and fields."""
     names = set()
     for path in sorted((folder / "specs").glob("*.antt")):
         _, rows = definitions.index(path)
@@ -285,7 +286,7 @@ def definitions_of(folder):
 
 
 def wrong_definition(crates, is_law, name):
-    """What is wrong with a definition or a law that is cited of one of these crates, a line or none."""
+    """What is wrong with a citation of a definition or a law of one of these crates, one line or none."""
     crates = [of for of in crates if of]
     for of in crates:
         if is_law and not wrong_function(of, name, ()) or not is_law and name in definitions_of(of.folder):
@@ -295,7 +296,7 @@ def wrong_definition(crates, is_law, name):
 
 
 def wrong_row(cells, lookup):
-    """What is wrong with the second and the third cell of a row, a line each."""
+    """What is wrong with the second and the third cell of a row, one fault per line."""
     cited, besides = cited_functions(cells[1])
     wrong = [line for name, function, clauses in cited for line in wrong_function(lookup(name), function, clauses)]
     crates = list(dict.fromkeys(lookup(name) for name, _, _ in cited))
@@ -307,7 +308,7 @@ def wrong_row(cells, lookup):
 
 @functools.cache
 def declared(top):
-    """The names that the sources, the definitions and the tools below a folder declare, and the names of crates and tools."""
+    """The names that the sources, the definitions and the tools in a folder declare, and the names of crates and tools."""
     names = {path.name for path in (top / "crates").glob("*")} | {path.name for path in (top / "tools").glob("*")}
     for path in (top / "crates").glob("*/src/**/*.rt"):
         names |= {name for both in DECLARED.findall(re.sub(r"//.*", "", path.read_text(encoding="utf-8"))) for name in both}
@@ -320,7 +321,7 @@ def declared(top):
 
 
 def wrong_in(text, lookup, top):
-    """What the page cites that is not there, a line each."""
+    """What the page cites and does not exist, one line each."""
     wrong, known = [], declared(top)
     for line in text.splitlines():
         cells = [cell.strip() for cell in line.strip("|").split(" | ")] if line.startswith("| ") else []
@@ -337,7 +338,7 @@ def wrong_in(text, lookup, top):
 
 
 def check():
-    """Prints what docs/PROOFS.md cites that is not there, and how the samples differ. Returns the status."""
+    """Prints what docs/PROOFS.md cites and does not exist, and how the samples differ. Returns the status."""
     wrong = wrong_in(PAGE.read_text(encoding="utf-8"), crate, TOP)
     for line in dict.fromkeys(wrong):
         print(f"contracts: docs/PROOFS.md: {line}")
@@ -345,13 +346,13 @@ def check():
 
 
 def differing(name, made):
-    """How a sample differs from what is made of it, as lines."""
+    """The lines of the difference between an expected sample and what is made."""
     expected = (SAMPLES / name).read_text(encoding="utf-8").splitlines()
     return list(difflib.unified_diff(expected, made.splitlines(), name, "made", lineterm=""))
 
 
 def selftest():
-    """Prints how the samples differ from what is made of them. Returns the status."""
+    """Prints how the expected samples differ from what is made. Returns the status."""
     with tempfile.TemporaryDirectory() as folder:
         top = Path(folder)
         for file in SAMPLES.glob("*/*.txt"):
@@ -368,7 +369,7 @@ def selftest():
 
 
 def main():
-    """Runs the command that the words of the program name. Returns the status."""
+    """Runs the command that the arguments name. Returns the status."""
     signal.signal(signal.SIGPIPE, signal.SIG_DFL)
     show_help(__doc__)
     words = sys.argv[1:]

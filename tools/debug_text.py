@@ -1,7 +1,7 @@
-"""Values as Rust's `{:?}` prints them, read again.
+"""Reads values that Rust's `{:?}` has printed.
 
-A number is an int, `true` a bool, a text a str, a list a list, and a tuple a tuple. What has a name is a pair of the name and
-of what it holds: a dict of its fields, or a list where they have no names, empty for a name alone."""
+A number becomes an int, `true` a bool, a text a str, a list a list, and a tuple a tuple. What has a name becomes a pair of the
+name and its content: a dict of its fields, or a list if they have no names, which is empty for a name alone."""
 import re
 
 ESCAPES = {"n": "\n", "r": "\r", "t": "\t", "0": "\0", "'": "'", '"': '"', "\\": "\\"}
@@ -24,13 +24,13 @@ class Reader:
         return self.tokens[self.place - 1]
 
     def passes(self, token):
-        """Whether the token comes next, and then it is passed."""
+        """Whether the token comes next; if so, skips it."""
         is_next = self.tokens[self.place] == token
         self.place += is_next
         return is_next
 
     def listed(self, opening, item):
-        """The items up to the end that goes with the opening."""
+        """The items up to the bracket that closes the opening one."""
         items = []
         while not self.passes(ENDS[opening]):
             items.append(item())
@@ -68,7 +68,7 @@ def value_of(text):
 
 
 def quoted(text):
-    """A text as `{:?}` prints it, as far as nothing in it but control characters of ASCII is without a shape."""
+    """A text as `{:?}` prints it, if it has no unprintable characters but the control characters of ASCII."""
     letters = {letter: "\\" + name for name, letter in ESCAPES.items() if name != "'"}
     for code in [*range(32), 127]:
         letters.setdefault(chr(code), f"\\u{{{code:x}}}")

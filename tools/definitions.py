@@ -1,15 +1,16 @@
 #!/usr/bin/env python3
-"""Prints what the definitions of a crate say: each module of its `specs/` with what its head says, and each name with the
-comment above it. Names in brackets stand beside the one before them, and no words are theirs alone.
+"""Prints the definitions of a crate: each module of its `specs/` with its head comment, and each name with the comment above it.
+
+Names in brackets belong to the name before them, and have no comment of their own.
 
     tools/definitions.py                    each crate that has definitions, with their number
-    tools/definitions.py CRATE [WORD ..]    those of a crate: all, or those in whose names or comments one of the words stands
-    tools/definitions.py --check            whether docs/DEFINITIONS.md cites what is there
+    tools/definitions.py CRATE [WORD ..]    those of a crate: all, or those with one of the words in their names or comments
+    tools/definitions.py --check            checks that what docs/DEFINITIONS.md cites exists
 
 The page cites a name as `NAME` (`CRATE`), several of one crate as `NAME`, `OTHER` (`CRATE`), and in a table as
-| `NAME` | `CRATE`, `MODULE` |. Each has to be defined in the crate's `specs/`, in that module where one is named, also as a
-constructor or a field; behind the word `law`, `type` or `function` it is one that stands in the crate's `src/`. With --check
-each that is not is printed, and so is each other word of the page in backticks that is cited nowhere, and the status is 1."""
+| `NAME` | `CRATE`, `MODULE` |. Each must be defined in the crate's `specs/`, in that module if one is named, also as a
+constructor or a field; after the word `law`, `type` or `function` it must be in the crate's `src/`. With --check it prints
+each that is not, and each other word of the page in backticks that is cited with no crate, and the status is then 1."""
 import re
 import sys
 from pathlib import Path
@@ -31,7 +32,7 @@ IN_SOURCES = r"\bpub (?:fn|enum|struct|trait) {}\b"
 
 
 def names_of(lines, at):
-    """What the line at this place defines: one name, or those inside a `mutual`, each with the comment above it there."""
+    """The names that the line at this place defines: one, or those inside a `mutual`, each with the comment above it there."""
     if not lines[at].rstrip().endswith("mutual"):
         found = DEFINED.match(lines[at])
         return [(found.group(1), "")] if found else []
@@ -47,8 +48,8 @@ def names_of(lines, at):
 
 
 def put_rows(rows, names, said, title):
-    """Puts rows of names: those that the words are of, those beside them, of which nothing is said, and the words. Names that
-    have no words of their own share the title of their section where no others stand before them in it."""
+    """Adds rows: the names that a comment is for, those beside them that have none, and the comment. Names without a comment
+    of their own get the title of their section if no others come before them in it."""
     if said:
         rows.append([[name for name, _ in names], [], said])
         return
@@ -65,7 +66,7 @@ def put_rows(rows, names, said, title):
 
 
 def index(path):
-    """What the head of a module says, and its rows: first the names that it passes on from other crates."""
+    """The head comment of a module, and its rows: first the names that it re-exports from other crates."""
     lines = path.read_text(encoding="utf-8").splitlines()
     head, at = [], 0
     while at < len(lines) and lines[at].startswith("--"):
@@ -130,7 +131,7 @@ def lines_of(rows):
 
 
 def show(crate, words):
-    """Prints the index of a crate, or what of it has one of these words."""
+    """Prints the index of a crate, or its lines that have one of these words."""
     for name, path in modules(crate):
         head, rows = index(path)
         lines = [line for line in lines_of(rows) if not words or any(word.lower() in line.lower() for word in words)]
@@ -142,7 +143,7 @@ def show(crate, words):
 
 
 def is_defined(name, crate, module):
-    """Whether the definitions of a crate have this name, in this module where one is named."""
+    """Whether the definitions of a crate have this name, in this module if one is named."""
     for found, path in modules(crate):
         if module in (None, found):
             _, rows = index(path)
@@ -159,7 +160,7 @@ def is_in_sources(name, crate):
 
 
 def wrong_in(text):
-    """What the page cites that is not there, and words in backticks that are cited nowhere, a line each."""
+    """What the page cites and does not exist, and words in backticks that are cited with no crate, one line each."""
     all_crates, cited, wrong = crates(), set(), []
     for word, names, crate, module in CITED.findall(text):
         for name in re.findall(r"`(\w+)`", names):

@@ -1,28 +1,28 @@
 #!/usr/bin/env python3
-"""Tries edits that the proofs have to refuse.
+"""Tries edits that the proofs must refuse.
 
     tools/edits.py --since COMMIT
     tools/edits.py --all CRATE ..
     tools/edits.py --old
     tools/edits.py [--answer] [--together] CRATE [EDIT ..]
 
-The edits of a crate are those of its folders `must-fail/`, which the gate tries too, and `more-edits/`. With --since those
-of each crate are tried, as the gate would try them, whose sources, definitions or edits changed since that commit, and with
---all those of the crates that are named; of these all that were not refused before as they stand. An edit of a definition that
-a crate above refuses, and not its own, has a line `law: CRATE`, and is tried there. Of each edit that was refused a line of
-`edits-refused.txt` says by a checksum with which sources and definitions that was, comments aside, and with which words of its
-own. With --old nothing is tried: the edits are counted whose lines are of something else, and the status is 1 where an edit
-names a text that does not stand once in its file, or changes nothing.
+The edits of a crate are in its folders `must-fail/`, which the gate tries too, and `more-edits/`. --since tries the edits of
+each crate whose sources, definitions or edits changed since that commit, in the way of the gate, and --all those of the named
+crates; both leave out edits that were refused before in their present form. An edit of a definition that a crate above
+refuses, and not its own, has a line `law: CRATE`, and is tried there. Each refused edit has a line in `edits-refused.txt`, with
+a checksum of the sources and definitions that refused it, without comments, and of the edit itself. --old tries nothing: it
+counts the edits without a line that fits the present sources, and the status is 1 if the old text of an edit does not occur
+exactly once in its file, or if an edit changes nothing.
 
-Without these words the edits of one crate are tried one after the other over one copy of it. Of each is said how many
-processor seconds it took and which goals refused it; an edit that the prover takes is shown as TAKEN, and the status is then
-1. A goal that has no answer in `proofs/` is marked with a star: there an answer with a bound makes such an edit cheaper. With
---answer such an answer is written for each goal with a star, where the crate is proved with it; the others are named.
+Without these options the edits of one crate are tried one after another over one copy of it. For each the processor seconds
+and the goals that refused it are printed; an edit that the prover accepts is shown as TAKEN, and the status is then 1. A goal
+that has no answer in `proofs/` is marked with a star: an answer with a bound there makes such an edit cheaper. --answer writes
+such an answer for each goal with a star, if the crate is proved with it, and names the others.
 
-With --together only those are tried that were not refused before as they stand, and one check tries edits of several bodies.
-A function is proved by its own body and by no more of the others than their contracts, so the goals of each function say
-whether its edit is refused; a function that only calls one that is not proved says nothing of its own. None of these
-functions has the name of another or names it, and an edit that is not refused so is tried alone."""
+--together tries only the edits that were not refused before in their present form, with edits of several bodies in one check.
+A function is proved from its own body and the contracts of the others, so the goals of each function show whether its edit is
+refused; a function that only calls an unproved one has no failed goal of its own. No two of these functions have the same name,
+and none names another. An edit that is not refused this way is tried alone."""
 import hashlib
 import itertools
 import re
@@ -47,7 +47,7 @@ FORMS = ("search rules steps 300000", "grind (arith, common_steps) steps 600000"
 
 
 def libraries(crate):
-    """The lines of crates.txt for the crate and for the crates of this repository that it stands on, by name."""
+    """The lines of crates.txt for the crate and for the crates of this repository that it uses, also indirectly, by name."""
     lines = (TOP / "crates.txt").read_text(encoding="utf-8").splitlines()
     uses = {line.split(":")[0].split()[0]: line for line in lines if ":" in line.partition("#")[0]}
     found, left = {}, [crate]
@@ -60,7 +60,7 @@ def libraries(crate):
 
 
 def copy_of(crate, folder):
-    """Copies what a check of the crate reads, with the work that earlier checks kept."""
+    """Copies what a check of the crate reads, with the results of earlier checks."""
     lines = libraries(crate)
     (folder / "crates.txt").write_text("\n".join(lines.values()) + "\n", encoding="utf-8")
     shutil.copy(TOP / "HANDLES", folder)
@@ -71,7 +71,7 @@ def copy_of(crate, folder):
 
 
 def changes(edit):
-    """The files that an edit changes, each with its texts, old and new."""
+    """The files that an edit changes, each with its old and new text."""
     found, file, old = [], None, None
     for line in edit.read_text(encoding="utf-8").splitlines():
         word, _, text = line.partition(": ")
@@ -85,13 +85,13 @@ def changes(edit):
 
 
 def edited(folder, *edits):
-    """The files of a crate that edits change, with their texts behind them. Each old text stands once in its file."""
+    """The files of a crate that edits change, with their new texts. Each old text must occur exactly once in its file."""
     texts = {}
     for edit, (file, old, new) in ((edit, change) for edit in edits for change in changes(edit)):
         path = folder / file
         text = texts.get(path) or path.read_text(encoding="utf-8")
         if text.count(old) != 1:
-            raise ValueError(f"{edit.parent.parent.name}/{edit.name}: `{old}` stands {text.count(old)} times in {file}")
+            raise ValueError(f"{edit.parent.parent.name}/{edit.name}: `{old}` occurs {text.count(old)} times in {file}")
         texts[path] = text.replace(old, new)
         if old == new:
             raise ValueError(f"{edit.parent.parent.name}/{edit.name}: it changes nothing in {file}")
@@ -99,7 +99,7 @@ def edited(folder, *edits):
 
 
 def bodies(text):
-    """The functions of a source file: the name of each, with the numbers of its body's lines."""
+    """The functions of a source file: the name of each, and the line numbers of its body."""
     lines = text.splitlines()
     for number, line in enumerate(lines):
         if head := HEAD_OF_FUNCTION.match(line):
@@ -111,7 +111,7 @@ def bodies(text):
 
 
 def body_of(folder, edit):
-    """The name and the text of the one function whose body an edit changes, or None where it changes anything else."""
+    """The name and the text of the one function whose body an edit changes, or None if it changes anything else."""
     found = set()
     for file, old, _ in changes(edit):
         text = (folder / file).read_text(encoding="utf-8")
@@ -122,13 +122,13 @@ def body_of(folder, edit):
 
 
 def are_apart(one, other):
-    """Whether two functions have two names, and neither names the other."""
+    """Whether two functions have different names, and neither names the other."""
     names = lambda body, name: re.search(rf"\b{name}\b", body) is not None
     return one[0] != other[0] and not names(one[1], other[0]) and not names(other[1], one[0])
 
 
 def groups_of(folder, edits):
-    """The edits in groups that one check tries: each edit with the name of its function, or alone."""
+    """The edits in groups, one for each check: each edit with the name of its function, or alone with None."""
     groups = []
     for edit in edits:
         body = body_of(folder, edit)
@@ -140,7 +140,7 @@ def groups_of(folder, edits):
 
 
 def check(folder):
-    """Checks the crate: whether it is proved, the processor seconds, and what is printed."""
+    """Checks the crate: whether it is proved, the processor seconds, and the output."""
     before = resource.getrusage(resource.RUSAGE_CHILDREN)
     how = {"stdout": subprocess.PIPE, "stderr": subprocess.STDOUT, "check": False}
     ran = subprocess.run(["rt", "check", "--jobs", "1"], cwd=folder, **how)
@@ -150,7 +150,7 @@ def check(folder):
 
 
 def refusals(printed):
-    """The goals that are not proved, each with its function's name."""
+    """The goals that are not proved, each after its function's name."""
     goals, open_goals = [], []
     for line in printed.splitlines():
         if found := OPEN.match(line):
@@ -164,7 +164,7 @@ def refusals(printed):
 
 
 def try_together(folder, edits):
-    """Checks the crate with the edits, and takes them back."""
+    """Checks the crate with the edits, and reverts them."""
     whole = edited(folder, *edits)
     before = {path: path.read_text(encoding="utf-8") for path in whole}
     for path, text in whole.items():
@@ -186,7 +186,7 @@ def has_answer(folder, function, goal):
 
 
 def add_answer(crate, folder, function, goal, form, given):
-    """Adds an answer of this form, of what is given, and gives how to take it back."""
+    """Adds an answer of this form with these parameters, and returns what `take_back` needs to revert it."""
     file = answers_file(folder, function)
     old = file.read_text(encoding="utf-8") if file.exists() else None
     text = old or f"use {'.'.join(['Rattle', crate, 'proofs', *function.split('::')[1:], 'Goals'])} as goal\n"
@@ -198,7 +198,7 @@ def add_answer(crate, folder, function, goal, form, given):
 
 
 def with_use(text, name):
-    """The text with this name of the standard library's proofs in reach."""
+    """The text with an import of this name of the standard library's proofs."""
     common = re.search(r"^use Rattle\.std\.proofs\.Common\.\{([^}]*)\}", text, re.M)
     if common is None:
         return f"use Rattle.std.proofs.Common.{{{name}}}\n{text}"
@@ -216,7 +216,7 @@ def take_back(change):
 
 
 def write_answers(crate, folder, goals):
-    """Writes answers with a bound, where the crate is proved with them."""
+    """Writes answers with a bound, if the crate is proved with them."""
     for function, goal in sorted(goals):
         for form, given in itertools.product(FORMS, ("c", "g c")):
             change = add_answer(crate, folder, function, goal, form, given)
@@ -248,7 +248,7 @@ def name_of(edit):
 
 
 def without_comments(file, mark):
-    """The lines of a file that are more than a comment."""
+    """The lines of a file that are not empty or only a comment."""
     lines = file.read_text(encoding="utf-8").splitlines()
     return "\n".join(line for line in lines if line.strip() and not line.lstrip().startswith(mark))
 
@@ -262,7 +262,7 @@ def code_of(crate):
 
 
 def checksums(crates):
-    """The checksum of each edit of these crates, with what it is tried on, by its name."""
+    """The checksum of each edit of these crates and of the sources it is tried on, by the edit's name."""
     found = {}
     for crate in crates:
         code = code_of(crate)
@@ -273,26 +273,26 @@ def checksums(crates):
 
 
 def refused_lines():
-    """The checksum that each edit's line has."""
+    """The checksum in each edit's line."""
     lines = REFUSED.read_text(encoding="utf-8").splitlines() if REFUSED.exists() else []
     return dict(line.split() for line in lines if line and not line.startswith("#"))
 
 
 def keep_lines(sums):
-    """Puts these lines in the place of the edits' old ones. Edits that are there no more lose theirs."""
+    """Replaces the old lines of these edits. Edits that no longer exist lose theirs."""
     kept = {**refused_lines(), **sums}
     names = [name_of(edit) for crate in crates_with_edits() for edit in edits_of(crate)]
     REFUSED.write_text(HEAD + "".join(f"{name} {kept[name]}\n" for name in sorted(names) if name in kept), encoding="utf-8")
 
 
 def old_edits(crates):
-    """The edits of these crates of which no line says that they were refused as they stand."""
+    """The edits of these crates without a line that says they were refused in their present form."""
     kept, sums = refused_lines(), checksums(crates)
     return [edit for crate in crates for edit in edits_of(crate) if kept.get(name_of(edit)) != sums[name_of(edit)]]
 
 
 def lost_edits():
-    """What says of each edit that can't be made to its crate's files why not."""
+    """For each edit that can't be applied to its crate's files, a line that says why."""
     for crate in crates_with_edits():
         for edit in edits_of(crate):
             try:
@@ -302,7 +302,7 @@ def lost_edits():
 
 
 def changed_since(commit):
-    """The crates whose sources, definitions or edits are not those of the commit."""
+    """The crates whose sources, definitions or edits differ from those of the commit."""
     words = ["git", "diff", "--name-only", "--no-renames", commit, "--", "crates"]
     paths = subprocess.run(words, cwd=TOP, capture_output=True, text=True, check=True).stdout.split()
     parts = ("src", "specs", "must-fail", "more-edits")
@@ -311,7 +311,7 @@ def changed_since(commit):
 
 
 def law_of(edit):
-    """The crate above whose law refuses the edit, where it names one."""
+    """The crate above whose law refuses the edit, if it names one."""
     lines = edit.read_text(encoding="utf-8").splitlines()
     return next((line.removeprefix("law: ") for line in lines if line.startswith("law: ")), None)
 
@@ -322,7 +322,7 @@ def is_refused(proved, printed):
 
 
 def show(edit, folder, taken, proved, printed):
-    """Prints what came of an edit, and gives the goals without an answer that refused it."""
+    """Prints the result of an edit, and returns the goals without an answer that refused it."""
     goals = refusals(printed)
     loose = {goal for goal in goals if not has_answer(folder, *goal)}
     shown = [f"{goal[0].partition('::')[2]} {goal[1]}{'*' * (goal in loose)}" for goal in goals]
@@ -333,8 +333,8 @@ def show(edit, folder, taken, proved, printed):
 
 
 def refused_of(group, folder):
-    """Tries the edits of a group, and gives those that were refused, the processor seconds, and the goals without an answer.
-    Of several edits each is refused where a goal of its own function is not proved, and the others are tried alone."""
+    """Tries the edits of a group, and returns those that were refused, the processor seconds, and the goals without an answer.
+    Of several edits each is refused if a goal of its own function is not proved, and the others are tried alone."""
     proved, taken, printed = try_together(folder, [edit for edit, _ in group])
     if len(group) == 1:
         loose = show(group[0][0], folder, taken, proved, printed)
@@ -350,14 +350,14 @@ def refused_of(group, folder):
 
 
 def try_edits(crate, edits, is_together, answers):
-    """Tries these edits of the crate, and keeps which were refused. Gives whether all were."""
+    """Tries these edits of the crate, and keeps a line for each that was refused. Returns whether all were."""
     sums = checksums([crate])
     with tempfile.TemporaryDirectory() as scratch:
         folder = copy_of(crate, Path(scratch))
         proved, taken, printed = check(folder)
         if not proved:
-            sys.exit(f"{printed}\n{crate} is not proved as it stands")
-        print(f"{taken:6.1f} s  the crate as it stands", flush=True)
+            sys.exit(f"{printed}\n{crate} is not proved without an edit")
+        print(f"{taken:6.1f} s  the crate without an edit", flush=True)
         refused, total, unbound = [], 0.0, set()
         for group in groups_of(folder, edits) if is_together else [[(edit, None)] for edit in edits]:
             more, taken, loose = refused_of(group, folder)
@@ -381,7 +381,7 @@ def put_together(folder, edits):
 
 
 def lines_of_gate(folder, crates):
-    """What `rt ci` prints of these crates, line by line, with each line on edits passed on."""
+    """What `rt ci` prints for these crates, line by line; prints each line about edits too."""
     words = ["rt", "ci", *crates]
     ran = subprocess.Popen(words, cwd=folder, stdout=subprocess.PIPE, stderr=subprocess.STDOUT, text=True, errors="replace")
     for line in ran.stdout:
@@ -402,7 +402,7 @@ def is_refused_above(edit):
 
 
 def try_all(crates):
-    """Tries all edits of these crates that were not refused as they stand, and keeps which were. Gives whether all were."""
+    """Tries the edits of these crates that were not refused in their present form, and keeps lines. Returns whether all were refused."""
     edits, sums = old_edits(crates), checksums(crates)
     with tempfile.TemporaryDirectory() as scratch:
         put_together(Path(scratch), [edit for edit in edits if law_of(edit) is None])
@@ -423,7 +423,7 @@ def main():
     if words == ["--old"]:
         old, total = old_edits(crates_with_edits()), len(checksums(crates_with_edits()))
         of = sorted({edit.parent.parent.name for edit in old})
-        print(f"edits: {len(old)} of {total} were not tried as they stand, of {len(of)} crates: {' '.join(of) or 'none'}")
+        print(f"edits: {len(old)} of {total} have no line that fits the present sources, in {len(of)} crates: {' '.join(of) or 'none'}")
         lost = list(lost_edits())
         for fault in lost:
             print(f"edits: {fault}")

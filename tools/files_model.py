@@ -1,7 +1,7 @@
-"""A model of what `flightd` says of a file: of a recorded run whether it is lawful, and why it is not; of a schedule what each event gives; of
-a node's records each of them; and of a conversation with the acceptor its answers. It is written from Lamport, "Paxos Made Simple",
-section 2, from RFC 8259 and from docs/FORMATS.md, and not from the code. Messages and records are those of paxos_model.py, and nodes those
-of runs_model.py. Each function gives the status, the output, and a list of what may stand on standard error."""
+"""A model of what `flightd` prints for a file: whether a recorded run is lawful, and if not why; the result of each event of a
+schedule; each of a node's records; and the acceptor's answers in a conversation. It is written from Lamport, "Paxos Made Simple",
+section 2, from RFC 8259 and from docs/FORMATS.md, and not from the code. Messages and records are those of paxos_model.py, nodes those
+of runs_model.py. Each function returns the status, the output, and a list of the texts that standard error may have."""
 import itertools
 import json
 import re
@@ -17,7 +17,7 @@ MOST_SLOTS, MOST_MEMBERS, MOST_TICK, MOST_LEVELS = 1_000_000, 7, 255, 60
 
 
 class Flaw(Exception):
-    """What is wrong with a file, each a line that may stand on standard error."""
+    """What is wrong with a file: lines, of which one is on standard error."""
 
     def __init__(self, *lines):
         super().__init__(*lines)
@@ -28,7 +28,7 @@ class Flaw(Exception):
 
 
 def whole(digits):
-    """A number without a point and without an exponent: it is whole where 64 bits hold it, and -0 is not."""
+    """A number without a point or an exponent: it is whole if it fits in 64 bits, and -0 is not."""
     if len(digits) > 300:
         raise Unjudged(digits)
     number = int(digits)
@@ -47,13 +47,13 @@ def no_constant(word):
 
 
 def levels_in(text):
-    """How deep brackets stand in one another, those of texts among them."""
+    """How deep brackets are nested, those in texts included."""
     steps = (1 if it in "[{" else -1 for it in re.findall(r"[][{}]", text))
     return max(itertools.accumulate(steps), default=0)
 
 
 def json_of(file):
-    """The value of the file. Deep ones, lone surrogates and numbers beyond all floats are not judged."""
+    """The value of the file. Deep values, lone surrogates and numbers beyond all floats are not judged."""
     try:
         text = file.decode("utf-8")
     except UnicodeDecodeError:
@@ -95,7 +95,7 @@ def array_in(value, name):
 
 
 def said_of(parts):
-    """A message as histories have it."""
+    """A message in the form that histories use."""
     kind, ballot, second = KINDS[parts["kind"]], (parts["round"], parts["node"]), (parts["second round"], parts["second node"])
     report = (second, parts["value"]) if kind == "Promise" and second[0] else None
     value = parts["value"] if kind in ("Accept", "Accepted", "Decided") else b""
@@ -122,7 +122,7 @@ def run_in(file):
 
 
 def first_breach(members, sent):
-    """The place of the first message that may not follow those of its slot before it."""
+    """The place of the first message that may not follow the earlier ones of its slot."""
     for place, it in enumerate(sent):
         before = [other for other in sent[:place] if other["slot"] == it["slot"]]
         if it["what"] in ("Promise", "Accept", "Accepted", "Decided") and not may_follow(members, before, it):
@@ -173,7 +173,7 @@ def broken_by_accepted(sent, said):
 
 
 def broken_rules(members, sent, said):
-    """Of each rule for such a message what is said of it, and whether it is broken, or by which message."""
+    """For each rule for such a message the text about its breach, and whether it is broken, or by which message."""
     if said["what"] == "Promise":
         return broken_by_promise(sent, said)
     if said["what"] == "Accept":
@@ -184,7 +184,7 @@ def broken_rules(members, sent, said):
 
 
 def line_shown(said):
-    """The line of a message, a long value by its ends."""
+    """The line of a message, with only the ends of a long value."""
     line, value = line_of(said["parts"]), said["parts"]["value"]
     return line.replace(value.hex(), f"{value[:24].hex()}..{value[-8:].hex()} ({len(value)} bytes)") if len(value) > 32 else line
 
@@ -243,7 +243,7 @@ def records(file):
 
 
 def payload_at(text):
-    """The payload of the frame at the front, and what stands behind it."""
+    """The payload of the frame at the front, and the text after it."""
     try:
         flag, payload, rest = frame_at(text)
     except BadFrame as fault:
@@ -254,7 +254,7 @@ def payload_at(text):
 
 
 def reply(slot, parts):
-    """The answer of node 0, where there is one: its parts."""
+    """The parts of node 0's answer."""
     ballot = parts["round"], parts["node"]
     answer = {"sender": 0, "slot": parts["slot"], "round": ballot[0], "node": ballot[1]}
     is_prepare = KINDS[parts["kind"]] == "Prepare"
@@ -288,7 +288,7 @@ def acceptor(text):
 
 
 def upload_at(place, value):
-    """An upload of a schedule, as runs_model.py has it."""
+    """An upload of a schedule, in the form of runs_model.py."""
     table, id, values, name = (member(value, it) for it in ("table", "id", "values", "name"))
     name = "a" if isinstance(value, dict) and "name" not in value else name
     is_one = isinstance(table, str) and is_table_name(table.encode()) and isinstance(id, str) and re.fullmatch("[0-9a-fA-F]{32}", id)

@@ -1,5 +1,5 @@
-"""What stands in a cluster's folder, by a plain program over its files: the sums of the records, and what these say was decided. It shares
-nothing with the server but docs/FORMATS.md."""
+"""A plain program that reads a cluster's folder: the sums of the records, and what the records say was decided. It shares nothing with
+the server but docs/FORMATS.md."""
 import hashlib
 import struct
 from collections import defaultdict
@@ -13,7 +13,7 @@ BEGAN, PROMISED, ACCEPTED = 1, 2, 3
 
 
 def entry_of(number, record):
-    """The entry of the record of this number: its digest, and what seals that."""
+    """The entry of the record of this number: the record's digest, and the seal of that."""
     digest = hashlib.md5(record).digest()
     return digest + hashlib.md5(struct.pack("<Q", number) + digest).digest()[:8]
 
@@ -23,14 +23,14 @@ def entries_of(records):
 
 
 def accepted_by(records):
-    """What a node's records say that it accepted: slot, ballot and value, which is None where it is a Noop."""
+    """What a node accepted, by its records: slot, ballot and value, which is None for a Noop."""
     for record in map(values_by_number, records):
         if record.get(1) == ACCEPTED:
             yield record.get(2, 0), (record.get(3, 0), record.get(4, 0)), record.get(5)
 
 
 def chosen_by(nodes):
-    """The value that each slot has which most nodes accepted at one ballot, and all slots for which one node did."""
+    """For each slot the value that most nodes accepted at one ballot, if there is one; and all slots for which a node accepted one."""
     counted, slots = defaultdict(set), set()
     for number, records in enumerate(nodes):
         for slot, ballot, value in accepted_by(records):
@@ -40,7 +40,7 @@ def chosen_by(nodes):
 
 
 def tables_of(values):
-    """The latest version of each table: how many uploads it has with ids of their own, as long as all of a table have one schema."""
+    """The latest version of each table: how many uploads with different ids it has, if all uploads of a table have one schema."""
     ids = defaultdict(dict)
     for value in values:
         if value is not None:
@@ -50,7 +50,7 @@ def tables_of(values):
 
 
 def report_of(folder, nodes):
-    """The lines of `flightd records` for a folder of so many nodes."""
+    """The lines that `flightd records` prints for a folder with this many nodes."""
     records = [records_in(f"{folder}/node-{number}.rec") for number in range(nodes)]
     chosen, slots = chosen_by(records)
     decided = next(slot for slot in range(len(chosen) + 1) if slot not in chosen)
@@ -63,7 +63,7 @@ def report_of(folder, nodes):
 
 
 def missing_sums(folder, number):
-    """How many of the last records of a node have no entry; each entry that there is has to be its record's."""
+    """How many of the last records of a node have no entry. Each entry that exists must be that of its record."""
     records = records_in(f"{folder}/node-{number}.rec")
     sums = Path(f"{folder}/node-{number}.sum").read_bytes()
     whole = entries_of(records)

@@ -1,23 +1,24 @@
 #!/usr/bin/env python3
-"""Gives the programs of stories, and the commands of `flightd` that read a file or standard input, inputs that are drawn from what reached
-something new, and keeps each input that does. It is no part of the gate.
+"""Fuzzes the story programs and the commands of `flightd` that read input, and keeps each input that reaches a new basic block.
+
+It is not part of the gate.
 
     tools/fuzz.py [SECONDS] [FOLDER] [TARGET ..]
 
-Of each TARGET (of tools/targets.py, or all of them) inputs are drawn for SECONDS (60), from few plain ones, from those kept before, and from those
-that are kept on the way: some of their bytes are changed, or what these say. What is under way then is finished. The programs are those that
-stand in FOLDER/crates/NAME/out as the gate built them (FOLDER is this repository); nothing is built but the driver that runs them, in a folder of
-its own. tools/blocks.py says how it is seen which basic blocks an input is the first to reach: a breakpoint stands at each that none has reached.
+For each TARGET (of tools/targets.py, or all of them) it draws inputs for SECONDS (60), from a few plain ones, from those kept before and from
+those kept on the way: it changes some of their bytes, or what these encode. What is running then is finished. The programs are those in
+FOLDER/crates/NAME/out as the gate built them (FOLDER is this repository); only the driver that runs them is built, in a folder of its own.
+tools/blocks.py finds the basic blocks that an input is the first to reach, by a breakpoint at each block that none has reached.
 
-An input that reached a block is made smaller, as long as it still does. What the models say of it (tools/reached.py) becomes a row of
-`reached.txt` among the stories of its crate, or in tools/program/, where they judge it and it is small. The answers to every input are
+An input that reached a block is made smaller, as long as it still does. If the models judge it and it is small, it is written with what they
+say of it (tools/reached.py) as a row of `reached.txt`, among the stories of its crate or in tools/program/. The answers to every input are
 compared with the model's.
 
-At the end a table has of each target how many inputs ran, how many blocks they reached of how many there are in the program, how many were kept,
+At the end a table shows for each target how many inputs ran, how many blocks they reached of how many in the program, how many were kept,
 how many ended by a signal, did not end, were answered otherwise than the model says, or cost too much, and the dearest one. An input costs too
-much where it takes more of the processor than LEAST_SECONDS and SECONDS_A_BYTE for each byte that is read or written, or holds more memory than
-LEAST_HELD and HELD_A_BYTE for each. Each such input is printed, and then the status is 1; so it is where a program is not built.
-Each run draws others. It needs x86-64, cc and objdump (GNU binutils)."""
+much if it takes more processor time than LEAST_SECONDS and SECONDS_A_BYTE for each byte that is read or written, or holds more memory than
+LEAST_HELD and HELD_A_BYTE for each. Each faulty input is printed, and the status is then 1, as it is if a program is not built. Each run
+draws other inputs. It needs x86-64, cc and objdump (GNU binutils)."""
 import collections
 import contextlib
 import importlib
@@ -41,15 +42,15 @@ from toolbox import show_help
 
 LEAST_SECONDS, SECONDS_A_BYTE = 0.03, 1e-6
 LEAST_HELD, HELD_A_BYTE = 16 << 20, 64
-# A run that has not ended after so many seconds of the clock hangs.
+# A run that has not ended after this many seconds of the clock hangs.
 MOST_WAIT = 30
-# So many inputs are asked of a program of stories in one run, and so many runs are asked for at once.
+# How many inputs a story program gets in one run, and how many runs are requested at once.
 TOGETHER, AT_ONCE = 40, 8
-# Runs of many inputs that take no more than these seconds, and twice those of the dearest input, are not looked at one by one.
+# A run of many inputs that takes at most this many seconds plus twice those of the dearest input is not repeated one by one.
 DOUBT = 0.004
-# So many smaller inputs are tried of one that reached something new; what is longer than this is not kept as rows.
+# How many smaller inputs are tried for one that reached something new, and the most characters of rows that are kept.
 MOST_SMALLER, MOST_LETTERS = 32, 4000
-# Of the inputs to draw from, as many are among the last ones as among all.
+# Half of the inputs are drawn from this many last ones, and half from all.
 LAST = 24
 HEAD = """\
 # Inputs that reached something new in the program, one behind the other, each made small. The notation is that of the other files. Made by
@@ -58,7 +59,7 @@ HEAD = """\
 
 
 class Case(NamedTuple):
-    """An input: its lines; its rows, None where the models don't judge it; what the program reads; and how many answers it has to give."""
+    """An input: its lines; its rows, None if the models don't judge it; what the program reads; and how many answers it must give."""
 
     lines: list
     rows: list
@@ -67,7 +68,7 @@ class Case(NamedTuple):
 
 
 class Wrong(NamedTuple):
-    """What was wrong with a run, by its kind."""
+    """What was wrong with a run: the kind of fault, and a text."""
 
     kind: str
     told: str
@@ -90,11 +91,11 @@ def ended_wrong(outcome):
     return None
 
 
-# ---- what a program is asked, and what it has to answer
+# ---- what a program is asked, and what it must answer
 
 
 class Stories:
-    """A program of stories: one run answers many inputs."""
+    """A story program: one run answers many inputs."""
 
     def __init__(self, target):
         self.model, self.module = TOLD[target.crate], importlib.import_module(f"tellers.{target.crate}")
@@ -117,7 +118,7 @@ class Stories:
         return lines if rows is None else [command for command, _ in rows]
 
     def wrong(self, case, answers):
-        """How the answers to a case are told otherwise than the model says."""
+        """How the answers to a case differ from the model's."""
         teller, answers = self.module.Teller(), iter(answers)
         for place, command in enumerate(self.commands(case.lines, case.rows)):
             telling = teller.tell(command)
@@ -136,7 +137,7 @@ class Stories:
 
     @staticmethod
     def kept(case):
-        """The rows of a case that is judged, and told something of."""
+        """The rows of a case that the model judges and that has any result."""
         is_told = case.rows is not None and any(told for _, told in case.rows)
         return "".join(f"{command}\n" + "".join(f"  {it}\n" for it in told) for command, told in case.rows) if is_told else ""
 
@@ -172,7 +173,7 @@ class Files:
 
 
 def with_bytes(line):
-    """The words of a line before its bytes, and these; None where it has none."""
+    """The words of a line before its bytes, and the bytes; None if it has none."""
     word = line.split(" ")[0]
     if word == "read":
         head, _, digits = line.rpartition("| ")
@@ -196,7 +197,7 @@ def smaller_bytes(text):
 
 
 def smaller(lines):
-    """The lines with fewer of them, or with fewer bytes in one."""
+    """The lines without some of them, or with fewer bytes in one."""
     yield from shorter(lines)
     for place, line in enumerate(lines):
         found = with_bytes(line)
@@ -205,12 +206,12 @@ def smaller(lines):
             yield [*lines[:place], f"{found[0]} {digits}".rstrip(), *lines[place + 1 :]]
 
 
-# Commands whose bytes are told without letters for zeros.
+# Commands whose bytes are written without letters for zeros.
 SHORT = ("frames", "fields", "front", "descriptor", "ticket", "location", "endpoint", "info", "schema", "criteria", "data", "put-result", "decode",
          "decode-record", "audited", "audit", "audit_--explain", "replay", "records", "acceptor", "read-ticket")
 
 
-# ---- a target that is explored
+# ---- exploring a target
 
 
 class Exploration:
@@ -226,16 +227,16 @@ class Exploration:
     # runs
 
     def case(self, lines):
-        """The case of these lines, None where they ask for nothing that there is, or depend on others."""
+        """The case of these lines, None if they ask for what does not exist, or depend on other lines."""
         with contextlib.suppress(LookupError, ValueError):
             return self.asks.case(lines) if self.target.stands_alone(lines) else None
         return None
 
     def together(self, cases):
-        """Has a program of stories answer these cases in one run, and gives those that were the first to reach blocks, with these."""
+        """Has a story program answer these cases in one run, and returns those that were the first to reach blocks, with the blocks."""
         (outcome,) = self.traced.run([b"".join(it.given for it in cases)])
         answers = outcome.output.decode(errors="replace").splitlines()
-        # where one of them may be the dearest, or one ended the run, each has a run of its own
+        # if one of them may be the dearest, or ended the run, each gets a run of its own
         may_be_dear = outcome.seconds > (LEAST_SECONDS if outcome.reached else 2 * self.dearest[0] + DOUBT)
         self.ran += len(cases)
         if outcome.status or len(answers) != sum(it.count for it in cases) or may_be_dear:
@@ -243,11 +244,11 @@ class Exploration:
         answers = iter(answers)
         for case in cases:
             self.look(case, self.asks.wrong(case, list(itertools.islice(answers, case.count))))
-        # what one of them costs is looked at alone
+        # the cost of one of them is measured alone
         return self.reachers(cases, set(outcome.reached)) + self.one_by_one([self.draw.choice(cases)])
 
     def reachers(self, cases, blocks):
-        """Of the cases those that reach these blocks first, each with its own."""
+        """The cases that are the first to reach these blocks, each with its own."""
         if not blocks or len(cases) == 1:
             return [(cases[0], blocks)] if blocks else []
         half = len(cases) // 2
@@ -256,7 +257,7 @@ class Exploration:
         return self.reachers(cases[:half], mine) + self.reachers(cases[half:], blocks - mine)
 
     def one_by_one(self, cases):
-        """Has each of the cases run by itself, and gives those that were the first to reach blocks."""
+        """Runs each of the cases by itself, and returns those that were the first to reach blocks."""
         found = []
         for start in range(0, len(cases), AT_ONCE):
             group = cases[start : start + AT_ONCE]
@@ -267,7 +268,7 @@ class Exploration:
         return found
 
     def cost(self, case, outcome):
-        """What is wrong with what a run took. A run that reached something new was stopped, so it is made once more."""
+        """What is wrong with the cost of a run. A run that reached something new was stopped there, so it is repeated."""
         if outcome.reached or cost_of(outcome, len(case.given)):
             (outcome,) = self.traced.run([case.given])
         self.dearest = max(self.dearest, (outcome.seconds, len(case.given)))
@@ -287,8 +288,8 @@ class Exploration:
     # what reached something new
 
     def made_small(self, case, blocks):
-        """The smallest case that was found to reach these blocks too, None where this one does not do so each time, or that one is told
-        otherwise than the model says."""
+        """The smallest case found that reaches these blocks too. None if this case does not reach them again, or if the answers to the
+        smallest differ from the model's."""
         best, tried, candidates = None, 0, iter([case.lines])
         while tried < MOST_SMALLER:
             drawn = filter(None, map(self.case, candidates))
@@ -309,7 +310,7 @@ class Exploration:
         return None if wrong else best
 
     def keep(self, found):
-        """Keeps cases that reached blocks which none had reached, and those that are come upon where they are made smaller."""
+        """Keeps cases that reached new blocks, and those that are found while cases are made smaller."""
         self.pending += found
         while self.pending:
             case, blocks = self.pending.pop()
@@ -334,7 +335,7 @@ class Exploration:
                 self.reached |= blocks
 
     def drawn(self):
-        """An input that is drawn."""
+        """A random input."""
         lines, other = (self.draw.choice(self.pool[-LAST:] if self.draw.random() < 0.5 else self.pool) for _ in range(2))
         return self.target.other(self.draw, lines, other)
 
@@ -365,7 +366,7 @@ def lines_kept(target):
 
 
 def write_kept(target, rows):
-    """Puts rows behind those that were kept before."""
+    """Adds rows after those that were kept before."""
     file = file_kept(target)
     is_file = target.crate == "flightd"
     before = file.read_text(encoding="utf-8") if file.exists() else HEAD
@@ -381,7 +382,7 @@ def program_of(target, folder):
 
 
 def printed(rows):
-    """The rows as a table, whose columns are as wide as they have to be."""
+    """Prints the rows as a table, with columns as wide as needed."""
     widths = [max(map(len, column)) for column in zip(*rows)]
     for row in rows:
         print("  ".join(it.ljust(width) if place == 0 else it.rjust(width) for place, (it, width) in enumerate(zip(row, widths))).rstrip())
@@ -397,7 +398,7 @@ def row_of(it):
 
 
 def explored(target, program, seconds):
-    """Explores a target, and keeps what was found, also where that is interrupted."""
+    """Explores a target, and keeps what was found, also if it is interrupted."""
     with tempfile.TemporaryDirectory() as folder:
         exploration = Exploration(target, program, folder)
         try:

@@ -1,6 +1,5 @@
-"""Headers of messages as FlatBuffers texts: the canonical ones of schemas and batches, by the writer of
-crates/flatbuf_meta/vectors/canonical.py; and others, which share tables or spell a table's bytes (FlatBuffers, "FlatBuffer
-Internals")."""
+"""Writes headers of messages as FlatBuffers: the canonical ones of schemas and batches, by
+crates/flatbuf_meta/vectors/canonical.py; and others, which may share tables (FlatBuffers, "FlatBuffer Internals")."""
 import sys
 from pathlib import Path
 
@@ -16,7 +15,7 @@ from make import TYPES
 
 
 def parameter(word):
-    """A type's parameter by its word: a dash is an absent one, and a text stands between quotation marks."""
+    """A type's parameter by its word: a dash is an absent one, and a text is in quotation marks."""
     if word in ("-", "true", "false"):
         return {"-": None, "true": True, "false": False}[word]
     if word.startswith('"'):
@@ -25,7 +24,7 @@ def parameter(word):
 
 
 def field(type_name, parameters=(), children=(), name="", nullable=False):
-    """A field in the words of Schema.fbs, its parameters as the words of stories."""
+    """A field with the names of Schema.fbs; its parameters are given as in stories."""
     values = dict(zip(TYPES[type_name], map(parameter, parameters)))
     if type_name == "Time":
         values["bitWidth"] = 32 if parameters[0] in ("SECOND", "MILLISECOND") else 64
@@ -42,8 +41,8 @@ def pairs(items, *names):
 
 
 def batch_text(length, nodes, buffers, compressed, body_length):
-    """The text of a batch's header, in hexadecimal: the canonical one; or of a compressed batch one with an empty table as its
-    compression."""
+    """The text of a batch's header, in hexadecimal: the canonical one, or for a compressed batch one whose compression is an empty
+    table."""
     placed = [(8, number(length, 8)), (4, pairs(nodes, "length", "null_count")), (16, pairs(buffers, "offset", "length"))]
     batch = canonical.table(28, *placed, (20, canonical.table(4))) if compressed else canonical.table(24, *placed)
     top = canonical.table(24, (4, number(4, 2)), (6, number(3, 1)), (8, batch), (16, number(body_length, 8)))
@@ -59,8 +58,8 @@ NONE = ("-", 0)  # a field of a table that is absent
 
 
 class Text:
-    """A text that is written from its last byte to its first, as references lead forward. What has been written is named by
-    how many bytes there are from its first byte to the end."""
+    """A text that is written from its last byte to its first, since references lead forward. A part that has been written is
+    identified by the number of bytes from its first byte to the end."""
 
     def __init__(self):
         self.bytes = b""
@@ -76,8 +75,8 @@ class Text:
         return self.number(len(self.bytes) + 4 - target, 4)
 
     def table(self, *fields):
-        """A table, whose vtable stands before it. Each field is absent with `-`, has a number with `=`, and refers to what has
-        been written with `>`. It has eight bytes, of which a reader uses the first few."""
+        """A table, after its vtable. A field is absent (`-`), has a number (`=`), or refers to a part that has been written (`>`).
+        It has eight bytes, of which a reader uses the first few."""
         for kind, value in reversed(fields):
             self.number(len(self.bytes) + 8 - value if kind == ">" else value, 8)
         size, own_size = 8 * len(fields) + 4, 2 * len(fields) + 4
@@ -87,7 +86,7 @@ class Text:
         return place
 
     def vector(self, *targets):
-        """A vector of references to what has been written."""
+        """A vector of references to parts that have been written."""
         behind = len(self.bytes) + 4 * len(targets)
         references = [behind - 4 * index - target for index, target in enumerate(targets)]
         self.put(b"".join(it.to_bytes(4, "little") for it in references))

@@ -1,8 +1,8 @@
-"""A model of headers of messages: what bytes show, or every fault that stands in them. It is written from FlatBuffers, "FlatBuffer
-Internals", from Message.fbs and Schema.fbs of Apache Arrow and from docs/FORMATS.md, and not from the code. What is shown has the form of
-the JSON files of crates/flatbuf_meta/vectors, whose scripts say it in lines and lay out its one text.
+"""A model of headers of messages: it returns the header that bytes encode, or every fault in them. It is written from FlatBuffers,
+"FlatBuffer Internals", from Message.fbs and Schema.fbs of Apache Arrow and from docs/FORMATS.md, and not from the code. A header has the
+form of the JSON files of crates/flatbuf_meta/vectors, whose scripts print its lines and write its canonical text.
 
-Fields and entries that are more than a schema may have are not looked at."""
+Fields and entries beyond the most that a schema may have are not read."""
 import struct
 import sys
 from pathlib import Path
@@ -24,7 +24,7 @@ SIZES = {"unit": 2, "is_signed": 1}
 
 
 class Reader:
-    """A text, every fault that was found in it, and how many fields, entries and bytes of texts it has shown."""
+    """A text, every fault that was found in it, and how many fields, entries and bytes of texts have been read."""
 
     def __init__(self, text):
         self.text, self.found, self.seen = text, set(), [0, 0, 0]
@@ -38,7 +38,7 @@ class Reader:
         return place + self.number(place, 4)
 
     def slot(self, table, number):
-        """Where a field of the table stands, None where it is absent."""
+        """The place of a field of the table, None if it is absent."""
         vtable = table - self.number(table, 4, True)
         own_size = self.number(vtable, 2)
         if own_size < 4:
@@ -47,7 +47,7 @@ class Reader:
         return table + cell if cell else None
 
     def tried(self, read, *arguments):
-        """What the read gives, None where it finds a fault, which is kept."""
+        """What the read returns, or None if it raises faults, which are kept."""
         try:
             return read(*arguments)
         except Faults as faults:
@@ -63,7 +63,7 @@ class Reader:
         return None if place is None else self.follow(place)
 
     def vector_in(self, table, number, size):
-        """Where the first element stands, and how many there are."""
+        """The place of the first element, and the number of elements."""
         vector = self.reference_in(table, number)
         if vector is None:
             return 0, 0
@@ -82,10 +82,10 @@ class Reader:
         except UnicodeDecodeError:
             raise Faults("NotUtf8") from None
 
-    # what a schema shows
+    # schemas
 
     def counts(self, kind, count):
-        """Whether the text has shown no more of this kind than a schema may."""
+        """Counts more of this kind, and returns whether fields and entries are still within the limits of a schema."""
         self.seen[kind] += count
         if self.seen[kind] > (MOST_FIELDS, MOST_ENTRIES, MOST_TEXT)[kind]:
             self.found.add("TooManyFields")
@@ -97,7 +97,7 @@ class Reader:
         return text
 
     def elements(self, table, number, kind):
-        """The tables of a vector of references, each of which counts."""
+        """The tables of a vector of references, each of which is counted."""
         first, count = self.tried(self.vector_in, table, number, 4) or (0, 0)
         for place in range(first, first + 4 * count, 4):
             if not self.counts(kind, 1):
@@ -116,7 +116,7 @@ class Reader:
         if found is None:
             return default
         if values:
-            # a unit that there is not has no name, and the number is no length that a Time has
+            # an unknown unit has no name, and its number is no bit width of a Time
             return values[found] if found < len(values) else found
         return found != 0 if word == "is_signed" else found
 
@@ -177,7 +177,7 @@ class Reader:
             self.found.add("Endianness")
         return {"fields": self.fields(table, 1, 1), "custom_metadata": self.metadata(table, 2)}
 
-    # what a batch shows
+    # batches
 
     def pairs(self, table, number, *names):
         first, count = self.tried(self.vector_in, table, number, 16) or (0, 0)
@@ -195,7 +195,7 @@ class Reader:
         return table
 
     def message(self):
-        """The header, as far as nothing is wrong with it."""
+        """The header, or None if the message around it has a fault."""
         message = self.follow(0)
         version = self.tried(self.number_in, message, 0, 2)
         self.found |= {"Version"} if version not in (None, VERSION_5) else set()
@@ -210,7 +210,7 @@ class Reader:
 
 
 def header_of(text):
-    """The header that the bytes show; the faults that stand in them are raised."""
+    """The header that the bytes encode. Raises the faults in them."""
     reader = Reader(text)
     said = reader.tried(reader.message)
     if reader.found:
@@ -219,12 +219,12 @@ def header_of(text):
 
 
 def shown(said):
-    """The lines of a story that say what a header is."""
+    """The lines for a header in a story."""
     return [line[2:] for line in make.header(said)]
 
 
 def written(said):
-    """The one text of a header, in hexadecimal; None where it can't be written."""
+    """The canonical text of a header, in hexadecimal; None if it can't be written."""
     header = said["header"]
     if said["header_type"] == "Schema":
         return canonical.message(said)

@@ -1,28 +1,26 @@
 #!/usr/bin/env python3
-"""Sends servers what would make them hold or do too much, and measures what it costs: batches whose columns name the same bytes, and with
---peers the calls of peers that mean harm.
+"""Sends servers input that would make them hold or do too much, and measures the cost: batches that share bytes, or hostile peers.
 
     tools/hostile.py [PROGRAM] [--only WORDS]
     tools/hostile.py --peers [PROGRAM] [--only WORDS]
 
-Without --peers, as the gate calls it, it sends batches whose columns name the same bytes, so that a frame of some 4 MiB speaks of gigabytes,
-beside a frame of as many bytes that are each their own. It starts PROGRAM (crates/call_server/out/call_server) once for each upload, sends
-a DoPut of one batch, and compares the answer with what it has to be: what is written of the batch is too large for a frame, or the upload
-is taken. The status is 1 where an answer is another one, where the server ever held more than MOST_HELD bytes, or where a call took more
-than MOST_TIME seconds of the processor. Memory and time are those that the kernel counts for the process (Linux, proc(5)), which is running
-still.
+Without --peers, as the gate calls it, it sends batches whose columns refer to the same bytes, so that a frame of some 4 MiB describes
+gigabytes, and one batch of that size whose columns have their own bytes. It starts PROGRAM (crates/call_server/out/call_server) once for
+each upload, sends a DoPut of one batch, and checks the answer: the batch as it would be written is too large for a frame, a column is too
+long, or the upload is accepted. The status is 1 if an answer differs, if the server ever held more than MOST_HELD bytes, or if a call took
+more than MOST_TIME processor seconds. Memory and time are those that the kernel counts for the process while it runs (Linux, proc(5)).
 
-With --peers, which is no part of the gate, it starts `PROGRAM serve` (crates/flightd/out/flightd) with three nodes for each kind of peer, has
-the peers call node 0, and meanwhile has a good client make GOOD_CALLS puts and gets at that node, and as many at node 1, one after the other.
-It prints a line for each kind: what the server ever held in memory at most, and what it holds once the peers have gone, its threads at most,
-how many seconds of processors it took, how long puts and gets took at both nodes (the middle and the longest, in milliseconds), and how the
-peers were answered: the name of a refusal, or `closed`. The peer that docs/SECURITY.md speaks of sends a byte a minute; here it sends one in
-SLOW_SECONDS, and longer than silence may last.
+With --peers, which is not part of the gate, it starts `PROGRAM serve` (crates/flightd/out/flightd) with three nodes for each kind of peer, and
+has the peers call node 0. Meanwhile a good client makes GOOD_CALLS puts and gets at that node, and as many at node 1, one after another.
+It prints a line for each kind: the most memory that the server held, and what it holds once the peers have gone; its most threads; its
+processor seconds; how long puts and gets took at both nodes (the median and the longest, in milliseconds); and how the peers were
+answered: the name of a refusal, or `closed`. The slow peer of docs/SECURITY.md sends a byte a minute; here it sends one in SLOW_SECONDS,
+for longer than silence may last.
 
-Its status is 1 where a limit of docs/SECURITY.md was passed: more than MOST_CONNECTIONS calls at once at a node, silence that went on
-beyond SILENCE_SECONDS, more bytes let go behind an answer, more memory than FIRST_ROOM for a frame that does not come or than MOST_HELD
-for a call, another answer than the refusal that the page names, or chosen names that make look-ups slow; and where a good client at
-another node, or at this one once the peers have gone, or before that where they leave it places, was not served within GOOD_SECONDS. The
+Its status is 1 if a limit of docs/SECURITY.md was exceeded: more than MOST_CONNECTIONS calls at once at a node, silence for longer than
+SILENCE_SECONDS, more bytes discarded after an answer, more memory than FIRST_ROOM for a frame that does not come or than MOST_HELD
+for a call, another answer than the refusal that the page names, or chosen names that make look-ups slow; or if a good client was not
+served within GOOD_SECONDS: at another node, at this one once the peers have gone, or at this one before that if they leave it places. The
 limits of batches and of schemas (crates `batch_stories` and `header_stories`) and the number of slots are not measured here.
 
 With --only it tries those batches, or those kinds of peers, whose name has WORDS."""
@@ -49,16 +47,15 @@ from peer import Server, name_of, opening
 from servers import MEMORY, MOST_CONNECTIONS, PROGRAM, Wrong, felzoren, learned, look, request_of, reset, started, want
 from felzoren import DataType, Field, Schema, batch_header, bytes_field, data_message, frame, schema_header
 
-# ---- batches whose columns name the same bytes
+# ---- batches whose columns refer to the same bytes
 
-# What a server may hold at most: a frame as it came, the message in it, the batch, the upload's encoding and its frames, each
-# once, and itself.
+# The most that a server may hold: a frame as it came, the message in it, the batch, the upload's encoding and its frames, each
+# once, and the server itself.
 MOST_HELD = 48 << 20
 MOST_TIME = 30.0
 # The bytes of a body that leave room for the rest of a frame.
 BODY = (4 << 20) - (1 << 16)
-# As many fields as a schema may have, as many rows as a batch, and as many values as a column; and rows of lists that leave
-# room for their bitmap.
+# The most fields of a schema, rows of a batch and values of a column; and a number of lists that leaves room for their bitmap.
 FIELDS, ROWS, VALUES = 512, 1 << 20, 1 << 24
 LISTS = BODY // 6 // 8 * 8
 TOO_LARGE = (8, "TooLarge")
@@ -66,13 +63,13 @@ TAKEN = (0, "")
 
 
 class Laid:
-    """A batch as its parts are laid out: nodes, and buffers by what they hold, which columns may share."""
+    """A batch as it is laid out: its nodes, and its buffers by name, which columns may share."""
 
     def __init__(self):
         self.nodes, self.buffers, self.body, self.places = [], [], bytearray(), {}
 
     def bytes(self, name, content=b""):
-        """Where these bytes stand, under a name: they are put once."""
+        """The place of these bytes, under a name: they are added once."""
         if name not in self.places:
             self.places[name] = (len(self.body), len(content))
             self.body += content + bytes(-len(content) % 8)
@@ -102,7 +99,7 @@ def list_of(type):
 
 
 def plain():
-    """Numbers of eight columns, each with bytes of its own."""
+    """Eight columns of numbers, each with bytes of its own."""
     laid, rows = Laid(), BODY // 64
     for count in range(8):
         laid.column(rows, 0, NONE, laid.bytes(count, os.urandom(8 * rows)))
@@ -128,7 +125,7 @@ def null_by_twos(count):
 
 
 def shared_bits_in_a_struct():
-    """Bits inside structures, of which half are null, that all have one bitmap."""
+    """Bits in structures, half of them null, that all have one bitmap."""
     laid, rows = Laid(), ROWS
     place = laid.bytes("bits", half_null(rows))
     laid.column(rows, rows // 2, place)
@@ -151,7 +148,7 @@ def one_element_each(count):
 
 
 def lists_half_null(type):
-    """Lists of one element each, of which half are null, around a structure of many columns that share their bytes."""
+    """Lists of one element each, half of them null, of structures of many columns that share their bytes."""
     laid, rows = Laid(), LISTS
     validity = laid.bytes("validity", half_null(rows))
     laid.column(rows, rows // 2, validity, laid.bytes("offsets", one_element_each(rows)))
@@ -165,7 +162,7 @@ def lists_half_null(type):
 
 
 def many_lists():
-    """Lists that share their offsets, and of which half are null."""
+    """Lists that share their offsets, half of them null."""
     laid, rows = Laid(), LISTS
     validity = laid.bytes("validity", half_null(rows))
     ends = laid.bytes("offsets", one_element_each(rows))
@@ -176,7 +173,7 @@ def many_lists():
 
 
 def lists_of_lists():
-    """Columns of lists of lists, fourteen deep, that all share their offsets, and of which half are null."""
+    """Columns of lists of lists, fourteen deep, that all share their offsets, half of them null."""
     laid, rows, deep = Laid(), LISTS, 14
     validity = laid.bytes("validity", half_null(rows))
     ends = laid.bytes("offsets", one_element_each(rows))
@@ -201,7 +198,7 @@ def shared_texts():
 
 
 def long_list_of_bits():
-    """One list of as many elements as there may be: structures, half of them null, of bits that all have one bitmap."""
+    """One list of the most elements: structures, half of them null, of bits that all have one bitmap."""
     laid = Laid()
     place = laid.bytes("bits", half_null(VALUES))
     laid.column(1, 0, NONE, laid.bytes("offsets", struct.pack("<2i", 0, VALUES)))
@@ -212,7 +209,7 @@ def long_list_of_bits():
 
 
 def long_list_of_nulls(size, wanted):
-    """One list of so many elements that have no bytes."""
+    """One list of `size` elements that have no bytes."""
     laid = Laid()
     laid.column(1, 0, NONE)
     laid.column(size, size)
@@ -220,7 +217,7 @@ def long_list_of_nulls(size, wanted):
 
 
 def lists_in_lists_of_nulls():
-    """Lists of four lists of four elements that have no bytes, where half of the outer ones are null."""
+    """Lists of four lists of four elements that have no bytes; half of the outer lists are null."""
     laid = Laid()
     laid.column(ROWS, ROWS // 2, laid.bytes("validity", half_null(ROWS)))
     laid.column(4 * ROWS, 0, NONE)
@@ -229,7 +226,7 @@ def lists_in_lists_of_nulls():
 
 
 def pairs_of_bits():
-    """Lists of two bits, of which half are null, and whose columns share their bytes."""
+    """Lists of two bits, half of them null, whose columns share their bytes."""
     laid, rows, count = Laid(), ROWS, FIELDS // 2
     outer = laid.bytes("bits", half_null(2 * rows))
     for _ in range(count):
@@ -272,7 +269,7 @@ def try_case(program, name, case):
 
 
 def try_batches(program, only):
-    """Sends the batches whose name has these words: 1 where one was answered otherwise or cost too much."""
+    """Sends the batches whose name has these words: 1 if an answer differed or a batch cost too much."""
     wrong = 0
     for name, case in CASES.items():
         if only in name:
@@ -284,23 +281,23 @@ def try_batches(program, only):
     return wrong
 
 
-# ---- peers that mean harm
+# ---- hostile peers
 
-# The limits of docs/SECURITY.md, how much later than SILENCE_SECONDS a connection may be seen to end, and for how much longer that is
-# waited for.
+# The limits of docs/SECURITY.md: how much later than SILENCE_SECONDS a connection may be seen to end, and how much longer to wait for
+# that.
 SILENCE_SECONDS, LATE_SECONDS, WAIT_SECONDS = 60, 10, 300
 FIRST_ROOM, MAX_FRAME, MOST_LEFT = 64 << 10, 4 << 20, 32 << 20
-# What the figures of the kernel may differ by beside a bound in memory; and how long it takes until connections are there, or have gone.
+# How far the kernel's figures may be above a bound in memory; and how long it takes until connections are open, or have gone.
 SLACK, SETTLE_SECONDS = 1 << 20, 2
 GOOD_CALLS, GOOD_SECONDS = 20, 10
 CONNECTIONS, EMPTY_FRAMES, READERS, LARGE_CALLERS, RESETTERS = 2_000, 1_000_000, 16, 8, 4
 SLOW_SECONDS = 5
-# Uploads of some 15 MiB in batches of nearly a frame, which make a version of more than 64 MiB together; and so many of these batches in
-# one that is too large.
+# Uploads of some 15 MiB in batches of nearly a frame, which together make a version of more than 64 MiB; and how many such batches make
+# an upload too large.
 UPLOADS, BATCHES, TOO_MANY = 5, 4, 10
-# So many tables, if NAMES_SECONDS are enough; and by what factor chosen names may cost more of the processors than drawn ones.
+# How many tables, if NAMES_SECONDS are enough; and by what factor chosen names may cost more processor time than random ones.
 NAMES, NAMES_SECONDS, NAMES_FACTOR = 20_000, 60, 2
-# How many files this program may have open, and a server as many.
+# How many files this program may have open, and a server too.
 FILES = resource.getrlimit(resource.RLIMIT_NOFILE)
 SCHEMA = Schema({"content": "binary"})
 LINE = "{:<42} {:>8} {:>7} {:>7} {:>8}  {:<22} {:<22} {}"
@@ -310,7 +307,7 @@ LINE = "{:<42} {:>8} {:>7} {:>7} {:>8}  {:<22} {:<22} {}"
 
 
 class Served:
-    """A server of three nodes: what it took before there were peers, the most threads that it had, and the limits that were passed."""
+    """A server of three nodes: what it took before there were peers, the most threads that it had, and the limits that were exceeded."""
 
     def __init__(self, process, clients, port):
         self.process, self.port, self.wrong, self.over = process, port, [], threading.Event()
@@ -339,11 +336,11 @@ class Served:
             self.wrong.append(f"{what}: {found!r} in place of {' or '.join(map(repr, wanted))}")
 
     def held(self, calls):
-        """So many calls hold at most what the page says."""
+        """Checks that this many calls held at most what the page says."""
         self.at_most("bytes held", self.look().most, self.before.most + calls * MOST_HELD)
 
     def ended(self, start, seconds):
-        """How long after the start all connections have ended, as the threads say, which is at most so long."""
+        """How long after the start all connections have ended, by the number of threads; checks that it is at most this many seconds."""
         while self.look().threads > self.before.threads and time.monotonic() - start < seconds + WAIT_SECONDS:
             time.sleep(0.1)
         found = time.monotonic() - start
@@ -353,7 +350,7 @@ class Served:
 
 @contextlib.contextmanager
 def served(program, folder):
-    """A server whose records are in a folder below this one, and which may have so many files open as any."""
+    """A server whose records are in a folder below this one, and which has this program's first limit of open files."""
     with tempfile.TemporaryDirectory(dir=folder) as data:
         process, clients, port = started(program, 3, data, lambda: resource.setrlimit(resource.RLIMIT_NOFILE, FILES))
         found = None
@@ -374,7 +371,7 @@ Times = collections.namedtuple("Times", "puts gets faults")
 
 
 def good_calls(served, node):
-    """Puts and gets of a client at a node, one after the other, up to the first that is not served in time."""
+    """Puts and gets of a client at a node, one after another, up to the first that is not served in time."""
     client, times = felzoren.connect(f"127.0.0.1:{served.port + node}", timeout=GOOD_SECONDS), Times([], [], [])
     calls = (times.puts, lambda: client.put("good", [{"row": 1}])), (times.gets, lambda: client.get("good", 1))
     for _ in range(GOOD_CALLS):
@@ -404,7 +401,7 @@ def connected(served, node=0):
 
 
 def answer_to(peer):
-    """How a peer is answered: the name of the refusal, `answered`, or `closed` where there is no whole answer."""
+    """How a peer is answered: the name of the refusal, `answered`, or `closed` if there is no whole answer."""
     try:
         for _ in felzoren.read_messages(peer.recv):
             pass
@@ -416,7 +413,7 @@ def answer_to(peer):
 
 
 def sent(served, text):
-    """How a peer is answered that sends all these bytes, if it is let, before it reads."""
+    """How a peer is answered that sends all these bytes, as far as it can, before it reads."""
     with connected(served) as peer:
         peer.settimeout(SILENCE_SECONDS)
         with contextlib.suppress(OSError):
@@ -425,7 +422,7 @@ def sent(served, text):
 
 
 class Peers:
-    """Processes that act again and again: each act gives how it was answered."""
+    """Processes that act again and again: each act returns how it was answered."""
 
     def __init__(self, count, act, *words):
         self.stop, self.answers = multiprocessing.Event(), multiprocessing.Queue()
@@ -440,7 +437,7 @@ class Peers:
         self.answers.put(found)
 
     def end(self):
-        """How often they were answered how."""
+        """Stops them, and returns how often they got each answer."""
         self.stop.set()
         found = sum((self.answers.get() for _ in self.processes), collections.Counter())
         for process in self.processes:
@@ -452,11 +449,11 @@ def counted(answers):
     return ", ".join(f"{count:,} {name}" for name, count in answers.most_common())
 
 
-# ---- kinds of peers: each is there by the first `yield`, has good clients called meanwhile, and gives how it was answered
+# ---- kinds of peers: each is ready at its `yield`, after which good clients call, and returns how it was answered
 
 
 def silent(served):
-    """Connections that send nothing: so many are served at once, and those end once they were silent for so long."""
+    """Connections that send nothing: MOST_CONNECTIONS are served at once, and these end after SILENCE_SECONDS."""
     start, peers = time.monotonic(), [socket.socket() for _ in range(CONNECTIONS)]
     with contextlib.ExitStack() as stack, selectors.DefaultSelector() as waiting:
         for peer in map(stack.enter_context, peers):
@@ -476,7 +473,7 @@ def silent(served):
 
 
 def ended_by(peers, end):
-    """When the first of these peers were ended, as many as a node serves at once, and how they were answered."""
+    """When the first of these peers were disconnected, as many as a node serves at once, and how they were answered."""
     ended, answers = [], collections.Counter()
     with selectors.DefaultSelector() as selector:
         for peer in peers:
@@ -490,7 +487,7 @@ def ended_by(peers, end):
 
 
 def slow(served):
-    """Connections that send a byte at a time, as many as a node serves at once, and one at another node: they keep their places."""
+    """Connections that send a byte at a time, as many as a node serves at once, and one at another node. They keep their places."""
     text, over = request_of(lambda client: client.put("slow", [{"row": 1}])), threading.Event()
     with contextlib.ExitStack() as stack:
         peers = [stack.enter_context(connected(served, node)) for node in [0] * MOST_CONNECTIONS + [2]]
@@ -537,7 +534,7 @@ def announcing(served):
 
 
 def empty_frames(served):
-    """A call of a million empty frames behind a right beginning, again and again."""
+    """A call of a million empty frames after a right beginning, again and again."""
     upload = request_of(lambda client: client.put_encoded("empty", SCHEMA, [], bytes(16)))
     text = upload[: -len(frame(felzoren.END, b""))] + frame(0, b"") * EMPTY_FRAMES + frame(felzoren.END, b"")
     peers = Peers(1, sent, served, text)
@@ -549,7 +546,7 @@ def empty_frames(served):
 
 
 def large_table(served):
-    """Puts a table of more than 64 MiB, and gives the request of a get of all of it."""
+    """Puts a table of more than 64 MiB, and returns the request for a get of all of it."""
     client = felzoren.connect(f"127.0.0.1:{served.port}", timeout=SILENCE_SECONDS)
     content = random.Random(1).randbytes(MAX_FRAME - (1 << 18))
     for _ in range(UPLOADS):
@@ -576,7 +573,7 @@ def unread(served):
 
 
 def read_and_reset(served, request):
-    """A reader that has a part of an answer, and ends with a reset."""
+    """A reader that reads a part of an answer, and then resets the connection."""
     with connected(served) as peer:
         peer.sendall(request)
         count = 0
@@ -612,7 +609,7 @@ def too_large(served):
 
 
 def goes_on(served):
-    """A peer that is refused at its first frame, and goes on to send: so much is let go, and then the connection ends."""
+    """A peer that is refused at its first frame, and goes on to send: MOST_LEFT bytes are discarded, and then the connection ends."""
     count, part = 0, bytes(1 << 16)
     with connected(served) as peer:
         peer.setsockopt(socket.SOL_SOCKET, socket.SO_SNDBUF, len(part))
@@ -621,14 +618,14 @@ def goes_on(served):
         with contextlib.suppress(OSError):
             while count < 8 * MOST_LEFT:
                 count += peer.send(part)
-    # What the system keeps for the peer beside that: a buffer to receive in, and one to send from.
+    # What the system buffers for the peer besides: a receive buffer and a send buffer.
     room = int(Path("/proc/sys/net/ipv4/tcp_rmem").read_text(encoding="ascii").split()[2]) + 4 * len(part)
-    served.at_most("bytes that could be sent behind a refusal", count, MOST_LEFT + room)
+    served.at_most("bytes that could be sent after a refusal", count, MOST_LEFT + room)
     served.held(1)
-    return f"{sent(served, frame(0, b'/none'))}, and closed behind {count / 2**20:.1f} MiB"
+    return f"{sent(served, frame(0, b'/none'))}, and closed after {count / 2**20:.1f} MiB"
 
 
-# Names of tables and ids of uploads, all of one length: chosen alike but for their ends, or drawn.
+# Names of tables and ids of uploads, all of one length: alike except at their ends, or random.
 NAMINGS = {
     "alike": lambda number, _: (f"{'a' * 54}{number:010}".encode(), f"{'a' * 24}{number:08x}".encode()),
     "drawn": lambda _, drawn: ("".join(drawn.choices("abcdefghijklmnop", k=64)).encode(), drawn.randbytes(16).hex().encode()),
@@ -636,7 +633,7 @@ NAMINGS = {
 
 
 def put_tables(served, naming, costs):
-    """Puts an upload to each of many tables, while there is time: how many, how the last was answered, and seconds of processors."""
+    """Puts an upload to each of many tables, while there is time: how many, how the last was answered, and processor seconds."""
     blank, end, used = NAMINGS[naming](0, random.Random(0)), time.monotonic() + NAMES_SECONDS, served.look().seconds
     text = request_of(lambda client: client.put(blank[0].decode(), [{"row": 1}], id=blank[1].decode()))
     drawn, count, answer = random.Random(1), 0, "answered"
@@ -684,7 +681,7 @@ KINDS = {
 
 
 def last_of(steps):
-    """What a generator gives at its end."""
+    """What a generator returns at its end."""
     try:
         next(steps)
     except StopIteration as end:
@@ -692,7 +689,7 @@ def last_of(steps):
 
 
 def play(program, name, kind):
-    """One kind of peer: what was measured, and what was wrong."""
+    """Plays one kind of peer, prints what was measured, and returns what was wrong."""
     with served(program, MEMORY if "names" in name else None) as found:
         steps = kind(found)
         has_places = next(steps)
@@ -708,7 +705,7 @@ def play(program, name, kind):
 
 
 def try_peers(program, only):
-    """Plays the kinds of peers whose name has these words: whether a limit was passed."""
+    """Plays the kinds of peers whose name has these words: 1 if a limit was exceeded."""
     resource.setrlimit(resource.RLIMIT_NOFILE, (max(FILES[0], min(FILES[1], 2 * CONNECTIONS)), FILES[1]))
     print(f"{datetime.date.today()}, load {os.getloadavg()[0]:.1f} at the start")
     print(LINE.format("peers", "most MiB", "MiB", "threads", "seconds", "put, get here in ms", "at another node", "answered"), flush=True)
@@ -726,7 +723,7 @@ def try_peers(program, only):
 
 
 def main():
-    parser = argparse.ArgumentParser(description="Sends servers what would make them hold or do too much, and measures what it costs.")
+    parser = argparse.ArgumentParser(description="Sends servers input that would make them hold or do too much, and measures the cost.")
     parser.add_argument("program", nargs="?")
     parser.add_argument("--peers", action="store_true")
     parser.add_argument("--only", default="", metavar="WORDS")

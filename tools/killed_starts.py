@@ -1,15 +1,16 @@
 #!/usr/bin/env python3
-"""Kills servers at each call by which they start, and looks at what they leave. It is no part of the gate: it takes a minute or two for three
-nodes.
+"""Kills servers at each file call of their start, and checks what they leave.
+
+It is not part of the gate: it takes a minute or two for three nodes.
 
     tools/killed_starts.py [--nodes COUNT] [PROGRAM]
 
 PROGRAM is crates/flightd/out/flightd, as it was built. killed.c, which cc builds into a folder, is preloaded into it: it counts the calls by
-which the program reads and changes files, and kills it (SIGKILL) before one of them, or in the midst of what that writes. A start is counted once over each
-folder: one that is not there; one whose server was killed, with a record that was begun behind the closed gate of each file and
-a sum that is missing; and one without a mark of what the cluster is. Then for each of these calls a start is killed there, over a copy. To the files
-records must only have been added, and a server that goes on over them has to serve each upload that was acknowledged before, at once, at each
-node, with the bytes that it had, and to take others. Last it says how many starts were killed. The status is 1 where one of these is not so."""
+which the program reads and changes files, and kills it (SIGKILL) before one of them, or in the middle of its write. The calls of a start
+are counted for three folders: one that does not exist; one whose server was killed, with a record that was begun after the closed gate of
+each file and a missing sum; and one without `cluster.json`. Then for each of these calls a start over a copy is killed there. Records must
+only have been added to the files, and a server that starts over them must serve each upload that was acknowledged before, at once, at each
+node, with the same bytes, and accept others. Last it prints how many starts were killed. The status is 1 if a check fails."""
 import argparse
 import os
 import shutil
@@ -24,12 +25,12 @@ from servers import CALL_SECONDS, PROGRAM, TOP, Wrong, felzoren, free_port, serv
 from serving import begin_records, only_added, put_more, stands_at_once, texts_in
 
 SOURCE = TOP / "tools" / "killed.c"
-# How long the sum of a record and what stands beside it is, in bytes.
+# The length of a record's entry in the file of sums, in bytes.
 SUM_BYTES = 24
 
 
 class Killing:
-    """What is preloaded into a program, and what it tells of a start."""
+    """The library that is preloaded into a program, and the file in which it counts the calls of a start."""
 
     def __init__(self, program, nodes, top):
         self.program, self.nodes, self.top = program, nodes, Path(top)
@@ -38,8 +39,8 @@ class Killing:
         self.told.write_bytes(bytes(8))
 
     def start(self, folder, at, part=False):
-        """Starts a server over a folder, which is killed at the call of this number, or ended once it says where its nodes are served: whether
-        it was killed before."""
+        """Starts a server over a folder. It is killed at the call of this number, or ended once it prints where its nodes are served. Returns
+        whether it was killed."""
         more = {"LD_PRELOAD": str(self.library), "KILLED_TOLD": str(self.told), "KILLED_AT": str(at), "KILLED_PART": str(int(part))}
         words = serve_words(self.program, self.nodes, free_port(self.nodes), folder, resumed=True)
         process = subprocess.Popen(words, stdout=subprocess.PIPE, stderr=subprocess.PIPE, text=True, env={**os.environ, **more})
@@ -51,13 +52,13 @@ class Killing:
         return not served
 
     def calls(self, folder):
-        """How many calls a start over a folder makes until it says where its nodes are served, or somewhat more."""
+        """How many calls a start over a folder makes until it prints where its nodes are served, or somewhat more."""
         want(self.start(folder, 0), False)
         return struct.unpack("<Q", self.told.read_bytes())[0]
 
 
 def copy_of(folder, to):
-    """A copy of a folder, where there is one."""
+    """A copy of a folder, if there is one."""
     shutil.rmtree(to, ignore_errors=True)
     if os.path.isdir(folder):
         shutil.copytree(folder, to)
@@ -65,7 +66,7 @@ def copy_of(folder, to):
 
 
 def goes_on(killing, folder, ids, served):
-    """A server goes on over what a start left that was killed, and serves what was acknowledged before."""
+    """A server starts over what a killed start left, and serves what was acknowledged before."""
     ids, served = [*ids], [*served]
     with server(killing.program, killing.nodes, folder, resumed=True) as (clients, _):
         stands_at_once(clients, ids, served)
@@ -87,7 +88,7 @@ def kill_each(killing, folder, ids, served):
 
 
 def leave(killing, folder):
-    """Has a server leave a folder that was killed as it took puts at each node: their ids, and digests of their versions' frames."""
+    """Makes the folder of a server that was killed as it took puts at each node: their ids, and digests of their versions' frames."""
     ids, served = [], []
     with server(killing.program, killing.nodes, folder, ending=signal.SIGKILL) as (clients, _):
         put_more(clients, ids, served)
@@ -106,11 +107,11 @@ def main(program, nodes):
         os.unlink(f"{top}/left/cluster.json")
         killed.append(kill_each(killing, f"{top}/left", ids, served))
     print(f"{sum(killed)} starts of {nodes} nodes were killed, {killed[0]} of them over no folder, {killed[1]} over records and {killed[2]} over records "
-          "without a mark: what was acknowledged is served by those that go on")
+          "without a mark: the servers started after them serve what was acknowledged")
 
 
 if __name__ == "__main__":
-    words = argparse.ArgumentParser(description="Kills servers at each call by which they start, and looks at what they leave.")
+    words = argparse.ArgumentParser(description="Kills servers at each file call of their start, and checks what they leave.")
     words.add_argument("--nodes", type=int, choices=(3, 5), default=3)
     words.add_argument("program", nargs="?", default=str(PROGRAM))
     given = words.parse_args()

@@ -1,12 +1,13 @@
 #!/usr/bin/env python3
-"""Draws what may come to pass at a node's worker, and says by a plain reading of the whole list when a tick is due and how many free
-slots it leaves: the rows of crates/worker_conformance/src/pace_rows.rt.
+"""Draws events at a node's worker, and computes from the whole list of them when a tick is due and how many free slots it leaves.
 
-    tools/paces.py --write      makes them
-    tools/paces.py --check      says whether they differ
+The result is crates/worker_conformance/src/pace_rows.rt.
 
-A row is a list of words, and behind each stands what is told of all that came to pass up to it: whether a tick is due where no
-upload waits, whether one is where one waits (0 or 1), and how many free slots a tick leaves. The words are of node 1 of three:
+    tools/paces.py --write      writes it
+    tools/paces.py --check      reports whether it differs
+
+A row is a list of words. After each is what follows from all words up to it: whether a tick is due if no upload waits, whether
+one is due if one waits (0 or 1), and how many free slots a tick leaves. The words are about node 1 of three:
 pN no message came for N milliseconds; a an event of the node that is no tick, no delivery and no answer; t a tick that sent
 nothing; q a tick that sent an Ask; bRS a tick that sent a Prepare of round R for slot S; cNX a message of node N came, where X
 is k for an Ask, rRS for a Promise and nRS for a Nack of the ballot of round R of node 1 for slot S, yRS for an Accepted at it,
@@ -35,7 +36,7 @@ def is_tick(word):
 
 
 def quiet(words):
-    """For how long no message came and no tick was given."""
+    """For how long no message and no tick has come."""
     time = 0
     for word in reversed(words):
         if is_message(word) or is_tick(word):
@@ -45,8 +46,8 @@ def quiet(words):
 
 
 def wait(words):
-    """How long it waits: 50 ms, twice as long with each Ask that a tick sent since any other event than a tick, an Ask that
-    came, or an answer; at most 51,200 ms."""
+    """How long it waits: 50 ms, doubled by each Ask that a tick sent since the last event other than a tick, an Ask that came,
+    or an answer; at most 51,200 ms."""
     events = [place for place, word in enumerate(words) if word[0] == "a" or (is_message(word) and word[2] != "k")]
     since = words[events[-1] + 1 :] if events else words
     return min(50 * 2 ** since.count("q"), 51200)
@@ -61,7 +62,7 @@ def attempt(words):
 
 
 def is_open(attempted, messages):
-    """Whether nothing refused it, nothing was decided for its slot, and no majority accepted it."""
+    """Whether no node refused it, nothing was decided for its slot, and no majority accepted it."""
     said = [word[2:] for word in messages]
     accepted = {word[1] for word in messages if word[2:] == "y" + attempted and int(word[1]) < MEMBERS}
     return "n" + attempted not in said and "d" + attempted[1] not in said and 2 * len(accepted) <= MEMBERS
@@ -74,7 +75,7 @@ def is_lost(attempted, messages):
 
 
 def told(words):
-    """Whether a tick is due where no upload waits and where one does, and how many free slots it leaves."""
+    """Whether a tick is due if no upload waits and if one does, and how many free slots it leaves."""
     latest = attempt(words)
     long_enough = quiet(words) >= wait(words)
     at_once = latest is None or not is_open(*latest)

@@ -1,12 +1,13 @@
 #!/usr/bin/env python3
-"""A model of the parts of a Paxos node, of its messages and records, and of lawful histories, and the stories that it tells of them:
-every short run of a few telling calls, with what they give. It is written from Lamport, "Paxos Made Simple", sections 2.2, 2.3 and
-2.5, from Protocol Buffers, "Encoding", and from docs/FORMATS.md, and not from the code.
+"""Makes the stories of Paxos nodes, messages, records and histories from a model of them, in crates/paxos_stories/data.
+
+The stories are every short run of a few chosen calls, with their results. The model is written from Lamport, "Paxos Made Simple",
+sections 2.2, 2.3 and 2.5, from Protocol Buffers, "Encoding", and from docs/FORMATS.md, and not from the code.
 
     tools/paxos_model.py [--check]
 
-It writes `crates/paxos_stories/data/every_*.txt`. With --check it changes nothing, and says whether each of them is what it makes.
-A ballot is a pair of its round and its node, and a value its bytes, none for a no-op."""
+It writes `crates/paxos_stories/data/every_*.txt`. With --check it changes nothing, and names those that differ from what it makes.
+A ballot is a pair of its round and its node, and a value is its bytes, none for a no-op."""
 import itertools
 import random
 import sys
@@ -40,7 +41,7 @@ IN_RECORD = {1: FIRST, 2: ["slot", *FIRST], 3: ["slot", *FIRST, "value"]}
 
 
 def encoding(numbers, parts):
-    """Fields by rising numbers, and none that holds 0 or no bytes."""
+    """The fields in order of their numbers, without those that are 0 or empty."""
     text = b""
     for number, name in numbers.items():
         part = parts.get(name)
@@ -50,7 +51,7 @@ def encoding(numbers, parts):
 
 
 def meant(numbers, fields):
-    """Of each part the last that was given, its default where none was, and nothing where one is of another wire type."""
+    """For each part the last field of its number, its default if there is none, and None if one has another wire type."""
     parts = {name: b"" if name == "value" else 0 for name in numbers.values()}
     for number, wire_type, held in fields:
         name = numbers.get(number)
@@ -71,7 +72,7 @@ def faults_in(parts, names):
 
 
 def parts_of(text, numbers, head, kinds):
-    """The parts that a text means, where it means a message or a record."""
+    """The parts of the message or record that a text encodes."""
     fields, faults = split(text)
     if faults:
         raise Faults(*faults)
@@ -106,7 +107,7 @@ def line_of(parts):
 
 
 def kept_line_of(parts):
-    """A record as its words."""
+    """A record as its line."""
     ballot = shown_ballot((parts["round"], parts["node"]))
     if parts["kind"] == 1:
         return f"began {ballot}"
@@ -123,7 +124,7 @@ def told_record(text):
     return [kept_line_of(parts_of(text, RECORD, [], IN_RECORD))]
 
 
-# Fields at the edges of what they may hold, also of other wire types, and two that none has.
+# Fields at the limits of their values, also of other wire types, and two with unknown numbers.
 IN_MESSAGES = [number_field(*it) for it in ((1, 2), (2, 0), (2, 6), (2, 7), (3, MAX_SLOT), (3, MAX_SLOT + 1), (4, 7), (5, 0), (5, 1))]
 IN_MESSAGES += [number_field(*it) for it in ((5, MAX_ROUND), (5, MAX_ROUND + 1), (6, 1), (6, 7), (7, 0), (7, 1), (7, MAX_ROUND + 1))]
 IN_MESSAGES += [number_field(*it) for it in ((8, 1), (8, 7), (9, 0))] + [bytes_field(it, b"") for it in (2, 6, 7, 9)]
@@ -136,7 +137,7 @@ IN_RECORDS += [varint(2 << 3 | 5) + b"\1\0\0\0", varint(4 << 3 | 1) + b"\1" + by
 
 
 def beginnings(kinds, rounds):
-    """No kind, kinds that there are and that there are not, and kinds with the rounds that they need."""
+    """No kind, known and unknown kinds, and kinds with the rounds that they need."""
     texts = [b"", *(number_field(1, it) for it in (0, *kinds, max(kinds) + 1, 2**32 + 1))]
     return texts + [b"".join(number_field(*it) for it in fields) for fields in rounds]
 
@@ -147,7 +148,7 @@ RECORD_ROUNDS = [[(1, kind), (3, 1)] for kind in range(1, 4)]
 
 
 def decoded(command, call, begun, fields, whole):
-    """Each field behind each beginning, and each pair of fields behind the last ones, in which nothing is missing."""
+    """Each field after each beginning, and each pair of fields after the last ones, in which nothing is missing."""
     texts = [begin + field for begin in begun for field in (b"", *fields)]
     texts += [begin + one + other for begin in begun[-whole:] for one, other in itertools.product(fields, fields)]
     return rows(command, call, dict.fromkeys(texts))
@@ -159,7 +160,7 @@ def cuts(command, call, text):
 
 
 def messages():
-    """A message of each kind for each sender, with numbers at the edges of what they may be."""
+    """A message of each kind for each sender, with numbers at their limits."""
     edges = zip((0, 127, 16_384, MAX_SLOT), (1, 127, 128, MAX_ROUND))
     for (slot, round_), sender, node in itertools.product(list(edges), (0, 3, 6), (0, 6)):
         for kind, second, value in itertools.product(range(1, 8), (0, 300), (b"", b"abc")):
@@ -222,7 +223,7 @@ class Slot:
         return "accepts"
 
     def keep(self, kind, ballot, value):
-        """A record, which may come in any order."""
+        """Takes a record; records may come in any order."""
         self.promised = max(self.promised or ballot, ballot)
         if kind == 3 and (self.accepted is None or self.accepted[0] <= ballot):
             self.accepted = ballot, value
@@ -232,7 +233,7 @@ class Slot:
 
 
 def answers():
-    """Every three requests, each three to a slot of their own; the first of all slots come first, then the second."""
+    """All runs of three requests, each run to its own slot; the first requests of all slots come first, then the second."""
     requests = list(itertools.product(("prepare", "accept"), BALLOTS))
     runs = list(enumerate(itertools.product(requests, repeat=3)))
     slots, lines = {number: Slot() for number, _ in runs}, ["new acceptor"]
@@ -246,7 +247,7 @@ def answers():
 
 
 def restored():
-    """Every three records, each three of a slot of their own."""
+    """All runs of three records, each run of its own slot."""
     choices = list(itertools.product((2, 3), BALLOTS))
     runs = list(enumerate(itertools.product(choices, repeat=3)))
     slots, texts, lines = {number: Slot() for number, _ in runs}, [], []
@@ -263,7 +264,7 @@ def restored():
 
 
 def attempts():
-    """Every three promises to an attempt of three members: of two of them, with a report of two rounds or none, and of a stranger."""
+    """All runs of three promises to an attempt of three members: from two of them, with one of two reports or none, and from a stranger."""
     promises = [*itertools.product((0, 1), (None, (1, 0), (2, 0))), (4, (2, 0))]
     lines = []
     for run in itertools.product(promises, repeat=3):
@@ -281,7 +282,7 @@ def attempts():
 
 
 def votes(members):
-    """Every three calls, each three about a slot of their own: votes of two members and of node 3 at two ballots, and a decision."""
+    """All runs of three calls, each run about its own slot: votes of nodes 0, 1 and 3 at two ballots, and a decision."""
     choices = [*itertools.product((0, 1, 3), ((1, 0), (2, 1))), None]
     runs = list(enumerate(itertools.product(choices, repeat=3)))
     cast, learned, lines = {number: [] for number, _ in runs}, {}, [f"new learner {members}"]
@@ -301,7 +302,7 @@ def votes(members):
 
 
 def inserts():
-    """Every four inserts into four slots."""
+    """All runs of four inserts into four slots."""
     lines = []
     for run in itertools.product(range(4), repeat=4):
         lines.append("new log 3")
@@ -342,7 +343,7 @@ def promisers(before, ballot, bound):
 
 
 def is_safe(members, before, ballot, value):
-    """A majority reported nothing, or this is what the highest report of a majority says."""
+    """Whether a majority reported nothing, or the highest report of a majority has this value."""
     if is_majority(members, promisers(before, ballot, (0, 0))):
         return True
     for it in before:
@@ -408,8 +409,8 @@ def history_line(it):
 
 
 def histories(members, most, start=()):
-    """Every lawful history of at most so many of these messages behind the first ones, and whether each of them may follow it. No
-    message comes twice."""
+    """Every lawful history of at most `most` of these messages after the first ones, and whether each of the messages may follow it.
+    No message comes twice."""
     lines, level = [], [list(start)]
     for _ in range(most + 1):
         longer = []
@@ -427,7 +428,7 @@ def histories(members, most, start=()):
 
 
 def drawn_message(draw, members):
-    """Some message of a member or of the node behind the last one, mostly about slot 0."""
+    """A random message of a member or of the node after the last member, mostly about slot 0."""
     what = draw.choice(("Promise", "Promise", "Promise", "Accept", "Accepted", "Accepted", "Decided", "Prepare"))
     sender, ballot, slot = draw.randrange(members + 1), draw.choice(BALLOTS), int(draw.randrange(8) == 0)
     value = bytes([draw.choice((1, 2))])
@@ -440,7 +441,7 @@ def drawn_message(draw, members):
 
 
 def walks(count, steps):
-    """Drawn histories of one to four members: a message that may follow is said, and another one is only asked about."""
+    """Random histories of one to four members: a message that may follow is added, another one is only judged."""
     draw, lines = random.Random(11), []
     for members in (1, 2, 3, 4) * count:
         lines.append(f"new history {members}")

@@ -1,18 +1,19 @@
 #!/usr/bin/env python3
-"""A client that speaks to the service over pipes, by the library in clients/python, which was written from docs/FORMATS.md and has
-nothing but Python's standard library.
+"""Calls a server over pipes with the client library in clients/python, and compares what it reads with what it put.
+
+The library was written from docs/FORMATS.md and uses only Python's standard library.
 
     tools/peer.py [PROGRAM]
     tools/peer.py [put TABLE NUMBER .. | get TABLE VERSION] ..
 
 It starts PROGRAM (crates/call_server/out/call_server), puts uploads of several types, asks for the description of their tables,
 gets every version, and compares cell for cell what it reads with what it put. Each upload is put twice: as the library writes it,
-and laid out otherwise, which has to be the same upload to the service. Then it asks for what has to be refused. It prints a line for
-each table and each refusal, and ends with status 1 where anything is not as it has to be.
+and with another layout, which must be the same upload to the service. Then it makes calls that must be refused. It prints a line for
+each table and each refusal, and ends with status 1 if anything differs from what is expected.
 
-With words it makes these calls of one server, whose tables are empty at first: `put` uploads one batch of these numbers in a
-column of Int of 64 bits, `-` for a null, and prints the version that acknowledges it; `get` prints the rows of a version, a
-line for each."""
+With put and get it makes these calls to one server, whose tables are empty at first: `put` uploads one batch of these numbers in a
+column of Int of 64 bits, `-` for a null, and prints the version that acknowledges it; `get` prints the rows of a version, one per
+line."""
 import hashlib
 import struct
 import subprocess
@@ -38,7 +39,7 @@ class Server:
         self.client = felzoren.connect_files(self.process.stdout, self.process.stdin)
 
     def answer(self, text):
-        """The messages, the status and the text with which these bytes are answered."""
+        """The messages, the status and the text of the answer to these bytes."""
         self.process.stdin.write(text)
         self.process.stdin.flush()
         messages = []
@@ -62,17 +63,17 @@ def name_of(table, count):
 
 
 def opening(table, name, header):
-    """The message with which a put begins."""
+    """The first message of a put."""
     return bytes_field(1, descriptor(table.encode(), name.hex().encode())) + bytes_field(2, header)
 
 
 def otherwise(header):
-    """A header whose table stands eight bytes further on, behind bytes that say nothing."""
+    """A header whose table is eight bytes further on, after bytes without a meaning."""
     return struct.pack("<I", struct.unpack_from("<I", header)[0] + 8) + b"\xaa" * 8 + header[4:]
 
 
 def batch_otherwise(header, body):
-    """A batch whose buffers stand eight bytes further on, and last to first in their body."""
+    """A batch whose buffers are eight bytes further on, and in reverse order in the body."""
     _, view = felzoren.read_header(header, felzoren.BATCH_HEADER)
     nodes, buffers = view.pairs(1, felzoren.MAX_FIELDS), view.pairs(2, 3 * felzoren.MAX_FIELDS)
     text, places = bytearray(b"\xaa" * 8), {}
@@ -84,7 +85,7 @@ def batch_otherwise(header, body):
 
 
 def put_otherwise(server, table, name, schema, batches):
-    """Puts an upload with its headers and bodies laid out otherwise than the library does, and gives its version."""
+    """Puts an upload whose headers and bodies have another layout than the library's, and returns its version."""
     parts = [opening(table, name, otherwise(schema_header(schema)))]
     for rows in batches:
         header, body = batch_otherwise(*write_batch(schema, *felzoren.columns_in(rows, schema)[1:]))
@@ -167,7 +168,7 @@ def put_messages(table, name, schema, batches):
 
 
 def check_refusals(server):
-    """What is refused once the call was read: all goes on behind it."""
+    """Calls that are refused once they are read: the connection goes on after them."""
     refused(server, (6, "Conflict"), "DoPut", *put_messages("int8", name_of("int8", 0), {"a": "int8"}, [column(4)]))
     refused(server, (9, "SchemaMismatch"), "DoPut", *put_messages("int8", name_of("int8", 9), {"b": "int8"}, []))
     refused(server, (14, "Unavailable"), "DoGet", ticket("int8", 3))
@@ -177,7 +178,7 @@ def check_refusals(server):
 
 
 def asked(method, *messages):
-    """The frames of a call that has no end."""
+    """The frames of a call without its end."""
     return b"".join(frame(0, it) for it in (felzoren.PATH + method, *messages))
 
 
@@ -205,7 +206,7 @@ def main(program=PROGRAM):
         want(server.answer(text), ([], *wanted))
         want(server.end(), 0)
         print(f"{wanted[0]} {wanted[1]}")
-    print(f"{len(TABLES)} tables and {6 + len(BREAKS)} refusals are as they have to be")
+    print(f"{len(TABLES)} tables and {6 + len(BREAKS)} refusals are as expected")
 
 
 # ---- calls from the shell
@@ -215,7 +216,7 @@ NUMBERS_ALONE = Schema([Field("a", "int64")])
 
 
 def commands(words):
-    """The calls that words ask for, each with its own words."""
+    """The calls that the arguments ask for, each with its own words."""
     found = []
     for word in words:
         if word in ("put", "get"):
@@ -240,10 +241,10 @@ def print_version(client, table, version):
 
 
 def make_calls(words, program=PROGRAM):
-    """Makes the calls of these words, one after the other, at one server."""
+    """Makes the calls of these arguments, one after another, to one server."""
     calls = commands(words)
     if not program.is_file():
-        sys.exit(f"peer: {program} is not built: say `rt run < /dev/null` in crates/call_server")
+        sys.exit(f"peer: {program} is not built: run `rt run < /dev/null` in crates/call_server")
     server = Server(program)
     for count, (word, table, *others) in enumerate(calls):
         try:

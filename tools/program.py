@@ -1,12 +1,12 @@
 #!/usr/bin/env python3
-"""Runs flightd, as the gate built it, and says whether it writes, says and ends as it has to.
+"""Runs flightd, as the gate built it, and checks its output, its errors and its status.
 
     tools/program.py
 
-The rows of tools/program/ were worked out by hand: conversations with the acceptor, recorded runs and schedules, good and
-wrong, the words of calls, and what the help tells. The schedules of examples/ are played too, whose lines the model in
-runs_model.py made. Each row is tried with the program as each of the two compilers built it. It prints how many rows there are
-of each kind, and ends with status 1 where the program does otherwise, or is not built."""
+The rows of tools/program/ were worked out by hand: conversations with the acceptor, good and bad recorded runs and schedules,
+command lines, and lines of the help. The schedules of examples/ are played too; their results are from the model in
+runs_model.py. Each row is tried with the program as each of the two compilers built it. It prints the number of rows of each
+kind, and ends with status 1 if the program differs from a row or is not built."""
 import json
 import subprocess
 import sys
@@ -22,12 +22,12 @@ EXAMPLES = TOP / "examples"
 # a frame that needs no answer, and the frame of the end
 ASK, END = bytes.fromhex("00000000020806"), bytes.fromhex("8000000000")
 MOST_FRAMES = 1_000_000
-# the longest value of an Accept that a Promise can report: the Promise has a second round beside it, and is as long as a
-# payload may be
+# the longest value of an Accept that a Promise can report: the Promise has a second round too, and is as long as a payload
+# may be
 REPORTED = 4_194_293
 ID = "000102030405060708090a0b0c0d0e0f"
 UPLOAD = '{"table":"t","id":"%s","values":[[1,null,3]]}' % ID
-# An upload is decided with no message lost, and two nodes are asked for it.
+# An upload is decided without a lost message, and two nodes are asked for it.
 DECIDED = """["put",0,0],["tick",0,0],["deliver",0,0],["deliver",1,0],["deliver",0,1],["deliver",0,2],["deliver",0,3],
 ["deliver",1,3],["deliver",0,4],["deliver",0,5],["outcome",0,0],["get",2,"t",1]"""
 DECIDED_LINES = ["done", *(f"sent {it}" for it in "012-345--"), "applied 1", "unavailable"]
@@ -41,19 +41,19 @@ PREPARE, PROMISE = bytes.fromhex("000000000408012801"), bytes.fromhex("000000000
 
 
 def rows(name, parts):
-    """The rows of a file, each in so many parts with bars between them."""
+    """The rows of a file, each split at bars into this many parts."""
     lines = (ROWS / name).read_text(encoding="utf-8").splitlines()
     return [line.split("|", parts - 1) for line in lines if "|" in line and not line.startswith("#")]
 
 
 class Program:
-    """The program, and a folder for files that it reads."""
+    """The program, and a folder for the files that it reads."""
 
     def __init__(self, path, folder):
         self.path, self.folder = path, Path(folder)
 
     def run(self, words, given=b"", name="flightd"):
-        """The status of a call, and the bytes of its standard output and standard error."""
+        """The status of a run, and the bytes of its standard output and standard error."""
         ran = subprocess.run([name, *words], executable=self.path, input=given, capture_output=True, cwd=self.folder,
                              timeout=120, check=False)
         return ran.returncode, ran.stdout, ran.stderr
@@ -66,7 +66,7 @@ class Program:
 
 
 def said(line):
-    """How a call without output ends that says this line, and one that says nothing."""
+    """The status and the standard error of a run that fails with this line, or of one that succeeds without one."""
     return (1, b"flightd: %s\n" % line.encode()) if line else (0, b"")
 
 
@@ -98,7 +98,7 @@ def frame_of(kind, slot):
 
 
 def frames(program):
-    """The limit of frames, which is told before what the next one would be; and 5,000 slots."""
+    """The limit of frames, which is reported before any fault of the next frame; and 5,000 slots."""
     for count, behind, line in (
         (MOST_FRAMES - 1, b"", ""), (MOST_FRAMES, b"", "frame 1000000: Io"), (MOST_FRAMES, ASK, "frame 1000000: Io"),
         (MOST_FRAMES - 1, END, "frame 999999: BadFlag"), (MOST_FRAMES, END, "frame 1000000: Io"),
@@ -115,7 +115,7 @@ def with_value(beginning, size):
 
 
 def values(program):
-    """An Accept of a long value, and a Prepare above it, whose Promise has room for the value or not."""
+    """An Accept of a long value, and then a Prepare of a higher ballot, whose Promise has room for the value or not."""
     prepare = bytes.fromhex("00 00000004 08012802")
     accepted = with_value("00 003ffffe 0805 2801 4af5ffff01", REPORTED)
     promise = with_value("00 00400000 0802 2802 3801 4af5ffff01", REPORTED)
@@ -127,7 +127,7 @@ def values(program):
 
 
 def beginnings_of_a_conversation(program):
-    """Of each beginning of a conversation the whole frames are answered, and what is left of it is told of."""
+    """For each beginning of a conversation the whole frames are answered, and a cut frame is reported."""
     given, answers = (list(map(bytes.fromhex, texts)) for texts in zip(*rows("competing.txt", 2)))
     whole = b"".join(given)
     ends = [sum(map(len, given[:count])) for count in range(len(given) + 1)]
@@ -145,7 +145,7 @@ JUDGED = {"lawful": (0, b"lawful\n", b""), "unlawful": (1, b"unlawful\n", b"")}
 
 
 def is_judged(outcome, judgement):
-    """Whether a file was judged so; of one that is no run a second line says what is wrong with it."""
+    """Whether a file was judged so; if it is no run, a second line says what is wrong with it."""
     if judgement in JUDGED:
         return outcome == JUDGED[judgement]
     status, output, error = outcome
@@ -156,7 +156,7 @@ def is_judged(outcome, judgement):
 def audits(program):
     files = [(judgement, why, file.encode()) for judgement, why, file in rows("runs.txt", 3)]
     files += [
-        # white space where RFC 8259, section 2, has it; no UTF-8; and a byte order mark, which is no part of JSON (section 8.1)
+        # white space where RFC 8259, section 2, allows it; no UTF-8; and a byte order mark, which JSON doesn't have (section 8.1)
         ("lawful", "spaces", b'\n{ "members" : 3 ,\t"sent" : [ ] }\r\n'),
         ("no run", "no text", b'{"members":3,"sent":[],"note":"\xff"}'),
         ("no run", "a mark", b'\xef\xbb\xbf{"members":3,"sent":[]}'),
@@ -194,7 +194,7 @@ FLAWS = {
 
 
 def is_told(outcome, told, lines=()):
-    """Whether a file was played with these lines, or was refused for what is told."""
+    """Whether a file was played with these lines, or refused for the flaw `told`."""
     if told in FLAWS:
         return outcome == (1, b"", f"flightd: BadSchedule\nflightd: {FLAWS[told]}\n".encode())
     return is_played(outcome, lines)
@@ -245,8 +245,8 @@ def beginnings_of_files(program):
 
 
 def beginnings_of_records(program):
-    """A file of two bytes and more means nothing where it ends before the gate behind a record whose own is open (docs/FORMATS.md, "Files
-    of records")."""
+    """A file of two or more bytes is damaged if it ends before the gate after a record whose own gate is open (docs/FORMATS.md, "Files of
+    records")."""
     blocks = [b"\1" + len(it).to_bytes(4, "little") + it for it in map(bytes.fromhex, RECORDS)]
     whole = b"".join(blocks) + b"\0"
     gates = [sum(map(len, blocks[:count])) for count in range(len(blocks) + 1)]
@@ -263,7 +263,7 @@ def beginnings_of_records(program):
 
 
 def reached(program):
-    """What tools/fuzz.py has kept: of each input its bytes, the status, the output, and the lines on standard error of which one is said."""
+    """What tools/fuzz.py has kept: for each input its bytes, the status, the output, and the alternatives for standard error."""
     for command, given, status, output, said in rows("reached.txt", 5):
         given, output = (bytes.fromhex(it.strip("-")) for it in (given, output))
         outcome = program.run([command], given) if command == "acceptor" else program.over(command, given)
@@ -271,16 +271,16 @@ def reached(program):
         yield f"{command} {given.hex()}", outcome[:2] == (int(status), output) and outcome[2] in lines
 
 
-# ---- words
+# ---- command lines
 
 
 def file_of(wanted):
-    """The name of the file that is asked for, where one is."""
+    """The name of the file that is expected to be read, if there is one."""
     return wanted[1:-1] if wanted[0] + wanted[-1] in ("[]", "()", "{}") else None
 
 
 def asked(outcome, name):
-    """What a call was taken for, over an input that the acceptor answers, and a file of this name alone."""
+    """How a command line was understood, by its output: standard input is a Prepare, and a file of this name is the only one."""
     status, output, line = outcome
     if line:
         return f"{status} error"
@@ -325,7 +325,7 @@ def main():
                 found = list(kind(Program(path, folder)))
             for label, is_so in found:
                 if not is_so:
-                    print(f"program: {path.name} does otherwise, {kind.__name__}: {label[:160]}")
+                    print(f"program: {path.name} differs from a row, {kind.__name__}: {label[:160]}")
                     status = 1
             print(f"program: {path.name}, {len(found)} {kind.__name__}")
     return status

@@ -1,13 +1,14 @@
 #!/usr/bin/env python3
-"""What the models say of the inputs that tools/fuzz.py has kept: rows of stories in `reached.txt` of the crates named .._stories, and files
-and conversations in tools/program/reached.txt.
+"""Makes the expected results of the inputs that tools/fuzz.py has kept, from the models.
 
-    tools/reached.py --check     says which of these files is told otherwise
-    tools/reached.py --write     tells them again
+They are rows of stories in `reached.txt` of the crates named .._stories, and files and conversations in tools/program/reached.txt.
 
-`TOLD` has for each crate a class that tells a command as a row: the command, and the lines to stand under it. Where several faults stand in a
-text, of which a reader may tell any, the command begins with `one-of` and names them, as everywhere in the stories. LookupError is raised of a
-command that asks for nothing that there is, and Unjudged where a model does not say what is told."""
+    tools/reached.py --check     names the files that differ
+    tools/reached.py --write     writes them anew
+
+`TOLD` has for each crate a class that makes a row of a command: the command, and the lines under it. If a text has several faults, of which a
+reader may report any, the command begins with `one-of` and names them, as in all stories. A class raises LookupError for a command that asks
+for what does not exist, and Unjudged if its model does not judge the result."""
 import functools
 import sys
 from pathlib import Path
@@ -28,12 +29,12 @@ from wire_model import Faults, told, told_as, told_fields, told_frames, told_fro
 
 TOP = Path(__file__).resolve().parent.parent
 PROGRAM_ROWS = TOP / "tools" / "program" / "reached.txt"
-# A batch of more rows, or a column of more values, is not judged: it takes long, and what is told of it too.
+# A batch of more rows, or a column of more values, is not judged: that takes long, and its result is long too.
 MOST_VALUES = 4096
 
 
 def plain(command):
-    """The command without the faults of which one is told."""
+    """The command without the list of faults of which one is reported."""
     return command.rpartition(": ")[2] if command.startswith("one-of ") else command
 
 
@@ -42,7 +43,7 @@ def row_of(lines):
 
 
 class Texts:
-    """Texts that are read, whatever came before: of each command the function that tells what a text says."""
+    """Texts that are read independently of earlier commands: `calls` has for each command the function that returns its result."""
 
     calls = {}
 
@@ -121,7 +122,7 @@ class Calls(calls.Story):
 
 
 class Runs:
-    """Nodes, uploads and events, which happen once they are played."""
+    """Nodes, uploads and events; the events happen when they are played."""
 
     def __init__(self):
         self.nodes, self.uploads, self.events = (1, 1), [], []
@@ -147,7 +148,7 @@ class Runs:
     @staticmethod
     @functools.cache
     def upload(text):
-        """The upload of one column of Int8 that the bytes are."""
+        """The upload of one column of Int8 that the bytes encode."""
         found = upload_of(text)
         if found is None or len(found.schema["fields"]) != 1:
             raise LookupError(text)
@@ -167,7 +168,7 @@ TOLD = {"batch": Batches, "call": Calls, "header": Headers, "paxos": Paxos, "run
 
 
 def retold(crate, text):
-    """A story with its commands and answers told anew."""
+    """A story with its commands and answers made anew."""
     telling, lines = TOLD[crate](), []
     for line in text.splitlines():
         if line and not line.startswith(("#", "  ")):
@@ -182,7 +183,7 @@ def retold(crate, text):
 
 
 def file_row(command, given):
-    """A row of a file: the command, its bytes, and how that ends: the status, the output, and the lines of which one is said."""
+    """A row of a file: the command, the bytes of the file, the status, the output, and the alternatives for standard error."""
     status, output, said = COMMANDS[command](given)
     output = output if isinstance(output, bytes) else output.encode()
     return "|".join([command, given.hex() or "-", str(status), output.hex() or "-", " // ".join(it.strip().replace("\n", " / ") for it in said)])
@@ -197,7 +198,7 @@ def retold_files(text):
 
 
 def files():
-    """The files that there are, each with what it has to be."""
+    """The files that exist, each with its expected text."""
     for crate in sorted(TOLD):
         file = TOP / "crates" / f"{crate}_stories" / "data" / "reached.txt"
         if file.exists():
@@ -214,7 +215,7 @@ def main():
         if "--write" in sys.argv[1:]:
             file.write_text(text, encoding="utf-8")
         else:
-            print(f"reached: {file.relative_to(TOP)} is told otherwise")
+            print(f"reached: {file.relative_to(TOP)} differs from what tools/reached.py makes")
             status = 1
     return status
 

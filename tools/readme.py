@@ -1,9 +1,9 @@
 #!/usr/bin/env python3
-"""Runs every command of README.md as it stands there, from the top of the repository, and compares what it prints with what the
-README shows. A server is ended once it has said where it is served; one that is started in the background, after the commands of its
-block. The folder of records that they make is removed, unless it was there before. ./test is the gate itself, and is not run again here.
-Where the program is not built and no release fits the sources, the first command proves and builds it, which takes more than half an hour
-on four cores."""
+"""Runs every command of README.md from the top of the repository, and compares its output with what the README shows.
+
+A server is ended once it has printed where it is served; one that is started in the background, after the commands of its block. The
+folder of records that they make is removed, unless it existed before. ./test is the gate itself, and is not run here. If the program is
+not built and no release fits the sources, the first command proves and builds it, which takes more than half an hour on four cores."""
 import contextlib
 import re
 import shutil
@@ -23,7 +23,7 @@ def blocks(text, kind):
 
 
 def commands(text):
-    """Each command, with the lines that it is shown to print, or None where nothing is shown; and None behind each block."""
+    """Each command with the output that is shown for it, or None if none is shown; and None after each block."""
     for lines in blocks(text, "sh"):
         for line in lines:
             yield line.partition("  #")[0].rstrip(), None
@@ -41,7 +41,7 @@ def commands(text):
 
 @contextlib.contextmanager
 def started(command, shown):
-    """A server, and whether it prints these lines at first, or any line where none are shown."""
+    """Starts a server, and yields whether it first prints these lines, or any line if none are shown."""
     with subprocess.Popen(["bash", "-c", f"exec {command}"], cwd=TOP, stdout=subprocess.PIPE, text=True) as server:
         try:
             first = [server.stdout.readline().rstrip("\n") for _ in shown or [None]]
@@ -51,7 +51,7 @@ def started(command, shown):
 
 
 def runs_as_shown(command, shown):
-    """Runs a command, and says whether it prints what is shown."""
+    """Runs a command, and returns whether it prints what is shown."""
     ran = subprocess.run(["bash", "-c", command], cwd=TOP, stdout=subprocess.PIPE, check=False, text=True, errors="replace")
     if shown is None:
         return ran.returncode == 0
@@ -59,7 +59,7 @@ def runs_as_shown(command, shown):
 
 
 def is_as_shown(command, shown, servers):
-    """Runs a command of README, and says whether it prints what is shown. One that is started in the background goes on until `servers`
+    """Runs a command of README, and returns whether it prints what is shown. One that is started in the background runs until `servers`
     is closed."""
     if command.endswith(" &"):
         return servers.enter_context(started(command[:-2], shown))

@@ -1,26 +1,24 @@
 #!/usr/bin/env python3
-"""Has `flightd` refused one thing after the other that it asks of the system to hold, memory or a thread, while it plays a script and while
-it serves; and has the calls of a script answered by another peer than its nodes.
+"""Refuses `flightd` one allocation or thread after another while it plays a script and while it serves, and gives a script faulty peers.
 
     tools/refused_program.py [PROGRAM]
 
 PROGRAM is crates/flightd/out/flightd, as it was built. refused.c, which cc builds into a folder, is preloaded into it: it counts all calls of
-malloc and the like and the threads that are started, of the whole process, and refuses one of them. Where a process asks for more than FIRST
-things these are each of the first, and DRAWN of the others, drawn by SEED. As threads run beside each other, the same number is not the
-same thing in each run.
+malloc and the like and all starts of threads in the whole process, and refuses one of them. It refuses each of the first FIRST of a process,
+and DRAWN of the others, drawn by SEED. As threads run at the same time, a number does not mean the same request in each run.
 
-- `flightd script` plays the calls of the script of examples/scripts, in another order, and a script without calls. It ends with the lines that are due; or with some of them a refusal
-  for want of memory, and behind these what has to follow; or with `receipts bad`; or with status 1 and the name of a fault, behind a beginning of
-  such lines; or, while its words are read, as a call that is none ends, with `error: out of memory`. Or it asks a node that is down for a version
-  again and again, and is not waited for.
-- `flightd serve` ends so of its words, or with status 1 and `OutOfMemory`, behind a beginning of its lines. Or it serves: three callers put an upload each, and get
-  the version, at the three nodes in turn. A call that is refused for want of memory, or whose connection is cut, is made again, and then it is
-  answered as it has to be, but by a node that went down: then the next one answers. Each upload is its own version, and stands in the files of
-  most nodes; the server ends by SIGTERM alone, and reports nothing.
+- `flightd script` plays the calls of the script of examples/scripts in another order, and a script without calls. It must end with the
+  expected lines; or with a refusal for want of memory in some of them, and after these what follows from it; or with `receipts bad`; or with
+  status 1 and the name of a fault after a beginning of such lines; or, while its arguments are read, as it does for wrong ones, with
+  `error: out of memory`. Or it asks a node that is down for a version again and again; the tool does not wait for the end of that.
+- `flightd serve` must end in the same way for its arguments, or with status 1 and `OutOfMemory` after a beginning of its lines. Or it serves:
+  an upload is put at each of the three nodes in turn, and its version is read at the next. A call that is refused for want of memory, or
+  whose connection is cut, is repeated, and must then be answered; if its node went down, the next one must answer. Each upload must be its
+  own version and in the files of most nodes; the server must end by SIGTERM alone, and report nothing.
 
-It prints a row for each of the three: how many things are asked for, how many were refused, and how the runs ended. The status is 1 where a run
-ended otherwise: by a signal, without an answer, by another name, or with an answer that is wrong. It needs no proofs but those of the program,
-some minutes, and is no part of the gate."""
+It prints a row for each of the three: how many requests there are, how many were refused, and how the runs ended. The status is 1 if a run
+ended in another way: by a signal, without an answer, with another name, or with a wrong answer. It needs no proofs but those of the program,
+some minutes, and is not part of the gate."""
 import collections
 import json
 import os
@@ -42,24 +40,24 @@ from toolbox import show_help
 SOURCE = TOP / "tools" / "refused.c"
 SCRIPT = TOP / "examples" / "scripts" / "first_upload.json"
 SEED = 20261128
-# So many of the first things that are asked for are refused one after the other, and so many of the others.
+# How many of the first requests are refused one after another, and how many of the others.
 FIRST, DRAWN = 300, 100
-# A run that has not ended after so many seconds has no end. A script that asks for a version is let be: it does so up to 10,000 times where the
-# node is down, and takes a minute or more on a machine that does other things too.
+# A run that has not ended after this many seconds counts as hung, but for a script that asks for a version: it does so up to 10,000 times if
+# the node is down, and takes a minute or more on a machine that does other things too.
 RUN_SECONDS, ASKS = 20, "still asked for a version"
 NODES = 3
-# What a node tells of which a part was refused memory, and of one that went down since its record was.
+# The refusals of a node that was refused memory, and of one that went down because it was refused memory for its record.
 REFUSALS = {("OutOfMemory", 8), ("Store", 13), ("Down", 14)}
 # The port of node 0 of a script's cluster, and the frame at the end of a request.
 FIRST_PORT, END_FRAME = 42_000, bytes.fromhex("8000000000")
 
 
-# What is said where memory is refused while the words are read, with status 2.
+# The message, with status 2, if memory is refused while the arguments are read.
 WORDS_REFUSED = "error: out of memory\n"
 
 
 class Refusing:
-    """What is preloaded into a program, and what it tells of a run."""
+    """The library that is preloaded into a program, and the file to which it reports."""
 
     def __init__(self, program, folder):
         self.program, self.folder = program, Path(folder)
@@ -68,18 +66,18 @@ class Refusing:
         self.told.write_bytes(bytes(16))
 
     def start(self, words, at, **more):
-        """A process of which the thing of this number is refused, with more in its environment."""
+        """Starts a process whose request of this number is refused, with more variables in its environment."""
         there = {**os.environ, "LD_PRELOAD": str(self.library), "REFUSED_TOLD": str(self.told), "REFUSED_AT": str(at), **more}
         called = [self.program, *map(str, words)]
         return subprocess.Popen(called, stdout=subprocess.PIPE, stderr=subprocess.PIPE, text=True, env=there)
 
     def seen(self):
-        """How many things were asked for, and whether one was refused."""
+        """How many requests there were, and whether one was refused."""
         return struct.unpack("<QQ", self.told.read_bytes())
 
 
 def places_of(count):
-    """Which of so many things are refused, by their numbers from 1."""
+    """Which of `count` requests are refused, by their numbers from 1."""
     others = range(FIRST + 1, count + 1)
     return [*range(1, min(FIRST, count) + 1), *sorted(random.Random(SEED).sample(others, min(DRAWN, len(others))))]
 
@@ -88,7 +86,7 @@ def places_of(count):
 
 
 def is_line_of(number, line, due, acknowledged):
-    """Whether a call of the script may be told of so, where the upload was acknowledged before or not."""
+    """Whether a call of the script may have this line, given whether the upload was acknowledged before."""
     if line == due:
         return True
     refused = re.fullmatch(r"(\d+) status (\d+) (\w+)", line)
@@ -99,7 +97,7 @@ def is_line_of(number, line, due, acknowledged):
 
 
 def judged_lines(lines, due):
-    """Whether lines are those of the first calls, and how many of them are not as without a refusal."""
+    """Checks that lines are those of the first calls, and returns how many differ from those without a refusal."""
     acknowledged = False
     for number, line in enumerate(lines):
         if not is_line_of(number, line, due[number], acknowledged):
@@ -109,7 +107,7 @@ def judged_lines(lines, due):
 
 
 def script_ended(status, output, error, due):
-    """How a script ended, by a name."""
+    """How a script ended, as a name."""
     lines = output.splitlines()
     if output and not output.endswith("\n") or len(lines) > len(due):
         raise Wrong(f"the output {output[-200:]!r}")
@@ -124,11 +122,11 @@ def script_ended(status, output, error, due):
     name = re.fullmatch(r"flightd: (OutOfMemory|Io|BadAnswer)\n", error)
     if status == 1 and name and len(lines) < len(due):
         return f"`{name[1]}`"
-    raise Wrong(f"status {status}, {error!r} behind {len(lines)} lines")
+    raise Wrong(f"status {status}, {error!r} after {len(lines)} lines")
 
 
 def play(refusing, file, due, at):
-    """How a script ends, where the thing of this number is refused."""
+    """How a script ends if the request of this number is refused."""
     process = refusing.start(["script", file], at)
     try:
         output, error = process.communicate(timeout=RUN_SECONDS)
@@ -142,12 +140,12 @@ def play(refusing, file, due, at):
         judged_lines(lines, due)
         if before != after and " get " in due[len(lines)] and not error:
             return ASKS
-        raise Wrong(f"no end in {RUN_SECONDS} seconds, behind {output[-200:]!r} and {error!r}") from None
+        raise Wrong(f"no end in {RUN_SECONDS} seconds, after {output[-200:]!r} and {error!r}") from None
     return script_ended(process.returncode, output, error, due)
 
 
 def play_example(refusing, at):
-    """Plays the calls of the example in another order: the upload is put twice before it is asked for, so that one of the two is taken."""
+    """Plays the calls of the example in another order: the upload is put twice before it is asked for, so that one put succeeds."""
     script, lines = json.loads(SCRIPT.read_text(encoding="utf-8")), SCRIPT.with_suffix(".lines").read_text(encoding="utf-8").splitlines()
     order = [0, 5, 1, 2, 3, 4, 6, 7]
     file = refusing.folder / "example.json"
@@ -166,7 +164,7 @@ def play_nothing(refusing, at):
 
 
 def tried(call):
-    """What a call gives, and what kept it from being answered."""
+    """What a call returns, and the fault if it was not answered."""
     try:
         return call(), None
     except felzoren.Refused as refused:
@@ -187,7 +185,7 @@ class Caller:
         self.faults = []
 
     def insist(self, node, call):
-        """What a call at this node gives. One thing is refused in a run, so it is answered when it is made again, but by a node that is down."""
+        """What a call at this node returns. One request is refused in a run, so a repeated call is answered, unless the node is down."""
         for place in (node, node, node + 1):
             found, fault = tried(lambda place=place: call(self.clients[place % NODES]))
             if fault is None:
@@ -198,7 +196,7 @@ class Caller:
         raise Wrong(f"a call that is not answered: {self.faults}")
 
     def version(self, node, number):
-        """The rows of a version, once the node that is asked has learned it."""
+        """The rows of a version, once the node has learned it."""
         end = time.monotonic() + LEARN_SECONDS
 
         def once(client):
@@ -214,7 +212,7 @@ class Caller:
 
 
 def calls(port, folder):
-    """Puts and gets at each node, and what became of them; what they were refused for."""
+    """Makes puts and gets at each node, and checks their results; returns the faults for which they were refused."""
     caller = Caller(port)
     rows, ids = [], []
     for node in range(NODES):
@@ -230,7 +228,7 @@ def calls(port, folder):
 
 
 def serve(refusing, at):
-    """How a server ends, or serves, where the thing of this number is refused."""
+    """How a server ends, or serves, if the request of this number is refused."""
     with tempfile.TemporaryDirectory() as folder:
         port = free_port(NODES)
         due = addresses(port, NODES)
@@ -288,7 +286,7 @@ def says_no_frame(peer):
 
 
 def ends_early(peer):
-    """An answer of which the trailer is missing."""
+    """An answer without its trailer."""
     read_request(peer)
     peer.sendall(bytes(5))
 
@@ -299,7 +297,7 @@ def resets(peer):
 
 
 def played_over(refusing, answers):
-    """How a script ends whose calls are answered so, one after the other."""
+    """How a script ends whose calls are answered in these ways, one after another."""
     with socket.create_server(("127.0.0.1", 0)) as listener:
         listener.settimeout(CALL_SECONDS)
         process = refusing.start(["script", SCRIPT], 0, CONNECT_TO=str(listener.getsockname()[1]))
@@ -311,8 +309,8 @@ def played_over(refusing, answers):
 
 
 def other_peers(refusing):
-    """Scripts whose first calls are answered by a node, and the next one by a peer that gives no answer, or by nobody: the lines of those
-    before stand, and the fault is told."""
+    """Scripts whose first calls are answered by a node, and the next one by a faulty peer or by nobody: the lines of the first calls are
+    printed, and the fault is reported."""
     due = SCRIPT.with_suffix(".lines").read_text(encoding="utf-8").splitlines(keepends=True)
     answers = ((says_nothing, "BadAnswer"), (says_no_frame, "BadAnswer"), (ends_early, "BadAnswer"), (resets, "Io"))
     for count in (0, 1, 2, len(due) - 2):
@@ -325,11 +323,11 @@ def other_peers(refusing):
     return 4 * len(answers) + 1
 
 
-# ---- what is said of them
+# ---- the results
 
 
 class Sum(NamedTuple):
-    """What the runs of a command came to."""
+    """The results of the runs of a command."""
 
     command: str
     asked: int
@@ -338,7 +336,7 @@ class Sum(NamedTuple):
 
 
 def runs_of(command, run, refusing):
-    """Refuses one thing after the other to a command."""
+    """Refuses one request after another to a command."""
     ended, faults = collections.Counter(), []
     want(run(refusing, 0), "went on")
     asked = refusing.seen()[0]
@@ -362,7 +360,7 @@ def main(program):
     began = time.monotonic()
     with tempfile.TemporaryDirectory() as folder:
         refusing = Refusing(program, folder)
-        print(f"{other_peers(refusing)} scripts with a call that is answered by another peer: each ends by its fault, behind its lines")
+        print(f"{other_peers(refusing)} scripts with a call that is answered by another peer: each ends with its fault, after its lines")
         runs = (("`flightd script`", play_example), ("`flightd script`, without calls", play_nothing), ("`flightd serve`", serve))
         sums = [runs_of(command, run, refusing) for command, run in runs]
     print("| Command | Asked for | Refused | Ended by a name | Went on | with a call that was refused | Still asked for a version | Otherwise |\n"

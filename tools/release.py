@@ -1,14 +1,14 @@
 #!/usr/bin/env python3
-"""Keeps `release/flightd`, the program as it was proved and built from these sources, and says whether it still is.
+"""Keeps `release/flightd`, the program as it was proved and built from these sources, and checks whether it still is.
 
-    tools/release.py --agrees   status 0 where the release was built from the sources as they are here, else 1
+    tools/release.py --agrees   status 0 if the release was built from the present sources, else 1
     tools/release.py --compare  compares it with the program that was proved and built here
     tools/release.py --make     makes the release anew from that program, and release/SOURCES with it
 
 The program depends on the crates that `crates.txt` lists below it: on their `src/`, `specs/` and `proofs/`, on their lines of
 `crates.txt`, on `HANDLES`, and on the toolchain. `release/SOURCES` has one SHA-256 over all of these, the SHA-256 of the program, and
-the line by which the toolchain names itself. Two builds from equal sources by the same toolchain, in two folders, were equal byte for
-byte. So anyone who proves the program here can compare: --compare has status 1 where sources agree and a byte differs.
+the version line of the toolchain. Two builds from equal sources by the same toolchain, in two folders, were equal byte for byte. So
+anyone who proves the program here can compare: --compare has status 1 if the sources agree and a byte differs.
 """
 import hashlib
 import shutil
@@ -35,7 +35,7 @@ def source_files(names):
 
 
 def sources_sum():
-    """The SHA-256 over the names and the bytes of all that the program is made of."""
+    """The SHA-256 over the names and bytes of all files that the program is made of, and its lines of crates.txt."""
     used, total = build.uses(), hashlib.sha256()
     for name, libraries in sorted(used.items()):
         total.update(f"{name}: {' '.join(libraries)}\n".encode())
@@ -45,12 +45,12 @@ def sources_sum():
 
 
 def file_sum(file):
-    """The SHA-256 of a file, or None where there is no such file."""
+    """The SHA-256 of a file, or None if there is no such file."""
     return hashlib.sha256(file.read_bytes()).hexdigest() if file.is_file() else None
 
 
 def recorded():
-    """What release/SOURCES says: a word and its value a line."""
+    """The values in release/SOURCES by their words; a line has one of each."""
     if not SUMS.is_file():
         return {}
     lines = SUMS.read_text(encoding="utf-8").splitlines()
@@ -58,7 +58,7 @@ def recorded():
 
 
 def disagreement():
-    """Why the release isn't that of the sources as they are here, or None where it is."""
+    """Why the release is not that of the present sources, or None if it is."""
     said = recorded()
     if not said:
         return "there is no release"
@@ -86,7 +86,7 @@ def compare():
 
 
 def toolchain():
-    """The line by which the toolchain names itself."""
+    """The version line of the toolchain."""
     return subprocess.run(["rt", "version"], capture_output=True, text=True, check=True).stdout.strip()
 
 

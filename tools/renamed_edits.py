@@ -1,18 +1,17 @@
 #!/usr/bin/env python3
-"""Keeps the lines of edits whose crate has been renamed since, and not changed.
+"""Keeps the lines of edits of crates in which only names have changed since a commit.
 
     tools/renamed_edits.py COMMIT [OLD=NEW ..]
 
-A line of `edits-refused.txt` says by a checksum with which sources and definitions of its crate an edit was refused (tools/edits.py).
-Where a crate is the one of the commit but for names, a refusal there is a refusal here, and the line gets the checksum of what it is
-now. A crate that has another name since is given as OLD=NEW.
+A line of `edits-refused.txt` has a checksum of the sources and definitions of its crate that refused an edit (tools/edits.py). If a crate
+differs from the one of the commit only in names, a refusal there is a refusal here, and the line gets the present checksum. A crate that
+has been renamed since is given as OLD=NEW.
 
-A crate is the same but for names where its files can be paired so that one name of the commit is one name now, and the other way
-round, in all files and in the edit: each word is compared in its place, without comments, line breaks, and the commas that these bring.
-Names of code are one such pairing, and those of definitions and clauses another, since a type and its definition may have one name.
-Imports have no order and no path: the names that they bring in are compared, each with the name that the crate has for it; a crate may
-make more names public than before. It prints how many lines were kept, and which crates are not the same, each with the first word that
-differs."""
+A crate differs only in names if its files can be paired so that each name of the commit is one name now, and the other way round, in all
+files and in the edit: each word is compared in its place, without comments, line breaks, and the commas that these bring. Names of code
+are one such pairing, and those of definitions and clauses another, since a type and its definition may have one name. Imports are
+compared without order and path, by the names that the crate uses for what they bring in; a crate may make more names public than before.
+It prints how many lines were kept, and which crates differ in more than names, each with the first word that does."""
 import re
 import subprocess
 import sys
@@ -32,14 +31,14 @@ CLAUSE = re.compile(r"\b(?:ensures|requires|ghost)\b[^{;]*\{")
 
 
 def brought_in(item):
-    """The names that an import brings in, each as the word that the crate has for it."""
+    """The names that an import brings in, each as the crate calls it."""
     listed = re.search(r"\{(.*)\}", item, re.S)
     words = listed[1] if listed else item.rstrip(";").rpartition("use ")[2]
     return [re.split(r"::|\.", alias or name)[-1] for name, alias in BROUGHT.findall(words)]
 
 
 def end_of(text, start):
-    """Where the block ends whose brace is the one before this place."""
+    """The end of the block whose opening brace is before this place."""
     depth = 1
     while depth and start < len(text):
         depth += {"{": 1, "}": -1}.get(text[start], 0)
@@ -48,7 +47,7 @@ def end_of(text, start):
 
 
 def parts_of(text):
-    """The words of a source file, each with whether it is one of a clause."""
+    """The words of a source file, each with whether it is in a clause."""
     place = 0
     while found := CLAUSE.search(text, place):
         yield from ((word, False) for word in WORD.findall(text[place:found.start()]))
@@ -58,7 +57,7 @@ def parts_of(text):
 
 
 def words_of(path, text):
-    """The words of a file without its imports, each with whether it is one of definitions, and the names that imports bring in."""
+    """The words of a file without its imports, each with whether it is of definitions or clauses; and the imports."""
     if path.endswith(".antt"):
         imports = IMPORT_OF_DEFINITIONS.findall(text)
         return [(word, True) for word in WORD.findall(IMPORT_OF_DEFINITIONS.sub("", text))], imports
@@ -74,30 +73,30 @@ def files_of(crate):
 
 
 class Renaming:
-    """Which name of before is which name now, of code and of definitions."""
+    """Which old name is which new name, in code and in definitions."""
 
     def __init__(self):
         self.new, self.old = {}, {}
 
     def fits(self, old, new):
-        """Whether the names may be one, from here on if they had none yet."""
+        """Whether the new name may be the old one renamed. If neither had a partner yet, they are partners from here on."""
         (one, of_definitions), (other, is_too) = old, new
         if of_definitions != is_too or not re.match(r"\w", one):
             return old == new
         return self.new.setdefault(old, other) == other and self.old.setdefault(new, one) == one
 
     def misfit(self, old, new):
-        """The first words of these that are not the same, or None."""
+        """The first two words that do not fit, or None."""
         found = next(((one[0], other[0]) for one, other in zip(old, new) if not self.fits(one, other)), None)
         return found or (None if len(old) == len(new) else ("the end of one", "more of the other"))
 
     def names_now(self, names):
-        """What these names of imports are now, in either of the two pairings."""
+        """The present names for these names of imports, in either of the two pairings."""
         return {self.new.get((name, kind), name) for name in names for kind in (False, True)}
 
 
 def pairs(old, new):
-    """The files of before with those now: those of one path, and of the others those of one length."""
+    """Pairs of old and new files: those with the same path, and of the others those with the same length. None if a file is left."""
     found = [(old[path], new[path]) for path in sorted(old) if path in new]
     left = [words for path, words in sorted(new.items()) if path not in old]
     for path, words in sorted(old.items()):
@@ -111,7 +110,7 @@ def pairs(old, new):
 
 
 def renaming_of(old, new):
-    """The renaming that makes the files of before those of now, or the first words that differ."""
+    """The renaming that turns the old files into the new ones, or the first words that differ."""
     renaming, paired = Renaming(), pairs(old, new)
     if paired is None:
         return None, ("its files", "others")
@@ -127,7 +126,7 @@ def renaming_of(old, new):
 
 
 def words_of_edit(edit):
-    """The words of an edit, without the path of its file, each with whether it is one of definitions."""
+    """The words of an edit, without the path of its file, each with whether it is of definitions or clauses."""
     found = []
     for file, old, new in edits.changes(edit):
         texts = [re.sub(r",(?=\s*[)\]}>])", "", text) for text in (old, new)]

@@ -1,8 +1,7 @@
-"""A command of stories that is told for many numbers, one after the other, and in one line where it gives the same of all.
+"""The command `each` of stories, which repeats commands for many numbers and shows one result if it is the same for all.
 
-`each FIRST LAST: COMMAND; ..`, where LAST may have `by STEP` behind it. In a command `#` stands for the number, `#+1` and `#+2`
-for the next two, and `%` for the digits of a byte: the number without the greatest multiple of 251 in it. What it gives is told
-with the same signs."""
+`each FIRST LAST: COMMAND; ..`, where LAST may be followed by `by STEP`. In a command `#` stands for the number, `#+1` and `#+2`
+for the next two, and `%` for a byte in hexadecimal, the number modulo 251. The result is written with the same signs."""
 import itertools
 import re
 
@@ -14,7 +13,7 @@ def filled(template, number):
 
 
 def template_of(line, number):
-    """The template that this number makes this line of."""
+    """The template from which this number makes this line."""
     signs = {f"{number % 251:02x}": "%", str(number + 1): "#+1", str(number + 2): "#+2", str(number): "#"}
     return re.sub(r"\w+", lambda it: signs.get(it[0], it[0]), line)
 
@@ -26,7 +25,7 @@ def numbers_in(words):
 
 
 def ended(telling, answers):
-    """The lines that a telling gives for these answers."""
+    """The lines that a teller's generator returns for these answers."""
     try:
         telling.send(answers)
     except StopIteration as end:
@@ -35,7 +34,7 @@ def ended(telling, answers):
 
 
 def tell_each(teller, words):
-    """The telling of `each`, with the words behind it, by the tellings of its commands."""
+    """The teller's generator for `each` and the words after it, made of the generators for its commands."""
     numbers, _, commands = words.partition(": ")
     numbers, commands = numbers_in(numbers), commands.split("; ")
     tellings = [teller.tell(filled(command, number)) for number in numbers for command in commands]

@@ -1,11 +1,12 @@
 #!/usr/bin/env python3
-"""Makes the stories of runs in crates/run_stories/data: `examples.txt`, the schedules of examples/ that have their lines beside them,
-and `drawn.txt`, schedules that are drawn, with what the model in runs_model.py says of each event and each message.
+"""Makes the stories of runs in crates/run_stories/data from the model in runs_model.py.
 
-    tools/runs.py --write               makes them
-    tools/runs.py --check               says which of them differ
-    tools/runs.py --tell FIRST LAST     has the built `run_stories` tell the drawn runs from one seed up to another, and says where it
-                                        tells otherwise than the model"""
+They are `examples.txt`, the schedules of examples/, and `drawn.txt`, random schedules, with the results of each event and the messages.
+
+    tools/runs.py --write               writes them
+    tools/runs.py --check               names those that differ
+    tools/runs.py --tell FIRST LAST     has the built `run_stories` play the random runs from one seed up to another, and reports where
+                                        it differs from the model"""
 import hashlib
 import sys
 from pathlib import Path
@@ -52,7 +53,7 @@ def message_text(said):
 
 
 def spelled(text):
-    """Pairs of digits, with a letter for zero bytes that follow one another."""
+    """The bytes in hexadecimal, with a letter for zero bytes in a row."""
     out, place = [], 0
     while place < len(text):
         zeros = 0
@@ -64,7 +65,7 @@ def spelled(text):
 
 
 def told_line(line):
-    """The line of an event, an answer by its length and its digest."""
+    """The line of an event; an answer is shown by its length and digest."""
     place, word, *rest = line.split(" ")
     if word != "answer":
         return line
@@ -116,7 +117,7 @@ def drawn_runs(seeds):
 
 
 def tell(first, last):
-    """Whether a program tells drawn runs otherwise than the model."""
+    """Whether a program is missing or differs from the model in these random runs."""
     text, built = drawn_runs(range(first, last)), stories.programs("run_stories")
     return not built or any(stories.differs(it.name, stories.told(it, Teller(), text), text) for it in built)
 

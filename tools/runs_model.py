@@ -1,15 +1,16 @@
 #!/usr/bin/env python3
-"""A model of nodes that agree on uploads: it plays a schedule event by event and says what each gives. It is written from Lamport,
-"Paxos Made Simple", from the columnar format and Flight.proto of Apache Arrow and from docs/FORMATS.md, and not from the code, and
-keeps whole lists: every message ever sent, every step, and of a node all that ever came to it.
+"""Plays a schedule of nodes that agree on uploads event by event, in a model, and prints the result of each.
+
+The model is written from Lamport, "Paxos Made Simple", from the columnar format and Flight.proto of Apache Arrow and from
+docs/FORMATS.md, and not from the code. It keeps whole lists: every message that was sent, every step, and all that came to a node.
 
     tools/runs_model.py FILE      plays a schedule, and prints a line for each event
-    tools/runs_model.py --check   plays each schedule in examples/ that has its lines beside it, and says which differ; plays
-                                  thousands of drawn ones, and says of each whether what the nodes sent is lawful and what
-                                  clients were told is safe
+    tools/runs_model.py --check   plays each schedule in examples/, and names those whose lines differ from the file beside them;
+                                  plays DRAWN random ones, and reports each whose messages are not lawful or whose answers to
+                                  clients are not safe
     tools/runs_model.py --write   writes the lines of those schedules
 
-A value is its bytes, none for a no-op; a ballot a pair of its round and its node; a message a dictionary as in paxos_model.py."""
+A value is its bytes, none for a no-op; a ballot is a pair of its round and its node; a message is a dictionary as in paxos_model.py."""
 import json
 import random
 import sys
@@ -28,15 +29,15 @@ from wire_model import bytes_field, frame
 
 EXAMPLES = TOP / "examples"
 MOST_LEFT, MOST_ASKED = 7, 16
-# how many runs are drawn
+# how many random runs are played
 DRAWN = 1000
 
 
-# ---- uploads, and what is served of them
+# ---- uploads, and how they are served
 
 
 def schema_text(name):
-    """The header of a schema with one column of Int8 that may be null."""
+    """The header of a schema with one nullable column of Int8."""
     column = {"name": name, "nullable": True, "type_type": "Int", "type": {"bitWidth": 8, "is_signed": True}, "children": []}
     return bytes.fromhex(canonical.message({"header_type": "Schema", "header": {"fields": [column]}}))
 
@@ -52,7 +53,7 @@ def batch_texts(values):
 
 
 class Upload:
-    """An upload: its table, its own name, the name of its column, and its batches as headers and bodies; and its encoding."""
+    """An upload: its table, its id, the name of its column, its batches as headers and bodies, and its encoding."""
 
     def __init__(self, table, id, name, batches):
         self.table, self.id, self.name = table, bytes.fromhex(id), name
@@ -62,7 +63,7 @@ class Upload:
         self.text = b"".join(parts)
 
     def messages(self):
-        """The messages that are served of it."""
+        """The messages with which it is served."""
         named = bytes_field(3, self.id)
         if not self.batches:
             return [named]
@@ -76,14 +77,14 @@ def answer(uploads):
 
 
 def effective(uploads, table):
-    """Those to the table that come first of their ids in the whole list, and have the shape of the first of them."""
+    """The uploads to the table that are the first with their ids in the whole list and have the shape of the first of them."""
     firsts = [it for place, it in enumerate(uploads) if it.id not in {earlier.id for earlier in uploads[:place]}]
     of_table = [it for it in firsts if it.table == table]
     return [it for it in of_table if it.name == of_table[0].name]
 
 
 def outcome(uploads, upload):
-    """What is told of an upload by these."""
+    """The outcome of an upload, given these uploads."""
     named = [it for it in uploads if it.id == upload.id]
     if not named:
         return "unknown"
@@ -93,11 +94,11 @@ def outcome(uploads, upload):
     return f"applied {1 + ids.index(upload.id)}" if upload.id in ids else "mismatch"
 
 
-# ---- what was learned, by a list of messages
+# ---- what was learned from a list of messages
 
 
 def learned(members, messages):
-    """The value of each slot that was decided, or that a majority accepted at one ballot; the first that came so."""
+    """The first value of each slot for which a Decided came, or Accepted of a majority at one ballot."""
     values = {}
     for count, message in enumerate(messages, 1):
         slot, what = message["slot"], message["what"]
@@ -146,7 +147,7 @@ class Node:
         return max((it["ballot"] for it in self.records if it["what"] != "began" and it["slot"] == slot), default=(0, 0))
 
     def accepted(self, slot):
-        """The acceptance at the highest ballot, the last one where there are more."""
+        """The acceptance at the highest ballot, the last one if there are several."""
         found = [it for it in self.records if it["what"] == "accepted" and it["slot"] == slot]
         best = [it for it in found if it["ballot"] == max(other["ballot"] for other in found)]
         return (best[-1]["ballot"], best[-1]["value"]) if best else None
@@ -156,7 +157,7 @@ class Node:
         begun = [it["ballot"][0] for it in self.records if it["what"] == "began"]
         return max([0, *seen, *begun]) + 1, self.me
 
-    # What is due to each input: the record, the messages, and what the node has afterwards, by a function that makes it so.
+    # The result of each input: the record, the messages, and a function that changes the node's state.
 
     def put(self, upload):
         known = outcome(self.tables(), upload) != "unknown"
@@ -233,7 +234,7 @@ class Node:
         return None, []
 
     def proposal(self, said):
-        """The Accept of the open attempt, where this promise makes its majority."""
+        """The Accept of the open attempt, if this promise completes its majority."""
         before, after = self.attempt(self.heard), self.attempt([*self.heard, said])
         promisers = [{it["sender"] for it in promises} for _, promises in (before, after)]
         if after[0] is None or is_majority(self.run.members, promisers[0]) or not is_majority(self.run.members, promisers[1]):
@@ -251,7 +252,7 @@ class Node:
 
 
 class Run:
-    """Nodes, all messages that were sent, and the steps so far: each an event, the line that it gave, and what it handed in or out."""
+    """Nodes, all messages that were sent, and the steps so far: each an event and the words of its result."""
 
     def __init__(self, schedule):
         self.members, self.slot_limit = schedule["members"], schedule["slot_limit"]
@@ -332,11 +333,11 @@ def lines_of(schedule):
     return run, [f"{place} {run.play(event)}" for place, event in enumerate(schedule["events"])]
 
 
-# ---- what is promised of a run, by its steps and its messages alone
+# ---- what is promised about a run, from its steps and its messages alone
 
 
 def is_lawful(run):
-    """Each message may follow those of its slot before it."""
+    """Whether each message may follow the earlier ones of its slot."""
     for slot in {it["slot"] for it in run.sent}:
         told = [it for it in run.sent if it["slot"] == slot and it["what"] not in ("Nack", "Ask", "Prepare")]
         if not all(may_follow(run.members, told[:place], it) for place, it in enumerate(told)):
@@ -345,7 +346,7 @@ def is_lawful(run):
 
 
 def tables_shown(run, member, place):
-    """The uploads of the member's prefix, by the messages that were delivered to it since its last start; none where it is down."""
+    """The uploads of the member's prefix, from the messages that were delivered to it since its last start; None if it is down."""
     is_up, heard = True, []
     for event, gave in run.steps[:place]:
         if event[1] != member:
@@ -387,7 +388,7 @@ def is_safe(run):
 
 
 class Tables:
-    """What answers questions and has these uploads."""
+    """Stands in for a node with these uploads, to answer questions."""
 
     def __init__(self, uploads):
         self.uploads = uploads
@@ -396,12 +397,12 @@ class Tables:
         return self.uploads
 
 
-# ---- drawn schedules
+# ---- random schedules
 
 
 def drawn(seed):
-    """A run of some uploads, of which two have one name, one is to another table and one has another shape. Its events are drawn as it
-    goes on: most are deliveries of messages that the node has not had, some of others, and few are ticks."""
+    """A random run of some uploads, of which two have one id, one is to another table and one has another shape. Its events are drawn
+    as it goes on: most are deliveries of messages that the node has not had, some of others, and few are ticks."""
     draw = random.Random(seed)
     members = draw.choice((1, 2, 3, 3, 3, 3, 4, 5))
     ids = [f"{it:032x}" for it in (1, 2, 3, 1, 4, 5)]
@@ -434,7 +435,7 @@ def drawn_event(draw, run, new):
 
 
 def check_drawn(count):
-    """How many of so many drawn runs are not lawful or not safe."""
+    """How many of `count` random runs are not lawful or not safe."""
     faults = 0
     for seed in range(count):
         run = drawn(seed)
@@ -466,7 +467,7 @@ def main():
         if word == "--write":
             beside.write_text(text, encoding="utf-8")
         elif not beside.exists() or beside.read_text(encoding="utf-8") != text:
-            print(f"runs_model: {beside.name} is not what {file.name} gives")
+            print(f"runs_model: {beside.name} differs from the lines of {file.name}")
             status = 1
     return 1 if check_drawn(DRAWN) else status
 

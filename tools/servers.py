@@ -1,5 +1,5 @@
-"""Starts servers, speaks to their nodes by the library in clients/python, and looks at them from outside: what the tools and the benches
-that start a server share."""
+"""Starts servers, calls their nodes with the library in clients/python, and reads their memory, times and files: what the tools and
+the benches that start a server share."""
 import contextlib
 import os
 import random
@@ -22,13 +22,13 @@ sys.path.append(str(TOP / "clients" / "python"))
 import felzoren
 
 PROGRAM = TOP / "crates" / "flightd" / "out" / "flightd"
-# A folder in memory, where a sync costs nothing, as far as there is one.
+# A folder in memory, where a sync costs nothing, if there is one.
 MEMORY = "/dev/shm" if os.path.isdir("/dev/shm") else None
-# How long a call may take, in seconds, and for how long a version is waited for at a node that has not learned it.
+# How long a call may take, in seconds, and how long to wait until a node has learned a version.
 CALL_SECONDS, LEARN_SECONDS = 30, 30
-# A node serves so many calls at once; others wait until one of these ends.
+# A node serves this many calls at once; others wait until one of these ends.
 MOST_CONNECTIONS = 128
-# What a server says of its start over records, where that takes longer than a second, and of a node that was down.
+# What a server prints about its start over records, if that takes longer than a second, and about a node that was down.
 PROGRESS = re.compile(
     r"^node \d (has its records|has learned what was decided|was down, and has started again"
     r"|is down, and can't be started again yet: [\w: ]+)\n",
@@ -37,7 +37,7 @@ PROGRESS = re.compile(
 
 
 class Wrong(Exception):
-    """What came is not what has to come."""
+    """A result differs from the expected one."""
 
 
 def want(found, wanted):
@@ -49,7 +49,7 @@ def want(found, wanted):
 
 
 def free_port(count):
-    """A port that is free, as are so many behind it less one."""
+    """The first of `count` free ports in a row."""
     for port in random.Random(os.getpid()).sample(range(20_000, 60_000), 100):
         with contextlib.ExitStack() as open_ones:
             try:
@@ -64,7 +64,7 @@ def free_port(count):
 
 
 def file_limit(count):
-    """Has the files of a process started so stay within so many bytes, as on a full disk, until somebody allows it more."""
+    """Limits the files of a process that is started with it to `count` bytes, as on a full disk, until somebody allows more."""
 
     def limit():
         resource.setrlimit(resource.RLIMIT_FSIZE, (count, resource.getrlimit(resource.RLIMIT_FSIZE)[1]))
@@ -74,28 +74,28 @@ def file_limit(count):
 
 
 def limited(kind, count):
-    """Has a process started so stay within so much of a resource (getrlimit(2))."""
+    """Limits a process that is started with it to `count` of a resource (getrlimit(2))."""
     return lambda: resource.setrlimit(kind, (count, count))
 
 
 def without_progress(told):
-    """What a server reports on standard error, but for how far its start has come and for nodes that start again."""
+    """What a server reports on standard error, without the progress of its start and without nodes that start again."""
     return PROGRESS.sub("", told)
 
 
 def addresses(port, nodes):
-    """The lines by which a server reports the addresses of so many nodes, of which the first has this port."""
+    """The lines with which a server prints the addresses of its nodes, of which the first has this port."""
     return [f"node {number} at 127.0.0.1:{port + number}\n" for number in range(nodes)]
 
 
 def serve_words(program, nodes, port, folder, resumed=False):
-    """The words that start a server of so many nodes, the first at this port, with their records in this folder."""
+    """The words that start a server with this many nodes, the first at this port, and their records in this folder."""
     return [program, "serve", "--nodes", str(nodes), "--port", str(port), "--data", folder, *["--resume"] * resumed]
 
 
 def started(program, nodes, folder, limit=None, resumed=False):
-    """A server of so many nodes with their records in this folder, its clients, and the port of its first node. It goes on over the records
-    that stand there, where it is resumed."""
+    """Starts a server with this many nodes and their records in this folder; if it is resumed, over the records there. Returns the process,
+    its clients, and the port of its first node."""
     port = free_port(nodes)
     words = serve_words(program, nodes, port, folder, resumed)
     process = subprocess.Popen(words, stdout=subprocess.PIPE, stderr=subprocess.PIPE, text=True, preexec_fn=limit)
@@ -103,14 +103,14 @@ def started(program, nodes, folder, limit=None, resumed=False):
     found = [process.stdout.readline() for _ in lines]
     if found != lines:
         process.kill()
-        raise Wrong(f"a server told {found!r} and {process.communicate()[1]!r}")
+        raise Wrong(f"a server printed {found!r} and {process.communicate()[1]!r}")
     return process, [felzoren.connect(f"127.0.0.1:{port + number}", timeout=CALL_SECONDS) for number in range(nodes)], port
 
 
 @contextlib.contextmanager
 def server(program, nodes, folder=None, limit=None, resumed=False, ending=signal.SIGTERM):
-    """The clients of so many nodes that are served, with their records in this folder, or in one that is taken away afterwards, until the
-    server is ended by this signal."""
+    """Starts a server, with its records in this folder or in one that is removed afterwards, and yields its clients and the port of its
+    first node. At the end it sends this signal to the server."""
     with contextlib.ExitStack() as stack:
         folder = folder or stack.enter_context(tempfile.TemporaryDirectory())
         process, clients, port = started(program, nodes, folder, limit, resumed)
@@ -124,11 +124,11 @@ def server(program, nodes, folder=None, limit=None, resumed=False, ending=signal
 
 
 Looked = namedtuple("Looked", "most now threads seconds")
-Looked.__doc__ = """What a process ever held at most and holds in memory, in bytes, its threads, and its seconds of processors."""
+Looked.__doc__ = """The most memory that a process held and what it holds, in bytes, its threads, and its processor seconds."""
 
 
 def look(process):
-    """What the kernel counts for a process that is running still (Linux, proc(5))."""
+    """What the kernel counts for a process that still runs (Linux, proc(5))."""
     text = Path(f"/proc/{process.pid}/status").read_text(encoding="utf-8")
     fields = {name: value.split() for name, value in (line.split(":", 1) for line in text.splitlines())}
     times = Path(f"/proc/{process.pid}/stat").read_text(encoding="utf-8").rpartition(")")[2].split()
@@ -140,7 +140,7 @@ def look(process):
 
 
 def learned(call):
-    """What a call gives once the node has learned the version that it asks for."""
+    """What a call returns once the node has learned the version that it asks for."""
     end = time.monotonic() + LEARN_SECONDS
     while True:
         try:
@@ -158,7 +158,7 @@ def got(client, table, version):
 
 
 class Recorder:
-    """A connection that keeps what is written, and gives no answer."""
+    """A connection that keeps what is written, and never answers."""
 
     def __init__(self):
         self.written = b""
@@ -174,7 +174,7 @@ class Recorder:
 
 
 def request_of(call):
-    """The bytes of the request that a call makes of the client that it is given."""
+    """The bytes of the request that a function makes with the client that it is given."""
     recorder = Recorder()
     with contextlib.suppress(felzoren.BadAnswer):
         call(felzoren.Client(lambda: recorder))
@@ -182,7 +182,7 @@ def request_of(call):
 
 
 def reset(peer):
-    """Has a connection end with a reset, once it is closed."""
+    """Makes a connection end with a reset when it is closed."""
     peer.setsockopt(socket.SOL_SOCKET, socket.SO_LINGER, struct.pack("ii", 1, 0))
 
 
@@ -190,8 +190,8 @@ def reset(peer):
 
 
 def records_of(text):
-    """The records that the bytes of a node's file mean, and the place of the closed gate behind them: the text is a closed gate, or an open
-    one, a length, a record and what follows from the next gate."""
+    """The records in the bytes of a node's file, and the place of the closed gate after them. The text is a closed gate; or an open one, a
+    length, a record, and the same again from the next gate on."""
     at, found = 0, []
     while text[at : at + 1] == b"\x01":
         (length,) = struct.unpack_from("<I", text, at + 1)

@@ -1,20 +1,19 @@
 #!/usr/bin/env python3
-"""Starts a server, and speaks to each of its nodes by the library in clients/python.
+"""Starts servers, calls each of their nodes with the library in clients/python, and checks what a user sees.
 
     tools/serving.py [PROGRAM]
 
-It plays the scripts of examples/scripts, and compares the lines with those beside them. Then it starts `PROGRAM serve`
-(crates/flightd/out/flightd) with three nodes and then with five, at ports that it finds free, and looks at what a user sees: the
-lines with the nodes' addresses, an upload that is put at one node and got at each, what comes of it when it is put again or its id is
-another's, puts of several callers at once, calls that are cut off in their midst, peers that stay silent, the words of a client and what
-they show of a slow call, and the files that the nodes keep their records in: which it takes, and that each upload that was acknowledged
-stands there at most nodes, also where the server is killed while it takes others. Servers with `--resume` are started over what earlier
-ones left that were killed, or ended by SIGTERM: each node serves at once what was acknowledged before, byte for byte, an upload that is put
-again is told its version, and to the files records are only added; where there is nothing to go on over they start anew. Folders in which
-a file is missing, cut, damaged, old, exchanged or in use, or what is said of the cluster is not as it was, keep a server from being
-started, and are left as they were. It has each fault come that keeps a server or a script from being started or told of, but want of
-memory, which tools/refused_program.py brings about, and a file that can't be read. The status is 1 where anything is not as it has to
-be."""
+It plays the scripts of examples/scripts, and compares the output with the lines beside them. Then it starts `PROGRAM serve`
+(crates/flightd/out/flightd) with three nodes and then with five, at ports that it finds free, and checks: the lines with the nodes'
+addresses; an upload that is put at one node and got at each; its repetition, and another upload with its id; puts of several callers at
+once; calls that are cut off; silent peers; the commands of a client, and their progress in a slow call; and the files of records: which a
+server accepts, and that each acknowledged upload is in the files of most nodes, even if the server is killed while it takes others.
+Servers with `--resume` are started over the files of earlier ones that were killed or ended by SIGTERM: each node serves at once what was
+acknowledged before, byte for byte, an upload that is put again gets its version, and records are only added to the files; if there are no
+files, they start anew. A folder in which a file is missing, cut, damaged, old, exchanged or in use, or whose cluster.json does not fit,
+keeps a server from starting, and is left as it was. The tool causes each fault that keeps a server or a script from starting or from
+reporting, except for an unreadable file, and for memory that is refused later than at the start (tools/refused_program.py). The status is
+1 if a check fails."""
 import concurrent.futures
 import contextlib
 import fcntl
@@ -41,20 +40,20 @@ from folder_model import missing_sums, report_of
 from servers import limited, records_in, records_of, request_of, reset, serve_words, server, started, want, without_progress
 from toolbox import show_help
 
-# For how long an answer is held back: a call says nothing of itself for a second.
+# For how long an answer is held back: a call shows no progress for a second.
 HELD_SECONDS = 1.5
 CALLERS, PUTS = 8, 6
-# In which steps a process is given more memory, and not more than this, in bytes.
+# The steps in which a process is given more memory, and the most that it is given, in bytes.
 MEMORY_STEP, MOST_MEMORY = 4 << 20, 1 << 30
 CUTS, SEED = 60, 20261127
-# How many bytes a file may have of a process whose standard output is a file with room for a few: a server's other files have fewer.
+# The limit of files for a process whose standard output is a file with little room: a server's other files are smaller.
 FILE_BYTES = 1 << 16
-# So many servers go on over one folder, one after the other.
+# How many servers are resumed over one folder, one after another.
 RESUMED = 5
 ROWS = [{"shop": "Bern", "sold": 3}, {"shop": "Zürich", "sold": None}]
-# What the second line of a fault says of a file or a folder, or how that begins.
+# The second line of a fault about a file or a folder, or how that line begins.
 OLD, MISSING = "has records: --resume goes on over them", "is missing: "
-# What it says of damage, behind the byte; and that of a file whose first record is not whole.
+# Its text about damage, after the byte; and that about a file whose first record is not whole.
 COPIES = "; put back whole copies of the node's two files, as they were last"
 NO_RECORD, CHANGED = "no whole record stands behind this gate, which is open", "the record behind this gate is not the one that was kept"
 CLOSED = "this gate is closed, and a record was kept behind it"
@@ -63,15 +62,15 @@ IN_USE, NOT_OPENED = "is in use by another process", "can't be opened or made"
 SHORTER, OTHER_COUNT = "is shorter than the last server left it: ", "has the files of another number of nodes: "
 NOT_LEFT, NOT_ITS_OWN = "is not the file that the last server left: ", "has the records of another node or cluster: "
 TWO_CLUSTERS, NOT_WRITTEN = "has the files of two clusters: ", "has a cluster.json that no server wrote: "
-# A promise to node 4 in slot 0: in the file of a node of three it names a node that there is not.
+# A promise to node 4 in slot 0: in the file of a node of three it names a node that does not exist.
 TO_NODE_4 = bytes.fromhex("0802180c2004")
-# What a process that ends in the midst of a write may leave behind a closed gate: the length of a record, the record and a gate. It is longer
-# than the next record, and what stands of it behind that looks like open gates.
+# What a process that ends during a write may leave after a closed gate: the length of a record, the record and a gate. It is longer than the
+# next record, and what is left of it after that looks like open gates.
 BEGUN = struct.pack("<I", 40) + b"\x01" * 40 + b"\0"
 
 
 def refusal(call, *given, **named):
-    """The name and the status with which a call is refused."""
+    """The name and the status of a call's refusal."""
     try:
         found = call(*given, **named)
     except felzoren.Refused as refused:
@@ -80,7 +79,7 @@ def refusal(call, *given, **named):
 
 
 def puts_and_gets(clients):
-    """An upload is put at the last node and got at each; what repeats it is the same version, and what has its id is not."""
+    """An upload is put at the last node and got at each; put again it is the same version, and another upload with its id is refused."""
     ack = clients[-1].put("sales", ROWS)
     want(ack.version, 1)
     for client in clients:
@@ -93,7 +92,7 @@ def puts_and_gets(clients):
 
 
 def describes(clients, port):
-    """Each node tells of the table, and where it is served."""
+    """Each node describes the table, and where it is served."""
     locations = [f"plain+tcp://127.0.0.1:{port + number}" for number in range(len(clients))]
     for client in clients:
         info = client.info("sales")
@@ -102,20 +101,20 @@ def describes(clients, port):
 
 
 def first_upload(clients):
-    """An upload of three numbers, and how many bytes its version has."""
+    """Puts an upload of three numbers, and checks how many bytes its version has."""
     want(clients[0].put("t", {"a": [1, None, 3]}, schema={"a": "int8"}, id=bytes(range(16))).version, 1)
     info = clients[0].info("t")
     want((info.ticket.version, len(info.locations), info.total_records, info.total_bytes), (1, len(clients), 3, 349))
 
 
 def put_many(clients, caller):
-    """The versions of uploads that a caller puts one after the other, and their rows."""
+    """The versions of uploads that a caller puts one after another, and their rows."""
     client = clients[caller % len(clients)]
     return {client.put("many", [{"number": caller * PUTS + it}]).version: caller * PUTS + it for it in range(PUTS)}
 
 
 def several_callers(clients):
-    """Callers at once: each upload makes one version, which has it behind those before it, at each node."""
+    """Callers at once: each upload makes one version, in which it comes after the earlier ones, at each node."""
     with concurrent.futures.ThreadPoolExecutor(CALLERS) as pool:
         versions = {}
         for found in pool.map(lambda caller: put_many(clients, caller), range(CALLERS)):
@@ -128,7 +127,7 @@ def several_callers(clients):
 
 
 def cut_calls(clients, port):
-    """Calls that end before any of their bytes, some with a reset: the nodes go on, and nothing of them counts."""
+    """Calls that are cut at any byte, some with a reset: the nodes go on, and the calls have no effect."""
     drawn, calls = random.Random(SEED), (lambda client: client.put("cut", ROWS, id=bytes(16)), lambda client: client.get("sales", 1))
     texts = list(map(request_of, calls))
     for _ in range(CUTS):
@@ -142,7 +141,7 @@ def cut_calls(clients, port):
 
 
 def silent_peers(clients, port):
-    """Silent peers hold nobody up while there is a place left; where they have all, others wait until one of these ends."""
+    """Silent peers hold nobody up while there is a place left; if they have all places, others wait until one of them ends."""
     with contextlib.ExitStack() as peers:
         for _ in range(MOST_CONNECTIONS - 1):
             peers.enter_context(socket.create_connection(("127.0.0.1", port), CALL_SECONDS))
@@ -158,8 +157,8 @@ def silent_peers(clients, port):
 
 
 def not_served(program, folder, name, says=None, nodes=3, resumed=False, port=None, limit=None):
-    """A server with its records in this folder, which does not start and says why; where it is about the folder or a file, in a second line,
-    which begins so."""
+    """A server with its records in this folder does not start, and reports this fault; if that is about the folder or a file, with a second
+    line, which begins with `says`."""
     words = serve_words(program, nodes, port or free_port(nodes), folder, resumed)
     status, output, error = ended(words, limit=limit)
     lines = (without_progress(error) if resumed else error).splitlines(keepends=True)
@@ -168,19 +167,19 @@ def not_served(program, folder, name, says=None, nodes=3, resumed=False, port=No
 
 
 def taken_port(program, port):
-    """A port that another has."""
+    """A port that is in use."""
     with tempfile.TemporaryDirectory() as folder:
         not_served(program, folder, "Bind", port=port - 1)
 
 
 def ended(words, stdout=subprocess.PIPE, stderr=subprocess.PIPE, limit=None):
-    """What a program of these words ends with, prints and reports."""
+    """The status, standard output and standard error of these words."""
     ran = subprocess.run(words, stdout=stdout, stderr=stderr, text=True, timeout=CALL_SECONDS, check=False, preexec_fn=limit)
     return ran.returncode, ran.stdout or "", ran.stderr or ""
 
 
 def into_room(words, room):
-    """The same, where its standard output is a file that has room for so many bytes more."""
+    """The same, with a standard output that is a file with room for `room` bytes."""
     with tempfile.TemporaryFile("w+", encoding="utf-8") as file:
         file.write(" " * (FILE_BYTES - room))
         file.flush()
@@ -190,7 +189,7 @@ def into_room(words, room):
 
 
 def into_nothing(words):
-    """What a program ends with and reports whose standard output takes nothing: a full disk, a pipe that nobody reads, and none at all."""
+    """The status and standard error of a program whose standard output takes nothing: a full disk, a pipe that nobody reads, and none."""
     read, write = os.pipe()
     os.close(read)
     with open("/dev/full", "w", encoding="utf-8") as full, os.fdopen(write, "w") as unread:
@@ -200,7 +199,7 @@ def into_nothing(words):
 
 
 def lost_addresses(program):
-    """Where the nodes are served can't be written, or not all of it: a beginning of the lines stands there."""
+    """The lines with the addresses can't be written, or only in part: the output is a beginning of them."""
     port = free_port(3)
     lines = "".join(addresses(port, 3))
     with tempfile.TemporaryDirectory() as folder:
@@ -211,9 +210,9 @@ def lost_addresses(program):
 
 
 def without_descriptors(program):
-    """A process that may have few files and sockets open, of which three are its standard streams and a fourth is there to load it: of a server
-    first a node's file of records, the last node's first, then one of sums, then what it puts down of the cluster, then a port can't be had, and of a script a port, then a
-    connection."""
+    """A process that may have few files and sockets open, of which three are its standard streams and a fourth serves to load it. With each
+    further one it fails later: a server first at the nodes' files of records, the last node's first, then at those of sums, then at
+    cluster.json, then at a port; a script first at a port, then at a connection."""
     names = [f"/node-{number}.{ending}" for ending in ("rec", "sum") for number in (2, 1, 0)]
     opened = [(count, "Open", f"{name} {NOT_OPENED}") for count, name in enumerate(names, 4)]
     for count, name, says in (*opened, (10, "Device", " has a cluster.json that can't be read or written"), (11, "Bind", None)):
@@ -229,7 +228,7 @@ def with_memory(size):
 
 
 def starts(program, size):
-    """Whether a server with so much memory tells where its nodes are. Where it does not, it has ended for want of memory."""
+    """Whether a server with this much memory prints where its nodes are. If not, it must have ended for want of memory."""
     with tempfile.TemporaryDirectory() as folder:
         port = free_port(3)
         words = [program, "serve", "--port", str(port), "--data", folder]
@@ -246,8 +245,8 @@ def starts(program, size):
 
 
 def little_memory(program):
-    """A process that may have little memory (RLIMIT_AS), from the least on with which the program tells its version: each thread asks for more
-    of it. A server ends for want of memory until it has enough to start; a script that has the least ends so too."""
+    """A process with little memory (RLIMIT_AS), from the least with which the program prints its version: each thread asks for more. A
+    server ends for want of memory until it has enough to start, and so does a script with the least."""
     sizes = iter(range(MEMORY_STEP, MOST_MEMORY, MEMORY_STEP))
     least = next(it for it in sizes if ended([program, "--version"], limit=with_memory(it))[0] == 0)
     want(ended([program, "script", SCRIPT], limit=with_memory(least)), (1, "", "flightd: OutOfMemory\n"))
@@ -255,7 +254,7 @@ def little_memory(program):
     want(tries > 1, True)
 
 
-# ---- the words of a client
+# ---- the commands of a client
 
 ID = "101112131415161718191a1b1c1d1e1f"
 # The port of node 0 of a script's cluster.
@@ -267,13 +266,13 @@ END_FRAME = bytes.fromhex("8000000000")
 
 
 def told(program, words, given=""):
-    """What a call of the program ends with, prints and reports."""
+    """The status, standard output and standard error of the program."""
     ran = subprocess.run([program, *words], input=given, capture_output=True, text=True, timeout=CALL_SECONDS, check=False)
     return ran.returncode, ran.stdout, ran.stderr
 
 
 def latest(program, address, table, rows):
-    """The rows of the latest version, once a node has learned it."""
+    """Waits until a node serves these rows as the latest version."""
     end = time.monotonic() + LEARN_SECONDS
     while told(program, ["get", address, table]) != (0, rows, ""):
         if time.monotonic() > end:
@@ -282,7 +281,7 @@ def latest(program, address, table, rows):
 
 
 def client_words(program, clients, port):
-    """Rows are put and got by the words of a client, and tables are listed and described."""
+    """Rows are put and got by the commands of a client, and tables are listed and described."""
     here = [f"127.0.0.1:{port + number}" for number in range(len(clients))]
     put = ["put", here[0], "words", "-", "--id", ID]
     want(told(program, put, LINES), (0, f"{ID} 1\n", ""))
@@ -329,7 +328,7 @@ def client_words(program, clients, port):
 
 
 def held_back(port):
-    """The port of a relay to this one, which holds each answer back for a while behind its first byte."""
+    """The port of a relay to this one, which holds each answer back for a while after its first byte."""
 
     def relay(near):
         with near, socket.create_connection(("127.0.0.1", port)) as far:
@@ -354,7 +353,7 @@ def held_back(port):
 
 
 def at_terminal(program, words):
-    """What a call of the program prints, and what it reports to a terminal."""
+    """What the program prints, and what it reports to a terminal."""
     terminal, errors = pty.openpty()
     with subprocess.Popen([program, *words], stdout=subprocess.PIPE, stderr=errors, text=True) as ran:
         os.close(errors)
@@ -369,7 +368,7 @@ def at_terminal(program, words):
 
 
 def slow_answers(program, port):
-    """A call that takes long says at a terminal how far it has come, and nowhere else."""
+    """A call that takes long shows its progress at a terminal, and nowhere else."""
     words = ["get", f"127.0.0.1:{held_back(port)}", "words", "1"]
     printed, reported = at_terminal(program, words)
     want((printed, re.fullmatch(r"(\d+ MiB received so far\r\n)+", reported) is not None), (LINES, True))
@@ -377,7 +376,7 @@ def slow_answers(program, port):
 
 
 def lost_answer(program):
-    """A put whose server takes the request and closes without an answer says with which id it is put again: that of the request."""
+    """A put whose server takes the request and closes without an answer prints the id to put it again with: that of the request."""
     with socket.create_server(("127.0.0.1", 0)) as listener, concurrent.futures.ThreadPoolExecutor(1) as pool:
         listener.settimeout(CALL_SECONDS)
         words = ["put", f"127.0.0.1:{listener.getsockname()[1]}", "words", "-"]
@@ -395,7 +394,7 @@ def lost_answer(program):
 
 
 def bad_script(program):
-    """A script with a call that is none says which one it is."""
+    """A script with an invalid call reports which one it is."""
     with tempfile.TemporaryDirectory() as folder:
         file = Path(folder) / "calls.json"
         file.write_text('{"nodes":3,"calls":[["info",0,"t"],["info",3,"t"]]}', encoding="utf-8")
@@ -404,20 +403,20 @@ def bad_script(program):
 
 
 def script_without_a_port(program):
-    """A script one of whose nodes can't have its port, which another has."""
+    """A script one of whose ports is in use."""
     for node in range(3):
         with socket.create_server(("127.0.0.1", FIRST_PORT + node)):
             want(told(program, ["script", SCRIPT]), (1, "", "flightd: Bind\n"))
 
 
 def unread_script(program):
-    """A script that isn't there, and a folder in its place."""
+    """A script that does not exist, and a folder in its place."""
     for name in ("/no/such/file", "/"):
         want(told(program, ["script", name]), (1, "", "flightd: Io\n"))
 
 
 def lost_lines(program):
-    """A script whose lines can't be written, or not all of them: a beginning of them stands there. With room for all of them it is played."""
+    """A script whose lines can't be written, or only in part: the output is a beginning of them. With room for all of them it is played."""
     words, lines = [program, "script", SCRIPT], Path(SCRIPT).with_suffix(".lines").read_text(encoding="utf-8")
     want(list(into_nothing(words)), [(1, "flightd: Io\n")] * 3)
     first = lines.index("\n")
@@ -427,7 +426,7 @@ def lost_lines(program):
 
 
 def lost_fault(program):
-    """Where a fault can't be reported the status alone tells."""
+    """If a fault can't be reported, only the status shows it."""
     with socket.create_server(("127.0.0.1", FIRST_PORT)), open("/dev/full", "w", encoding="utf-8") as full:
         for stderr, limit in ((full, None), (None, lambda: os.close(2))):
             want(ended([program, "script", SCRIPT], stderr=stderr, limit=limit), (1, "", ""))
@@ -440,14 +439,14 @@ def lost_fault(program):
 
 
 def uploads_kept(folder, nodes, ids):
-    """Each of these uploads stands in a record of most nodes."""
+    """Each of these uploads is in a record of most nodes."""
     files = [b"".join(records_in(f"{folder}/node-{number}.rec")) for number in range(nodes)]
     for name in ids:
         want(2 * sum(name in file for file in files) > nodes, True)
 
 
 def show_records(program, file):
-    """The lines of a file's records, a line each, and where the file is damaged once its end is cut off."""
+    """`flightd records` prints a line for each record of a file, and where the file is damaged once its end is cut off."""
     status, lines, error = told(program, ["records", file])
     want((status, len(lines.splitlines()), error), (0, len(records_in(file)), ""))
     want([line.split()[0] for line in lines.splitlines()], [str(number) for number in range(len(records_in(file)))])
@@ -459,14 +458,14 @@ def show_records(program, file):
 
 
 def texts_in(folder):
-    """The bytes of each file of a folder, as far as there is a folder."""
+    """The bytes of each file of a folder, if there is a folder."""
     folder = Path(folder)
     return {it.name: it.read_bytes() if it.is_file() else None for it in (folder.iterdir() if folder.is_dir() else ())}
 
 
 def only_added(old, new):
-    """Behind what each file meant stand at most more records. Its closed gate may be open then, and what stood behind that, where it means
-    nothing, may be written over."""
+    """Each file still begins with its old records, and may have more. So its closed gate may be open now, and what was after that gate, and
+    meant nothing, may be overwritten."""
     for name in [it for it in old if it.endswith(".rec")]:
         gate = records_of(old[name])[1]
         again = new[name] == old[name] or records_of(new[name])[1] > gate
@@ -474,7 +473,7 @@ def only_added(old, new):
 
 
 def refused(program, folder, name, says, nodes=3, resumed=False):
-    """A server that does not start over a folder, leaves each file there as it was, and adds none. What it says of the folder begins so."""
+    """A server does not start over a folder, and neither changes nor adds a file there. Its line about the folder begins with `says`."""
     before = texts_in(folder)
     not_served(program, folder, name, folder + says, nodes, resumed)
     after = texts_in(folder)
@@ -482,8 +481,8 @@ def refused(program, folder, name, says, nodes=3, resumed=False):
 
 
 def go_on_over(program, nodes, folder, table, acks):
-    """A server goes on over a folder: each node serves at once all that was acknowledged, and each of these uploads at its version; one that
-    is put again is told that, and a new one, which is added to these, comes behind them."""
+    """A server is resumed over a folder: each node serves at once all that was acknowledged, each of these uploads at its version; one that
+    is put again gets that version, and a new one, which is added to these, a later one."""
     old, latest = texts_in(folder), max((ack.version for ack in acks), default=0)
     with server(program, nodes, folder, resumed=True) as (clients, _):
         for client in clients if acks else ():
@@ -498,7 +497,7 @@ def go_on_over(program, nodes, folder, table, acks):
 
 
 def old_and_locked_files(program, nodes):
-    """Files that have records are not taken anew, and not while another server has them."""
+    """Files with records are not taken for a new cluster, and no files are taken while another server has them."""
     with tempfile.TemporaryDirectory() as top:
         folder = f"{top}/made/here"
         with server(program, nodes, folder) as (clients, _):
@@ -511,7 +510,7 @@ def old_and_locked_files(program, nodes):
 
 
 def bad_files(program):
-    """For each node in turn a file that is damaged, that has records, that another process has, and a folder in its place."""
+    """For each node in turn a file that is damaged, has records or is locked by another process, and a folder in its place."""
     for number in range(3):
         for text, name, says in (("0104000000080118", "Damaged", NO_RECORDS), ("01040000000801180100", "OldRecords", OLD)):
             with tempfile.TemporaryDirectory() as folder:
@@ -529,7 +528,7 @@ def bad_files(program):
 
 
 def no_folder(program):
-    """A folder in which nothing can be written or made, and what is none."""
+    """A folder in which nothing can be written or made, and paths that can't be a folder."""
     for resumed in (False, True):
         with tempfile.TemporaryDirectory() as folder:
             says = f"{folder}/node-0.rec can't be read or written"
@@ -543,7 +542,7 @@ def no_folder(program):
 
 
 def in_time(call, seconds=LEARN_SECONDS):
-    """What a call gives once it is not refused any more, as by a node that is down for a while."""
+    """What a call returns once it is no longer refused, for example by a node that is down for a while."""
     end = time.monotonic() + seconds
     while True:
         try:
@@ -555,9 +554,8 @@ def in_time(call, seconds=LEARN_SECONDS):
 
 
 def full_later(program):
-    """Files that are full once some uploads were taken: the put that finds it ends as Store, and what was acknowledged is served by the other
-    nodes, and soon by this one too, which starts again. Once there is room, puts are taken at it. The same stands where a server goes on over
-    these files."""
+    """Files that are full after some uploads: the next put ends with Store, and what was acknowledged is served by the other nodes, and soon
+    by this one too, which starts again. Once there is room, it takes puts. A server that is resumed over these files serves the same."""
     with tempfile.TemporaryDirectory() as folder:
         acks = []
         process, clients, _ = started(program, 3, folder, file_limit(8_000))
@@ -585,7 +583,7 @@ def full_later(program):
 
 
 def acknowledged_until_killed(program, nodes, folder, seconds, least):
-    """What a server acknowledged that was killed while callers put, after so many seconds and once so many uploads were acknowledged."""
+    """What a server acknowledged that was killed while callers put: after `seconds`, once at least `least` uploads were acknowledged."""
     acks = []
 
     def puts(client):
@@ -610,9 +608,9 @@ def acknowledged_until_killed(program, nodes, folder, seconds, least):
 
 
 def killed(program, nodes, seconds, look=None, least=1):
-    """A server that is killed while callers put, after so many seconds and once so many uploads were acknowledged: each of these stands
-    at most nodes. The files are looked at too, where this is asked for. No server takes them anew, but one goes on over them, and then another
-    one, and each node serves each of these uploads at once."""
+    """A server is killed while callers put: each acknowledged upload is in the files of most nodes. `look`, if given, checks the files too.
+    No server takes them for a new cluster, but one is resumed over them, and then another, and each node serves each of these uploads at
+    once."""
     with tempfile.TemporaryDirectory() as folder:
         acks = acknowledged_until_killed(program, nodes, folder, seconds, least)
         files = [f"{folder}/node-{number}.rec" for number in range(nodes)]
@@ -621,7 +619,7 @@ def killed(program, nodes, seconds, look=None, least=1):
         tells_of_folder(program, folder, nodes)
         if look:
             look(files)
-        # A server that was killed at once may have kept nothing, and its files are new ones.
+        # A server that was killed at once may have kept nothing, and its files count as new.
         first = next((number for number, file in enumerate(files) if records_in(file)), None)
         if first is not None:
             refused(program, folder, "OldRecords", f"/node-{first}.rec {OLD}", nodes)
@@ -631,16 +629,16 @@ def killed(program, nodes, seconds, look=None, least=1):
     return count
 
 
-# ---- servers that go on over records
+# ---- resumed servers
 
 
 def mark_of(text):
-    """How a file is marked that begins with these bytes: by their number, and a digest of the first and the last of them."""
+    """The mark of a file that begins with these bytes: their number, and a digest of the first and the last of them."""
     return {"length": len(text), "sha256": hashlib.sha256(text[:4_096] + text[-4_096:]).hexdigest()}
 
 
 def cluster_in(folder, nodes):
-    """The name of the cluster in a folder whose server has just started: a mark for each file is of a beginning that has all its records."""
+    """The id of the cluster in a folder whose server has just started. Checks that each file's mark is of a beginning with all its records."""
     text = Path(f"{folder}/cluster.json").read_text(encoding="ascii")
     told = json.loads(text)
     want((text.rstrip("\n"), list(told)), (json.dumps(told, separators=(",", ":")), ["members", "id", "files"]))
@@ -652,7 +650,7 @@ def cluster_in(folder, nodes):
 
 
 def rows_of(version):
-    """The row that makes a version, of up to some 6,000 bytes."""
+    """The row of a version, of up to some 6,000 bytes."""
     return [{"number": version, "text": "x" * (2_500 * version % 6_007)}]
 
 
@@ -663,7 +661,7 @@ def answered(client, version):
 
 
 def stands_at_once(clients, ids, served):
-    """Each node serves each version at once with the bytes that it had, and an upload that is put again at any node is told its version."""
+    """Each node serves each version at once with the bytes that it had, and an upload that is put again at any node gets its version."""
     for client in clients:
         want([answered(client, version) for version in range(1, len(ids) + 1)], served)
     for version, name in enumerate(ids, 1):
@@ -671,7 +669,7 @@ def stands_at_once(clients, ids, served):
 
 
 def put_more(clients, ids, served):
-    """A put at each node makes the next version, which all nodes come to serve with the same bytes."""
+    """A put at each node makes the next version, which all nodes then serve with the same bytes."""
     for client in clients:
         ack = client.put("kept", rows_of(len(ids) + 1))
         want(ack.version, len(ids) + 1)
@@ -682,7 +680,7 @@ def put_more(clients, ids, served):
 
 
 def begin_records(folder, nodes):
-    """Leaves behind the closed gate of each file a record that was begun, as a process does that ends before it opens the gate."""
+    """Leaves an unfinished record after the closed gate of each file, like a process that ends before it opens the gate."""
     for number in range(nodes):
         file = Path(f"{folder}/node-{number}.rec")
         text = file.read_bytes()
@@ -690,20 +688,20 @@ def begin_records(folder, nodes):
 
 
 def sums_stand(folder, nodes):
-    """Each record has its sum in the file beside it, but for the last one of a process that was killed before it entered that."""
+    """Each record has its sum in the file beside it, except the last one if the process was killed before it wrote that."""
     want([number for number in range(nodes) if missing_sums(folder, number) > 1], [])
 
 
 def tells_of_folder(program, folder, nodes):
-    """What a resumed server would serve of a folder is what a plain program tells of its files, and nothing in it is changed."""
+    """`flightd records` prints for a folder what a plain program finds in its files, and changes nothing in it."""
     before = texts_in(folder)
     want(told(program, ["records", folder]), (0, report_of(folder, nodes), ""))
     want(texts_in(folder), before)
 
 
 def resumes(program, nodes):
-    """A server takes puts at each node and is killed, and others go on over its folder, one after the other: what was acknowledged before
-    stands at once, and the cluster keeps its name. Some find a record that was begun; the last one is ended by SIGTERM, and looked behind."""
+    """A server takes puts at each node and is killed, and others are resumed over its folder, one after another: each serves at once what was
+    acknowledged before, and the cluster keeps its id. Some find an unfinished record; the last is ended by SIGTERM, and then checked."""
     ids, served, names = [], [], set()
     with tempfile.TemporaryDirectory() as top:
         folder = f"{top}/made/here"
@@ -728,8 +726,8 @@ def resumes(program, nodes):
 
 
 def resumes_nothing(program):
-    """Where there is nothing to go on over, a server starts anew: no folder, one without files, and one with files of at most a byte. Others go
-    on over what it left, the first over files without records."""
+    """If there is nothing to resume, a server starts anew: no folder, one without files, and one with files of at most a byte. Others are
+    resumed over its folder, the first over files without records."""
     for texts in (None, (), (b"", b"", b""), (b"\0", b"\1", b"")):
         with tempfile.TemporaryDirectory() as top:
             folder = f"{top}/made/here"
@@ -749,8 +747,8 @@ def resumes_nothing(program):
 
 
 def resumes_unmarked(program):
-    """A server goes on over a folder from which cluster.json and the files of sums were taken away, and they are there afterwards: the next one
-    takes the name of the cluster, and the sums of the records."""
+    """A server is resumed over a folder from which cluster.json and the files of sums were removed, and writes them again: the next one uses
+    that id of the cluster and those sums."""
     ids, served, names = [], [], []
     with tempfile.TemporaryDirectory() as folder:
         for number in range(3):
@@ -765,26 +763,26 @@ def resumes_unmarked(program):
     want(names[1], names[2])
 
 
-# ---- folders over which no server goes on
+# ---- folders over which no server is resumed
 
 
 def sizes_in(folder, nodes):
-    """How long the nodes' files are, as far as there is a folder."""
+    """How long the nodes' files are, or 0 if there is no folder."""
     return [os.path.getsize(f"{folder}/node-{number}.rec") for number in range(nodes)] if os.path.isdir(folder) else [0] * nodes
 
 
 def stand_everywhere(folder, nodes, name):
-    """Waits until an upload stands in the file of each node."""
+    """Waits until an upload is in the file of each node."""
     end = time.monotonic() + LEARN_SECONDS
     while not all(name in b"".join(records_in(f"{folder}/node-{number}.rec")) for number in range(nodes)):
         if time.monotonic() > end:
-            raise Wrong(f"upload {name.hex()} does not come to stand in the files of all nodes")
+            raise Wrong(f"upload {name.hex()} is not in the files of all nodes")
         time.sleep(0.01)
 
 
 def leave_records(program, nodes, folder, least=0):
-    """Has a server leave a folder that is killed, anew where there is none: it took an upload at each node, and more, until each file is
-    longer than any was before, and than so many bytes. Each upload stands in the files of all nodes before the next one is put."""
+    """Starts a server over a folder, new if there is none, and kills it once it took an upload at each node, and more until each file is
+    longer than any was before, and than `least` bytes. Each upload is in the files of all nodes before the next one is put."""
     least, count = max(least, *sizes_in(folder, nodes)), 0
     with server(program, nodes, folder, resumed=os.path.isdir(folder), ending=signal.SIGKILL) as (clients, _):
         while count < nodes or min(sizes_in(folder, nodes)) <= least:
@@ -794,7 +792,7 @@ def leave_records(program, nodes, folder, least=0):
 
 
 def swap_files(folder, *endings):
-    """Gives the files with these endings of nodes 0 and 1 each other's names."""
+    """Swaps the files of nodes 0 and 1 with these endings."""
     for ending in endings or ("rec", "sum"):
         os.rename(folder / f"node-0.{ending}", folder / "swapped")
         os.rename(folder / f"node-1.{ending}", folder / f"node-0.{ending}")
@@ -802,7 +800,7 @@ def swap_files(folder, *endings):
 
 
 def copy_files(other, folder, number):
-    """Puts the files of a node of another folder in the place of this one's."""
+    """Replaces a node's files with those of another folder."""
     for ending in ("rec", "sum"):
         shutil.copy(f"{other}/node-{number}.{ending}", folder)
 
@@ -813,7 +811,7 @@ def link_to_itself(file):
 
 
 def cut_last_record(file):
-    """Takes away the gate behind a file's last record, and what stands behind that."""
+    """Cuts off the gate after a file's last record, and what is after that."""
     text = file.read_bytes()
     file.write_bytes(text[: records_of(text)[1]])
 
@@ -824,28 +822,28 @@ def place_of(file, number):
 
 
 def change_byte(file, place, change):
-    """Changes a byte of a file, the last one where the place is -1."""
+    """Changes a byte of a file; -1 is the place of the last one."""
     text = bytearray(file.read_bytes())
     text[place] = change(text[place])
     file.write_bytes(text)
 
 
 def add_record(file, record):
-    """Puts a record behind those of a file."""
+    """Adds a record after those of a file."""
     text = file.read_bytes()
     file.write_bytes(text[: records_of(text)[1]] + b"\x01" + struct.pack("<I", len(record)) + record + b"\0")
 
 
 def change_mark(file, **more):
-    """Says something else of the file of node 1."""
+    """Changes the mark of the file of node 1."""
     told = json.loads(file.read_text(encoding="ascii"))
     told["files"][1].update(more)
     file.write_text(json.dumps(told, separators=(",", ":")) + "\n", encoding="ascii")
 
 
 def marked_faults(early, other):
-    """What is changed in a folder with its cluster.json, and the fault and how its second line begins: `early` are older copies of the same
-    files, and `other` are those of another cluster."""
+    """Faults of a folder with its cluster.json: the name of each, how its second line begins, and the change that causes it. `early` has
+    older copies of the same files, and `other` those of another cluster."""
 
     def cut_mark(folder):
         length = json.loads((folder / "cluster.json").read_text(encoding="ascii"))["files"][1]["length"]
@@ -870,7 +868,7 @@ def marked_faults(early, other):
 
 
 def unmarked_faults(other):
-    """The same of a folder without cluster.json."""
+    """The same for a folder without cluster.json."""
     yield "Members", f" {OTHER_COUNT}", lambda to: shutil.copy(f"{other}/node-2.rec", to / "node-3.rec")
     yield "Foreign", f"/node-0.rec {NOT_ITS_OWN}", swap_files
     yield "Foreign", f" {TWO_CLUSTERS}", lambda to: copy_files(other, to, 1)
@@ -878,8 +876,7 @@ def unmarked_faults(other):
 
 
 def changed_bytes():
-    """Bytes of a file that changed, of which the record or the gate is found by the sums: the first record's gate, that of another one, and
-    the last byte of a value."""
+    """The same for changed bytes that are found by the sums: the first record's gate, that of another one, and the last byte of a value."""
     yield "Damaged", f"/node-1.rec byte 0: {CLOSED}{COPIES}", lambda to: change_byte(to / "node-1.rec", 0, lambda _: 0)
     for number in (1, 3):
         yield "Damaged", f"/node-1.rec byte ", lambda to, it=number: change_byte(to / "node-1.rec", place_of(to / "node-1.rec", it), lambda _: 0)
@@ -895,7 +892,7 @@ def end_of_value(file):
 
 
 def any_faults():
-    """The same of a folder with cluster.json or without."""
+    """The same for a folder with cluster.json or without."""
     one = "/node-1.rec "
     yield "Missing", one + MISSING, lambda to: (to / "node-1.rec").unlink()
     yield "Truncated", one + SHORTER, lambda to: os.truncate(to / "node-1.rec", 0)
@@ -905,7 +902,7 @@ def any_faults():
 
 
 def refuses_to_tell(program, folder, name, says):
-    """What a resumed server would serve of such a folder is not told either; of damage the line is the same but for what can be done."""
+    """`flightd records` refuses such a folder too; for damage its line is the same but for what can be done."""
     if name in ("Damaged", "Foreign") and NOT_ITS_OWN not in says:
         status, output, error = told(program, ["records", str(folder)])
         first, *more = error.splitlines()
@@ -914,7 +911,7 @@ def refuses_to_tell(program, folder, name, says):
 
 
 def refuses_changed(program, folder, faults, is_marked):
-    """No server goes on over a copy of a folder in which one thing was changed."""
+    """No server is resumed over a copy of a folder in which one thing was changed."""
     for name, says, change in faults:
         with tempfile.TemporaryDirectory() as top:
             copy = Path(shutil.copytree(folder, f"{top}/copy"))
@@ -926,8 +923,8 @@ def refuses_changed(program, folder, faults, is_marked):
 
 
 def refuses_as_it_is(program, folder, is_marked):
-    """A folder that was not changed: no server takes it anew, or goes on over it with another number of nodes or while it is in use. Then one
-    goes on over it."""
+    """An unchanged folder: no server takes it for a new cluster, or is resumed over it with another number of nodes or while it is in use.
+    Then one is resumed over it."""
     with tempfile.TemporaryDirectory() as top:
         copy = shutil.copytree(folder, f"{top}/copy")
         if not is_marked:
@@ -945,7 +942,7 @@ def refuses_as_it_is(program, folder, is_marked):
 
 
 def refuses_to_resume(program):
-    """No server goes on over files that are not those which the last one left, each in its place, and it leaves them as they are."""
+    """No server is resumed over files other than those that the last one left, each in its place, and it leaves them as they are."""
     with tempfile.TemporaryDirectory() as top:
         folder, early, other = (f"{top}/{it}" for it in ("folder", "early", "other"))
         leave_records(program, 3, folder)
@@ -961,7 +958,7 @@ def refuses_to_resume(program):
 
 
 def scripts(program):
-    """Each script gives the lines that stand beside it."""
+    """Each script prints the lines in the file beside it."""
     files = sorted((TOP / "examples" / "scripts").glob("*.json"))
     for file in files:
         ran = subprocess.run([program, "script", file], capture_output=True, text=True, timeout=CALL_SECONDS, check=False)
@@ -970,7 +967,7 @@ def scripts(program):
 
 
 def main(program):
-    print(f"{scripts(program)} scripts: each line is as it has to be")
+    print(f"{scripts(program)} scripts: each line is as expected")
     for nodes in (3, 5):
         with server(program, nodes) as (clients, port):
             puts_and_gets(clients)
@@ -985,7 +982,7 @@ def main(program):
         print(f"{nodes} nodes: puts at one are got at all, by several callers at once, beside calls that are cut off and peers that stay silent")
         old_and_locked_files(program, nodes)
         count = resumes(program, nodes)
-        print(f"{nodes} nodes: {count} uploads put at {RESUMED + 1} servers, one after the other over one folder, stand at once in the next")
+        print(f"{nodes} nodes: {count} uploads put at {RESUMED + 1} servers, one after another over one folder, are served at once by the next")
     resumes_nothing(program)
     resumes_unmarked(program)
     refuses_to_resume(program)
@@ -1002,8 +999,8 @@ def main(program):
     no_folder(program)
     full_later(program)
     counts = [killed(program, nodes, seconds) for nodes in (3, 5) for seconds in (1, 2)]
-    print(f"{sum(counts)} uploads were acknowledged by servers that were then killed: each stands in the files of most nodes, and is served by those "
-          "that go on over them")
+    print(f"{sum(counts)} uploads were acknowledged by servers that were then killed: each is in the files of most nodes, and is served by servers "
+          "that are resumed over them")
 
 
 if __name__ == "__main__":

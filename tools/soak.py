@@ -1,43 +1,44 @@
 #!/usr/bin/env python3
-"""Restarts and kills servers under load, round after round, and looks at what stands of what they acknowledged. It is no part of the
-gate.
+"""Restarts and kills servers under load, round after round, and checks that what they acknowledged is kept.
+
+It is not part of the gate.
 
     tools/soak.py [MINUTES] [PROGRAM] [--seed SEED] [--round NUMBER]
     tools/soak.py [MINUTES] [PROGRAM] [--seed SEED] --kills COUNT
 
-In rounds until MINUTES (60) are over it starts `PROGRAM serve` (crates/flightd/out/flightd) with three nodes or five over a new folder.
-Four to 32 callers put uploads of several types and sizes to a few tables at all nodes, get versions at other nodes than those that they
-put at, and ask of tables. Some cut a connection at a drawn byte of the request or of the answer, with a reset or without; some put an
-upload again under its id, at another node, once its connection was cut or its answer was let go. At a drawn moment the server is killed
-(SIGKILL), or ended (SIGTERM), or the callers just end: then every node has to tell of each table and to serve it with equal bytes, with
-each upload that was acknowledged once, at its version, with the rows and the frames that were sent, and none whose request was cut; and
-the server is ended.
+It runs rounds until MINUTES (60) are over. A round starts `PROGRAM serve` (crates/flightd/out/flightd) with three or five nodes over a new
+folder. Four to 32 callers put uploads of several types and sizes to a few tables at all nodes, get versions at other nodes than those that
+they put at, and ask for tables. Some cut a connection at a random byte of the request or of the answer, with a reset or without; some put an
+upload again under its id, at another node, after its connection was cut or its answer was ignored. At a random moment the server is killed
+(SIGKILL), or ended (SIGTERM), or the callers just end: then every node must describe each table and serve it with equal bytes, with
+each acknowledged upload once, at its version, with the rows and the frames that were sent, and none whose request was cut; and the server
+is ended.
 
-Up to four more servers, as is drawn, then go on over the folder, one after the other (`--resume`), each until a drawn moment and a drawn
-end of its own. Once one of them has started, each node has to tell at once of all that was acknowledged before, and of what any node had
-told of, and to serve it, with the bytes that it had; uploads that are put again have to be told the versions that they were; and the
-callers go on, most of them with the puts that the server before had left without an answer.
+Up to four more servers, by a random number, are then started over the folder, one after another (`--resume`), each until a random moment and
+with a random end of its own. Once one of them has started, each node must at once report all that was acknowledged before, and all that any
+node had reported, and serve it with the same bytes; uploads that are put again must get the versions that they had; and the callers go on,
+first with most of the puts that the server before had left without an answer.
 
-However the last server ends, `PROGRAM records` has to show the files of all nodes as this reads them; where most nodes have accepted a
-value at one ballot it is that slot's, the only one; and the slots from 0 on have to make each upload that any server acknowledged, byte
-for byte, at its version. The next round has a new folder.
+However the last server ends, `PROGRAM records` must print the files of all nodes as this tool reads them; a value that most nodes have
+accepted at one ballot is the only one of its slot; and the slots from 0 on must make each upload that any server acknowledged, byte for byte,
+at its version. The next round has a new folder.
 
-Behind every other round the next of the tests runs that play the nodes in threads, by its full name: those that
-cluster_conformance_tests and thread_conformance_tests list, which are looked for each time beside PROGRAM and where the gate builds
-them. They compare each receipt with the journal, and judge the messages of nodes that are started again under load.
+After every other round it runs the next of the tests that play the nodes in threads: those that cluster_conformance_tests and
+thread_conformance_tests list, which it looks for each time beside PROGRAM and where the gate builds them. They compare each receipt with the
+journal, and judge the messages of nodes that are restarted under load.
 
 With --kills it kills COUNT servers in place of the rounds, or as many as MINUTES allow; each takes a second or two. A server of three nodes
-or five starts over a new folder, two callers a node put uploads, one after the other, and the server is killed (SIGKILL) up to KILL_SECONDS
+or five starts over a new folder, two callers a node put uploads, one after another, and the server is killed (SIGKILL) up to KILL_SECONDS
 after it has reported its addresses. `PROGRAM records` must print each file as records. Each upload that was acknowledged must be in the files
 of most nodes, the files of sums must be those of the records, and `PROGRAM records` of the folder must report what tools/folder_model.py reads
-there. A server without `--resume` must refuse the folder. Two servers with `--resume` then start over it, one after the other: each node must
+there. A server without `--resume` must refuse the folder. Two servers with `--resume` then start over it, one after another: each node must
 serve every acknowledged upload at once, at its version, the same version must be the answer to an upload that is put again, a new upload must
 make the next version, and records may only be added to the files. The first fault ends it.
 
-Round NUMBER is drawn from SEED and its number alone: with --round it is played again, by itself. Threads and disks keep their own times.
-It prints a line a round, with what was wrong in it, and at the end a table. The records of a round in which something was wrong are left
-where it says. The status is 1 where an upload was lost, doubled or different, a call failed or did not end within CALL_SECONDS while the
-server had to serve, a server ended by itself, or a test failed, as one does whose receipt is not confirmed."""
+A round is drawn from SEED and its NUMBER alone: --round plays it again, by itself. Threads and disks keep their own times. It prints a line
+for each round, with its faults, and at the end a table. The records of a round with a fault are left in the folder that it prints. The status
+is 1 if an upload was lost, doubled or different, a call failed or did not end within CALL_SECONDS while the server had to serve, a server
+ended by itself, or a test failed, for example because a receipt is not confirmed."""
 import argparse
 import collections
 import datetime
@@ -60,23 +61,23 @@ from serving import killed
 from felzoren import bytes_field, data_message, descriptor, schema_header
 
 TESTS = ("cluster_conformance", "thread_conformance")
-# A test runs behind every so many rounds, and for so many seconds at most.
+# A test runs after every TEST_ROUNDS rounds, for at most TEST_SECONDS.
 TEST_ROUNDS, TEST_SECONDS = 2, 300
-# For how long callers call a server, and how often altogether: its journal has room for a million entries.
+# For how long callers call a server at most, and how often together: its journal has room for a million entries.
 MOST_SECONDS, MOST_CALLS = 15, 8_000
-# So many servers go on over the folder of a round at most. Of the uploads with fewer bytes than SMALL that were acknowledged one in KEPT_EACH
-# is kept, and once a server has started over old records so many of these are put again. Of the puts that the server before had left
-# without an answer this share is made again.
+# At most MOST_RESUMED servers are resumed over the folder of a round. Of the acknowledged uploads with fewer bytes than SMALL one in KEPT_EACH
+# is kept, and once a server has started over old records, MOST_AGAIN of these are put again. LEFT_SHARE of the puts that the server before had
+# left without an answer are made again.
 MOST_RESUMED, SMALL, KEPT_EACH, MOST_AGAIN, LEFT_SHARE = 4, 1 << 16, 10, 10, 0.75
 ENDINGS = {"kill -9": signal.SIGKILL, "SIGTERM": signal.SIGTERM, "callers end": None}
-# How many bytes the large uploads of a round may have together, of which it draws one.
+# How many bytes the large uploads of a round may have together: it draws one of these.
 BUDGETS = (8 << 20, 32 << 20, 128 << 20)
-# So many faults of a round are printed, and so often ports are looked for.
+# How many faults of a round are printed, and how often ports are looked for.
 MOST_FAULTS, STARTS = 5, 5
-# The longest time after which a server is killed that is started to be killed, and after how many of these a line is printed.
+# With --kills: the longest time after which a server is killed, and after how many of them a line is printed.
 KILL_SECONDS, KILLS_A_LINE = 2.0, 20
 
-# `PROGRAM records` shows 32 bytes of an upload, which have the id behind a table's name of at most 12.
+# `PROGRAM records` shows 32 bytes of an upload: they include the id, which comes after a table's name of at most 12 bytes.
 TABLES = {
     name: felzoren.Schema(schema)
     for name, schema in {
@@ -92,7 +93,7 @@ START = datetime.datetime(2026, 1, 1, tzinfo=datetime.timezone.utc)
 
 # ---- uploads
 
-# What makes a value of each kind of type.
+# Makes a value of each kind of type.
 VALUES = {
     "Int": lambda drawn, type: drawn.getrandbits(type.parameters[0]) - (1 << type.parameters[0] - 1),
     "FloatingPoint": lambda drawn, type: drawn.random(),
@@ -114,7 +115,7 @@ def value(drawn, type):
 
 
 def drawn_batches(drawn, table, large):
-    """The batches of an upload, each a list of columns: small ones, or where a large upload is wanted a few cells with many bytes."""
+    """The batches of an upload, each a list of columns: small ones, or for a large upload a few cells with many bytes."""
     if large:
         most = drawn.choice((1 << 16, 1 << 20, 4_100_000))
         return [[[drawn.randbytes(drawn.randrange(most))]] for _ in range(drawn.randint(1, 4))]
@@ -130,8 +131,7 @@ def digest(*parts):
     return found.digest()
 
 
-# An upload: what is sent of it; how many rows it has, and the digests of its rows, of the frames that serve it, and of what records keep
-# of it.
+# An upload: its messages, how many rows it has, and the digests of its rows, of the frames that serve it, and of its bytes in records.
 Upload = collections.namedtuple("Upload", "table id messages rows cells served kept")
 
 
@@ -154,13 +154,12 @@ def drawn_upload(drawn, large):
     return Upload(table, id, messages, sum(counts), rows_digest(batches), digest(*served), digest(kept))
 
 
-# What came for a ticket: the ids of the uploads in order, each with the digest of its frames; and how many bytes there were, and their
-# digest.
+# The answer to a ticket: the ids of the uploads in order, each with the digest of its frames; and the number of bytes and their digest.
 Answer = collections.namedtuple("Answer", "uploads size whole")
 
 
 def read_answer(table, messages):
-    """What a version is, as it came."""
+    """The answer in these messages of a version."""
     want(next(messages, None), data_message(schema_header(TABLES[table]), b"", b""))
     uploads, whole, size = [], hashlib.sha256(), 0
     for message in messages:
@@ -177,24 +176,24 @@ def read_answer(table, messages):
 
 
 class Round:
-    """A round: what is drawn of it, what its callers sent and were told, and what was wrong."""
+    """A round: what is drawn for it, what its callers sent and received, and what was wrong."""
 
     def __init__(self, program, seed, number):
         self.program, self.seed, self.number = program, seed, number
         self.drawn = drawn = random.Random(f"{seed} {number}")
         self.nodes, self.callers = drawn.choice((3, 5)), drawn.randint(4, 32)
-        # Of each server how it ends, and after how many seconds; and what each caller draws from.
+        # How each server ends, and after how many seconds; and what each caller draws from.
         self.endings = [(drawn.choice(list(ENDINGS)), drawn.uniform(0.2, MOST_SECONDS)) for _ in range(1 + drawn.randint(0, MOST_RESUMED))]
         self.draws = [random.Random(f"{seed} {number} {caller}") for caller in range(self.callers)]
         self.budget = drawn.choice(BUDGETS)
         self.lock, self.over, self.ended = threading.Lock(), threading.Event(), threading.Event()
-        # Of each upload that may stand: what it is; the ids of those that may not; the versions that were acknowledged, by id and by table;
-        # and for each node and table the latest version that the node was heard of.
+        # The uploads that may be served; the ids of those that may not; the versions that were acknowledged, by id and by table; and for each
+        # node and table the latest version that the node has reported.
         self.sent, self.never, self.acknowledged = {}, set(), {}
         self.versions, self.heard = {table: {} for table in TABLES}, collections.Counter()
-        # Of each table the latest version of which a server before this one was heard; and of each version that was served a digest.
+        # For each table the latest version that an earlier server has reported; and for each version that was served a digest.
         self.old, self.served = collections.Counter(), {}
-        # Uploads with what is sent of them: those whose put has no answer, those that are to be put again for that, and some others.
+        # Uploads with their messages: those whose put has no answer, those that are to be put again for that, and some others.
         self.unanswered, self.left, self.kept = {}, [], []
         self.counts, self.faults, self.held, self.last_call = collections.Counter(), [], 0, MOST_CALLS
 
@@ -220,7 +219,7 @@ class Round:
         return upload
 
     def put(self, upload, node):
-        """Puts an upload at a node, and remembers that it was acknowledged: once at one version, which no other upload has."""
+        """Puts an upload at a node, and checks that it is always acknowledged at one version, which no other upload has."""
         id, table = upload.id, upload.table
         with self.lock:
             self.unanswered[id] = upload
@@ -230,19 +229,19 @@ class Round:
             is_new = id not in self.acknowledged
             told = self.acknowledged.setdefault(id, version), self.versions[table].setdefault(version, id)
             if told != (version, id):
-                raise Wrong(f"upload {id.hex()} of {table} is told version {version}, and was {told[0]}, which is that of {told[1].hex()}")
+                raise Wrong(f"upload {id.hex()} of {table} got version {version}, and had {told[0]}, which is that of {told[1].hex()}")
             self.heard[node, table] = max(self.heard[node, table], version)
             if is_new and len(self.acknowledged) % KEPT_EACH == 0 and sum(map(len, upload.messages)) < SMALL:
                 self.kept.append(upload)
         return version
 
     def put_again(self, upload, drawn):
-        """Puts an upload at any node that was put before."""
+        """Puts an earlier upload again, at any node."""
         self.put(upload, drawn.randrange(self.nodes))
         self.count("puts repeated")
 
     def put_left(self, drawn):
-        """Puts an upload again, if there is one left that the server before had given no answer."""
+        """Puts an upload again that the server before had left without an answer, if there is one."""
         with self.lock:
             upload = self.left.pop() if self.left else None
         if upload:
@@ -264,7 +263,7 @@ class Round:
         return socket.create_connection(("127.0.0.1", self.port + drawn.randrange(self.nodes)), CALL_SECONDS)
 
     def send_cut(self, drawn, text, answer=0):
-        """Sends bytes over a connection that ends behind them, or behind so many bytes of an answer, with a reset or without."""
+        """Sends bytes over a connection that ends after them, or after `answer` bytes of an answer, with a reset or without."""
         with self.connected(drawn) as peer:
             peer.sendall(text)
             while answer > 0 and (found := peer.recv(min(answer, 1 << 16))):
@@ -274,7 +273,7 @@ class Round:
         self.count("connections cut")
 
     def cut_puts(self, drawn):
-        """A put whose request is cut, or whose answer nobody waits for; and then, of most, a put of the same upload at any node."""
+        """A put whose request is cut, or whose answer nobody waits for; and then mostly a put of the same upload at any node."""
         upload, again = self.upload(drawn), drawn.random() < 0.75
         text = felzoren.request("DoPut", upload.messages)
         whole = drawn.random() < 0.5
@@ -286,7 +285,7 @@ class Round:
             self.put_again(upload, drawn)
 
     def cut_gets(self, drawn):
-        """A get whose request, or whose answer, is cut."""
+        """A get whose request or answer is cut."""
         table, version = self.known(drawn)
         text = felzoren.request("DoGet", [bytes_field(1, felzoren.Ticket(table, version).encode())])
         if drawn.random() < 0.3:
@@ -309,7 +308,7 @@ class Round:
             self.compare(drawn.randrange(self.nodes), table, version)
 
     def asks(self, drawn):
-        """Questions about a table, or all: a node tells of no version before one that it was heard of."""
+        """Questions about a table, or all: a node reports no version before one that it has reported."""
         node, table = drawn.randrange(self.nodes), drawn.choice(list(TABLES))
         with self.lock:
             heard = {it: self.heard[node, it] for it in TABLES}
@@ -332,7 +331,7 @@ class Round:
     # ---- what is compared
 
     def answer(self, node, table, version):
-        """What a node serves for a ticket: at once where a server before this one was heard of the version, and else once it has learned it."""
+        """What a node serves for a ticket: at once if an earlier server has reported the version, and else once it has learned it."""
         ticket = bytes_field(1, felzoren.Ticket(table, version).encode())
 
         def call():
@@ -341,8 +340,8 @@ class Round:
         return call() if version <= self.old[table] else learned(call)
 
     def compare(self, node, table, version):
-        """A version at a node: so many uploads, each once, each as it was sent, and those that were acknowledged at their versions. It has the
-        bytes that it has had at any node, of this server or one before."""
+        """Checks a version at a node: it has as many uploads as its number, each once and as it was sent, those that were acknowledged at their
+        versions, and the same bytes as at any node of this or an earlier server."""
         found = self.answer(node, table, version)
         ids = [id for id, _ in found.uploads]
         if (len(ids), len(set(ids))) != (version, version):
@@ -361,7 +360,7 @@ class Round:
         return found
 
     def compare_rows(self, table, version):
-        """The rows of a version, as the library reads them, upload by upload."""
+        """Checks the rows of a version, as the library reads them, upload by upload."""
         found = self.client(0).get(table, version)
         want(found.schema, TABLES[table])
         for upload in found.uploads:
@@ -370,18 +369,18 @@ class Round:
                 raise Wrong(f"upload {upload.id} of {table} has other rows than were put")
 
     def agreed_info(self, table, least):
-        """What all nodes tell of a table, once they tell the same: a put whose answer nobody waited for may be decided still."""
+        """What all nodes report of a table, once they agree: a put whose answer nobody waited for may still be decided."""
         versions, end = [], time.monotonic() + LEARN_SECONDS
         while len(set(versions)) != 1 or versions[0] < least:
             if time.monotonic() > end:
-                raise Wrong(f"the nodes do not come to tell the same of {table}: versions {versions}, of which {least} was acknowledged")
+                raise Wrong(f"the nodes do not agree about {table}: versions {versions}, of which {least} was acknowledged")
             infos = [learned_info(self.client(node), table) for node in range(self.nodes)]
             versions = [it.ticket.version for it in infos]
         want(infos, [infos[0]] * self.nodes)
         return infos[0]
 
     def compare_all(self):
-        """Each table at each node: the same version, which has all that was acknowledged, with the same bytes, and as it is told of."""
+        """Checks each table at each node: the same version, with all that was acknowledged, with the same bytes, and as it is described."""
         for table, told in self.versions.items():
             if not told:
                 continue
@@ -394,9 +393,9 @@ class Round:
             self.compare_rows(table, info.ticket.version)
 
     def compare_old(self):
-        """What any server before this one was heard of, once this one has started: each node tells of that at once, and serves it with the bytes
-        that it had; and uploads that are put again are told their versions. A put that had no answer may be decided only now: then a node may
-        tell of a later version before another one does, and all come to tell the same."""
+        """Checks what any earlier server has reported, once this one has started: each node reports it at once, and serves it with the same
+        bytes; and uploads that are put again get their versions. A put that had no answer may be decided only now: then a node may report a
+        later version before another does, and in the end all agree."""
         for table in [it for it in TABLES if self.old[it]]:
             for node in range(self.nodes):
                 self.check_info(node, self.client(node).info(table), self.old[table])
@@ -410,7 +409,7 @@ class Round:
     # ---- the files of records
 
     def check_files(self, folder):
-        """The files of all nodes: `PROGRAM records` shows them as they are, and they have what was acknowledged, at its version."""
+        """Checks the files of all nodes: `PROGRAM records` prints them as they are, and they have what was acknowledged, at its version."""
         accepted = collections.defaultdict(list)
         for node in range(self.nodes):
             lines, file = [], f"{folder}/node-{node}.rec"
@@ -426,7 +425,7 @@ class Round:
         self.check_versions(values_in(accepted, self.nodes))
 
     def check_versions(self, values):
-        """The values of the slots from 0 on make each upload that was acknowledged, as it was sent, at its version."""
+        """Checks that the values of the slots from 0 on make each acknowledged upload, as it was sent, at its version."""
         uploads = {upload.kept: upload for upload in self.sent.values()}
         stand = {table: {} for table in TABLES}
         for slot in range(len(values)):
@@ -435,11 +434,11 @@ class Round:
             if values[slot] is not None:
                 upload = uploads.get(values[slot])
                 if upload is None or upload.id in self.never:
-                    raise Wrong(f"slot {slot} has an upload that nobody sent as it stands there")
+                    raise Wrong(f"slot {slot} has an upload that nobody sent with these bytes")
                 stand[upload.table].setdefault(upload.id, len(stand[upload.table]) + 1)
         wrong = [(id.hex(), version) for id, version in self.acknowledged.items() if stand[self.sent[id].table].get(id) != version]
         if wrong:
-            raise Wrong(f"{len(wrong)} acknowledged uploads do not stand at their versions in the files of most nodes: {wrong[:3]}")
+            raise Wrong(f"{len(wrong)} acknowledged uploads are not at their versions in the files of most nodes: {wrong[:3]}")
 
     # ---- how a round goes
 
@@ -458,7 +457,7 @@ class Round:
                     return
 
     def load(self, process, ending, seconds):
-        """Has the callers call, until they are to end, and ends the server where that is how it ends."""
+        """Lets the callers call for this many seconds, and ends the server if a signal is to end it."""
         callers = [threading.Thread(target=self.caller, args=(number,), daemon=True) for number in range(self.callers)]
         for caller in callers:
             caller.start()
@@ -472,7 +471,7 @@ class Round:
                 self.blame(f"caller {number} is in a call that does not end")
 
     def end(self, process, number):
-        """Ends the server by a signal, if there is one to send, and looks at it before."""
+        """Reads the server's memory, and then ends it by a signal, if there is one to send."""
         if process.poll() is not None:
             raise Wrong(f"the server has ended by itself, with status {process.returncode}: {process.communicate()[1]!r}")
         self.held = max(self.held, look(process).most)
@@ -483,8 +482,8 @@ class Round:
             want((without_progress(told), process.returncode), ("", -number))
 
     def go_on(self):
-        """What the servers before this one leave to it: what any node was heard of is old, and known to each node; and most puts that they gave
-        no answer are made again."""
+        """Prepares for a resumed server: what any node has reported is now old, and known to each node; and most puts without an answer are to
+        be made again."""
         for table in TABLES:
             self.old[table] = max(self.heard[node, table] for node in range(self.nodes))
             for node in range(self.nodes):
@@ -494,7 +493,7 @@ class Round:
         self.count("starts over old records")
 
     def serve(self, folder, number):
-        """A server of the round, by its number: but for the first it goes on over the records of those before."""
+        """Runs the server of this number in the round; all but the first are resumed over the records of the earlier ones."""
         ending, seconds = self.endings[number]
         process, _, self.port = started_anew(self.program, self.nodes, folder, number > 0)
         self.over, self.ended, self.last_call = threading.Event(), threading.Event(), self.counts["calls"] + MOST_CALLS
@@ -514,7 +513,7 @@ class Round:
             process.communicate()
 
     def play(self, folder):
-        """One server after the other, up to the first that callers find something wrong with, and then the files that they leave."""
+        """Runs one server after another, up to the first at which callers find a fault, and then checks the files that they leave."""
         try:
             for number in range(len(self.endings)):
                 if not self.faults:
@@ -535,7 +534,7 @@ class Round:
 
 
 def learned_info(client, table):
-    """What a node tells of a table, once it knows it."""
+    """What a node reports of a table, once it knows it."""
     end = time.monotonic() + LEARN_SECONDS
     while True:
         try:
@@ -548,7 +547,7 @@ def learned_info(client, table):
 
 
 def started_anew(program, nodes, folder, resumed):
-    """A server. A port that was free may be another's by the time that it is opened; then others are looked for."""
+    """Starts a server. A port that was free may be in use by the time that it is opened; then it looks for others."""
     for _ in range(STARTS):
         try:
             return started(program, nodes, folder, resumed=resumed)
@@ -559,7 +558,7 @@ def started_anew(program, nodes, folder, resumed):
 
 
 def read_record(record):
-    """The slot and the ballot at which a record says that a value was accepted, and the digest of an upload's bytes; and its line."""
+    """The slot and the ballot of a record that a value was accepted, and the digest of an upload's bytes; and the record's line."""
     found = felzoren.Message(record)
     kind, slot, ballot, value = found.number(1), found.number(2), f"{found.number(3)}.{found.number(4)}", found.bytes(5)
     if kind == 1:
@@ -572,7 +571,7 @@ def read_record(record):
 
 
 def values_in(accepted, nodes):
-    """The value of each slot that most nodes have accepted at one ballot: never two of one slot, nor of one ballot."""
+    """The value of each slot that most nodes have accepted at one ballot. No slot may have two, and no ballot of a slot either."""
     values = {}
     for (slot, ballot), found in accepted.items():
         if len({kept for _, kept in found}) > 1:
@@ -586,7 +585,7 @@ def values_in(accepted, nodes):
 
 
 def tests_beside(program):
-    """The tests that play nodes in threads, each with its program, as far as these are there."""
+    """The tests that play nodes in threads, each with its program, if that is built."""
     for crate in TESTS:
         places = (Path(program).resolve().parent / f"{crate}_tests", TOP / "crates" / crate / "out" / f"{crate}_tests")
         for file in [it for it in places if it.is_file()][:1]:
@@ -595,7 +594,7 @@ def tests_beside(program):
 
 
 def run_test(file, name):
-    """Runs a test by its name, and gives what is wrong with it, if anything."""
+    """Runs a test by its name, and returns what is wrong with it, if anything."""
     try:
         ran = subprocess.run([file, name], capture_output=True, text=True, timeout=TEST_SECONDS, check=False)
     except subprocess.TimeoutExpired:
@@ -620,7 +619,7 @@ def play_round(program, seed, number):
 
 
 class Sums:
-    """What came of all rounds."""
+    """The results of all rounds."""
 
     def __init__(self):
         self.counts, self.tests, self.wrong = collections.Counter(), collections.Counter(), []
@@ -651,7 +650,7 @@ class Sums:
 
 
 def count_records(program, files):
-    """How many records the program prints of these files. Raises Wrong where it reports a fault of one."""
+    """How many records the program prints for these files. Raises Wrong if it reports a fault of one."""
     count = 0
     for file in files:
         ran = subprocess.run([program, "records", file], capture_output=True, text=True, timeout=CALL_SECONDS, check=False)
@@ -661,7 +660,7 @@ def count_records(program, files):
 
 
 def kill_servers(program, seed, most, end):
-    """Kills up to so many servers before the end, each over a folder of its own, and says what they acknowledged. Raises Wrong at the first
+    """Kills up to `most` servers before the end, each over a folder of its own, and prints what they acknowledged. Raises Wrong at the first
     fault."""
     drawn, count, uploads, records = random.Random(seed), 0, 0, []
 
@@ -680,7 +679,7 @@ def kill_servers(program, seed, most, end):
 
 
 def parse_words():
-    parser = argparse.ArgumentParser(description="Restarts and kills servers under load, and looks at what stands.")
+    parser = argparse.ArgumentParser(description="Restarts and kills servers under load, and checks that what they acknowledged is kept.")
     parser.add_argument("minutes", nargs="?", type=float, default=60)
     parser.add_argument("program", nargs="?", default=str(PROGRAM))
     parser.add_argument("--seed", type=int, default=secrets.randbits(32))

@@ -1,5 +1,5 @@
-"""Reads Rattle sources: the modules of a crate, what they declare, and the clauses of each function. It checks no types, and reads
-what the toolchain takes: a file that does not parse there may be read in any way here."""
+"""Reads Rattle sources: the modules of a crate, what they declare, and the clauses of each function. It checks no types, and expects
+files that the toolchain accepts: others may be read in any way."""
 import re
 from pathlib import Path
 from typing import NamedTuple
@@ -45,7 +45,7 @@ class Item(NamedTuple):
 
 
 def masked(text):
-    """The text with spaces for its comments, strings and characters, so that each brace that is left is one of the source."""
+    """The text with spaces in place of comments, strings and characters, so that each brace that is left is one of the code."""
     return HIDDEN.sub(lambda found: re.sub(r"[^\n]", " ", found.group()), text)
 
 
@@ -71,7 +71,7 @@ def end_of_head(mask, at, end):
 
 
 def comment_above(text, at, mark):
-    """The comment that ends on the line before this place, its lines joined; attributes may stand between."""
+    """The comment that ends on the line before this place, its lines joined; attributes may come between."""
     said = []
     for line in reversed(text[:at].splitlines()[: None if text[:at].endswith("\n") else -1]):
         line = line.strip()
@@ -91,7 +91,7 @@ def dedented(text, at, end):
 
 
 def clauses_of(text, mask, at, end):
-    """The clauses between two places, and the place of the first one, or the end where there is none."""
+    """The clauses between two places, and the place of the first one, or the end if there is none."""
     found, first = [], end
     while at < end:
         clause = CLAUSE.match(mask, at) if mask[at - 1].isspace() else None
@@ -145,7 +145,7 @@ class Reader:
         self.mask = masked(self.text)
 
     def items(self, at=0, end=None):
-        """What is declared between two places; of tests nothing."""
+        """What is declared between two places, without tests."""
         found, end, is_test = [], len(self.mask) if end is None else end, False
         while at < end:
             char = self.mask[at]
@@ -161,7 +161,7 @@ class Reader:
         return found
 
     def item(self, at, end):
-        """The item at this place, or None where it is a kind that has no contract, and the place after it."""
+        """The item at this place, or None if it is of a kind without contracts, and the place after it."""
         head = end_of_head(self.mask, at, end)
         after = head + 1 if head >= end or self.mask[head] == ";" else skip(self.mask, head)
         if self.mask.startswith("ghost ", at):
@@ -227,7 +227,7 @@ class Reader:
 
 
 def impl_of(signature):
-    """Of the head of an `impl` the trait, or `impl` where there is none, and the name of the type."""
+    """The trait in the head of an `impl`, or `impl` if there is none, and the name of the type."""
     plain = re.sub(r"^(?:unsafe )?impl\s*", "", signature)
     while re.search(r"<[^<>]*>", plain):
         plain = re.sub(r"<[^<>]*>", "", plain.replace("->", "  "))

@@ -1,15 +1,15 @@
 #!/usr/bin/env python3
-"""Tells each story again through the program of its crate, and says whether it stands there as it is told.
+"""Runs each story through the program of its crate, and reports where the results differ from the file.
 
     tools/stories.py [CRATE ..]
 
-A crate named .._stories is a thin program: it reads requests on standard input, a line each, and answers each with a line of
+A crate named .._stories is a thin program: it reads requests on standard input, one per line, and answers each with a line of
 numbers, bytes and names. Its stories are the files of its `data/`. A story has lines of four kinds: empty ones;
-comments, which begin with `#`; commands; and answers, which begin with two spaces. The module of tools/tellers/ that has the
-crate's name without `_stories` makes requests of each command, and the lines that are told under it of what was answered.
+comments, which begin with `#`; commands; and results, which begin with two spaces. The module of tools/tellers/ that has the
+crate's name without `_stories` turns each command into requests, and their answers into the lines of its result.
 
-The program is one that is built: by `rt ci`, as two compilers make it, or by `rt run`. The status is 1 where a story is told
-otherwise, or there is no program to tell it."""
+The program must be built: by `rt ci`, with two compilers, or by `rt run`. The status is 1 if a story differs, or if its
+program is not built."""
 import importlib
 import subprocess
 import sys
@@ -22,14 +22,14 @@ TOP = Path(__file__).resolve().parent.parent
 
 
 def crates(words):
-    """The crates that are asked for, or all that have a teller."""
+    """The crates that are named, or all that have a teller."""
     tellers = sorted(file.stem for file in (TOP / "tools" / "tellers").glob("*.py"))
     named = {word.removesuffix("_stories") for word in words}
     return [name for name in tellers if not named or name in named]
 
 
 def programs(crate):
-    """The programs of a crate that are built: by each of the two compilers, if `rt ci` did it."""
+    """The built programs of a crate: one by each of the two compilers, if `rt ci` built them."""
     return [file for end in ("", ".by-rattle") if (file := TOP / "crates" / crate / "out" / f"{crate}{end}").is_file()]
 
 
@@ -50,8 +50,8 @@ def answers_of(program, requests):
 
 
 def told(program, teller, text):
-    """The story as the program tells it now: comments, empty lines and commands as they stand, and under each command what it
-    gives."""
+    """The story with the program's present results: comments, empty lines and commands unchanged, and each result under its
+    command."""
     tellings, requests = [], []
     for command in commands(text):
         telling = teller.tell(command)
@@ -70,11 +70,11 @@ def told(program, teller, text):
 
 
 def differs(name, lines, text):
-    """Says where what is told is not what stands, if so."""
+    """Prints the first line at which the results differ from the file, and returns whether there is one."""
     kept = text.splitlines()
     for number, (new, old) in enumerate(zip(lines + [None], kept + [None]), 1):
         if new != old:
-            print(f"stories: {name}, line {number}: told `{str(new)[:160]}`, there stands `{str(old)[:160]}`")
+            print(f"stories: {name}, line {number}: got `{str(new)[:160]}`, expected `{str(old)[:160]}`")
             return True
     return False
 

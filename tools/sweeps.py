@@ -1,16 +1,15 @@
 #!/usr/bin/env python3
-"""Has the programs run_stories and table_stories play what is too long for a story, and judges what they answer.
+"""Has the programs run_stories and table_stories play runs that are too long for a story, and checks their answers.
 
     tools/sweeps.py
 
-Runs: an upload whose messages are delivered in 10,000 drawn orders; two nodes that begin at once, in 1,000 drawn orders; 2,000
+Runs: an upload whose messages are delivered in 10,000 random orders; two nodes that begin at once, in 1,000 random orders; 2,000
 uploads that one leader has decided; a value that two of three choose while the third is refused; two leaders that duel for
 twenty ballots; a node that was away while forty slots were decided; and clusters of one to seven nodes. Tables: 5,000 uploads.
-What is wanted is said by the rules alone (Lamport, "Paxos Made Simple"), and judged by what the events gave and by the bytes of
-the messages. Of drawn orders in how many two nodes and more answer is what the model in runs_model.py says.
+The expected results follow from the rules alone (Lamport, "Paxos Made Simple"), and are compared with the results of the events
+and with the bytes of the messages. In how many random orders two or more nodes answer is from the model in runs_model.py.
 
-The programs are those that `rt ci` built, by each of two compilers. The status is 1 where one answers otherwise, or is not
-built."""
+The programs are those that `rt ci` built, with each of two compilers. The status is 1 if one answers wrongly, or is not built."""
 import sys
 import time
 
@@ -20,14 +19,14 @@ from tellers.run import bytes_in, told_steps
 from toolbox import show_help
 from wire_model import values_by_number
 
-# how many orders are drawn of one upload, and of two, and of how many two nodes and more answer
+# how many random orders there are of one upload, and of two, and in how many of them two or more nodes answer
 ORDERS, ANSWERED = 10_000, 30
 TWO_ORDERS, TWO_ANSWERED = 1_000, 154
-# how many uploads a leader has decided, and how many while a node is away, which is told so many slots at a time
+# how many uploads a leader has decided, how many while a node is away, and how many slots that node is then told at a time
 LED, AWAY, AT_A_TIME = 2_000, 40, 16
 # how many ballots two leaders begin
 BALLOTS = 20
-# how many messages are handed round at most: more than seven nodes send
+# how many messages are delivered at most: more than seven nodes send
 HANDED = 150
 # how many uploads tables take
 TAKEN = 5_000
@@ -39,18 +38,18 @@ NACK, ACCEPTED = 3, 5
 
 
 def upload(number, table="t"):
-    """The upload without batches to the table, of this number."""
+    """The upload of this number, to this table and without batches."""
     return Upload(table, f"{number:032x}", "a", []).text
 
 
 def drawn_after(drawn):
-    """The next drawn number (a linear congruence modulo 2 to the power of 64: Knuth, "The Art of Computer Programming",
+    """The next random number (a linear congruence modulo 2 to the power of 64: Knuth, "The Art of Computer Programming",
     volume 2, section 3.3.4)."""
     return (drawn * 6_364_136_223_846_793_005 + 1_442_695_040_888_963_407) % 2**64
 
 
 class Told:
-    """What the program answered of a run: what each event gave, what is said of the messages, and their bytes."""
+    """What the program answered for a run: the result of each event, whether the messages are lawful, and their bytes."""
 
     def __init__(self, steps, messages):
         self.steps = steps.split()
@@ -65,7 +64,7 @@ class Told:
         return self.judged == "lawful"
 
     def following(self, name):
-        """The words that follow each of this name."""
+        """The word after each occurrence of this name."""
         return [self.steps[place + 1] for place, it in enumerate(self.steps) if it == name]
 
     def counts(self):
@@ -79,7 +78,7 @@ class Told:
         return len(set(self.answers())) <= 1
 
     def outcomes(self):
-        """What was told of uploads, in order."""
+        """The outcomes of uploads, in order."""
         gave = [it.partition(" ")[2] for it in told_steps(self.steps)]
         return [it for it in gave if it.partition(" ")[0] in ("applied", "unknown", "conflict", "mismatch")]
 
@@ -94,7 +93,7 @@ def spoken(event):
 
 
 def played(program, runs):
-    """What the program answers of these runs."""
+    """What the program answers for these runs."""
     asked = [requests_of(*run) for run in runs]
     answers, place, told = answers_of(program, [line for lines in asked for line in lines]), 0, []
     for lines in asked:
@@ -108,8 +107,7 @@ def deliveries(*pairs):
 
 
 def attempt(first):
-    """Of an attempt of node 0 whose Prepare has this number, each message to the nodes by which it is decided there. Six are
-    sent."""
+    """The deliveries by which an attempt of node 0, whose Prepare has this number, is decided there. Six messages are sent."""
     pairs = ((0, 0), (1, 0), (0, 1), (0, 2), (0, 3), (1, 3), (0, 4), (0, 5))
     return deliveries(*((node, first + number) for node, number in pairs))
 
@@ -118,12 +116,12 @@ def asked_of(nodes, version):
     return [("get", node, "t", version) for node in nodes]
 
 
-# ---- what was chosen, judged by the messages alone: at one ballot a majority accepted the value for the slot (Lamport, "Paxos
-# Made Simple", section 2.2)
+# ---- what was chosen, by the messages alone: at one ballot a majority accepted the value for the slot (Lamport, "Paxos Made
+# Simple", section 2.2)
 
 
 def vote(message):
-    """The slot, the ballot and the value that an acceptance tells."""
+    """The slot, the ballot and the value of an acceptance."""
     return tuple(message.get(it, 0) for it in (3, 5, 6)) + (message.get(9, b""),)
 
 
@@ -139,7 +137,7 @@ def is_chosen_twice(members, sent):
     return len(slots) > len(set(slots))
 
 
-# ---- drawn orders
+# ---- random orders
 
 
 def one_upload(order):
@@ -153,8 +151,8 @@ def one_upload(order):
 
 
 def two_uploads(order):
-    """Two nodes begin at once, each for its own upload: of what was sent last, drawn messages are delivered to drawn nodes, and
-    some are late, lost or repeated. How many were sent the model knows."""
+    """Two nodes begin at once, each for its own upload: random ones of the last messages are delivered to random nodes, and some are
+    late, lost or repeated. The model knows how many were sent."""
     uploads = [{"table": "t", "id": f"{it:032x}", "values": []} for it in (1, 2)]
     run = Run({"members": 3, "slot_limit": 4, "uploads": uploads})
     for event in (("put", 0, 0), ("put", 1, 1), ("tick", 0, 0)):
@@ -181,7 +179,7 @@ def orders(program):
 
 
 def led(count):
-    """Node 0 has uploads decided with node 1, one after the other."""
+    """Node 0 has uploads decided with node 1, one after another."""
     return [event for it in range(count) for event in (("put", 0, it), ("tick", 0, 0), *attempt(6 * it))]
 
 
@@ -196,7 +194,7 @@ def leader(program):
 
 def two_of_three(program):
     """Nodes 0 and 1 begin at the same time. Nodes 1 and 2 promise the ballot of node 1, which is the higher one, and refuse
-    that of node 0; they choose the upload of node 1. Then node 0 begins again, is told by node 1 what was accepted, and has
+    that of node 0; they choose the upload of node 1. Then node 0 begins again, learns from node 1 what was accepted, and has
     that chosen."""
     uploads = [upload(1), upload(2)]
     choice = [("put", 0, 0), ("put", 1, 1), ("tick", 0, 0), ("tick", 1, 0)]
@@ -215,8 +213,8 @@ def two_of_three(program):
 
 
 def prepare_of(ballot):
-    """The number of the Prepare of the ballot of this number, from 0 on: the first is message 0, and five more are sent between
-    the later ones."""
+    """The message number of the Prepare of this ballot, from 0 on: the first is message 0, and five more are sent between the
+    later ones."""
     return max(6 * ballot - 3, 0)
 
 
@@ -227,7 +225,7 @@ def begins(ballot):
 
 
 def proposes(ballot, accept):
-    """The leader of this ballot, after the other began the next one, has its two promises and proposes: it accepts that itself,
+    """The leader of this ballot, after the other began the next one, gets its two promises and proposes: it accepts that itself;
     node 2 refuses it, and tells the leader."""
     leads, prepare = ballot % 2, prepare_of(ballot)
     pairs = [(leads, prepare + 1), (leads, prepare + 2), (leads, accept), (2, accept)]
@@ -235,8 +233,8 @@ def proposes(ballot, accept):
 
 
 def duel(program):
-    """Nodes 0 and 1 duel: each begins above the other before its proposal comes to node 2. Then node 1, which began last, is
-    left alone, and node 0 begins once more, message 120."""
+    """Nodes 0 and 1 duel: each begins a higher ballot before the other's proposal comes to node 2. Then node 1, which began
+    last, does no more, and node 0 begins once more, message 120."""
     events = [("put", 0, 0), ("put", 1, 1), *begins(0)]
     for ballot in range(1, BALLOTS):
         events += begins(ballot) + proposes(ballot - 1, 6 * ballot)
@@ -256,7 +254,7 @@ def duel(program):
 
 
 def question(ask, count):
-    """Node 2 asks, by the message of this number, and is told of so many slots, the last one first."""
+    """Node 2 asks, with the message of this number, and is told of `count` slots, the last one first."""
     told = deliveries(*((2, ask + count - it) for it in range(count)))
     return [("tick", 2, 0), ("deliver", 0, ask), *told, ("info", 2, "t")]
 
@@ -271,8 +269,8 @@ def away(program):
 
 
 def tried(count, there):
-    """Node 0 begins for an upload. So many nodes are there, itself among them: they promise; where they are a majority an
-    Accept is sent behind the promises, and they accept."""
+    """Node 0 begins for an upload. `there` nodes are up, node 0 included: they promise; if they are a majority, an Accept is
+    sent after the promises, and they accept."""
     nodes = range(there)
     events = [("put", 0, 0), ("tick", 0, 0), *deliveries(*((node, 0) for node in nodes))]
     events += deliveries(*((0, 1 + it) for it in nodes), *((node, there + 1) for node in nodes))
@@ -280,8 +278,8 @@ def tried(count, there):
 
 
 def all_begin(count):
-    """All nodes begin at once, each for an upload of its own. Every message is delivered to every node, in the order of
-    sending. Then each is asked for the first version."""
+    """All nodes begin at once, each for its own upload. Every message is delivered to every node, in the order of sending. Then
+    each is asked for the first version."""
     nodes = range(count)
     events = [event for node in nodes for event in (("put", node, node), ("tick", node, 0))]
     events += deliveries(*((node, number) for number in range(HANDED) for node in nodes))
@@ -289,8 +287,7 @@ def all_begin(count):
 
 
 def clusters(program):
-    """An upload is applied exactly where those that are there are more than half of all; and where all begin, all answer
-    alike."""
+    """An upload is applied exactly if more than half of all nodes are up; and if all begin, all answer alike."""
     sizes = [(count, there) for count in range(1, 8) for there in range(1, count + 1)]
     for (count, there), told in zip(sizes, played(program, [tried(*it) for it in sizes])):
         wanted = ["applied 1" if 2 * there > count else "unknown"]
@@ -303,12 +300,12 @@ def clusters(program):
 
 
 def table_of(number):
-    """The table of an upload, which three tables have in turn."""
+    """The table of an upload: three tables get uploads in turn."""
     return "abc"[number % 3]
 
 
 def tables(program):
-    """Tables that took many uploads, one by one, tell each as the version that it made. The frame with the schema has 160
+    """Tables that took many uploads, one by one, report each as the version that it made. The frame with the schema has 160
     bytes, and that of each upload without batches 23."""
     uploads = [upload(it, table_of(it)).hex() for it in range(TAKEN)]
     requests = ["new", *(f"take {it}" for it in uploads), *(f"outcome {it}" for it in uploads)]
@@ -332,7 +329,7 @@ def main():
                 found = list(sweep(program))
                 for label, is_so in found:
                     if not is_so:
-                        print(f"sweeps: {program.name} answers otherwise, {label}")
+                        print(f"sweeps: {program.name} answers wrongly, {label}")
                         status = 1
                 took = time.monotonic() - began
                 print(f"sweeps: {program.name}, {len(found)} rows of {sweep.__name__} in {took:.0f} seconds")

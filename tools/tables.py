@@ -1,10 +1,11 @@
 #!/usr/bin/env python3
-"""Makes the stories of uploads, tickets and tables in crates/table_stories/data: `lists.txt`, `cuts.txt` and `tickets.txt`, from the
-model in tables_model.py; `examples.txt` and `borders.txt` were worked out by hand.
+"""Makes the stories of uploads, tickets and tables in crates/table_stories/data from the model in tables_model.py.
 
-    tools/tables.py --write   makes them
-    tools/tables.py --check   says which of them differ; tells the stories by hand again, and says which differ; and tries on drawn
-                              lists, in the model, what is promised of tables that grow"""
+They are `lists.txt`, `cuts.txt` and `tickets.txt`; `examples.txt` and `borders.txt` were worked out by hand.
+
+    tools/tables.py --write   writes them
+    tools/tables.py --check   names those that differ; works out those made by hand again, and names those that differ; and tests
+                              on random lists, in the model, what is promised about tables that grow"""
 import hashlib
 import random
 import sys
@@ -17,11 +18,11 @@ from wire_model import bytes_field, number_field, varint
 
 DATA = Path(__file__).resolve().parent.parent / "crates" / "table_stories" / "data"
 BY_HAND = ("examples.txt", "borders.txt")
-# how many lists are drawn for the stories, and how many more to be tried
+# how many lists are drawn for the stories, and how many more to test the model
 DRAWN, TRIED = 1500, 3000
 
 
-# ---- stories, told as the program tells them
+# ---- stories, with results as the program prints them
 
 
 def md5(text):
@@ -102,7 +103,7 @@ KNOWN = {}
 
 
 def known(text):
-    """The upload that the bytes are, found once."""
+    """The upload that the bytes encode, which is decoded once."""
     if text not in KNOWN:
         KNOWN[text] = upload_of(text)
     return KNOWN[text]
@@ -113,7 +114,7 @@ def changed(text, place, byte):
 
 
 def told_of(text):
-    """The line that tells which upload the bytes are."""
+    """The line about the upload that the bytes encode."""
     it = known(text)
     if it is None:
         return ["NotAnUpload"]
@@ -123,7 +124,7 @@ def told_of(text):
 
 
 def told(lines):
-    """The lines of a story, each command with what it gives."""
+    """The lines of a story, each command with its result."""
     story, out = Story(), []
     for line in lines:
         if not line.startswith("  "):
@@ -133,7 +134,7 @@ def told(lines):
     return "\n".join(out) + "\n"
 
 
-# ---- uploads that the drawn lists are of
+# ---- uploads for the random lists
 
 
 def column(name, type_word="Int", said=None, nullable=True, entries=(), children=()):
@@ -173,7 +174,7 @@ def id_of(last):
 
 
 def pool():
-    """Uploads by name: to tables of few names, under few names of their own, of shapes that are alike or not."""
+    """Uploads by name: to few tables, with few ids, of equal and of different shapes."""
     made = {
         "u": Upload(b"t", id_of(0x0F), A, [ROW]),
         "x": Upload(b"t", id_of(0x3F), A, [ROW]),
@@ -200,7 +201,7 @@ def pool():
 
 
 def junk():
-    """Bytes that are no upload, by name: of u, one byte less and more, its fields in another order, and such."""
+    """Bytes that are no upload, by name: u with one byte less and more, with its fields in another order, and so on."""
     u = Upload(b"t", id_of(0x0F), A, [ROW])
     parts = [bytes_field(1, u.table), bytes_field(2, u.id), bytes_field(3, u.schema_text)]
     header, body = u.parts[0]
@@ -222,11 +223,11 @@ def named(names):
     return [f"upload {name} {spelled(text)}" for name, text in names.items()]
 
 
-# ---- drawn lists
+# ---- random lists
 
 
 def drawn(draw):
-    """Some uploads by name, and a list of values, by name too, that are these, so that many repeat, and few others."""
+    """The names of some uploads, and a list of names of values: mostly these, so that many repeat, and few others."""
     few = draw.sample(sorted(POOL), draw.randint(1, 7))
     others = ["noop", draw.choice(sorted(JUNK))] if draw.random() < 0.5 else []
     return few, [draw.choice(few + others) for _ in range(draw.randint(0, 12))]
@@ -267,7 +268,7 @@ def cuts():
 
 
 def long_varint(number):
-    """The number in a byte more than it needs."""
+    """The number in one byte more than it needs."""
     short = varint(number)
     return short[:-1] + bytes([short[-1] | 128, 0])
 
@@ -290,11 +291,11 @@ def tickets():
     return lines + [f"read-ticket {it.hex()}".rstrip() for it in dict.fromkeys(near)]
 
 
-# ---- what is promised of tables that grow, tried in the model
+# ---- what is promised about tables that grow, tested in the model
 
 
 def is_grown(before, after, names):
-    """Whether every version and every outcome that is known stays when more uploads come."""
+    """Whether every known version and outcome stays the same when more uploads come."""
     for upload in names:
         if outcome(before, upload) not in ("Unknown", outcome(after, upload)):
             return False
@@ -324,12 +325,12 @@ def main():
         if file.exists() and file.read_text(encoding="utf-8") == text:
             continue
         if is_check or name in BY_HAND:
-            print(f"tables: {name} is told otherwise")
+            print(f"tables: {name} differs from what tools/tables.py makes")
             status = 1
         else:
             file.write_text(text, encoding="utf-8")
     if faults_tried():
-        print("tables: in drawn lists, what was told changes when more comes")
+        print("tables: in random lists, a known version or outcome changes when more uploads come")
         status = 1
     return status
 

@@ -1,10 +1,10 @@
 """A model of uploads, of tickets, and of the tables that agreed values make. It is written from Protocol Buffers, "Encoding", from
 the columnar format, Schema.fbs, Message.fbs and Flight.proto of Apache Arrow, from gRPC, "gRPC over HTTP2", and from
-docs/FORMATS.md, and not from the code; and it keeps whole lists: which uploads count, which versions there are and what is told
-is asked of all values each time.
+docs/FORMATS.md, and not from the code. It keeps whole lists, and computes from all values each time which uploads count, which
+versions there are and what is answered.
 
-Bytes are an upload where they are those that would be written of what is read in them; so a reader that takes too much does no harm.
-Limits of schemas are not looked at, and columns have the types that are carried."""
+Bytes are an upload if writing what is read in them gives the same bytes; so a reader that accepts too much does no harm. The model
+does not check the limits of schemas, and expects columns of the supported types."""
 import re
 import sys
 from pathlib import Path
@@ -22,7 +22,7 @@ from wire_model import Faults, bytes_field, fields_of, frame, number_field
 MOST_BATCHES, MOST_BYTES, MOST_SERVED = 1024, 1 << 24, 1 << 22
 
 
-# ---- headers, read by their places
+# ---- headers, read by their offsets
 
 
 class NoUpload(Exception):
@@ -40,7 +40,7 @@ def follow(text, place):
 
 
 def slot(text, table, number):
-    """Where the field stands in a table, None where it is absent."""
+    """The place of a field of a table, None if it is absent."""
     vtable = table - number_in(text, table, 4, True)
     is_there = 4 + 2 * number < number_in(text, vtable, 2)
     cell = number_in(text, vtable + 4 + 2 * number, 2) if is_there else 0
@@ -82,7 +82,7 @@ def parameter(text, table, name, place, word, default):
 
 
 def column_at(text, table):
-    """A field of a schema, as canonical.py has it."""
+    """A field of a schema, in the form of canonical.py."""
     name = {number: name for name, number in canonical.NUMBERS.items()}[number_in(text, slot(text, table, 2), 1)]
     type_table = follow(text, slot(text, table, 3))
     words = enumerate(TYPES[name].items())
@@ -125,7 +125,7 @@ def head_at(text):
 
 
 def type_in(column):
-    """The type of a field, as batch_model.py has it."""
+    """The type of a field, in the form of batch_model.py."""
     words = tuple(str(it).lower() if isinstance(it, bool) else str(it) for it in column["type"].values())
     return Type(column["type_type"].rstrip("_"), words, tuple(type_in(it) for it in column["children"]))
 
@@ -141,7 +141,7 @@ def bare(schema):
 
 
 class Upload:
-    """An upload: its table, its own name, its schema, and its batches, each a number of rows and a list of cells a column."""
+    """An upload: its table, its id, its schema, and its batches, each a number of rows and a list of cells for each column."""
 
     def __init__(self, table, id, schema, batches):
         self.table, self.id, self.schema, self.batches = table, id, schema, batches
@@ -160,7 +160,7 @@ class Upload:
         return bytes.fromhex(header), body
 
     def messages(self):
-        """The messages that are served of it."""
+        """The messages with which it is served."""
         name = bytes_field(3, self.id)
         served = [bytes_field(2, header) + name + (bytes_field(1000, body) if body else b"") for header, body in self.parts]
         return served or [name]
@@ -187,7 +187,7 @@ def batch_at(schema, text):
 
 
 def upload_of(text):
-    """The upload that the bytes are, None where they are none."""
+    """The upload that the bytes encode, None if they are no upload."""
     try:
         fields = [(number, held) for number, kind, held in fields_of(text) if kind == 2]
         table, id, header = (dict(fields)[number] for number in (1, 2, 3))
@@ -202,13 +202,13 @@ def upload_of(text):
 
 
 def ticket_text(table, version):
-    """The ticket for a version of a table, None where there is none such."""
+    """The ticket for a version of a table, None if there can be none."""
     is_one = is_table_name(table) and 1 <= version < 2**64
     return bytes_field(1, table) + number_field(2, version) if is_one else None
 
 
 def ticket_of(text):
-    """The table and the version that a ticket asks for, None where the bytes are no ticket."""
+    """The table and the version that a ticket asks for, None if the bytes are no ticket."""
     try:
         held = {number: it for number, _, it in fields_of(text)}
         asked = held[1], held[2]
@@ -217,16 +217,16 @@ def ticket_of(text):
         return None
 
 
-# ---- tables, by whole lists of uploads
+# ---- tables, from whole lists of uploads
 
 
 def first_with_id(uploads):
-    """Those that come first of their ids."""
+    """The uploads that are the first with their ids."""
     return [it for place, it in enumerate(uploads) if it.id not in {earlier.id for earlier in uploads[:place]}]
 
 
 def effective(uploads, table):
-    """Those to the table that come first of their ids in the whole list, and have the shape of the first of them."""
+    """The uploads to the table that are the first with their ids in the whole list and have the shape of the first of them."""
     to_table = [it for it in first_with_id(uploads) if it.table == table]
     return [it for it in to_table if it.shape == to_table[0].shape]
 
@@ -242,7 +242,7 @@ def outcome(uploads, upload):
 
 
 def answer(uploads, table, version):
-    """The frames of a version of a table, None where there is none such."""
+    """The frames of a version of a table, None if there is no such version."""
     counted = effective(uploads, table)
     if not 1 <= version <= len(counted):
         return None
@@ -251,7 +251,7 @@ def answer(uploads, table, version):
 
 
 def latest(uploads, table):
-    """The version, the rows and the bytes of a table's latest version, and its schema; None where there is none."""
+    """The number, the rows, the bytes and the schema of a table's latest version; None if there is none."""
     counted = effective(uploads, table)
     if not counted:
         return None
@@ -260,6 +260,6 @@ def latest(uploads, table):
 
 
 def table_names(uploads):
-    """The tables, each where the first of its effective uploads stands."""
+    """The tables, in the order of their first effective uploads."""
     tables = {it.table for it in uploads if effective(uploads, it.table)}
     return sorted(tables, key=lambda table: uploads.index(effective(uploads, table)[0]))

@@ -1,6 +1,6 @@
-"""What tools/fuzz.py gives inputs to: programs of stories, and commands of `flightd`. An input is a list of lines: commands of a story, as
-docs/TESTS.md has them, or of a file one line `COMMAND BYTES`. Each target has a way to draw another input from two. Its first ones
-are few and plain, so that what is reached is found, and kept."""
+"""The targets of tools/fuzz.py: story programs, and commands of `flightd`. An input is a list of lines: commands of a story (see
+docs/TESTS.md), or for a file one line `COMMAND BYTES`. Each target draws a new input from two. Its first inputs are few and plain, so
+that what reaches more is found, and kept."""
 import json
 
 from batch_model import lay_out, type_of
@@ -17,12 +17,12 @@ from wire_model import END, Faults, bytes_field, frame
 
 ID = "000102030405060708090a0b0c0d0e0f"
 TYPE_WORDS = FLAT + NESTED
-# A batch that is drawn has no more rows than this, or more than a batch may have; and a header no more bytes, a service no more calls.
+# The most rows of a random batch, unless it has more than a batch may have; the most bytes of a header, calls of a service, and events.
 MOST_ROWS, MOST_HEADER, MOST_CALLS, MOST_EVENTS = 2000, 4096, 8, 60
 
 
 def bytes_at_end(line):
-    """The bytes that a line has behind its first word."""
+    """The bytes after the first word of a line."""
     return bytes_of(line.partition(" ")[2])
 
 
@@ -31,8 +31,8 @@ def line_of(word, text):
 
 
 class Target:
-    """A program and what it is asked: `crate` is that of its stories, or `flightd`, and `words` are those that it is called with, `@` for the
-    name of the input. Commands of the words `behind` depend on what came before them, from a command `first` on."""
+    """A program and its inputs: `crate` is that of its stories, or `flightd`, and `words` are its arguments, with `@` for the name of the
+    input. Commands in `behind` depend on those before them, back to a command `first`."""
 
     crate, words, first, behind = None, (), None, ()
 
@@ -40,7 +40,7 @@ class Target:
         self.name = name
 
     def stands_alone(self, lines):
-        """Whether what is told of the lines depends on no others."""
+        """Whether the results of the lines depend on no other lines."""
         words = [it.split(" ")[0] for it in lines]
         return not set(self.behind).intersection(words[: words.index(self.first)] if self.first in words else words)
 
@@ -68,7 +68,7 @@ class WireTarget(Target):
 
 
 def header_lines(text):
-    """A header that is read and, where it can be, written again."""
+    """Commands that read a header and, if possible, write it again."""
     try:
         is_written = written(header_of(text)) is not None
     except Faults:
@@ -78,7 +78,7 @@ def header_lines(text):
 
 
 def column(draw, word):
-    """A field of a type, as canonical.py has it."""
+    """A random field of a type, in the form of canonical.py."""
     said = {**field_of(type_of(word)), "nullable": draw.random() < 0.5, "name": draw.choice(("", "a", "\u20ac")), "custom_metadata": []}
     if draw.random() < 0.3:
         said["custom_metadata"] = [{"key": "k", "value": draw.choice(("", "v"))}] * draw.choice((1, 2))
@@ -90,7 +90,7 @@ def columns(draw, counts):
 
 
 def header_drawn(draw):
-    """The text of a header of drawn fields, or of drawn nodes and buffers."""
+    """The text of a header of random fields, or of random nodes and buffers."""
     if draw.random() < 0.5:
         metadata = [{"key": "k", "value": "v"}] * draw.choice((0, 0, 1, 2))
         said = {"header_type": "Schema", "header": {"fields": columns(draw, (0, 1, 1, 2, 3)), "custom_metadata": metadata}}
@@ -151,7 +151,7 @@ class BatchTarget(Target):
 
     @staticmethod
     def laid_out(draw):
-        """A batch of drawn types and cells, laid out in some ways."""
+        """A batch of random types and cells, laid out in some ways."""
         words = [draw.choice(TYPE_WORDS) for _ in range(draw.choice((1, 1, 2)))]
         types, rows = list(map(type_of, words)), draw.choice((0, 1, 2, 3, 9))
         cells = [[drawn(it, draw, draw.choice((0, 0.3, 1))) for _ in range(rows)] for it in types]
@@ -181,7 +181,7 @@ class BatchTarget(Target):
 
 
 def upload_drawn(draw):
-    """The bytes of an upload of drawn columns, with metadata of its schema or without."""
+    """The bytes of an upload of random columns, with metadata of its schema or without."""
     schema = {"fields": columns(draw, (0, 1, 1, 2)), "custom_metadata": draw.choice(([], [{"key": "k", "value": "v"}]))}
     types, batches = [type_in(it) for it in schema["fields"]], []
     for _ in range(draw.choice((0, 1, 2))):
@@ -197,7 +197,7 @@ def upload_changed(draw, text):
 
 
 def upload_in(line):
-    """The id of an upload, and its bytes."""
+    """The name of an upload in a story, and its bytes."""
     _, name, *digits = line.split(" ", 2)
     return name, bytes_of("".join(digits))
 
@@ -228,7 +228,7 @@ class TableTarget(Target):
 
 
 def frames(*payloads):
-    """The frames of a call, its end behind them."""
+    """The frames of a call, with its end."""
     return b"".join(frame(0, it) for it in payloads) + frame(END, b"")
 
 
@@ -242,7 +242,7 @@ CALLS = [*PUTS.values(), *QUESTIONS.values()]
 
 
 def message_changed(draw, message):
-    """Another message of a call: sometimes one that opens an upload of drawn columns."""
+    """Another message of a call: sometimes one that opens an upload of random columns."""
     upload = upload_of(upload_drawn(draw)) if draw.random() < 0.15 else None
     return opening(upload) if upload else fields_changed(draw, message, draw.choice((bytes_changed, places_changed)))
 
@@ -288,7 +288,7 @@ def run_file(members, sent):
 
 
 def attempts(draw):
-    """Messages of a few attempts for one slot, of which correct nodes may have sent all or not."""
+    """Messages of a few attempts for one slot, which correct nodes may or may not send."""
     sent = []
     for round_, node in ((1, 0), (2, 1), (3, 0))[: draw.choice((1, 2, 3))]:
         ballot, by = f"28{round_:02x}30{node:02x}", f"10{node:02x}"
@@ -360,7 +360,7 @@ class RunTarget(Target):
         for _ in range(draw.choice((1, 1, 3, 8))):
             drawn_one, place = event_drawn(draw, members, len(events)), draw.randint(0, len(events))
             more = (events_in(others) or DECIDED)[place : place + draw.choice((1, 4))]
-            # most are put behind the others; some come between them, or in place of one, or one is left out
+            # most are added at the end; some come between others, or in place of one, or one is left out
             place, end, new = draw.choice((*[(len(events), len(events), [drawn_one])] * 6, (place, place, [drawn_one]), (place, place, more),
                                            (place, place + 1, [drawn_one]), (place, place + 1, [])))
             events[place:end] = new
@@ -375,7 +375,7 @@ def text_changed(draw, text):
 
 
 def numbered(event):
-    """An event of a schedule, of the words of one in a story."""
+    """An event of a schedule, from the words of one in a story."""
     return [int(it) if it.isdigit() else it for it in event.split(" ")]
 
 

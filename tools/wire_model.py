@@ -1,13 +1,14 @@
 #!/usr/bin/env python3
-"""A model of numbered fields, frames and messages of Arrow Flight, and the stories that it tells of them: every short text over a few
-telling pieces, with what stands there. It is written from the standards (Protocol Buffers, "Encoding"; gRPC over HTTP/2,
-"Length-Prefixed-Message"; Apache Arrow, "Flight.proto") and not from the code. The other tools read and write numbers, fields and frames
-by the functions of this module.
+"""Makes the stories of fields, frames and messages of Arrow Flight from a model of them, in crates/wire_stories/data.
+
+The stories are every short text over a few chosen pieces, with its meaning. The model is written from the standards (Protocol Buffers,
+"Encoding"; gRPC over HTTP/2, "Length-Prefixed-Message"; Apache Arrow, "Flight.proto") and not from the code. The other tools read and
+write numbers, fields and frames with the functions of this module.
 
     tools/wire_model.py [--check]
 
-It writes `crates/wire_stories/data/every_*.txt`. With --check it changes nothing, and says whether each of them is what it makes.
-Where more than one fault stands in a text, a reader may tell any of them: the command then begins with `one-of` and names them."""
+It writes `crates/wire_stories/data/every_*.txt`. With --check it changes nothing, and names those that differ from what it makes. If a
+text has more than one fault, a reader may report any of them: the command then begins with `one-of` and names them."""
 import itertools
 import sys
 from pathlib import Path
@@ -22,7 +23,7 @@ END = 0x80
 
 
 class Faults(Exception):
-    """The names of the faults that stand in a text."""
+    """The names of the faults in a text."""
 
     def __init__(self, *names):
         super().__init__()
@@ -30,7 +31,7 @@ class Faults(Exception):
 
 
 class BadFrame(Exception):
-    """The name of the fault of a frame, and what was not read of the text."""
+    """The name of a frame's fault, and the text that was not read."""
 
     def __init__(self, name, rest):
         super().__init__(name)
@@ -45,13 +46,13 @@ def hexadecimal(text):
 
 
 def varint(number):
-    """The number in as few bytes as hold it, seven bits in each, the lowest first, and each but the last with 128 more."""
+    """The number in as few bytes as possible, seven bits in each, the lowest first, and 128 added to each but the last."""
     groups = [number >> place & 127 for place in range(0, max(number.bit_length(), 1), 7)]
     return bytes([it | 128 for it in groups[:-1]] + groups[-1:])
 
 
 def joined(groups):
-    """The number of these bytes, each with seven bits of it, the lowest first."""
+    """The number in these bytes, seven bits in each, the lowest first."""
     return sum((it & 127) << 7 * at for at, it in enumerate(groups))
 
 
@@ -68,20 +69,20 @@ def number_from(text, place):
 
 
 def number_at(text):
-    """The number at the front, and what stands behind it."""
+    """The number at the front, and the text after it."""
     number, place = number_from(text, 0)
     return number, text[place:]
 
 
 def counted_at(text, count):
-    """So many bytes, and what stands behind them."""
+    """The first `count` bytes, and the text after them."""
     if len(text) < count:
         raise Faults("CutShort")
     return text[:count], text[count:]
 
 
 def held_at(kind, text):
-    """What a field of this wire type holds, and what stands behind it."""
+    """The content of a field of this wire type, and the text after it."""
     if kind == 0:
         return number_at(text)
     if kind == 1:
@@ -95,7 +96,7 @@ def held_at(kind, text):
 
 
 def field_at(text):
-    """The field at the front, as its number, its wire type and what it holds, and what stands behind it."""
+    """The field at the front, as its number, its wire type and its content, and the text after it."""
     key, rest = number_at(text)
     number, kind = key >> 3, key & 7
     faults = set() if 1 <= number <= MAX_FIELD_NUMBER else {"BadKey"}
@@ -109,7 +110,7 @@ def field_at(text):
 
 
 def split(text):
-    """The fields at the front of a text, and the faults that stand behind them."""
+    """The fields at the front of a text, and the faults after them."""
     fields = []
     while text:
         try:
@@ -129,8 +130,8 @@ def fields_of(text):
 
 
 def values_by_number(text):
-    """The value of each field of a message by its number, a number or bytes, and of repeated fields the last. The text is not copied for
-    each field, and wire types of eight and four bytes are not expected."""
+    """The value of each field of a message by its number, a number or bytes; the last one if a field is repeated. The text is not copied
+    for each field, and wire types of eight and four bytes are not expected."""
     place, found = 0, {}
     while place < len(text):
         key, place = number_from(text, place)
@@ -142,8 +143,8 @@ def values_by_number(text):
 
 
 def told(command, call, text):
-    """The command with the text, and the lines that the call gives of it; or the fault that stands there, or that one of them is told
-    where there are several."""
+    """The command with the text, and the lines that the call returns for it; or the text's fault, or that one of its faults is reported
+    if there are several."""
     line = f"{command} {text.hex()}".rstrip()
     try:
         return [line, *(f"  {it}" for it in call(text))]
@@ -183,7 +184,7 @@ def frame(flag, payload):
 
 
 def head_of(text):
-    """The flag and the length of the frame whose head the text begins with."""
+    """The flag and the length in the head of the frame at the front."""
     return text[0], int.from_bytes(text[1:5], "big")
 
 
@@ -202,7 +203,7 @@ def frame_at(text):
 
 
 def whole_frames(text):
-    """The flags and payloads of the whole frames that a text begins with, whatever the flags and lengths are, and what follows them."""
+    """The flags and payloads of the whole frames at the front of a text, with any flags and lengths, and the text after them."""
     found = []
     while len(text) >= 5:
         flag, length = head_of(text)
@@ -213,7 +214,7 @@ def whole_frames(text):
 
 
 def told_frames(text):
-    """The frames one after the other, and how they end."""
+    """The frames one after another, and how they end."""
     if not text:
         return ["no more"]
     try:
@@ -223,7 +224,7 @@ def told_frames(text):
     return [f"flag {flag}, payload {hexadecimal(payload)}", *told_frames(rest)]
 
 
-# ---- messages of Arrow Flight: of each field its number, its name and what it is, an embedded message by its own fields
+# ---- messages of Arrow Flight: each field's number, name and kind; an embedded message is a list of its own fields
 
 TICKET = [(1, "ticket", "bytes")]
 LOCATION = [(1, "uri", "text")]
@@ -251,7 +252,7 @@ def signed(number, bits):
 
 
 def value_of(kind, wire_type, held):
-    """What a field of this kind holds as a value."""
+    """The value of a field of this kind."""
     if wire_type != (0 if kind in ("enumeration", "int64", "bool") else 2):
         raise Faults("BadWireType")
     if kind == "enumeration":
@@ -269,7 +270,7 @@ def value_of(kind, wire_type, held):
 
 
 def values_of(kind, number, fields, faults):
-    """The values of the fields of one number, in order; what is wrong with the others is kept."""
+    """The values of the fields of one number, in order; the faults of the others are added to `faults`."""
     values = []
     for at, wire_type, held in fields:
         if at == number:
@@ -281,7 +282,7 @@ def values_of(kind, number, fields, faults):
 
 
 def meant_inside(texts, table, faults):
-    """What an embedded message means that comes in these parts: its fields are those of all parts, one after the other."""
+    """The meaning of an embedded message that comes in these parts: its fields are those of all parts, one after another."""
     fields = []
     for text in texts:
         more, wrong = split(text)
@@ -291,7 +292,7 @@ def meant_inside(texts, table, faults):
 
 
 def meant_by(fields, table, faults):
-    """What the fields mean: of each field of the message its value, or its values."""
+    """The meaning of fields: the value, or the values, of each field of the message."""
     meant = []
     for number, _, kind in table:
         values = values_of(kind, number, fields, faults)
@@ -308,7 +309,7 @@ def meant_by(fields, table, faults):
 
 
 def shown(meant, table, depth):
-    """The message as lines, a line a field."""
+    """The message as lines, one per field."""
     lines = []
     for (_, name, kind), value in zip(table, meant):
         if isinstance(kind, tuple):
@@ -338,7 +339,7 @@ def bytes_field(number, value):
 
 
 def encoding(meant, table):
-    """The one encoding: fields by rising numbers, each value once, and no default that stands alone."""
+    """The one encoding: fields in order of their numbers, each value once, and no defaults of single fields."""
     text = b""
     for (number, _, kind), value in zip(table, meant):
         if kind == "texts":
@@ -369,30 +370,30 @@ def told_as(table):
 
 
 def texts_of(pieces, most):
-    """The texts of at most so many of the pieces, each once."""
+    """The texts of at most `most` of the pieces, each once."""
     pieces = [bytes.fromhex(it) for it in pieces.split("|")]
     every = (b"".join(it) for count in range(most + 1) for it in itertools.product(pieces, repeat=count))
     return list(dict.fromkeys(every))
 
 
-# Keys of field 1 of most wire types and of field 0, a short length, and bytes that go on.
+# Keys of field 1 of most wire types and of field 0, a short length, and bytes with a continuation bit.
 BYTES = "00|01|02|08|0a|0b|0d|80|ff"
-# Keys of fields 1 and 2, a key of field 0 that is a length too, and a byte that goes on.
+# Keys of fields 1 and 2, a key of field 0 that is a length too, and a byte with a continuation bit.
 FEW_BYTES = "01|02|08|0a|80"
 # Keys before runs of three, four and seven bytes, so that fields of four and eight bytes come whole and cut.
 PIECES = "09|0d|0a07|8d8000|0e|00|010203|80818201|11121314151617"
-# What stands before a long number, what it begins with, goes on with and ends with, and what stands behind it.
+# What comes before a long number, its beginning, middle and end, and what comes after it.
 FRONTS, LOWEST = "|08|0a|0d", "88|8a|8f|80"
 MIDDLES = "80808080808080|8080808080808080|808080808080808080|ffffffffffffffff|ffffffffffffffffff"
 HIGHEST, ENDS = "|01|02|7f", "|0161"
-# Lengths that are announced, each about where another of the four bytes counts, or at the limit.
+# Announced lengths, each near the first value of another of the four bytes, or at the limit.
 FLAGS = "00|80|01|02|ff"
 LENGTHS = "00000000|00000001|00000002|00000100|00010000|00400000|00400001|01000000"
 PAYLOADS = "|07|0708|070809"
-# Keys of the fields of a descriptor, short lengths, and bytes that go on or are no UTF-8; keys of the fields of an endpoint, and lengths.
+# Keys of a descriptor's fields, short lengths, and bytes with a continuation bit or no UTF-8; keys of an endpoint's fields, and lengths.
 BYTES_IN_DESCRIPTORS = "00|01|02|08|0a|12|1a|80|ff"
 BYTES_IN_ENDPOINTS = "00|01|02|0a|12"
-# Fields of a message, fields of another, and no fields: the last ones end early, where nothing stands behind them.
+# Fields of a message, fields of another, and no fields: the last ones are cut short if nothing comes after them.
 IN_DESCRIPTORS = "0801|088280808010|08ffffffffffffffffff01|120161|1200|1a0161|1a00|1a02c3a9|1a01ff|0a0162|1000|3801|3d01020304|0b|1a0361"
 IN_ENDPOINTS = "0a00|0a030a0161|0a020a00|0a0438010a00|0a020801|0a010a|1200|12030a0162|12060a01620a0163|12030a01ff|1000|3a01ff|0f|0a05"
 IN_INFOS = (
@@ -413,19 +414,19 @@ def frame_texts():
 
 
 def rows(command, call, texts):
-    """The command with each text, and what it gives. A text whose meaning has a character that is no print is left out."""
+    """The command with each text, and its result. A text whose meaning has an unprintable character is left out."""
     every = (told(command, call, text) for text in texts)
     return [line for lines in every if all(it.isprintable() for it in lines) for line in lines]
 
 
 def written():
-    """Each number of 64 bits about a power of two, written as a field."""
+    """Each number of 64 bits next to a power of two, written as a field."""
     numbers = sorted({2**place + step for place in range(65) for step in (-1, 0, 1)})
     return [line for it in numbers if it < 2**64 for line in (f"varint 1 {it}", f"  {hexadecimal(number_field(1, it))}")]
 
 
 def file_of(made, *parts):
-    """A story file that says how it was made, and has parts, each a comment and rows."""
+    """A story file: a comment about how it was made, and parts, each a comment and rows."""
     return "\n\n".join([f"# {made}"] + ["\n".join([f"# {comment}", *lines]) for comment, lines in parts]) + "\n"
 
 
@@ -462,14 +463,14 @@ def stories():
 
 
 def put(folder, files, is_check):
-    """Writes the files, or says which of them differ."""
+    """Writes the files, or names those that differ."""
     status = 0
     for name, text in files.items():
         file = folder / name
         if file.exists() and file.read_text(encoding="utf-8") == text:
             continue
         if is_check:
-            print(f"{Path(sys.argv[0]).name}: {file} is not what the model makes")
+            print(f"{Path(sys.argv[0]).name}: {file} differs from what the model makes")
             status = 1
         else:
             file.write_text(text, encoding="utf-8")

@@ -1,4 +1,4 @@
-"""A client of the Felzoren dataset service: one file, with nothing but Python's standard library (3.8 or newer).
+"""A client of the Felzoren dataset service: one file, which needs only Python's standard library (3.8 or newer).
 
     import felzoren
 
@@ -6,13 +6,13 @@
     client.put("sales", [{"shop": "Bern", "sold": 3}, {"shop": "Zürich", "sold": None}])
     client.get("sales").to_pylist()
 
-A table grows by uploads. Each has a name of its own, its id, and makes one version of its table, however often it is put. A call ends
-with a result, with `Refused` (the service said no, and why), with `BadAnswer` (what came back is no answer), or with `OSError` (the
-connection failed, or the timeout is over).
+A table grows by uploads. Each has an id, and makes one version of its table, however often it is put. A call ends with a result, with
+`Refused` (the service refused it, and says why), with `BadAnswer` (what came back is no answer), or with `OSError` (the connection
+failed, or the timeout is over).
 
 The layers of the file, from the wire upwards: fields, frames, FlatBuffers, types, headers, values, columns, tables, inputs,
-connections, calls. Nothing that a service sends is believed: each layer raises `BadAnswer` where lengths, counts, places, limits or
-texts are not as docs/FORMATS.md says, before it makes room for what they speak of."""
+connections, calls. The client does not trust what a service sends: each layer raises `BadAnswer` if lengths, counts, places, limits or
+texts are not as docs/FORMATS.md says, before it allocates memory for what they announce."""
 import contextlib
 import datetime
 import decimal
@@ -37,14 +37,14 @@ MAX_UPLOAD_BYTES = 16_777_216
 MAX_BATCHES = 1_024
 MAX_ROWS = 1_048_576
 MAX_VALUES = 16_777_216
-# How much a schema may say: levels and fields, entries of metadata, and bytes of names, time zones, keys and values.
+# The limits of a schema: levels and fields, entries of metadata, and bytes of names, time zones, keys and values.
 MAX_DEPTH = 16
 MAX_FIELDS = 512
 MAX_METADATA_ENTRIES = 4_096
 MAX_TEXT_BYTES = 1_048_576
-# The most fields of a message of Flight that came: far more than any has.
+# The most fields of a received Flight message: far more than any has.
 MAX_MESSAGE_FIELDS = 65_536
-# How many rows `put` takes into a batch, where they have room there, and the most bytes of an answer where `connect` says no others.
+# How many rows `put` puts into a batch, if they fit, and the most bytes of an answer, if `connect` is given no other limit.
 BATCH_ROWS = 65_536
 MAX_ANSWER_BYTES = 1 << 30
 
@@ -54,8 +54,8 @@ STATUSES = """OK CANCELLED UNKNOWN INVALID_ARGUMENT DEADLINE_EXCEEDED NOT_FOUND 
 
 
 class Refused(Exception):
-    """The service refused the call: `status` is gRPC's, and `name` the service's, as `NoTable` or `Conflict`. Of a put, `id` is the
-    upload's.
+    """The service refused the call: `status` is gRPC's, and `name` the service's, such as `NoTable` or `Conflict`. For a put, `id` is
+    the upload's.
 
     >>> try:
     ...     client.get("nothing")
@@ -75,8 +75,8 @@ class Refused(Exception):
 
 
 class BadAnswer(Exception):
-    """What came back is no answer to the call. Of a put, `id` is the upload's: it may have been taken, and can be put again under
-    this id.
+    """What came back is no answer to the call. For a put, `id` is the upload's: it may have been taken, and can be put again with this
+    id.
 
     >>> try:
     ...     ack = client.put("sales", rows)
@@ -88,7 +88,7 @@ class BadAnswer(Exception):
 
 
 def check(holds, why):
-    """Raises `BadAnswer` where something does not hold of what came."""
+    """Raises `BadAnswer` if a condition on what was received does not hold."""
     if not holds:
         raise BadAnswer(why)
 
@@ -106,7 +106,7 @@ def varint(number):
 
 
 def number_field(number, value):
-    """A field with a number, which is left out where it is 0."""
+    """A field with a number, which is left out if it is 0."""
     return varint(number * 8) + varint(value) if value else b""
 
 
@@ -115,7 +115,7 @@ def bytes_field(number, content):
 
 
 def read_varint(text, place):
-    """A number of at most ten bytes and 64 bits, and the place behind it."""
+    """A number of at most ten bytes and 64 bits, and the place after it."""
     number = 0
     for shift in range(0, 70, 7):
         check(place < len(text), "CutShort")
@@ -128,7 +128,7 @@ def read_varint(text, place):
 
 
 class Message:
-    """The fields of a message that came, of all its pieces: for each number what stood there, numbers and bytes, in their order."""
+    """The fields of a received message, of all its pieces: for each field number the contents, numbers and bytes, in order."""
 
     def __init__(self, *pieces):
         self.found, self.count = {}, 0
@@ -191,12 +191,12 @@ def frame(flag, payload):
 
 
 def request(method, messages):
-    """The frames that ask for a call."""
+    """The frames of the request for a call."""
     return b"".join(frame(0, it) for it in (PATH + method.encode(), *messages)) + frame(END, b"")
 
 
 def read_exactly(read, count):
-    """So many bytes of a reader that gives some at a time, and none at its end."""
+    """`count` bytes of a reader that returns some at a time, and none at its end."""
     found = bytearray()
     while len(found) < count:
         part = read(min(count - len(found), 1 << 18))
@@ -231,7 +231,7 @@ def read_trailer(payload):
 
 
 class View:
-    """A table at a place of a text that came."""
+    """A table at a place of a received text."""
 
     def __init__(self, text, place):
         self.text, self.place = text, place
@@ -245,7 +245,7 @@ class View:
         return struct.unpack_from(form, self.text, place)
 
     def slot(self, number):
-        """The place of a field, None where it is absent."""
+        """The place of a field, None if it is absent."""
         cell = self.at("<H", self.vtable + 4 + 2 * number)[0] if self.size >= 6 + 2 * number else 0
         return self.place + cell if cell else None
 
@@ -257,17 +257,17 @@ class View:
         return place + self.at("<I", place)[0]
 
     def table(self, slot):
-        """The table that a field refers to, None where it is absent."""
+        """The table that a field refers to, None if it is absent."""
         place = self.slot(slot)
         return None if place is None else View(self.text, self.follow(place))
 
     def string(self, slot):
-        """The bytes of a string, None where it is absent."""
+        """The bytes of a string, None if it is absent."""
         place, count = self.vector(slot, 1)
         return None if place is None else self.text[place : place + count]
 
     def vector(self, slot, size):
-        """Where the elements of a vector begin, each of so many bytes, and how many there are: all lie in the text."""
+        """The place of a vector's first element, and the number of elements, of `size` bytes each: all are inside the text."""
         place = self.slot(slot)
         if place is None:
             return None, 0
@@ -281,7 +281,7 @@ class View:
         return (View(self.text, self.follow(place + 4 * it)) for it in range(count))
 
     def pairs(self, slot, most):
-        """A vector of pairs of numbers, of which there are at most so many."""
+        """A vector of at most `most` pairs of numbers."""
         place, count = self.vector(slot, 16)
         check(count <= most, "a batch has more columns than a schema")
         return list(struct.iter_unpack("<qq", self.text[place : place + 16 * count])) if count else []
@@ -298,7 +298,7 @@ def pad(out, size, rest=0):
 
 
 def put_object(out, thing):
-    """Appends an object and all that it refers to, each whole before the next, and gives its place."""
+    """Appends an object and all that it refers to, each whole before the next, and returns its place."""
     if isinstance(thing, FlatTable):
         return put_table(out, thing)
     if isinstance(thing, Pairs):
@@ -339,7 +339,7 @@ def put_reference(out, place, thing):
 
 # ---- types and schemas (Apache Arrow, "Schema.fbs")
 
-# Each kind of type with its number, the formats of its parameters (`t` is a text or None), and what absent ones mean.
+# Each kind of type with its number, the formats of its parameters (`t` is a text or None), and their defaults.
 KINDS = {
     "Null": (1, "", ()), "Int": (2, "iB", (0, 0)), "FloatingPoint": (3, "h", (0,)), "Binary": (4, "", ()), "Utf8": (5, "", ()),
     "Bool": (6, "", ()), "Decimal": (7, "iii", (0, 0, 128)), "Date": (8, "h", (1,)), "Time": (9, "hi", (1, 32)),
@@ -364,8 +364,8 @@ ALIASES = {"string": "utf8", "str": "utf8", "bytes": "binary", "boolean": "bool"
 
 
 class DataType(namedtuple("DataType", "kind parameters fields")):
-    """A type of Arrow: the name of its table in Schema.fbs, that table's parameters, and the fields inside. It is written as a short
-    text, which stands for it wherever a type is wanted:
+    """A type of Arrow: the name of its table in Schema.fbs, that table's parameters, and its child fields. It is written as a short
+    text, which can be used wherever a type is expected:
 
     >>> felzoren.Field("tags", "list<utf8>").type
     DataType('list<utf8>')
@@ -373,8 +373,8 @@ class DataType(namedtuple("DataType", "kind parameters fields")):
     `null`, `bool`, `int8` to `int64`, `uint8` to `uint64`, `float16`, `float32`, `float64`, `utf8`, `binary`, `fixed_size_binary[16]`,
     `decimal128(10, 2)`, `decimal256(50, 0)`, `date32`, `date64`, `time32[s]`, `time32[ms]`, `time64[us]`, `time64[ns]`, `timestamp[us]`,
     `timestamp[us, UTC]`, `duration[ms]`, `list<int64>`, `list<item: int64 not null>`, `fixed_size_list<int8>[3]`,
-    `struct<x: int32, y: utf8>`. Names that are not letters, digits and `_`, and time zones with other signs than `+-/:`, stand in JSON's
-    quotation marks."""
+    `struct<x: int32, y: utf8>`. Names that are not letters, digits and `_`, and time zones with other signs than `+-/:`, are written as
+    JSON strings."""
 
     __slots__ = ()
 
@@ -414,7 +414,7 @@ def unquoted(text):
     return json.loads(text) if text.startswith('"') else text
 
 
-# Types with parameters that have nothing inside, by their texts.
+# Types with parameters and without children, by their texts.
 LEAVES = (
     (rf"timestamp\[(s|ms|us|ns),\s*({TEXT}|{ZONE})\]", lambda unit, zone: ("Timestamp", (UNITS.index(unit), unquoted(zone)))),
     (r"fixed_size_binary\[(\d+)\]", lambda width: ("FixedSizeBinary", (int(width),))),
@@ -430,7 +430,7 @@ class TypeReader:
         self.whole, self.rest = text, text.strip()
 
     def take(self, pattern):
-        """What comes next, if it is this."""
+        """Takes what comes next, if it matches the pattern."""
         found = re.match(pattern + r"\s*", self.rest)
         self.rest = self.rest[found.end() :] if found else self.rest
         return found
@@ -439,7 +439,7 @@ class TypeReader:
         return self.take(pattern) or self.fail()
 
     def fail(self):
-        raise ValueError(f"{self.whole!r} is no type: it goes wrong at {self.rest!r}")
+        raise ValueError(f"{self.whole!r} is no type: the fault is at {self.rest!r}")
 
     def type(self):
         if self.take("struct<"):
@@ -472,14 +472,14 @@ class TypeReader:
         return self.field() if re.match(FIELD_NAME, self.rest) else Field("item", self.type(), not self.take("not null"))
 
     def whole_of(self, part):
-        """What a method reads, which is all that there is."""
+        """What a method reads, which must be all of the text."""
         found = part()
         self.need("$")
         return found
 
 
 def as_type(type):
-    """A type, or the one that a text says."""
+    """The type, or the one that a text describes."""
     if isinstance(type, DataType):
         return type
     if not isinstance(type, str):
@@ -489,7 +489,7 @@ def as_type(type):
 
 
 def as_field(field):
-    """A field, or the one that a text says, or a name and a type and so on."""
+    """The field, or the one that a text describes, or that of a name, a type and so on."""
     if isinstance(field, str):
         reader = TypeReader(field)
         return reader.whole_of(reader.field)
@@ -501,7 +501,7 @@ def as_metadata(entries):
 
 
 class Field(namedtuple("Field", "name type nullable metadata")):
-    """A named type: of a column, or of what stands inside another type. `metadata` are pairs of texts.
+    """A named type: of a column, or of a child of another type. `metadata` are pairs of texts.
 
     >>> felzoren.Field("day", "date32", nullable=False)
     Field('day: date32 not null')
@@ -546,7 +546,7 @@ SCHEMA_HEADER, BATCH_HEADER = 1, 3
 
 
 class Limits:
-    """Counts what a schema says; beyond its limits raises `fault`."""
+    """Counts the parts of a schema, and raises `fault` beyond its limits."""
 
     def __init__(self, fault):
         self.fault, self.counts = fault, {}
@@ -570,7 +570,7 @@ class Limits:
 
 
 def is_proper(type):
-    """Whether the type has such parameters, and so many fields inside it, as its kind."""
+    """Whether the type has the parameters and the number of child fields that its kind requires."""
     kind, parameters, count = type.kind, type.parameters, len(type.fields)
     if kind not in KINDS or len(parameters) != len(KINDS[kind][1]):
         return False
@@ -597,7 +597,7 @@ def read_header(text, kind):
 
 
 def read_schema(text):
-    """The schema that a header shows."""
+    """The schema in a header."""
     _, view = read_header(text, SCHEMA_HEADER)
     limits = Limits(BadAnswer)
     check(view.number(0, "h") == 0, "Endianness")
@@ -655,7 +655,7 @@ def header_text(kind, header, body_length):
 
 
 def schema_header(schema):
-    """The header of a schema; `ValueError` where the service carries no such schema."""
+    """The header of a schema; `ValueError` if the service does not support such a schema."""
     limits = Limits(ValueError)
     fields = [field_table(it, 1, limits) for it in schema.fields]
     return header_text(SCHEMA_HEADER, FlatTable(12, (None, (4, fields), entries_cell(8, schema.metadata, limits))), 0)
@@ -697,9 +697,9 @@ def batch_header(rows, nodes, buffers, body_length):
 
 
 def read_schema_as_written(text):
-    """The schema of a header which is the one that is written of it, so that it shows no more than it has bytes for."""
+    """The schema of a canonical header, which can't encode more than it has bytes for."""
     schema = read_schema(text)
-    check(text == schema_header(schema), "a header is not the one that is written of its schema")
+    check(text == schema_header(schema), "a header is not the canonical one of its schema")
     return schema
 
 
@@ -712,21 +712,21 @@ def read_encapsulated(text):
     return read_schema_as_written(text[8:])
 
 
-# ---- values, and how they are stored
+# ---- values and their storage
 
 EPOCH = datetime.datetime(1970, 1, 1)
 NANOSECONDS = (10**9, 10**6, 10**3, 1)  # of each unit
 DAY = 86_400 * 10**9
-# Stands for a value under a null of what it is inside of: it is there, and has nothing but zero bytes.
+# Stands for a value under a null of its parent: it exists, and has only zero bytes.
 BLANK = object()
 
-# How the values of a type with a width are stored: the format of one, None where it is bytes; its width; what stands for a blank one;
-# how a value is stored; and how it is had back, None where it is as it is stored.
+# How the values of a type with a width are stored: the format of one, None if it is bytes; its width; the stored form of a blank one;
+# the function that stores a value; and the one that loads it, None if it is loaded as it is stored.
 Storage = namedtuple("Storage", "form width blank store load")
 
 
 def storage_of(type):
-    """How the values of a type are stored that all take as many bytes."""
+    """The storage of a type whose values all have the same width."""
     return STORAGES[type.kind](str(type), *type.parameters)
 
 
@@ -735,7 +735,7 @@ def refuse(value, what):
 
 
 def whole(value, what):
-    """A whole number as Python's own."""
+    """A whole number as a Python int."""
     is_whole = isinstance(value, numbers.Integral) and not isinstance(value, bool)
     return int(value) if is_whole else refuse(value, what)
 
@@ -794,8 +794,8 @@ def decimals(what, precision, scale, bits):
 
 
 def counts(what, form, step, nanoseconds, value_of):
-    """Numbers that count steps of so many nanoseconds: `nanoseconds` are those of a Python value, None where it is no such value, and
-    `value_of` has it back. A plain number is stored as it is, and what no Python value can say is had back as a number."""
+    """Numbers that count steps of `step` nanoseconds: `nanoseconds` returns those of a Python value, None if it is no such value, and
+    `value_of` makes the value again. A plain number is stored as it is, and a count that no Python value can express is loaded as a number."""
     limit = 1 << 8 * struct.calcsize("<" + form) - 1
 
     def store(value):
@@ -809,7 +809,7 @@ def counts(what, form, step, nanoseconds, value_of):
         except (OverflowError, ValueError):
             return count
 
-    # Counts of nanoseconds stay numbers: Python has no such values.
+    # Counts of nanoseconds remain numbers: Python has no such values.
     return Storage(form, struct.calcsize("<" + form), 0, store, None if step == 1 else load)
 
 
@@ -818,7 +818,7 @@ def span(nanoseconds):
 
 
 def nanoseconds_of(delta):
-    """Those of a `timedelta`, and those that only pandas has beside its microseconds."""
+    """The nanoseconds of a `timedelta`, with those that only pandas has besides its microseconds."""
     return ((delta.days * 86_400 + delta.seconds) * 10**6 + delta.microseconds) * 1000 + getattr(delta, "nanoseconds", 0)
 
 
@@ -896,7 +896,7 @@ def read_bits(content, count):
 
 
 class Body:
-    """The body of a batch as it is written: the nodes of its columns, and its buffers, each at the next multiple of eight bytes."""
+    """A body of a batch to be written: the nodes of its columns, and its buffers, each at the next multiple of eight bytes."""
 
     def __init__(self):
         self.nodes, self.buffers, self.text = [], [], bytearray()
@@ -974,8 +974,8 @@ def as_list(value):
 
 
 def columns_of(fields, rows):
-    """The values of each field of rows, or of structs. A row is a dict by the names of the fields, where a missing name is None, or a
-    sequence of a value each."""
+    """The values of each field of rows, or of structs. A row is a dict by the names of the fields, in which a missing name means None, or
+    a sequence with a value for each field."""
     names, blank, found = [it.name for it in fields], [BLANK] * len(fields), []
     known = set(names)
     for row in rows:
@@ -992,7 +992,7 @@ def columns_of(fields, rows):
 
 
 def write_batch(schema, columns, rows):
-    """The header and the body of a batch, of which the columns are lists of cells."""
+    """The header and the body of a batch, whose columns are given as lists of cells."""
     body = Body()
     for field, cells in zip(schema.fields, columns):
         body.column(field, cells)
@@ -1000,8 +1000,8 @@ def write_batch(schema, columns, rows):
 
 
 class Column(namedtuple("Column", "type length null_count validity data children")):
-    """A column of a batch as it came, checked: Arrow's buffers `validity` (empty where nothing is null) and `data`, a list of buffers,
-    and the columns inside it."""
+    """A column of a received batch, checked: Arrow's buffers `validity` (empty if nothing is null) and `data`, a list of buffers, and the
+    child columns."""
 
     __slots__ = ()
 
@@ -1047,20 +1047,20 @@ class Column(namedtuple("Column", "type length null_count validity data children
 
 
 def rows_of(columns, count):
-    """The rows of columns as tuples, so many also where there is no column."""
+    """The rows of columns as tuples, `count` of them even if there is no column."""
     return zip(*columns) if columns else itertools.repeat((), count)
 
 
 class BodyReader:
-    """Takes the parts of a body that came, which has to be the one that is written: each buffer at the next multiple of eight bytes and no
-    longer than its values, and nothing under nulls. The values of a column that have to be empty are the bits of a number, the lowest
-    first, which is only made where a column has bytes of its own for each value."""
+    """Takes the parts of a received body, which must be the canonical one: each buffer at the next multiple of eight bytes and no longer
+    than its values, and nothing under nulls. The values of a column that must be empty are the bits of a number, the lowest first, which
+    is only made if a column has bytes of its own for each value."""
 
     def __init__(self, nodes, buffers, text):
         self.nodes, self.buffers, self.text, self.place = iter(nodes), iter(buffers), text, 0
 
     def buffer(self, length):
-        """The next buffer, which has so many bytes, and zero bytes up to a multiple of eight."""
+        """The next buffer, which must have `length` bytes, and then zero bytes up to a multiple of eight."""
         check(next(self.buffers, None) == (self.place, length), "BufferRange")
         end = self.place + length
         content, self.place = self.text[self.place : end], end + -end % 8
@@ -1069,7 +1069,7 @@ class BodyReader:
 
     def bits(self, count):
         content = self.buffer((count + 7) // 8)
-        check(int.from_bytes(content, "little") >> count == 0, "a bit is set behind the last value")
+        check(int.from_bytes(content, "little") >> count == 0, "a bit is set after the last value")
         return content
 
     def offsets(self, count, empty):
@@ -1080,7 +1080,7 @@ class BodyReader:
         return content, ends
 
     def column(self, type, length, blank=lambda: 0):
-        """A column, which has so many values, of which the blank ones stand under a null of what it is inside of."""
+        """A column, which must have `length` values, of which the blank ones are under a null of its parent."""
         check(length <= MAX_VALUES, "TooManyRows")
         node_length, nulls = next(self.nodes, (None, None))
         check(node_length == length, "ChildShort")
@@ -1131,16 +1131,16 @@ def places_in(bits):
 
 
 def spread(bits, size):
-    """Each bit so many times."""
+    """Each bit `size` times."""
     return bits if size == 1 else int(f"{bits:b}".replace("0", "0" * size).replace("1", "1" * size) or "0", 2)
 
 
 def read_batch(schema, header, text):
-    """The batch that a header and a body lay out, which have to be those that are written of it."""
+    """The batch of a header and a body, which must be the canonical ones."""
     _, view = read_header(header, BATCH_HEADER)
     rows, nodes, buffers = view.number(0, "q"), view.pairs(1, MAX_FIELDS), view.pairs(2, 3 * MAX_FIELDS)
     check(0 <= rows <= MAX_ROWS, "TooManyRows")
-    check(header == batch_header(rows, nodes, buffers, len(text)), "a header is not the one that is written of its batch")
+    check(header == batch_header(rows, nodes, buffers, len(text)), "a header is not the canonical one of its batch")
     reader = BodyReader(nodes, buffers, text)
     columns = [reader.column(it.type, rows) for it in schema.fields]
     check(next(reader.nodes, None) is None, "NodeCount")
@@ -1153,7 +1153,7 @@ def read_batch(schema, header, text):
 
 
 class RecordBatch(namedtuple("RecordBatch", "schema num_rows columns")):
-    """A batch of a table as it came: its columns hold Arrow's buffers, and the values are made when they are asked for."""
+    """A received batch of a table: its columns hold Arrow's buffers, and the values are made when they are asked for."""
 
     __slots__ = ()
 
@@ -1170,7 +1170,7 @@ class RecordBatch(namedtuple("RecordBatch", "schema num_rows columns")):
 def distinct(names):
     if len(set(names)) < len(names):
         twice = next(it for place, it in enumerate(names) if it in names[:place])
-        raise ValueError(f"two columns have the name {twice!r}, and a dict has room for one: take to_columns()")
+        raise ValueError(f"two columns have the name {twice!r}, and a dict has room for one: use to_columns()")
     return names
 
 
@@ -1179,7 +1179,7 @@ Upload.__doc__ = """An upload of a version: its id, as 32 hexadecimal digits, an
 
 
 class Table:
-    """A version of a table as it came: `schema`, `uploads` in the order in which they count, and `num_bytes` of the answer.
+    """A received version of a table: `schema`, `uploads` in the order in which they count, and `num_bytes` of the answer.
 
     >>> table = client.get("sales")
     >>> table.num_rows, table.schema.names, [upload.id for upload in table.uploads]
@@ -1202,7 +1202,7 @@ class Table:
         return sum(it.num_rows for it in self.batches)
 
     def to_columns(self):
-        """The values of each column, as lists, by their places in the schema: also of columns that share a name."""
+        """The values of each column, as lists, in the order of the schema: also of columns that share a name."""
         columns = [[] for _ in self.schema.fields]
         for batch in self.batches:
             for cells, more in zip(columns, batch.to_columns()):
@@ -1226,7 +1226,7 @@ class Table:
         return [row for batch in self.batches for row in batch.to_pylist()]
 
     def to_pandas(self):
-        """A pandas `DataFrame` of the columns, with the types that pandas takes for them.
+        """A pandas `DataFrame` of the columns, with the types that pandas chooses.
 
         >>> client.get("sales").to_pandas().groupby("shop").sum()
         """
@@ -1236,13 +1236,13 @@ class Table:
 
 
 def read_table(messages):
-    """The table that the messages of an answer are: one of the schema, and then those of the uploads."""
+    """The table in the messages of an answer: one of the schema, and then those of the uploads."""
     schema, uploads, last, num_bytes = None, {}, None, 0
     for message in messages:
         num_bytes += 5 + len(message)
         found = Message(message)
         header, name, body = (found.bytes(it) for it in (2, 3, 1000))
-        check(message == data_message(header, name, body), "a message is not the one that is written of what it says")
+        check(message == data_message(header, name, body), "a message is not the canonical one of its contents")
         if schema is None:
             schema = read_schema_as_written(header)
             check(not name and not body, "an answer begins with the header of a schema")
@@ -1250,7 +1250,7 @@ def read_table(messages):
         check(len(name) == 16 and (header or not body), "a message is neither a batch of an upload nor its id alone")
         if last is None or name.hex() != last.id or not header or not last.batches:
             last = Upload(name.hex(), [])
-            check(uploads.setdefault(last.id, last) is last, "an upload stands in two places")
+            check(uploads.setdefault(last.id, last) is last, "an upload is in two places")
         if header:
             last.batches.append(read_batch(schema, header, body))
     check(schema is not None, "an answer has no schema")
@@ -1261,11 +1261,11 @@ def data_message(header, name, body):
     return b"".join(bytes_field(number, content) for number, content in ((2, header), (3, name), (1000, body)) if content)
 
 
-# ---- what is put: rows and columns of Python's values
+# ---- inputs: rows and columns of Python values
 
 
 def infer_type(values, name):
-    """The type of these values, of which None may be any."""
+    """The type of these values; None fits any type."""
     values = [it for it in values if it is not None]
     words = {word_of(it, name) for it in {type(it): it for it in values}.values()}
     if words == {"int64", "float64"}:
@@ -1284,7 +1284,7 @@ def infer_type(values, name):
     return as_type(word)
 
 
-# What the types of values are called, the first that a value is of.
+# The names of the types of values: the first one that fits a value counts.
 WORDS = ((bool, "bool"), (numbers.Integral, "int64"), (numbers.Real, "float64"), (str, "utf8"), ((bytes, bytearray, memoryview), "binary"),
          (dict, "struct"), (decimal.Decimal, "decimal"), (datetime.date, "date32"), (datetime.time, "time64[us]"),
          (datetime.timedelta, "duration[us]"))
@@ -1309,9 +1309,9 @@ def infer_fields(columns, path=""):
 
 
 def infer_schema(data):
-    """The schema that `put` takes for rows or columns where it is given none: bool, int (int64), float (float64), str (utf8), bytes
+    """The schema that `put` uses for rows or columns if it is given none: bool, int (int64), float (float64), str (utf8), bytes
     (binary), list, dict (struct), `Decimal`, `date`, `time`, `datetime` (timestamp[us]), `timedelta`; None alone is null. Every field
-    may be null.
+    is nullable.
 
     >>> print(felzoren.infer_schema([{"a": 1, "b": [0.5]}, {"a": None, "b": []}]))
     a: int64
@@ -1321,7 +1321,7 @@ def infer_schema(data):
 
 
 def columns_by_name(rows):
-    """The columns of rows that are dicts, by the names that occur."""
+    """The columns of rows that are dicts, by the names in them."""
     names = dict.fromkeys(itertools.chain.from_iterable(rows))
     return {name: [row.get(name) for row in rows] for name in names}
 
@@ -1348,26 +1348,26 @@ def columns_in(data, schema):
         return schema, [cells for cells, in columns_of(schema.fields, [row])], count
     rows = list(data)
     if not all(isinstance(it, dict) or schema is not None and it is not None for it in rows):
-        raise ValueError("rows are dicts, or sequences where there is a schema")
+        raise ValueError("rows must be dicts, or sequences if a schema is given")
     schema = schema_of(columns_by_name(rows), len(rows)) if schema is None else schema
     return schema, columns_of(schema.fields, rows), len(rows)
 
 
 def schema_of(columns, count):
     if not count:
-        raise ValueError("no schema can be inferred of no rows: give one")
+        raise ValueError("no schema can be inferred from no rows: give one")
     return Schema(infer_fields(columns))
 
 
 def pandas_columns(frame):
-    """The columns of a DataFrame; what is missing there, as NaN, NaT and None, is None."""
+    """The columns of a DataFrame; missing values there (NaN, NaT and None) are None."""
     columns = [frame.iloc[:, place] for place in range(len(frame.columns))]
     return {str(name): [None if gone else it for gone, it in zip(column.isna().tolist(), column.tolist())]
             for name, column in zip(distinct(list(frame.columns)), columns)}
 
 
 def encode_batches(schema, columns, first, last):
-    """The batches of these rows, each a header and a body: halves of them where they are no batch, down to a row that is none."""
+    """The batches of these rows, each a header and a body. Rows that make no batch are halved, down to a single row."""
     try:
         batch = write_batch(schema, [it[first:last] for it in columns], last - first)
         check_batch(batch, last - first)
@@ -1380,7 +1380,7 @@ def encode_batches(schema, columns, first, last):
 
 
 def check_batch(batch, rows):
-    """A batch is served with the id of its upload."""
+    """Checks the size of a batch, which is served with the id of its upload."""
     size = len(data_message(batch[0], bytes(16), batch[1]))
     if size > MAX_FRAME_BYTES or rows > MAX_ROWS:
         raise ValueError(f"a batch of {rows} rows and {size} bytes; it has at most {MAX_ROWS} rows and {MAX_FRAME_BYTES} bytes")
@@ -1413,7 +1413,7 @@ def parse_location(location):
 
 
 class SocketConnection:
-    """A connection over TCP for one call, which ends at a deadline."""
+    """A TCP connection for one call, which ends at a deadline."""
 
     def __init__(self, addresses, timeout):
         self.deadline = None if timeout is None else time.monotonic() + timeout
@@ -1421,7 +1421,7 @@ class SocketConnection:
         self.close = self.socket.close
 
     def left(self, share=1):
-        """How many seconds are left for the call, or the share of one of several tries."""
+        """How many seconds are left for the call, or for one of `share` tries."""
         if self.deadline is None:
             return None
         seconds = self.deadline - time.monotonic()
@@ -1439,7 +1439,7 @@ class SocketConnection:
                     raise
 
     def write(self, data):
-        """Sends, unless the service speaks before it has all, as it does where it refuses a call."""
+        """Sends data, and stops if the service answers before it has all, as it does if it refuses a call."""
         view = memoryview(data)
         self.socket.setblocking(False)
         with selectors.DefaultSelector() as selector:
@@ -1461,7 +1461,7 @@ class SocketConnection:
 
 
 class FilesConnection(namedtuple("FilesConnection", "reader writer")):
-    """Two binary files, which one call after the other goes through."""
+    """Two binary files, which one call after another uses."""
 
     __slots__ = ()
 
@@ -1479,11 +1479,11 @@ class FilesConnection(namedtuple("FilesConnection", "reader writer")):
 # ---- calls (Apache Arrow, "Arrow Flight RPC")
 
 Ack = namedtuple("Ack", "id version")
-Ack.__doc__ = """What acknowledges an upload: its id, as 32 hexadecimal digits, and the version of the table that it made."""
+Ack.__doc__ = """The acknowledgement of an upload: its id, as 32 hexadecimal digits, and the version of the table that it made."""
 
 
 class Ticket(namedtuple("Ticket", "table version")):
-    """What asks for a version of a table.
+    """A request for a version of a table.
 
     >>> felzoren.Ticket("sales", 3).encode().hex()
     '0a0573616c65731003'
@@ -1498,8 +1498,8 @@ class Ticket(namedtuple("Ticket", "table version")):
 
 
 class Info(namedtuple("Info", "table schema ticket locations total_records total_bytes")):
-    """What the service tells of the latest version of a table: the schema, the ticket that asks for it, where it is served, and how many
-    rows and bytes it has.
+    """What the service reports about the latest version of a table: the schema, the ticket that asks for it, where it is served, and how
+    many rows and bytes it has.
 
     >>> info = client.info("sales")
     >>> info.ticket.version, info.total_records
@@ -1520,7 +1520,7 @@ def descriptor(*path):
 
 
 def upload_id(id):
-    """The 16 bytes of an upload's id: those given, as bytes or as 32 hexadecimal digits, or drawn ones."""
+    """The 16 bytes of an upload's id: those given, as bytes or as 32 hexadecimal digits, or random ones."""
     if id is None:
         return os.urandom(16)
     try:
@@ -1547,13 +1547,13 @@ def signed(number):
 def read_info(message):
     found = Message(message)
     endpoints = [Message(it) for it in found.all(3)]
-    check(len(endpoints) == 1, "an info has not just one endpoint")
+    check(len(endpoints) == 1, "an info does not have exactly one endpoint")
     ticket = read_ticket(endpoints[0].message(1).bytes(1))
     asked = found.message(2)
     check(asked.number(1) == 1 and asked.texts(3) == [ticket.table], "an info is of another table than its ticket")
     locations = [Message(it).text(1) for it in endpoints[0].all(2)]
     records, size = signed(found.number(4)), signed(found.number(5))
-    check(records >= 0 and size >= 0 and found.number(6), "an info tells no rows, no bytes or no order")
+    check(records >= 0 and size >= 0 and found.number(6), "an info has no rows, no bytes or no order")
     return Info(ticket.table, read_encapsulated(found.bytes(1)), ticket, locations, records, size)
 
 
@@ -1567,28 +1567,28 @@ def read_version(message, id):
 def only(messages):
     """The one message of an answer, which is read to its end."""
     found = list(itertools.islice(messages, 2))
-    check(len(found) == 1, "an answer has not just one message")
+    check(len(found) == 1, "an answer does not have exactly one message")
     return found[0]
 
 
 class Client:
-    """Makes calls of a service, a connection for each; see `connect`. It can be used by several threads at a time."""
+    """Makes calls to a service, with a connection for each; see `connect`. Several threads can use it at a time."""
 
     def __init__(self, open_connection, max_bytes=MAX_ANSWER_BYTES):
         self.open_connection, self.max_bytes = open_connection, max_bytes
 
     def call(self, method, messages, read):
-        """Makes a call, and gives what `read` makes of the messages of its answer."""
+        """Makes a call, and returns what `read` makes of the messages of its answer."""
         with contextlib.closing(self.open_connection()) as connection:
             connection.write(request(method, messages))
             return read(read_messages(connection.read, self.max_bytes))
 
     def put(self, table, data, schema=None, id=None):
-        """Uploads rows to a table, which the first upload to it makes, and gives its `Ack`.
+        """Uploads rows to a table, which the first upload to it creates, and returns its `Ack`.
 
-        `data` are rows (dicts, or sequences where there is a schema), a dict of columns, or a pandas DataFrame. `schema` is a `Schema`, or
-        what makes one; without one it is inferred, see `infer_schema`. `id` names the upload: put again under the same id it counts once,
-        and is told the same version. Where a fault leaves open whether it was taken, its `id` is that of the upload.
+        `data` are rows (dicts, or sequences if a schema is given), a dict of columns, or a pandas DataFrame. `schema` is a `Schema`, or
+        what makes one; without one it is inferred, see `infer_schema`. `id` identifies the upload: put again with the same id it counts
+        once, and gets the same version. An exception that leaves open whether it was taken has the upload's id as its `id`.
 
         >>> client.put("sales", {"shop": ["Basel"], "sold": [40]}, schema={"shop": "utf8", "sold": "int64"})
         Ack(id='5b1c...', version=2)
@@ -1600,7 +1600,7 @@ class Client:
         return self.put_encoded(table, schema, batches, id)
 
     def put_batches(self, table, batches, schema, id=None):
-        """Uploads as `put` does, in just these batches, each of rows or columns.
+        """Uploads like `put`, in exactly these batches, each of rows or columns.
 
         >>> client.put_batches("sales", [[("Basel", 40)], [("Genf", None)]], {"shop": "utf8", "sold": "int64"})
         Ack(id='b0a7...', version=2)
@@ -1613,7 +1613,7 @@ class Client:
         return self.put_encoded(table, schema, encoded, id)
 
     def put_encoded(self, table, schema, batches, id):
-        """Uploads batches that are a header and a body each."""
+        """Uploads batches that are given as a header and a body each."""
         id, header, path = upload_id(id), schema_header(schema), table_name(table)
         check_upload(table, header, batches)
         messages = [bytes_field(1, descriptor(path, id.hex().encode())) + bytes_field(2, header)]
@@ -1642,7 +1642,7 @@ class Client:
         return self.call("DoGet", [bytes_field(1, content)], read_table)
 
     def info(self, table):
-        """What the service tells of the latest version of a table, as `Info`.
+        """What the service reports about the latest version of a table, as `Info`.
 
         >>> client.info("sales").locations[0]
         'plain+tcp://127.0.0.1:42000'
@@ -1676,10 +1676,10 @@ def as_schema(schema):
 
 def connect(location, timeout=None, max_bytes=MAX_ANSWER_BYTES):
     """A client of the service at a location, `"127.0.0.1:42000"` or `"plain+tcp://127.0.0.1:42000"`, or at a list of them, of which each
-    call takes the first that can be reached.
+    call uses the first that can be reached.
 
     `timeout` is how many seconds a call may take from its connection to its last byte; then `socket.timeout` (an `OSError`) is raised.
-    How long the system takes to find the address of a host's name is not in its hand.
+    It does not limit how long the system takes to look up a host's name.
     `max_bytes` is how many bytes an answer may have; a longer one is a `BadAnswer`. Nothing is connected before the first call.
 
     >>> client = felzoren.connect(["127.0.0.1:42000", "127.0.0.1:42001"], timeout=10)
@@ -1691,8 +1691,8 @@ def connect(location, timeout=None, max_bytes=MAX_ANSWER_BYTES):
 
 
 def connect_files(reader, writer, max_bytes=MAX_ANSWER_BYTES):
-    """A client of a service that answers one call after the other over two buffered binary files, such as the pipes of a process. There
-    is no timeout; and behind a `BadAnswer` the files are of no more use.
+    """A client of a service that answers one call after another over two buffered binary files, such as the pipes of a process. There
+    is no timeout; and after a `BadAnswer` the files can't be used any more.
 
     >>> process = subprocess.Popen(program, stdin=subprocess.PIPE, stdout=subprocess.PIPE)
     >>> client = felzoren.connect_files(process.stdout, process.stdin)

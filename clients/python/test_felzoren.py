@@ -3,9 +3,9 @@
 
     clients/python/test_felzoren.py [PROGRAM]
 
-Codecs are compared with rows that are not the client's own: the examples of docs/FORMATS.md, the stories of the crates, and headers
-that the FlatBuffers compiler made. Calls are made over sockets of this machine of PROGRAM (crates/call_server/out/call_server), which
-`rt ci call_server` builds. Without it the tests of calls fail."""
+Codecs are compared with independent examples: those of docs/FORMATS.md, the stories of the crates, and headers that the FlatBuffers
+compiler made. Calls are made over local sockets to PROGRAM (crates/call_server/out/call_server), which `rt ci call_server` builds.
+Without it the tests of calls fail."""
 import contextlib
 import datetime
 import decimal
@@ -50,7 +50,7 @@ def bytes_of(text):
 
 
 def stories(*names):
-    """Each command of files of stories, with the lines under it."""
+    """Each command in files of stories, with the lines under it."""
     for name in names:
         found = []
         for line in (CRATES / name).read_text(encoding="utf-8").splitlines():
@@ -66,7 +66,7 @@ WORDS = {"true": 1, "false": 0, "-": None, "HALF": 0, "SINGLE": 1, "DOUBLE": 2, 
 
 
 def story_type(text):
-    """The type that a story spells, and what stands behind it."""
+    """The type at the front of a story's text, and the text after it."""
     kind, rest = re.match(r"(\w+)(.*)", text).groups()
     words, fields = [], []
     while rest.startswith(("(", ",")) and not rest.startswith("()") and (rest[0] == "(" or words or fields):
@@ -103,7 +103,7 @@ def story_schema(text):
 
 
 def told(type, cell):
-    """A cell as stories tell it, by the bytes that are stored of it."""
+    """A cell as stories show it, by its stored bytes."""
     if cell is None:
         return "null"
     if type.kind == "Bool":
@@ -126,7 +126,7 @@ def told(type, cell):
 
 
 def is_nan(digits):
-    """Whether the bytes of a floating point number are those of none (IEEE 754)."""
+    """Whether the bytes of a floating point number are a NaN (IEEE 754)."""
     form = {4: "<e", 8: "<f", 16: "<d"}.get(len(digits))
     return digits != "null" and math.isnan(struct.unpack(form, bytes.fromhex(digits))[0])
 
@@ -140,7 +140,7 @@ def pairs(text):
 
 
 class BatchStory:
-    """A batch of a story: what is read, and what is told of it."""
+    """A batch of a story: what is read, and the expected result."""
 
     def __init__(self, schema, command, lines):
         head, buffers, body = command.split("|")
@@ -166,7 +166,7 @@ class BatchStory:
         return felzoren.header_text(felzoren.BATCH_HEADER, felzoren.FlatTable(24, cells), int(self.length))
 
     def as_written(self):
-        """The header and the body that are written of the batch."""
+        """The header and the body that are written for the batch."""
         if self.canonical:
             return self.header(), self.body
         body = self.canonical_body
@@ -174,7 +174,7 @@ class BatchStory:
 
 
 class Stories(unittest.TestCase):
-    """Bytes of the stories mean to the client what they mean there."""
+    """The client reads the bytes of the stories with the results there."""
 
     def test_examples_of_the_formats(self):
         """The bytes that docs/FORMATS.md shows."""
@@ -221,7 +221,7 @@ class Stories(unittest.TestCase):
         self.assertEqual(count, 222)
 
     def check_frames(self, text, lines):
-        """Messages up to the first end, and then what the trailer says; or a fault."""
+        """Messages up to the first end, and then the result of the trailer; or a fault."""
         messages = [it.split("payload ")[1] for it in itertools.takewhile(lambda it: it.startswith("flag 0,"), lines)]
         trailer = next((it for it in lines[len(messages) :] if it.startswith("flag 128")), None)
         payload = bytes_of(trailer.split("payload ")[1]) if trailer else b""
@@ -261,7 +261,7 @@ class Stories(unittest.TestCase):
         self.assertEqual((read, refused), (70, 30))
 
     def test_headers_that_are_none(self):
-        """A vtable of fewer bytes than its own two numbers have, and more nodes than a schema has fields."""
+        """A vtable of fewer bytes than its own two numbers need, and more nodes than a schema has fields."""
         header = felzoren.header_text(felzoren.SCHEMA_HEADER, felzoren.FlatTable(4, ()), 0)
         self.assertEqual(felzoren.read_schema(header), Schema([]))
         self.assertEqual(header[-12:], bytes.fromhex("04000400 04000000 00000000"))
@@ -274,7 +274,7 @@ class Stories(unittest.TestCase):
             view.pairs(1, 512)
 
     def test_each_beginning_of_a_header(self):
-        """The zero byte behind a string, and those at the end, are not needed; all others are."""
+        """The zero byte after a string, and those at the end, are not needed; all others are."""
         schema = Schema({"a": "int8"}, {"key": "value"})
         header = felzoren.schema_header(schema)
         needed = header.rindex(b"value") + 5
@@ -289,7 +289,7 @@ class Stories(unittest.TestCase):
                 felzoren.read_header(header[:length], felzoren.BATCH_HEADER)[1].pairs(2, 2)
 
     def test_a_null_under_a_null(self):
-        """A null Struct of a byte: a blank byte is inside, and not a null."""
+        """A null Struct of a byte: its child is a blank byte, and not a null."""
         schema = Schema({"a": "struct<x: int8>"})
         blank = felzoren.batch_header(1, [(1, 1), (1, 0)], [(0, 1), (8, 0), (8, 1)], 16), bytes(16)
         null = felzoren.batch_header(1, [(1, 1), (1, 1)], [(0, 1), (8, 1), (16, 1)], 24), bytes(24)
@@ -354,7 +354,7 @@ class Stories(unittest.TestCase):
 
 
 def story_lines(schema):
-    """A schema as stories tell it."""
+    """A schema as stories show it."""
     lines = [f'  metadata "{key}" = "{value}"' for key, value in schema.metadata]
 
     def tell(field, depth):
@@ -389,7 +389,7 @@ def story_lines(schema):
 moment, decimals = datetime.datetime, decimal.Decimal
 PARIS = datetime.timezone(datetime.timedelta(hours=1))
 
-# How values are stored, by hand, from the columnar format and Schema.fbs.
+# How values are stored, worked out by hand from the columnar format and Schema.fbs.
 STORED = [
     ("int8", -2, "fe"), ("uint16", 65535, "ffff"), ("int64", -(2**63), "0000000000000080"), ("uint64", 2**64 - 1, "ff" * 8),
     ("float16", 1.0, "003c"), ("float32", 0.5, "0000003f"), ("float64", -2, "00000000000000c0"),
@@ -405,7 +405,7 @@ STORED = [
     ("decimal128(5, -2)", decimals(1200), "0c" + "00" * 15), ("decimal256(3, 0)", 7, "07" + "00" * 31),
     ("fixed_size_binary[2]", b"ab", "6162"),
 ]
-# Values that are none of a type.
+# Values that do not fit a type.
 MISFITS = {
     "int8": [128, True, 1.0], "uint8": [-1], "int64": ["1", 2**63], "uint64": [2**64], "bool": [1], "utf8": [b"a", "\ud800"],
     "float64": ["1", True, 2**53 + 1, 10**400, decimals(1)], "float32": [1e39, 2**24 + 1], "float16": [65520.0],
@@ -417,7 +417,7 @@ MISFITS = {
     "decimal128(100, 0)": [10**38], "list<int8>": [3, "ab", [300]], "fixed_size_list<int8>[2]": [[1]],
     "struct<a: int8>": [{"b": 1}, [1, 2], 1], "null": [0], "list<int8 not null>": [[None]],
 }
-# The types that are inferred of columns.
+# The types that are inferred from columns.
 INFERRED = [
     ("null", [None, None]), ("bool", [True, None]), ("int64", [1, None, 2]), ("float64", [1, 2.5], [0.5]), ("utf8", ["a"]),
     ("binary", [b"a", bytearray(b"b")]), ("list<int64>", [[1], [], None], [(1, 2)]), ("list<null>", [[], []]),
@@ -427,7 +427,7 @@ INFERRED = [
     ("decimal128(38, 2)", [decimals("1.25"), decimals("1e3")]), ("decimal128(38, 0)", [decimals(10**38 - 1)]),
     ("decimal256(76, 0)", [decimals(10**38)]),
 ]
-# Columns of which no type is inferred, and why.
+# Columns from which no type is inferred, and why.
 NOT_INFERRED = [
     ("a: values of int64 and utf8 do not fit one type", [1, "a"]), ("bool and int64", [True, 1]), ("int64 and list", [[1], 2]),
     ("a.x: values of binary and int64", [{"x": 1}, {"x": b""}]), ("a.item: values", [[1, "a"]]),
@@ -478,7 +478,7 @@ class Types(unittest.TestCase):
             felzoren.write_batch(Schema([("a", "int8", False)]), [[None]], 1)
 
     def test_nanoseconds_of_pandas(self):
-        """Its values are those of `datetime`, with some nanoseconds more."""
+        """Its values are those of `datetime`, with additional nanoseconds."""
         stamp = type("Timestamp", (moment,), {"nanosecond": 7})(1970, 1, 1, 0, 0, 1)
         delta = type("Timedelta", (datetime.timedelta,), {"nanoseconds": 7})(seconds=1)
         for type_of, value in (("timestamp", stamp), ("duration", delta)):
@@ -553,7 +553,7 @@ class Types(unittest.TestCase):
 
 
 class Frame:
-    """What `put` asks of a pandas DataFrame, which need not be here."""
+    """What `put` uses of a pandas DataFrame, which need not be installed."""
 
     def __init__(self, columns):
         self.columns, self.values, self.iloc = list(columns), list(columns.values()), self
@@ -572,17 +572,17 @@ def answer(messages, status=0, text=""):
 
 
 def schema_message(schema):
-    """The message with which a version is served first."""
+    """The first message with which a version is served."""
     return data_message(felzoren.schema_header(schema), b"", b"")
 
 
 def client_of(text, **options):
-    """A client that is answered with these bytes."""
+    """A client that gets these bytes as its answer."""
     return felzoren.connect_files(io.BytesIO(text), io.BytesIO(), **options)
 
 
 def messages_of(table):
-    """The messages that serve a version, of what was read of it."""
+    """The messages that serve a version, made again from what was read."""
     found = [schema_message(table.schema)]
     schema = Schema([(it.name, all_nullable(it.type)) for it in table.schema.fields])
     for upload in table.uploads:
@@ -635,7 +635,7 @@ def version_of(types):
 
 
 def story_answers():
-    """The answers that the model of calls told: a method and its messages."""
+    """The answers in the stories of calls: a method and its messages."""
     for command, lines in stories("call_stories/data/rows.txt"):
         method = re.match(r"call /(\w+)", command)
         messages = [it.partition(" ")[2] for it in lines if it.startswith("message")]
@@ -652,7 +652,7 @@ def good_answers():
 
 class Answers(unittest.TestCase):
     def result(self, method, text):
-        """What a call gives of these bytes: a result, or why there is none. Any other exception fails."""
+        """What a call returns for these bytes: a result, or why there is none. Any other exception fails."""
         try:
             return CALLS[method](client_of(text))
         except (BadAnswer, Refused) as why:
@@ -680,7 +680,7 @@ class Answers(unittest.TestCase):
                 self.assertIsInstance(self.result(method, text[:length]), BadAnswer, (method, length, whole))
 
     def test_each_byte_changed(self):
-        """Of a version another answer is read only where it is the one answer of what was read."""
+        """A changed answer for a version is only read if it is the canonical answer for what was read."""
         counts = {"read": 0, "bad": 0, "compared": 0}
         for method, text in good_answers():
             for place, byte in enumerate(text):
@@ -760,7 +760,7 @@ class Answers(unittest.TestCase):
         self.assertIsInstance(self.result("GetFlightInfo", answer([info() + bytes_field(200, bytes(length + 1))])), BadAnswer)
 
     def test_fields_that_share_a_table(self):
-        """Few bytes could show many fields so: a header may, and the answer of a service does not."""
+        """Few bytes could encode many fields this way: a header may, but the answer of a service does not."""
         schema = Schema([("a", "int8"), ("a", "int8")])
         header = bytearray(felzoren.schema_header(schema))
         place = header.index(struct.pack("<I", 2)) + 4
@@ -817,7 +817,7 @@ def has_other_bytes(type, cell):
 
 
 def all_nullable(type):
-    """The type, with nothing said of whether what is inside may be null: a service does not look at that."""
+    """The type, with all children nullable: a service does not check that."""
     return type._replace(fields=[Field(it.name, all_nullable(it.type)) for it in type.fields])
 
 
@@ -835,7 +835,7 @@ def read_call(read):
 
 
 class Listener:
-    """A service that does with each connection what it is told to."""
+    """A service that calls a given function for each connection."""
 
     def __init__(self, serve):
         self.serve, self.socket = serve, socket.create_server(("127.0.0.1", 0))
@@ -863,9 +863,9 @@ class Listener:
 
 @contextlib.contextmanager
 def program():
-    """Where PROGRAM is served, with empty tables: each connection is one call, which goes through its pipes."""
+    """The location at which PROGRAM is served, with empty tables: each connection is one call, which goes through its pipes."""
     if not PROGRAM.is_file():
-        raise FileNotFoundError(f"{PROGRAM} is not built: say `rt run < /dev/null` in crates/call_server")
+        raise FileNotFoundError(f"{PROGRAM} is not built: run `rt run < /dev/null` in crates/call_server")
     with subprocess.Popen([PROGRAM], stdin=subprocess.PIPE, stdout=subprocess.PIPE) as process:
 
         def serve(connection):
@@ -881,7 +881,7 @@ def program():
 
 
 class Calls(unittest.TestCase):
-    """Whole calls of the program, over sockets."""
+    """Whole calls to the program, over sockets."""
 
     def setUp(self):
         self.location = self.enter(program())
@@ -967,7 +967,7 @@ class Calls(unittest.TestCase):
             self.client.put_batches("t", [{"a": [None] * 1_048_577}], {"a": "null"})
 
     def test_the_largest_upload(self):
-        """An upload of 16,777,216 bytes, and one whose table's name has a letter more: the service's limit is the client's."""
+        """An upload of 16,777,216 bytes, and one whose table's name has one letter more: client and service have the same limit."""
         schema = Schema({"a": "binary"})
         batches = [felzoren.write_batch(schema, [[bytes(size)]], 1) for size in (*[4_000_000] * 4, 776_144)]
         self.assertEqual(felzoren.upload_size("tt", felzoren.schema_header(schema), batches), 16_777_216)
@@ -1002,7 +1002,7 @@ class Calls(unittest.TestCase):
 
 class Examples(unittest.TestCase):
     def test_docstrings(self):
-        """What the docstrings show is what comes, where `sales` has two rows in one version; an id is any of as many digits."""
+        """The examples in docstrings are right if `sales` has two rows in one version; an id may be any with as many digits."""
         examples = 0
         for test in doctest.DocTestFinder().find(felzoren, "felzoren"):
             if test.examples and not test.name.endswith("to_pandas"):
@@ -1105,7 +1105,7 @@ class Connections(unittest.TestCase):
 
 class Pandas(unittest.TestCase):
     def test_to_pandas(self):
-        """A stand-in for pandas, which need not be here, is given the columns and as many rows."""
+        """A stand-in for pandas, which need not be installed, gets the columns and the number of rows."""
         real = sys.modules.get("pandas")
         self.addCleanup(lambda: sys.modules.update(pandas=real) if real else sys.modules.pop("pandas"))
         sys.modules["pandas"] = types.SimpleNamespace(DataFrame=lambda columns, index: (columns, len(index)))

@@ -1,4 +1,4 @@
-"""Tells the stories of batches, and of the bitmaps and columns that they are made of."""
+"""The teller of the stories of batches, and of the bitmaps and columns that they are made of."""
 from itertools import groupby
 
 from batch_model import type_of
@@ -27,15 +27,14 @@ def field_of(type):
 
 
 def layouts(words):
-    """The layouts of fields, and of those inside each."""
+    """The layouts of fields and of their children."""
     for _ in range(int(next(words))):
         yield value_in(next(words))[0]
         yield from layouts(words)
 
 
 class Column:
-    """A column as it is answered: its cells, where they have no others inside them, its second buffer, and the columns inside
-    it."""
+    """A column in an answer: its cells, if they have no others inside them, its second buffer, and the columns inside it."""
 
     def __init__(self, type, words):
         self.type, self.words = type, [next(words) for _ in range(int(next(words)))]
@@ -43,7 +42,7 @@ class Column:
         self.inside = columns(type.children, words)
 
     def span(self, row):
-        """From which cell of the column inside up to which the elements of the row stand."""
+        """The places of the row's elements among the cells of the column inside: the first, and the one after the last."""
         if self.type.name == "FixedSizeList":
             size = int(self.type.parameters[0])
             return row * size, (row + 1) * size
@@ -112,13 +111,13 @@ def plain(value):
 
 
 def made_shown(found, cells, made):
-    """Where the plain cells are not those that are found one by one, or don't make the batch again, that."""
+    """Lines if the plain cells differ from those that are found one by one, or don't make the batch again."""
     lines = [] if [list(map(plain, column)) for column in value_in(cells)] == found else ["other plain cells"]
     return lines + ([] if made == "same" else ["another batch is made of the cells"])
 
 
 def written_shown(words, head, body):
-    """How what was read is written, beside the head and the body that it was read from."""
+    """How what was read is written, compared with the head and the body from which it was read."""
     if len(words) != 2:
         return words
     name, written = value_in(words[0])
@@ -135,14 +134,14 @@ def written_shown(words, head, body):
 
 
 def bitmap_request(*steps):
-    """The steps that have a bit or a run to put."""
+    """The request to build a bitmap by these steps, without those that add nothing."""
     steps = [step for step in steps if not step.endswith(" -")]
     return " ".join(["bitmap", str(len(steps)), *steps])
 
 
 def bitmap_shown(answer):
-    """How many bits there are, their bytes, and how many are not set. The looks at each bit, both counts, the copy and the
-    bytes that it leaves have to say the same, or the whole answer is told."""
+    """How many bits there are, their bytes, and how many are not set. Each bit, both counts, the copy and the bytes that it leaves
+    must agree with that, or the whole answer is shown."""
     emptiness, count, content, *counts, looks, copy, left = answer.split(" ")
     bits = "".join(f"{byte:08b}"[::-1] for byte in bytes_in(content))[: int(count)]
     agreed = ["filled" if bits else "empty", [str(bits.count("0"))] * 2, bits + "-" * 10, "copied", content]
@@ -165,7 +164,7 @@ def equal(front, bit, count):
 
 
 def zeros(content):
-    """Which bits count from the first place on; and each place from which others do."""
+    """Which bits count from the first place on; and each place from which other bits do."""
     answers = yield [f"zeros {content} 0 58", *(f"zeros {content} {start} 41" for start in range(18))]
     counts = [list(map(int, answer.split())) for answer in answers]
     first, *others = ["".join(str(more - less) for less, more in zip(run, run[1:])) for run in counts]

@@ -1,4 +1,4 @@
-"""Requests and lines of the stories of Flight calls."""
+"""The teller of the stories of Flight calls."""
 import hashlib
 
 from batches import bytes_of, spelled
@@ -6,7 +6,7 @@ from wire_model import END, frame, whole_frames
 
 SERVICE = "/arrow.flight.protocol.FlightService/"
 MESSAGE = 0
-# the most bytes of a message that are told one by one
+# the most bytes of a message that are shown one by one
 MOST_TOLD = 400
 
 
@@ -31,7 +31,7 @@ def told_frames(text):
 
 
 def refusal(text):
-    """The trailer of an answer that is a trailer alone."""
+    """The trailer of an answer that has nothing else."""
     frames, rest = whole_frames(text)
     if not rest and len(frames) == 1 and frames[0][0] == END:
         return trailer(frames[0][1])
@@ -39,18 +39,18 @@ def refusal(text):
 
 
 def parts_of(answer):
-    """What a call was answered: the answer's bytes, how many bytes were left, and the names that were handed over."""
+    """The parts of an answer to a call: its bytes, how many bytes were left, and the ids that were handed over."""
     text, left, *handed = answer.split(" ")
     return bytes.fromhex(text.strip("-")), int(left), [f"handed {name}" for name in handed]
 
 
 def call(parts):
-    """A request to serve a call of these bytes, each with how often it comes."""
+    """The request to serve a call of these bytes, each with how often they come."""
     return " ".join(["call", *(f"{count} {text.hex()}" for count, text in parts if text)])
 
 
 class Teller:
-    """A story: the bytes that it has named."""
+    """The teller of a story, with the bytes that the story has named."""
 
     def __init__(self):
         self.named = {"empty": b""}
@@ -89,7 +89,7 @@ class Teller:
         return [*told_frames(text), *[f"left {left}"] * bool(left), *handed]
 
     def cuts(self, words):
-        """The trailer of each beginning of a call: one line for those next to one another that are told the same."""
+        """The trailer for each beginning of a call: one line for beginnings in a row with the same trailer."""
         whole = b"".join(count * text for count, text in map(self.part, words.split()))
         answers = yield [call([(1, whole[:size])]) for size in range(len(whole))]
         lines, first, told = [], 0, [parts_of(answer) for answer in answers]

@@ -1,4 +1,4 @@
-"""Tells the stories of headers of messages, and of the places that they are read at."""
+"""The teller of the stories of headers of messages, and of the places at which they are read."""
 from batches import bytes_of
 from debug_text import quoted, value_of
 from header_texts import NONE, Text, batch_text, field, schema_text
@@ -22,7 +22,7 @@ def hexadecimal(content):
 
 
 def parameter_shown(value):
-    """A type's parameter as stories have it."""
+    """A type's parameter as stories show it."""
     if isinstance(value, bool):
         return str(value).lower()
     if isinstance(value, int):
@@ -64,7 +64,7 @@ def header_shown(header):
 
 
 def header_in(answer):
-    """The header of an answer, or None where it is a fault."""
+    """The header of an answer, or None if it is a fault."""
     word, _, digits = answer.partition(" ")
     return value_of(bytes.fromhex(digits).decode()) if word == "header" else None
 
@@ -75,12 +75,12 @@ def shown(answer):
     return header_shown(header) if header else [answer]
 
 
-# ---- schemas of which one type or entry is spelled, or whose tables are shared
+# ---- schemas with a type or an entry given as bytes, or with shared tables
 
 
 def text_of_type(kind, count, spelled):
-    """A schema of one field with the type of this number, with so many Null fields inside it, and these bytes as the vtable
-    and the table of its type. The vtable's first number is its size, behind which its table stands."""
+    """A schema of one field with the type of this number, with `count` Null fields inside it, and these bytes as the vtable and
+    the table of its type. The vtable's first number is its size, and the table comes after it."""
     text = Text()
     null = text.table(NONE, NONE, ("=", 1))
     children = text.vector(*[null] * count)
@@ -96,8 +96,8 @@ def put_entry(text, key, value):
 
 
 def text_with_entry(key, value, is_inside):
-    """A schema of one field. The entry stands in the field's metadata behind one without a key and a value, or in the schema's
-    before such a one."""
+    """A schema of one field. The entry is in the field's metadata after one without a key and a value, or in the schema's
+    before such an entry."""
     text = Text()
     named = put_entry(text, key, value)
     bare = text.table()
@@ -118,7 +118,7 @@ def schema_value(fields, metadata):
 
 
 def tree(kind, levels, width, tops):
-    """The text of a tree of fields, and the header that it is."""
+    """The text of a tree of fields, and the header that it encodes."""
     text, (number, ty) = Text(), KINDS[kind]
     only, value = text.table(("=", 64), ("=", 1)), field_value("", WHOLE_NUMBERS, [], [])
     only = text.table(NONE, NONE, ("=", 2), (">", only))
@@ -130,7 +130,7 @@ def tree(kind, levels, width, tops):
 
 
 def sized(tops, inner, outer, *lengths):
-    """The text of a schema of these sizes, and the header that it is."""
+    """The text of a schema of these sizes, and the header that it encodes."""
     text, (name, zone, key, value) = Text(), [letter * length for letter, length in zip("nzkv", lengths)]
     entry = [(">", text.string(it.encode())) for it in (key, value)]
     entry = text.table(*entry)
@@ -145,20 +145,20 @@ def sized(tops, inner, outer, *lengths):
 
 
 def unlike_pairs(count):
-    """So many pairs of numbers, no two of them alike."""
+    """This many different pairs of numbers."""
     first = 0x0123_4567_89AB_CDEF
     return [(number, number - 2**63) for number in range(first, first + count)]
 
 
 def batch_of_nodes(count):
-    """The text of a batch of so many nodes, with three buffers each, and the header that it is."""
+    """The text of a batch of this many nodes, with three buffers each, and the header that it encodes."""
     nodes, buffers = unlike_pairs(count), unlike_pairs(3 * count)
     head = {"length": 7, "nodes": nodes, "buffers": buffers, "compressed": False, "body_length": 64}
     return batch_text(7, nodes, buffers, False, 64), ("Batch", [("BatchHead", head)])
 
 
 def whole_shown(answer, value):
-    """Whether the header of an answer is all of this one."""
+    """Whether the header of an answer is this one, or the answer if it is a fault."""
     header = header_in(answer)
     return answer if header is None else "whole" if header == value else "in part"
 
@@ -167,14 +167,14 @@ def whole_shown(answer, value):
 
 
 class Node:
-    """A field that is made by words, and those inside it."""
+    """A field that is made from words, and its children."""
 
     def __init__(self, type_word, inside=()):
         self.type_word, self.inside = type_word, list(inside)
         self.name, self.letters, self.entries, self.nullable = "", 0, 0, False
 
     def bare(self):
-        """The words of the field in a request, but for those of the fields inside it."""
+        """The words of the field in a request, without those of its children."""
         type_name, _, rest = self.type_word.partition("(")
         parameters = rest[:-1].split(",") if rest else []
         name = {"FixedSizeBinary": "binary", "FixedSizeList": "list"}.get(type_name)
@@ -187,13 +187,13 @@ class Node:
         return f"{beginning} {self.letters} {self.entries}"
 
     def steps(self):
-        """Those inside the field, the last one first, and then the field, which takes them."""
+        """The steps for the field's children, the last one first, and then for the field, which takes them."""
         inside = [step for node in reversed(self.inside) for step in node.steps()]
         return inside + [f"{self.bare()} {len(self.inside)}"]
 
 
 def step(pile, word):
-    """What a word does to the pile of fields, and to the topmost of them."""
+    """Applies a word to the pile of fields, or to the topmost of them."""
     name, _, rest = word.partition(":")
     if name == "nullable":
         pile[-1].nullable = True
@@ -281,14 +281,14 @@ class Teller:
         return shown(answer)
 
     def tell_one_of(self, words):
-        """That one of these faults is told of a header, and else what is."""
+        """Whether one of these faults is reported of a header, else the answer."""
         faults, _, header = words.partition(": header")
         (answer,) = yield [f"message {hexadecimal(bytes_of(header))}"]
         return ["one of them"] if answer in faults.split(" ") else shown(answer)
 
     def tell_changed(self, words):
-        """What the bytes show with others at a place; and of a header, how many bytes it needs: as many as there are in the
-        shortest beginning that is not out of bounds, where that many show it already."""
+        """What the bytes encode with others at a place; and for a header how many bytes it needs: those of the shortest beginning
+        that is not out of bounds, if that encodes it already."""
         place, _, digits = words.partition(" ")
         place, change = int(place), bytes_of(digits)
         text = self.bytes[:place] + change + self.bytes[place + len(change) :]
@@ -311,7 +311,7 @@ class Teller:
         return [line for answer in answers for line in shown(answer)]
 
     def tell_batch(self, words):
-        """What is read of the header of a batch of so many nodes, and what is written of that."""
+        """What is read from the header of a batch of this many nodes, and what is written for that."""
         text, value = batch_of_nodes(int(words))
         answer, rewritten = yield [f"message {text}", f"rewritten {text}"]
         return [whole_shown(answer, value), "the same bytes" if rewritten == text else rewritten]

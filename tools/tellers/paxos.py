@@ -1,4 +1,4 @@
-"""Tells stories of the parts of a Paxos node, of its messages and records, and of lawful histories."""
+"""The teller of the stories of the parts of a Paxos node, of its messages and records, and of lawful histories."""
 import json
 
 from paxos_model import KINDS, MESSAGE, RECORD, encoding, shown_value
@@ -29,7 +29,7 @@ def message(kind, sender=0, slot=0, ballot=None, second=None, value="noop"):
 
 
 def record(kind, *words):
-    """A record of its words, as in `accepted 5 2.1 616263`, as a word of a request: its encoding."""
+    """A record from its words, as in `accepted 5 2.1 616263`, as a word of a request: its encoding."""
     slot, ballot, value = {"began": ["0", *words, "noop"], "promised": [*words, "noop"], "accepted": words}[kind]
     round_, node = ballot_of(ballot)
     parts = {"kind": KEPT_KINDS.index(kind), "slot": int(slot), "round": round_, "node": node, "value": value_of(value)}
@@ -61,12 +61,12 @@ def line_in(word):
 
 
 def shown_word(word):
-    """The value whose bytes a word of an answer has."""
+    """The value whose bytes are in a word of an answer, as stories show it."""
     return shown_value(b"" if word == "-" else bytes.fromhex(word))
 
 
 def is_fault(answer):
-    """Whether this is the name of a fault. Whatever is read is answered with several words."""
+    """Whether this is the name of a fault. An answer without a fault has several words."""
     return " " not in answer
 
 
@@ -110,13 +110,13 @@ def grown_line(answer):
 
 
 def record_line(answer):
-    """A record as its words: a value stands last, behind a slot and a ballot."""
+    """A record as its words: a value is last, after a slot and a ballot."""
     words = answer.split(" ")
     return " ".join([*words[:3], *map(shown_word, words[3:])])
 
 
 def acceptor(call, slot, ballot=None, value="noop"):
-    """The request of a call of the acceptor, and the line of its answer."""
+    """The request for a call of the acceptor, and a function that makes the line of its answer."""
     if call == "promised":
         return f"acceptor promised {message('Ask', slot=slot)}", lambda answer: answer or "nothing"
     if call == "accepted":
@@ -172,7 +172,7 @@ RULES = {
 
 
 def breach_lines(answer):
-    """The first breach: where it stands, and of each rule for such a message what is told of it."""
+    """The first breach: its place, and for each rule for such a message the answer about it."""
     is_lawful, *breach = answer.split(" ")
     if not breach:
         return ["none" if is_lawful == "yes" else answer]
@@ -184,7 +184,7 @@ def breach_lines(answer):
 
 
 def audit_of(answer):
-    """The status of an audit, the lines that it writes, and those that it says of a fault."""
+    """The status of an audit, its output, and its lines about a fault."""
     status, *texts = answer.split(" ")
     return status, *("" if it == "-" else line_in(it) for it in texts)
 
@@ -193,7 +193,7 @@ PARTS = {"acceptor": acceptor, "proposer": proposer, "learner": learner, "log": 
 
 
 class Teller:
-    """Tells a story of the parts that it makes."""
+    """The teller of a story, with what the story has set up."""
 
     def __init__(self):
         self.records, self.members, self.said = [], 1, []
@@ -243,18 +243,18 @@ class Teller:
         return [line_of(answer)]
 
     def tell_nothing(self, request):
-        """A request that is answered with nothing."""
+        """A request whose answer is empty."""
         (answer,) = yield [request]
         return [answer] if answer else []
 
     def put_aside(self, kept):
-        """Puts a record aside, for the next acceptor."""
+        """Keeps a record for the next acceptor."""
         self.records.append(kept)
         yield []
         return []
 
     def tell_new(self, part, *words):
-        """Makes a part: an acceptor of records, first those that were put aside, and the others of numbers."""
+        """Makes a part: an acceptor from records, with those that were kept for it first, and the others from numbers."""
         if part == "history":
             self.members, self.said = int(words[0]), []
         if part == "acceptor":
@@ -263,7 +263,7 @@ class Teller:
         return self.tell_nothing(" ".join([part, "new", *words]))
 
     def tell_said(self, name, said):
-        """Says a message, and whether the history is lawful with it, unless it is only added."""
+        """Adds a message, and asks whether the history is lawful with it, unless it is only added."""
         self.said.append(said)
         answers = yield [f"history say {said}", "history audit"][: 2 if name == "say" else 1]
         return [it for it in answers if it]
@@ -273,8 +273,8 @@ class Teller:
         return breach_lines(answer)
 
     def tell_explained(self):
-        """What is printed of the history as a file. The audit that is not explained has to give the same, up to the first line,
-        and the searches too."""
+        """What is printed for the history as a file. The audit without --explain must have the same first line, and the searches
+        must agree."""
         file = text(json.dumps({"members": self.members, "sent": self.said}))
         explained, audited, found = yield [f"explain {file}", f"audit {file}", "history breach"]
         status, printed, said = audit_of(explained)
@@ -285,7 +285,7 @@ class Teller:
         return printed.splitlines()
 
     def tell_file(self, file):
-        """What is said of a file that tells no run, whether the audit is explained or not."""
+        """What is reported for a file that is no run, with --explain and without."""
         explained, audited = yield [f"explain {file}", f"audit {file}"]
         status, printed, said = audit_of(explained)
         if status != "1" or printed or audit_of(audited) != ("1", "", said):
@@ -293,7 +293,7 @@ class Teller:
         return said.splitlines()
 
     def tell_audited(self, file):
-        """What is printed and said of a file, by its bytes. The audit that is not explained has to give the same, up to the first line."""
+        """What is printed and reported for the bytes of a file. The audit without --explain must have the same first line."""
         explained, audited = yield [f"explain {file}", f"audit {file}"]
         status, printed, said = audit_of(explained)
         if audit_of(audited) != (status, "".join(printed.splitlines(keepends=True)[:1]), said):
@@ -301,7 +301,7 @@ class Teller:
         return [*printed.splitlines(), *said.splitlines()]
 
     def tell_line(self, name, line):
-        """What a line says, where it is read; it has to be written again as the same."""
+        """What a line means, if it can be read; it must then be written again as the same line."""
         (answer,) = yield [f"{'message' if name == 'encode' else name} {text(line)}"]
         if is_fault(answer):
             return [answer]
@@ -315,7 +315,7 @@ class Teller:
         return [said[0] if name == "encode" else line_in(written)]
 
     def tell_long_value(self, length):
-        """Whether the digits of so many bytes, of which neighbours differ, are read as them, and written again."""
+        """Whether the digits of this many bytes, of which neighbours differ, are read right, and written again."""
         digits = bytes(place % 251 for place in range(length)).hex()
         (answer,) = yield [f"value {text(digits)}"]
         said, written = answer.split(" ")
@@ -329,7 +329,7 @@ class Teller:
         return [record_line(answer) if name == "decode-record" else line_in(answer.split(" ")[1])]
 
     def tell_one_of(self, faults, call):
-        """That one of these faults is told, and else what is."""
+        """Whether one of these faults is reported, else the answer."""
         name, _, digits = call.partition(" ")
         (answer,) = yield [f"{name} {digits.replace(' ', '') or '-'}"]
         if not is_fault(answer):
@@ -337,7 +337,7 @@ class Teller:
         return ["one of them" if answer in faults.split(" ") else answer]
 
     def tell_kept(self, kind, *words):
-        """The encoding of a record, which is asked for with a message that has its slot, its ballot and its value."""
+        """The encoding of a record, requested with a message that has its slot, its ballot and its value."""
         if kind == "began":
             handed = message("Prepare", ballot=words[0])
         elif kind == "promised":
@@ -349,7 +349,7 @@ class Teller:
         return [answer]
 
     def tell_grown(self, call, first, last):
-        """By how many values a log grows: at a no-op for each of these slots, where it is as many, or at one slot and value."""
+        """By how many values a log grows: with a no-op for each of these slots, or with one value for one slot."""
         slots = range(int(first), int(last) + 1) if call == "noops" else [first]
         value = "noop" if call == "noops" else last
         answers = yield [f"log insert {message('Decided', slot=slot, value=value)}" for slot in slots]

@@ -1,9 +1,9 @@
-"""Requests and lines of the stories of runs."""
+"""The teller of the stories of runs."""
 import hashlib
 
 from batches import bytes_of
 
-# how many words follow those of what an event gives, where some do
+# how many words follow the first word of an event's result, if any do
 FOLLOWING = {"sent": 2, "answer": 1, "info": 1, "applied": 1, "refused": 1}
 
 
@@ -17,7 +17,7 @@ def bytes_in(word):
 
 
 def told_step(gave, following):
-    """What an event gave: of messages their numbers, of an answer its length and its digest."""
+    """The result of an event: the numbers of messages, or the length and the digest of an answer."""
     if gave == "sent":
         first, count = map(int, following)
         return "sent " + (",".join(map(str, range(first, first + count))) or "-")
@@ -28,7 +28,7 @@ def told_step(gave, following):
 
 
 def told_steps(words):
-    """A line for each step: its place and what it gave."""
+    """A line for each step: its place and its result."""
     lines, words = [], list(reversed(words))
     while words:
         gave = words.pop()
@@ -38,7 +38,7 @@ def told_steps(words):
 
 
 class Teller:
-    """A story: how many events there are yet."""
+    """The teller of a story, with the number of its events so far."""
 
     def __init__(self):
         self.events = 0
@@ -70,7 +70,7 @@ class Teller:
         return lines if len(lines) == events else [*lines, f"{len(lines)} of {events} events"]
 
     def sent(self):
-        """What is said of the messages, and the bytes of each."""
+        """Whether the messages are lawful, and the bytes of each."""
         (answer,) = yield ["messages"]
         judged, *words = answer.split(" ")
         return judged, list(map(bytes_in, words))

@@ -1,4 +1,4 @@
-"""Requests and lines of the stories of uploads, tickets and tables."""
+"""The teller of the stories of uploads, tickets and tables."""
 import hashlib
 
 from batches import bytes_of, spelled
@@ -11,7 +11,7 @@ def word(text):
 
 
 def text_of(word):
-    """What such a word of an answer says."""
+    """The text in a word of an answer."""
     return bytes.fromhex(word.strip("-")).decode()
 
 
@@ -20,23 +20,23 @@ def md5(text):
 
 
 def frames_of(text):
-    """The frames of an answer, which has nothing else."""
+    """The frames of an answer, which must have nothing else."""
     frames, rest = whole_frames(text)
     if rest:
-        raise ValueError("an answer ends in a frame")
+        raise ValueError("an answer ends within a frame")
     return [frame(flag, payload) for flag, payload in frames]
 
 
 def told_frames(answer):
-    """The frames that an answer tells, each a word of it."""
+    """The frames in an answer, each a word of it."""
     frames = [bytes.fromhex(it) for it in answer.split(" ")]
     if frames != frames_of(b"".join(frames)):
-        raise ValueError("each frame stands by itself")
+        raise ValueError("a word of an answer is not one frame")
     return frames
 
 
 def told_upload(answer):
-    """The line that tells which upload bytes are."""
+    """The line about the upload that bytes encode."""
     if answer == "NotAnUpload":
         return answer
     table, name, length, batches, *columns = answer.split(" ")
@@ -63,7 +63,7 @@ def told_ticket(answer):
 
 
 class Teller:
-    """A story: the bytes that it has named."""
+    """The teller of a story, with the bytes that the story has named."""
 
     def __init__(self):
         self.named = {}

@@ -1,4 +1,4 @@
-"""Tells stories of the wire: frames, numbered fields, and the messages of Arrow Flight."""
+"""The teller of the stories of frames, numbered fields, and the messages of Arrow Flight."""
 from repeated import tell_each
 from wire_model import DATA_MESSAGE, DESCRIPTOR, ENDPOINT, INFO, KINDS, LOCATION, TICKET, bytes_field, frame, shown
 
@@ -17,12 +17,12 @@ WRITTEN_KINDS = {name.split()[0]: name for name in KINDS.values()}
 
 
 def digits(words):
-    """The digits of bytes, spaces passed over, as a word of a request."""
+    """The digits of bytes, without spaces, as a word of a request."""
     return words.replace(" ", "") or "-"
 
 
 def is_fault(answer):
-    """Whether this is the name of a fault: where there is none, there are no words, or several."""
+    """Whether this is the name of a fault: an answer without one has no words, or several."""
     return answer != "" and " " not in answer
 
 
@@ -32,7 +32,7 @@ def bytes_in(words):
 
 
 def value_in(words, kind):
-    """What the next words give of a field of this kind."""
+    """The value of a field of this kind, from the next words."""
     if kind == "texts":
         return [bytes_in(words).decode("utf-8") for _ in range(int(next(words)))]
     if isinstance(kind, tuple):
@@ -50,7 +50,7 @@ def message_in(words, table):
 
 
 def outcome(answer):
-    """The fault that stands in a message, or its encoding."""
+    """The fault of a message, or its encoding."""
     return answer if is_fault(answer) else f"encoding {answer.split(' ')[-1]}"
 
 
@@ -73,7 +73,7 @@ def fields_lines(answer):
 
 
 def front_lines(answer):
-    """The field, what it lends as a number or as bytes, and what stands behind it."""
+    """The field, its content as a number or as bytes, and the text after it."""
     if is_fault(answer):
         return [answer]
     *field, rest = answer.split(" ")
@@ -83,12 +83,12 @@ def front_lines(answer):
 
 
 def payload_of(length):
-    """So many bytes, which differ from place to place and from length to length."""
+    """This many bytes, which differ from place to place and from length to length."""
     return bytes((place + length) % 251 for place in range(length))
 
 
 def frame_of(flag, length):
-    """A frame of such a payload."""
+    """A frame with such a payload."""
     return frame(flag, payload_of(length))
 
 
@@ -102,7 +102,7 @@ READINGS = {"frames": frames_lines, "fields": fields_lines, "front": front_lines
 
 
 def tell_long_frame(flag, length):
-    """Whether a frame of so long a payload is written as it has to be, and that is read as its flag and its payload."""
+    """Whether a frame with a payload of this length is written right, and read as its flag and its payload."""
     payload, framed = payload_of(length).hex() or "-", frame_of(flag, length).hex()
     written, read = yield [f"frame {flag} {payload}", f"frames {framed}"]
     is_read = read == f"{flag} {payload} NoMore -"
@@ -110,7 +110,7 @@ def tell_long_frame(flag, length):
 
 
 def tell_cut_frame(flag, length):
-    """Such a frame without its last byte, without its last two, and with another behind it whose flag is none."""
+    """Such a frame without its last byte, without its last two, and with another frame after it that has an invalid flag."""
     framed = frame_of(flag, length).hex()
     *cuts, behind = yield [f"frames {framed[:-2]}", f"frames {framed[:-4]}", f"frames {framed}020000000007"]
     return [*(line for it in cuts for line in frames_lines(it)), *frames_lines(behind)[1:]]
@@ -123,14 +123,14 @@ def end_told(answer):
 
 
 def tell_beginnings(text):
-    """What is read of each beginning of a stream, from the shortest on that it is read of."""
+    """What is read from each beginning of a stream: a line for the shortest beginning of each result."""
     answers = yield [f"frames {text[: 2 * count] or '-'}" for count in range(len(text) // 2 + 1)]
     told = list(map(end_told, answers))
     return [f"from {count} bytes on: {it}" for count, it in enumerate(told) if count == 0 or it != told[count - 1]]
 
 
 def tell_stream(count):
-    """So many frames in one text, with payloads of 0 to 96 bytes, every third of them with the other flag."""
+    """This many frames in one text, with payloads of 0 to 96 bytes, every third of them with the other flag."""
     frames = [(128 if number % 3 == 1 else 0, number % 97) for number in range(count)]
     (read,) = yield ["frames " + b"".join(frame_of(*it) for it in frames).hex()]
     told = [f"flag {flag}, payload {payload_of(length).hex() or '-'}" for flag, length in frames]
@@ -139,7 +139,7 @@ def tell_stream(count):
 
 
 def tell_long_field(number, length):
-    """How the field of so many bytes begins, before the bytes, and whether they are read back."""
+    """What is before the bytes in a field of this many bytes, and whether they are read back."""
     held = b"\7" * length
     written, read = yield [f"bytes {number} {held.hex()}", f"fields {bytes_field(number, held).hex()}"]
     front = written.removesuffix(held.hex())
@@ -155,7 +155,7 @@ LONG_COMMANDS = {
 
 
 class Teller:
-    """Tells a story of the wire. No command depends on those before it."""
+    """The teller of a story. No command depends on those before it."""
 
     def tell(self, command):
         name, _, rest = command.partition(" ")
@@ -182,7 +182,7 @@ class Teller:
         return [answer]
 
     def tell_each(self, text):
-        """The outcome for each of the nine messages, in one line where all nine say the same."""
+        """The outcome for each of the nine messages, in one line if all nine are the same."""
         answers = yield [f"{name} {text}" for name in MESSAGES]
         outcomes = [outcome(it) for it in answers]
         if len(set(outcomes)) == 1:
@@ -190,7 +190,7 @@ class Teller:
         return [f"{name}: {it}" for name, it in zip(MESSAGES, outcomes)]
 
     def tell_one_of(self, faults, call):
-        """That one of these faults is told, and else what is."""
+        """Whether one of these faults is reported, else the answer."""
         name, _, rest = call.partition(" ")
         (answer,) = yield [f"{name} {digits(rest)}"]
         if is_fault(answer):
