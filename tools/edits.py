@@ -12,7 +12,7 @@ crates; both leave out edits that were refused before in their present form. An 
 refuses, and not its own, has a line `law: CRATE`, and is tried there. Each refused edit has a line in `edits-refused.txt`, with
 a checksum of the sources and definitions that refused it, without comments, and of the edit itself. --old tries nothing: it
 counts the edits without a line that fits the present sources, and the status is 1 if the old text of an edit does not occur
-exactly once in its file, or if an edit changes nothing.
+exactly once in its file, if an edit changes nothing, or if a page says another number of edits that the gate tries.
 
 Without these options the edits of one crate are tried one after another over one copy of it. For each the processor seconds
 and the goals that refused it are printed; an edit that the prover accepts is shown as TAKEN, and the status is then 1. A goal
@@ -43,6 +43,9 @@ OPEN = re.compile(r"^note: \S+: it is not proved .*\(`([^`]+)`\)")
 FUNCTION = re.compile(r"^fn (\S+): (?:not proved|no proof: expected answers)")
 UNPROVED = re.compile(r"^fn (?:\S+::)?(\S+): (?:not proved$|no proof: expected answers)", re.M)
 ANSWER = re.compile(r"^note: `([^`]+)` of proofs/(\S+)/Answers\.antt must prove")
+# The pages that say how many edits the gate tries, and how they say it.
+COUNTING = ("README.md", "docs/PROOFS.md", "docs/TESTS.md")
+COUNTED = re.compile(r"\b(\d+)\s+(?:wrong\s+function\s+bodies|edits\s+in)(?:,?\s+(?:in\s+)?(\d+)\s+crates)?")
 FORMS = ("search rules steps 300000", "grind (arith, common_steps) steps 600000")
 
 
@@ -301,6 +304,19 @@ def lost_edits():
                 yield str(fault)
 
 
+def wrong_counts():
+    """For each page that says with another number how many edits the gate tries, or of how many crates, a line that says so."""
+    tried = [edit for crate in crates_with_edits() for edit in edits_of(crate) if edit.parent.name == "must-fail"]
+    numbers = str(len(tried)), str(len({edit.parent.parent for edit in tried}))
+    for page in COUNTING:
+        found = COUNTED.findall((TOP / page).read_text(encoding="utf-8"))
+        if not found:
+            yield f"{page} does not say how many edits the gate tries"
+        for edits, crates in found:
+            if (edits, crates or numbers[1]) != numbers:
+                yield f"{page} says {edits} edits{f' in {crates} crates' if crates else ''}, and the gate tries {numbers[0]} in {numbers[1]}"
+
+
 def changed_since(commit):
     """The crates whose sources, definitions or edits differ from those of the commit."""
     words = ["git", "diff", "--name-only", "--no-renames", commit, "--", "crates"]
@@ -424,10 +440,10 @@ def main():
         old, total = old_edits(crates_with_edits()), len(checksums(crates_with_edits()))
         of = sorted({edit.parent.parent.name for edit in old})
         print(f"edits: {len(old)} of {total} have no line that fits the present sources, in {len(of)} crates: {' '.join(of) or 'none'}")
-        lost = list(lost_edits())
-        for fault in lost:
+        faults = [*lost_edits(), *wrong_counts()]
+        for fault in faults:
             print(f"edits: {fault}")
-        return 1 if lost else 0
+        return 1 if faults else 0
     if "--since" in words and len(names) == 1:
         return 0 if try_all(changed_since(names[0])) else 1
     if "--all" in words and names:
