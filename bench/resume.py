@@ -9,7 +9,7 @@ these files, first without files of sums and then with them. It prints the secon
 `cat` takes for the files, and the most memory that the server held. Each node must report all versions at once.
 
 Seen with three nodes, on four processors: 100,000 uploads of 542 bytes served after 4.9 and 5.0 s, with at most 382 MiB held; 70 of 15 MB after
-25.9 and 27.8 s, while `cat` took 1.3 s, with at most 4,066 MiB. Before nodes shared values and what they heard it was 489 and 6,015 MiB.
+25.9 and 27.8 s, while `cat` took 1.3 s, with at most 4,066 MiB. Before nodes shared values and learned side by side it was 489 and 6,015 MiB.
 """
 import struct
 import subprocess
