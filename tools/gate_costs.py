@@ -1,20 +1,19 @@
 #!/usr/bin/env python3
-"""Runs the gate, passes on what it prints, and says in the end what each crate cost it, in processor seconds: the first check of
-the crate, that of its tests, its must-fail edits, and the runs of its program and tests.
+"""Runs the gate, and reports what each crate cost it in processor seconds.
 
     tools/gate_costs.py [--write] [COMMAND ..]
 
-Machines differ by more than two. So first one fixed example of the toolchain is proved three times from nothing, and the total is
-told in minutes and as a multiple of the least that this took.
+It passes on what the gate prints. The costs of a crate are those of its first check, of the check of its tests, of its must-fail edits, and of
+the runs of its program and tests. Machines differ by more than a factor of two, so first one fixed example of the toolchain is proved three
+times from nothing, and the total is printed in minutes and as a multiple of the least time that this took.
 
-With --write the table goes into docs/TESTS.md, between the two lines that mark its place. What a run did not do, since it was kept
-from an earlier one, has the figure of the table that stands there, so that a run over what changed is enough to bring the table up to
-date. Where the run is ended early (SIGTERM), what was under way keeps its old figure too. Below the table the edits are named that
-took 20 seconds or more, the dearest first; they are printed alone. The gate is ./test, or the command that is given, as
-`rt must-fail ballots` at the top of the repository.
+--write puts the table into docs/TESTS.md, between the two lines that mark its place. What a run did not do, since it was kept from an earlier
+one, has the figure of the table that is there, so a run over what changed is enough to bring the table up to date. If the run is ended early
+(SIGTERM), what was under way keeps its old figure too. After the table the edits are named that took 20 seconds or more, the dearest first;
+they are printed alone. The gate is ./test, or the command that is given, such as `rt must-fail ballots` at the top of the repository.
 
-Every process that the gate starts is looked at five times a second, and its time goes to the crate that its words name. The total
-is the kernel's own figure, so that what was missed shows."""
+Every process that the gate starts is looked at five times a second, and its time is added to the crate that its arguments name. The total is
+the kernel's own figure, so that what was missed shows."""
 import os
 import re
 import resource
