@@ -12,11 +12,13 @@ three to that of the first three, which is to be within 1.2. Where a put is refu
 Records are kept in memory (/dev/shm), where a sync costs nothing, so that a disk does not hide what grows; where there is no such folder, in
 one for temporary files. It takes a few minutes. PROGRAM may be bench/plain_cluster.rs too.
 
-Seen of flightd with 60,000 uploads, on four processors that a dozen other tasks shared:
+Seen of flightd with 300,000 uploads, on four slow processors that four callers of bench/gets.py shared, and at first eight other tasks:
 
               puts a second    ms of processors a put   MiB at the end   middle of the last beside the first, in time and in that of processors
-  1 caller       280 to 493              0.40 to 0.58              197   1.49, 1.09
-  16 callers   1,998 to 2,999            0.39 to 0.56              220   0.90, 0.99
+  1 caller       395 to 924              0.56 to 0.65              979   0.54, 1.08
+  16 callers   1,221 to 1,479            0.73 to 0.87            1,130   0.92, 0.93
+
+The server held 3.3 to 3.9 KiB for each upload of one number at three nodes, the first as the last, and nothing else that grew.
 
 When its journal still held each step, on processors that nothing else used, one caller made 2,365 to 2,659 puts a second and sixteen 3,511 to
 3,562, until it was full: behind 35,713 puts with 368 MiB, and behind 14,631 with 229 MiB.
