@@ -8,8 +8,8 @@ by so many callers, each a process that asks the nodes in turn over a connection
 middle, the 99th percentile and the longest of their times, and what the server then holds in memory; and at the end how much more that is behind
 the last tenth than behind the first.
 
-Seen with 300,000 gets by four callers, on four processors that a dozen other tasks shared: 2,341 to 2,931 gets a second, in 0.25 to 0.30 ms in the
-middle, 8.1 ms at the 99th percentile and 20 ms at most, and 3.5 MiB throughout."""
+Seen with 10,000,000 gets by four callers, on four processors that other tasks shared at first: 5,225 to 16,205 gets a second, 0.22 to 0.40 ms at
+the median, 0.57 to 7.3 ms at the 99th percentile, 49 ms at most, and 3.4 to 3.6 MiB throughout."""
 import argparse
 import multiprocessing
 import socket
