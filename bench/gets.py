@@ -8,7 +8,7 @@ by so many callers, each a process that asks the nodes in turn over a connection
 middle, the 99th percentile and the longest of their times, and what the server then holds in memory; and at the end how much more that is behind
 the last tenth than behind the first.
 
-Seen with 10,000,000 gets by four callers, on four processors that other tasks shared at first: 5,225 to 17,630 gets a second, 0.20 to 0.40 ms at
+Seen with 10,000,000 gets by four callers, on four processors, of which other checks had a part for the first and the sixth million and were paused for the rest: 5,225 to 17,630 gets a second, 0.20 to 0.40 ms at
 the median, 0.53 to 7.3 ms at the 99th percentile, 49 ms at most, and 3.4 to 3.6 MiB throughout."""
 import argparse
 import multiprocessing

@@ -12,7 +12,7 @@ three to that of the first three, which is to be within 1.2. Where a put is refu
 Records are kept in memory (/dev/shm), where a sync costs nothing, so that a disk does not hide what grows; where there is no such folder, in
 one for temporary files. It takes a few minutes. PROGRAM may be bench/plain_cluster.rs too.
 
-Seen of flightd with 300,000 uploads, on four slow processors that four callers of bench/gets.py shared, and at first eight other tasks:
+Seen of flightd with 300,000 uploads, on four slow processors that bench/gets.py shared, and eight checks too until these were paused:
 
               puts a second    ms of processors a put   MiB at the end   middle of the last beside the first, in time and in that of processors
   1 caller       395 to 924              0.56 to 0.65              979   0.54, 1.08
