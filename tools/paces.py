@@ -45,12 +45,25 @@ def quiet(words):
     return time
 
 
+def behind(words, kinds):
+    """The words behind the last one that is an event of the node, or a message of one of these kinds."""
+    places = [place for place, word in enumerate(words) if word[0] == "a" or (is_message(word) and word[2] in kinds)]
+    return words[places[-1] + 1 :] if places else words
+
+
+def asked(words):
+    """How many Asks its ticks sent since the last event of the node, Accepted or Decided."""
+    return behind(words, "yd").count("q")
+
+
+def tried(words):
+    """How many attempts its ticks began since then, or since the last Ask that came."""
+    return sum(word[0] == "b" for word in behind(words, "ydk"))
+
+
 def wait(words):
-    """How long it waits: 50 ms, doubled by each Ask that a tick sent since the last event other than a tick, an Ask that came,
-    or an answer; at most 51,200 ms."""
-    events = [place for place, word in enumerate(words) if word[0] == "a" or (is_message(word) and word[2] != "k")]
-    since = words[events[-1] + 1 :] if events else words
-    return min(50 * 2 ** since.count("q"), 51200)
+    """How long it waits: 50 ms, doubled by each Ask, or by each attempt, whichever makes it longer; at most 51,200 ms."""
+    return min(50 * 2 ** max(asked(words), tried(words)), 51200)
 
 
 def attempt(words):
@@ -78,7 +91,7 @@ def told(words):
     """Whether a tick is due if no upload waits and if one does, and how many free slots it leaves."""
     latest = attempt(words)
     long_enough = quiet(words) >= wait(words)
-    at_once = latest is None or not is_open(*latest)
+    at_once = (latest is None or not is_open(*latest)) and tried(words) == 0
     left = ME if latest and is_lost(*latest) else 0
     return f"{int(long_enough)}{int(long_enough or at_once)}{left}"
 
@@ -103,12 +116,13 @@ def rows():
         while len(words) < LENGTH:
             words.append(word(draw))
         yield [f"{it}={told(words[: place + 1])}" for place, it in enumerate(words)]
-    # the longest wait, step by step
-    words = []
-    for asks in range(13):
-        time = min(50 * 2**asks, 51200)
-        words += [f"p{time - 1}", "p1", "q"]
-    yield [f"{it}={told(words[: place + 1])}" for place, it in enumerate(words)]
+    # the longest wait, step by step, behind Asks and behind attempts
+    for tick in ("q", "b10"):
+        words = []
+        for ticks in range(13):
+            time = min(50 * 2**ticks, 51200)
+            words += [f"p{time - 1}", "p1", tick]
+        yield [f"{it}={told(words[: place + 1])}" for place, it in enumerate(words)]
 
 
 def text():

@@ -1,7 +1,8 @@
 -- A wait that is doubled, and an attempt that begins.
-use Rattle.std.proofs.Common.{◌≡◌, ℕ, suc, ◌*◌, ◌^◌, ◌<◌, ◌≤◌, inl, inr, Bool, true, false, nat_lt, not, ◌&&◌, [], refl, ap, sym, ◌∙◌, arith, min}
+use Rattle.std.proofs.Common.{◌≡◌, ◌==◌, ℕ, zero, suc, ◌*◌, ◌^◌, ◌<◌, ◌≤◌, inl, inr, Bool, true, false, nat_lt, not, ◌&&◌, [], refl, ap, sym, ◌∙◌, arith, min}
 use Rattle.std.proofs.Math.Nat.{pow-suc, min-eq_left, min-eq_right}
-use Rattle.std.proofs.lemmas.Bool.{cases_lt, ltb-true}
+use Rattle.std.proofs.lemmas.Bool.{cases_lt, ltb-true, ne_eqb}
+use Rattle.std.proofs.lemmas.Nat.{pow_pos}
 use Rattle.ballots.specs.Majority.{tally}
 use Rattle.ballots.specs.Ballot.{Ballot}
 use Rattle.ballots.proofs.CallerLemmas.{tally_none}
@@ -34,6 +35,19 @@ doubled asked wait is short =
 never : (b : Bool) → (b ≡ true → ⊥) → (true && (true && not b)) ≡ true
 never true isnt = absurd (isnt refl)
 never false isnt = refl
+
+-- who has tried nothing waits 50 ms, and who has tried something longer
+pub fresh : (tries wait : ℕ) → wait ≡ min (50 * 2 ^ tries) 51200 → (wait == 50) ≡ (tries == 0)
+fresh zero wait is = rw is refl
+fresh (suc tries) wait is =
+    let grown : 50 * 2 ^ suc tries ≡ (50 * 2 ^ tries) * 2 = ap (λ (n : ℕ). 50 * n) (pow-suc 2 tries) ∙ omega arith in
+    let least = pow_pos tries in
+    let longer : wait ≡ 50 → ⊥ =
+    elim (cases_lt (50 * 2 ^ suc tries) 51200) as (λ _. wait ≡ 50 → ⊥) [
+      | inl below ↦ λ e. omega (arith, e, is ∙ min-eq_left {n = 50 * 2 ^ suc tries} {m = 51200} (omega (arith, below)), grown, least)
+      | inr above ↦ λ e. omega (arith, e, is ∙ min-eq_right {n = 51200} {m = 50 * 2 ^ suc tries} (omega (arith, above)))
+    ] in
+    ne_eqb wait 50 longer ∙ sym (ne_eqb (suc tries) 0 (λ e. omega (arith, e)))
 
 -- an attempt that nothing has answered is open
 pub opens : (members slot : ℕ) (ballot : Ballot) → is_open members (record { slot = slot; ballot = ballot; since = [] }) ≡ true

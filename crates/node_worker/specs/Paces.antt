@@ -1,6 +1,6 @@
 -- When the next tick of a node is due, by what came to pass at its worker. Ticks are this service's own; attempts and what
 -- answers them are those of Lamport, "Paxos Made Simple", sections 2.2 and 2.3.
-use Rattle.std.specs.Prelude.{◌≡◌, ℕ, suc, ◌+◌, ◌*◌, ◌^◌, ◌==◌, ◌&&◌, ◌||◌, Bool, true, false, not, nat_lt, nat_le, min, if◌then◌else◌}
+use Rattle.std.specs.Prelude.{◌≡◌, ℕ, suc, ◌+◌, ◌*◌, ◌^◌, ◌==◌, ◌&&◌, ◌||◌, Bool, true, false, not, nat_lt, nat_le, min, max, if◌then◌else◌}
 use Rattle.std.specs.Prelude.{Option, Some, None, List, [], ◌∷◌}
 use Rattle.std.specs.List.{list_any}
 use Rattle.std.specs.Option.{option_map, option_map_or, option_or}
@@ -40,17 +40,48 @@ is_ask (body.Accepted acceptance) = false
 is_ask body.Ask = true
 is_ask (body.Decided value) = false
 
--- so many of its ticks sent an Ask since an event that is no tick, no answer and no Ask's delivery
+abbrev pub is_prepare : Body → Bool
+is_prepare (body.Prepare ballot) = true
+is_prepare (body.Promise ballot report) = false
+is_prepare (body.Nack ballot promised) = false
+is_prepare (body.Accept proposal) = false
+is_prepare (body.Accepted acceptance) = false
+is_prepare body.Ask = false
+is_prepare (body.Decided value) = false
+
+-- a node that says this accepted a proposal, which a majority had promised, or knows of a decision
+abbrev pub is_progress : Body → Bool
+is_progress (body.Prepare ballot) = false
+is_progress (body.Promise ballot report) = false
+is_progress (body.Nack ballot promised) = false
+is_progress (body.Accept proposal) = false
+is_progress (body.Accepted acceptance) = true
+is_progress body.Ask = false
+is_progress (body.Decided value) = true
+
+-- so many of its ticks sent an Ask since an Accepted or a Decided came, or an event that is no tick, no delivery and no answer
 abbrev pub asked : List Happening → ℕ
 asked [] = 0
 asked (Passed time ∷ before) = asked before
-asked (Came message ∷ before) = if is_ask message.body then asked before else 0
+asked (Came message ∷ before) = if is_progress message.body then 0 else asked before
 asked (Acted ∷ before) = 0
 asked (Ticked sent ∷ before) = if option_map_or (λ message. is_ask message.body) sent false then suc (asked before) else asked before
 
--- A tick is due after so many milliseconds without a message: 50 at first, and twice as many with each Ask, up to 51,200.
+-- so many of its ticks began an attempt since then, or since an Ask came, which tells that its sender is there
+abbrev pub tried : List Happening → ℕ
+tried [] = 0
+tried (Passed time ∷ before) = tried before
+tried (Came message ∷ before) = if is_progress message.body || is_ask message.body then 0 else tried before
+tried (Acted ∷ before) = 0
+tried (Ticked sent ∷ before) = if option_map_or (λ message. is_prepare message.body) sent false then suc (tried before) else tried before
+
+-- so many milliseconds, behind so many tries: 50 at first, and twice as many with each of them, up to 51,200
+abbrev pub wait_behind : ℕ → ℕ
+wait_behind tries = min (50 * 2 ^ tries) 51200
+
+-- A tick is due after so many milliseconds without a message: the longer of what its Asks and its attempts make it wait.
 abbrev pub wait_after : List Happening → ℕ
-wait_after happened = min (50 * 2 ^ asked happened) 51200
+wait_after happened = max (wait_behind (asked happened)) (wait_behind (tried happened))
 
 -- ---- its attempts
 
@@ -154,10 +185,11 @@ is_lost members begun = lost_by members begun.slot begun.ballot begun.since
 abbrev pub attempts : ℕ → List Happening → Bool
 attempts members happened = option_map_or (is_open members) (begun_in happened) false
 
--- A tick is due at once where an upload waits and no attempt is open, and after the wait without a message.
+-- A tick is due at once where an upload waits, no attempt is open, and none began without progress since; and else after the wait without
+-- a message.
 abbrev pub is_due : ℕ → List Happening → Bool → Bool
 is_due members happened waits =
-    (waits && not (attempts members happened)) || nat_le (wait_after happened) (quiet_for happened)
+    (waits && (not (attempts members happened) && tried happened == 0)) || nat_le (wait_after happened) (quiet_for happened)
 
 -- A tick leaves as many free slots to other nodes as the node's number says behind an attempt that was lost, and else none.
 abbrev pub left_after : ℕ → ℕ → List Happening → ℕ
@@ -171,7 +203,8 @@ pub record PaceState : Type 0 where
   pub attempt : Option Attempt
   pub was_lost : Bool
   pub quiet : ℕ
-  pub wait : ℕ
+  pub ask_wait : ℕ
+  pub attempt_wait : ℕ
 
 -- it is that attempt, and open
 pub record IsAttempt (members : ℕ) (begun : Begun) (attempt : Attempt) : Type 0 where
@@ -194,4 +227,5 @@ pub record IsPaceOf (me members : ℕ) (happened : List Happening) (pace : PaceS
   pub attempt_is : AreAttempts members (begun_in happened) pace.attempt
   pub lost_is : pace.was_lost ≡ option_map_or (is_lost members) (begun_in happened) false
   pub quiet_is : pace.quiet ≡ min (quiet_for happened) 51200
-  pub wait_is : pace.wait ≡ wait_after happened
+  pub ask_wait_is : pace.ask_wait ≡ wait_behind (asked happened)
+  pub attempt_wait_is : pace.attempt_wait ≡ wait_behind (tried happened)

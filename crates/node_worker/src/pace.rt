@@ -1,8 +1,8 @@
 //! When a node's time has passed.
 
-ghost use Rattle.std.specs.Prelude.{◌≡◌, ℕ, suc, ◌*◌, ◌^◌, min, List, [], ◌∷◌};
+ghost use Rattle.std.specs.Prelude.{◌≡◌, ℕ, suc, List, [], ◌∷◌};
 ghost use Rattle.std.specs.Option.{option_copied};
-ghost use Rattle.node_worker.specs.Paces.{Happening, Passed, Came, Acted, Ticked, IsPaceOf, is_due, left_after, is_ask};
+ghost use Rattle.node_worker.specs.Paces.{Happening, Passed, Came, Acted, Ticked, IsPaceOf, is_due, left_after, wait_behind};
 
 use crate::attempt::Attempt;
 use ballots::{Body, Members, Message, NodeId};
@@ -11,7 +11,7 @@ use std::marker::Model;
 /// How long a worker waits for a message before it looks again, in milliseconds.
 pub const LOOK_MILLISECONDS: u64 = 50;
 
-/// How long a node that asks and hears nothing waits at most between two questions, in milliseconds.
+/// How long a node that asks or tries and hears nothing waits at most until it does so again, in milliseconds.
 pub const LONGEST_WAIT_MILLISECONDS: u64 = 51_200;
 
 /// When the next tick of a node is due, by what came to pass at its worker. It decides nothing but time: whatever it
@@ -27,8 +27,10 @@ pub struct Pace {
     was_lost: bool,
     /// For how long no message came, in milliseconds, up to the longest wait.
     quiet: u64,
-    /// After how long without a message a tick is due.
-    wait: u64,
+    /// How long it waits behind its Asks, in milliseconds.
+    ask_wait: u64,
+    /// How long it waits behind its attempts, in milliseconds. A tick is due after the longer of the two without a message.
+    attempt_wait: u64,
 }
 
 impl Model for Pace {
@@ -42,7 +44,8 @@ impl Model for Pace {
       attempt = p.attempt;
       was_lost = p.was_lost;
       quiet = p.quiet;
-      wait = p.wait;
+      ask_wait = p.ask_wait;
+      attempt_wait = p.attempt_wait;
     } };
 
     ghost inverse = { λ p. record {
@@ -51,7 +54,8 @@ impl Model for Pace {
       attempt = p.attempt;
       was_lost = p.was_lost;
       quiet = p.quiet;
-      wait = p.wait;
+      ask_wait = p.ask_wait;
+      attempt_wait = p.attempt_wait;
     } };
 }
 
@@ -66,7 +70,8 @@ impl Pace {
             attempt: None,
             was_lost: false,
             quiet: 0,
-            wait: LOOK_MILLISECONDS,
+            ask_wait: LOOK_MILLISECONDS,
+            attempt_wait: LOOK_MILLISECONDS,
         }
     }
 
@@ -79,13 +84,15 @@ impl Pace {
         if self.was_lost { self.me.number() } else { 0 }
     }
 
-    /// Whether a tick is due, where an upload waits or where none does: at once where one waits and no attempt is open, and
-    /// after a while without a message, at first [`LOOK_MILLISECONDS`].
+    /// Whether a tick is due, where an upload waits or where none does: at once where one waits and nothing was tried for it that was
+    /// refused or is still open, and after a while without a message, at first [`LOOK_MILLISECONDS`].
+    #[tactic(auto, using(crate::proofs::Waiting::fresh))]
     pub fn is_due(&self, waits: bool) -> bool
         ensures { (me members : ℕ) (happened : List Happening) → IsPaceOf me members happened self.now
             → result ≡ is_due members happened waits }
     {
-        (waits && self.attempt.is_none()) || self.quiet >= self.wait
+        (waits && self.attempt.is_none() && self.attempt_wait == LOOK_MILLISECONDS)
+            || self.quiet >= self.ask_wait.max(self.attempt_wait)
     }
 
     /// No message came for so many milliseconds.
@@ -99,8 +106,8 @@ impl Pace {
             .min(LONGEST_WAIT_MILLISECONDS);
     }
 
-    /// A tick was given that sent this message, if it sent one. A question to the others doubles the wait for the next, up to
-    /// [`LONGEST_WAIT_MILLISECONDS`].
+    /// A tick was given that sent this message, if it sent one. A question to the others and an attempt double the wait for the next,
+    /// up to [`LONGEST_WAIT_MILLISECONDS`].
     pub fn tick(&mut self, sent: Option<&Message>)
         ensures { (me members : ℕ) (happened : List Happening) → IsPaceOf me members happened self.old
             → IsPaceOf me members (Ticked (option_copied sent.entry) ∷ happened) self.new }
@@ -113,8 +120,9 @@ impl Pace {
             Body::Prepare { ballot } => {
                 self.was_lost = false;
                 self.attempt = Some(Attempt::new(message.slot, *ballot));
+                self.attempt_wait = longer_wait(self.attempt_wait);
             }
-            Body::Ask => self.wait = longer_wait(self.wait),
+            Body::Ask => self.ask_wait = longer_wait(self.ask_wait),
             _ => {}
         }
     }
@@ -124,18 +132,25 @@ impl Pace {
         ensures { (me members : ℕ) (happened : List Happening) → IsPaceOf me members happened self.old
             → IsPaceOf me members (Acted ∷ happened) self.new }
     {
-        self.wait = LOOK_MILLISECONDS;
+        self.ask_wait = LOOK_MILLISECONDS;
+        self.attempt_wait = LOOK_MILLISECONDS;
     }
 
-    /// This message came to the node.
+    /// This message came to the node. An Accepted and a Decided set both waits back, and an Ask, which tells that its sender is there,
+    /// that behind attempts.
     #[tactic(auto, using(crate::proofs::Closing::closed_stays, crate::proofs::Closing::lost_stays))]
     pub fn hear(&mut self, message: &Message)
         ensures { (me members : ℕ) (happened : List Happening) → IsPaceOf me members happened self.old
             → IsPaceOf me members (Came message.now ∷ happened) self.new }
     {
         self.quiet = 0;
-        if !is_question(message) {
-            self.wait = LOOK_MILLISECONDS;
+        match &message.body {
+            Body::Accepted(_) | Body::Decided { .. } => {
+                self.ask_wait = LOOK_MILLISECONDS;
+                self.attempt_wait = LOOK_MILLISECONDS;
+            }
+            Body::Ask => self.attempt_wait = LOOK_MILLISECONDS,
+            _ => {}
         }
         if let Some(attempt) = self.attempt {
             self.was_lost = self.was_lost || attempt.is_refused_by(message);
@@ -144,16 +159,10 @@ impl Pace {
     }
 }
 
-fn is_question(message: &Message) -> bool
-    ensures { result ≡ is_ask message.now.body }
-{
-    matches!(message.body, Body::Ask)
-}
-
 // Twice the wait, up to the longest.
 #[tactic(auto, using(crate::proofs::Waiting::longest, crate::proofs::Waiting::doubled))]
 fn longer_wait(wait: u64) -> u64
-    ensures { (asked : ℕ) → wait ≡ min (50 * 2 ^ asked) 51200 → result ≡ min (50 * 2 ^ suc asked) 51200 }
+    ensures { (tries : ℕ) → wait ≡ wait_behind tries → result ≡ wait_behind (suc tries) }
 {
     if wait >= LONGEST_WAIT_MILLISECONDS / 2 {
         LONGEST_WAIT_MILLISECONDS

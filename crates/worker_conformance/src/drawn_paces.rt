@@ -141,7 +141,7 @@ fn all_rows() -> Result<(), Why> {
         plays(row)?;
         count = count.saturating_add(1);
     }
-    check(count == 65, "another number of rows")
+    check(count == 66, "another number of rows")
 }
 
 #[test]
