@@ -12,8 +12,8 @@ use Rattle.folder_report.specs.declared.fault.WriteFault.TheVariants.{Io as NoWr
 use Rattle.folder_report.specs.Lines.{WritesText}
 use Rattle.folder_report.specs.declared.report.FolderReport.{FolderReport}
 use Rattle.folder_report.specs.Reporting.{Reports}
-use Rattle.records_command.specs.declared.fault.FolderFault.{FolderFault}
-use Rattle.records_command.specs.declared.fault.FolderFault.TheVariants as fault
+use Rattle.records_command.specs.declared.fault.ShowFolderFault.{ShowFolderFault}
+use Rattle.records_command.specs.declared.fault.ShowFolderFault.TheVariants as fault
 use Rattle.records_command.specs.Folders.{AreMeant, FolderShows, Means, folder_text, lines_from, node_line}
 use Rattle.records_command.specs.FolderFaults.{IsFaultAt, IsMisfitFault, IsReadFault, WritesBeginning, WritesFolder}
 use Rattle.records_command.proofs.Telling.{appends_both}
@@ -77,7 +77,7 @@ as_many (files ∷ nodes) (own ∷ all) are = omega (arith, as_many nodes all ar
 abbrev pub MeansOne : Type 0
 MeansOne = (file : List ℕ) (one other : List Record) → FileMeans file one → FileMeans file other → one ≡ other
 
-misfit_at : MeansOne → (files : NodeFiles) (records : List Record) (node : ℕ) (told : FolderFault) → FileMeans files.records.items records
+misfit_at : MeansOne → (files : NodeFiles) (records : List Record) (node : ℕ) (told : ShowFolderFault) → FileMeans files.records.items records
     → IsMisfitFault files.sums.items records node told → IsFaultAt files node told
 misfit_at one files records node (fault.Damaged named) means is =
     (is.0, λ whole. is.1 (subst (Fits files.sums.items) (one files.records.items whole.0 records whole.1 means) whole.2))
@@ -86,13 +86,13 @@ misfit_at one files records node fault.Members means is = absurd is
 misfit_at one files records node fault.OutOfMemory means is = tt
 misfit_at one files records node fault.Io means is = absurd is
 
-pub misfit_of : {T : Type 0} → MeansOne → (files : NodeFiles) (records : List Record) (node : ℕ) (result : Result T FolderFault)
+pub misfit_of : {T : Type 0} → MeansOne → (files : NodeFiles) (records : List Record) (node : ℕ) (result : Result T ShowFolderFault)
     → FileMeans files.records.items records → IfErr result (IsMisfitFault files.sums.items records node) → IfErr result (IsFaultAt files node)
 misfit_of one files records node (Ok own) means is = tt
 misfit_of one files records node (Err told) means is = misfit_at one files records node told means is
 
 -- a fault at one node is one of reading all
-pub fault_of_all : (nodes : List NodeFiles) (node : ℕ) (files : NodeFiles) (told : FolderFault) → slice_get nodes node ≡ Some files
+pub fault_of_all : (nodes : List NodeFiles) (node : ℕ) (files : NodeFiles) (told : ShowFolderFault) → slice_get nodes node ≡ Some files
     → IsFaultAt files node told → IsReadFault nodes told
 fault_of_all nodes node files (fault.Damaged named) at is =
     (files, ap (slice_get nodes) is.0 ∙ at, is.1)
@@ -158,7 +158,7 @@ io_behind first second text result old mid new is one writes failed =
 
 -- ---- what is written of what is reported
 
-pub shows : (nodes : List NodeFiles) (all : List (List Record)) (report : FolderReport) (result : Result (Unit {0}) FolderFault)
+pub shows : (nodes : List NodeFiles) (all : List (List Record)) (report : FolderReport) (result : Result (Unit {0}) ShowFolderFault)
     (old new : Option (List ℕ)) → AreMeant nodes all → Reports (length nodes) all report
     → WritesFolder (folder_text all report) result old new → FolderShows nodes result old new
 shows nodes all report (Ok done) old new are reports out = record {

@@ -7,13 +7,13 @@ use Rattle.record_sums.specs.Sums.{Fits}
 use Rattle.record_sums.specs.Damage.{AreWhole}
 use Rattle.folder_report.specs.declared.fault.ReportFault.{ReportFault}
 use Rattle.folder_report.specs.declared.fault.ReportFault.TheVariants as reporting
-use Rattle.records_command.specs.declared.fault.FolderFault.{FolderFault}
-use Rattle.records_command.specs.declared.fault.FolderFault.TheVariants as fault
+use Rattle.records_command.specs.declared.fault.ShowFolderFault.{ShowFolderFault}
+use Rattle.records_command.specs.declared.fault.ShowFolderFault.TheVariants as fault
 use Rattle.record_sums.specs.declared.node_files.NodeFiles.{NodeFiles}
 use Rattle.records_command.specs.Folders.{IsDamaged}
 
 -- of one node: its files are damaged, or memory was refused
-abbrev pub IsFaultAt : NodeFiles → ℕ → FolderFault → Type 0
+abbrev pub IsFaultAt : NodeFiles → ℕ → ShowFolderFault → Type 0
 IsFaultAt files node (fault.Damaged named) = (named ≡ node) × (AreWhole files.records.items files.sums.items → ⊥)
 IsFaultAt files node (fault.Mixed slot) = ⊥
 IsFaultAt files node fault.Members = ⊥
@@ -21,7 +21,7 @@ IsFaultAt files node fault.OutOfMemory = ⊤
 IsFaultAt files node fault.Io = ⊥
 
 -- of records that were read: they do not fit their sums, or memory was refused
-abbrev pub IsMisfitFault : List ℕ → List Record → ℕ → FolderFault → Type 0
+abbrev pub IsMisfitFault : List ℕ → List Record → ℕ → ShowFolderFault → Type 0
 IsMisfitFault sums records node (fault.Damaged named) = (named ≡ node) × (Fits sums records → ⊥)
 IsMisfitFault sums records node (fault.Mixed slot) = ⊥
 IsMisfitFault sums records node fault.Members = ⊥
@@ -29,7 +29,7 @@ IsMisfitFault sums records node fault.OutOfMemory = ⊤
 IsMisfitFault sums records node fault.Io = ⊥
 
 -- of all nodes: the files of one are damaged, or memory was refused
-abbrev pub IsReadFault : List NodeFiles → FolderFault → Type 0
+abbrev pub IsReadFault : List NodeFiles → ShowFolderFault → Type 0
 IsReadFault nodes (fault.Damaged node) = IsDamaged nodes node
 IsReadFault nodes (fault.Mixed slot) = ⊥
 IsReadFault nodes fault.Members = ⊥
@@ -37,7 +37,7 @@ IsReadFault nodes fault.OutOfMemory = ⊤
 IsReadFault nodes fault.Io = ⊥
 
 -- why nothing was reported, as such a fault
-abbrev pub IsFaultOf : ReportFault → FolderFault → Type 0
+abbrev pub IsFaultOf : ReportFault → ShowFolderFault → Type 0
 IsFaultOf (reporting.Differ slot) told = told ≡ fault.Mixed slot
 IsFaultOf reporting.OutOfMemory told = told ≡ fault.OutOfMemory
 
@@ -48,7 +48,7 @@ pub record WritesBeginning (text : List ℕ) (old new : Option (List ℕ)) : Typ
   pub out : Appends old new written
 
 -- What writing this text adds to what the writer holds, by how it ends.
-abbrev pub WritesFolder : List ℕ → Result (Unit {0}) FolderFault → Option (List ℕ) → Option (List ℕ) → Type 0
+abbrev pub WritesFolder : List ℕ → Result (Unit {0}) ShowFolderFault → Option (List ℕ) → Option (List ℕ) → Type 0
 WritesFolder text (Ok done) old new = Appends old new text
 WritesFolder text (Err (fault.Damaged node)) old new = ⊥
 WritesFolder text (Err (fault.Mixed slot)) old new = ⊥

@@ -11,8 +11,8 @@ use Rattle.record_sums.specs.Damage.{AreWhole}
 use Rattle.folder_report.specs.declared.report.FolderReport.{FolderReport}
 use Rattle.folder_report.specs.Reporting.{Reports}
 use Rattle.folder_report.specs.Lines.{report_text}
-use Rattle.records_command.specs.declared.fault.FolderFault.{FolderFault}
-use Rattle.records_command.specs.declared.fault.FolderFault.TheVariants as fault
+use Rattle.records_command.specs.declared.fault.ShowFolderFault.{ShowFolderFault}
+use Rattle.records_command.specs.declared.fault.ShowFolderFault.TheVariants as fault
 use Rattle.record_sums.specs.declared.node_files.NodeFiles.{NodeFiles}
 
 -- the node's file means these records, which fit their sums
@@ -74,7 +74,7 @@ AreMixed nodes slot = (all : List (List Record)) × AreMeant nodes all × Differ
 
 -- What is added to what the writer holds, by how it ends: nothing where files mean no records that fit their sums, where these are of two
 -- clusters, where no cluster has so many nodes, and where memory is refused before the lines are made.
-abbrev pub FolderShows : List NodeFiles → Result (Unit {0}) FolderFault → Option (List ℕ) → Option (List ℕ) → Type 0
+abbrev pub FolderShows : List NodeFiles → Result (Unit {0}) ShowFolderFault → Option (List ℕ) → Option (List ℕ) → Type 0
 FolderShows nodes (Ok done) old new = ShowsFolder nodes old new
 FolderShows nodes (Err (fault.Damaged node)) old new = IsDamaged nodes node × Keeps old new
 FolderShows nodes (Err (fault.Mixed slot)) old new = AreMixed nodes slot × Keeps old new
@@ -84,5 +84,5 @@ FolderShows nodes (Err fault.Io) old new = ShowsFolderInPart nodes old new
 
 -- a run that ends with status 1: there is a fault
 pub record FolderFails (nodes : List NodeFiles) (old new : Option (List ℕ)) : Type 0 where
-  pub fault : FolderFault
+  pub fault : ShowFolderFault
   pub shows : FolderShows nodes (Err fault) old new

@@ -19,7 +19,7 @@ pub enum ShowFault {
 
 /// What kept a cluster's folder from being shown, or its lines from being written.
 #[derive(Clone, Copy, Debug, PartialEq, Eq, Error)]
-pub enum FolderFault {
+pub enum ShowFolderFault {
     /// The bytes of the file of the node of this number mean no records, or such that do not fit their sums.
     #[error("Damaged")]
     Damaged(usize),

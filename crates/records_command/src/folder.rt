@@ -4,12 +4,12 @@ ghost use Rattle.std.specs.Prelude.{◌≡◌, ◌⊎◌, [], ◌∷◌, ◌++�
 ghost use Rattle.std.specs.Io.KnownBytes.{Appends, Keeps};
 ghost use Rattle.ballots.specs.Majority.{IsMembers};
 ghost use Rattle.record_sums.specs.Sums.{Fits};
-ghost use Rattle.records_command.specs.declared.fault.FolderFault.TheVariants.{Io as NoWriter, Members as NoMembers, OutOfMemory as NoMemory};
+ghost use Rattle.records_command.specs.declared.fault.ShowFolderFault.TheVariants.{Io as NoWriter, Members as NoMembers, OutOfMemory as NoMemory};
 ghost use Rattle.records_command.specs.Folders.{AreMeant, FolderFails, FolderShows, Means, ShowsFolder};
 ghost use Rattle.records_command.specs.Folders.{folder_text, lines_from, node_line};
 ghost use Rattle.records_command.specs.FolderFaults.{IsFaultAt, IsFaultOf, IsMisfitFault, IsReadFault, WritesBeginning, WritesFolder};
 
-use crate::fault::FolderFault;
+use crate::fault::ShowFolderFault;
 use crate::status::{FAILURE, SUCCESS};
 use ballots::{Members, Record};
 use disk_records::laws::files_mean_one;
@@ -58,20 +58,20 @@ fn report<E: Write>(
     alloc: Global,
     folder: &str,
     nodes: &[NodeFiles],
-    fault: FolderFault,
+    fault: ShowFolderFault,
     e: &mut E,
 ) {
     let _ = writeln!(e, "flightd: {fault}");
     match fault {
-        FolderFault::Damaged(node) => report_damage(alloc, folder, node, nodes, e),
-        FolderFault::Mixed(slot) => {
+        ShowFolderFault::Damaged(node) => report_damage(alloc, folder, node, nodes, e),
+        ShowFolderFault::Mixed(slot) => {
             let slot = slot.number();
             let _ = writeln!(
                 e,
                 "{folder} has the files of two clusters: two values at slot {slot}"
             );
         }
-        FolderFault::Members | FolderFault::OutOfMemory | FolderFault::Io => {}
+        ShowFolderFault::Members | ShowFolderFault::OutOfMemory | ShowFolderFault::Io => {}
     }
     let _ = e.flush();
 }
@@ -94,17 +94,17 @@ fn report_damage<E: Write>(
 
 /// Writes what a server that resumes over these files would serve, a line for each thing that is told, to `w`, which is flushed.
 ///
-/// [`FolderFault::Damaged`] names the first node whose file means no records, or such that do not fit their sums;
-/// [`FolderFault::Mixed`] a slot at one of whose ballots two values are recorded; [`FolderFault::Members`] says that no cluster has so many
+/// [`ShowFolderFault::Damaged`] names the first node whose file means no records, or such that do not fit their sums;
+/// [`ShowFolderFault::Mixed`] a slot at one of whose ballots two values are recorded; [`ShowFolderFault::Members`] says that no cluster has so many
 /// nodes. Nothing was written then. On
-/// [`FolderFault::OutOfMemory`] nothing was written, or a beginning of the lines. On [`FolderFault::Io`] a write or the flush failed or
+/// [`ShowFolderFault::OutOfMemory`] nothing was written, or a beginning of the lines. On [`ShowFolderFault::Io`] a write or the flush failed or
 /// was interrupted, and a beginning of the lines has gone out, or all of them.
 pub fn show_folder<W: Write>(
     alloc: Global,
     hashing: RandomState,
     nodes: &[NodeFiles],
     w: &mut W,
-) -> Result<(), FolderFault>
+) -> Result<(), ShowFolderFault>
     ensures { FolderShows nodes.now result (W.contents w.old) (W.contents w.new) }
 {
     let members = members_of(nodes.len())?;
@@ -116,28 +116,28 @@ pub fn show_folder<W: Write>(
 }
 
 // The members of a cluster of so many nodes.
-fn members_of(count: usize) -> Result<Members, FolderFault>
+fn members_of(count: usize) -> Result<Members, ShowFolderFault>
     ensures members { IfOk result (λ members. members ≡ count) }
     ensures fault { IfErr result (λ fault. (fault ≡ NoMembers) × (IsMembers count → ⊥)) }
 {
     match u8::try_from(count) {
-        Ok(count) => Members::new(count).ok_or(FolderFault::Members),
-        Err(_) => Err(FolderFault::Members),
+        Ok(count) => Members::new(count).ok_or(ShowFolderFault::Members),
+        Err(_) => Err(ShowFolderFault::Members),
     }
 }
 
 // Why nothing is reported.
-fn fault_of(fault: ReportFault) -> FolderFault
+fn fault_of(fault: ReportFault) -> ShowFolderFault
     ensures { IsFaultOf fault result }
 {
     match fault {
-        ReportFault::Differ(slot) => FolderFault::Mixed(slot),
-        ReportFault::OutOfMemory => FolderFault::OutOfMemory,
+        ReportFault::Differ(slot) => ShowFolderFault::Mixed(slot),
+        ReportFault::OutOfMemory => ShowFolderFault::OutOfMemory,
     }
 }
 
 // The records of each node.
-fn all_records(alloc: Global, nodes: &[NodeFiles]) -> Result<Vec<Vec<Record>>, FolderFault>
+fn all_records(alloc: Global, nodes: &[NodeFiles]) -> Result<Vec<Vec<Record>>, ShowFolderFault>
     ensures meant { IfOk result (λ all. AreMeant nodes.now (map (λ own. own.items) all.items)) }
     ensures fault { IfErr result (IsReadFault nodes.now) }
 {
@@ -152,26 +152,26 @@ fn all_records(alloc: Global, nodes: &[NodeFiles]) -> Result<Vec<Vec<Record>>, F
 }
 
 // Puts a node's records behind those of the others.
-fn push(all: &mut Vec<Vec<Record>>, own: Vec<Record>) -> Result<(), FolderFault>
+fn push(all: &mut Vec<Vec<Record>>, own: Vec<Record>) -> Result<(), ShowFolderFault>
     ensures behind { OnOk result (map (λ own. own.items) all.new.items ≡ map (λ own. own.items) all.old.items ++ own.items ∷ []) }
     ensures fault { IfErr result (λ fault. fault ≡ NoMemory) }
 {
     match all.push(own) {
         Ok(()) => Ok(()),
-        Err(_) => Err(FolderFault::OutOfMemory),
+        Err(_) => Err(ShowFolderFault::OutOfMemory),
     }
 }
 
 // The records of the node of this number.
-fn records_of(alloc: Global, node: usize, files: &NodeFiles) -> Result<Vec<Record>, FolderFault>
+fn records_of(alloc: Global, node: usize, files: &NodeFiles) -> Result<Vec<Record>, ShowFolderFault>
     ensures meant { IfOk result (λ own. Means files.now own.items) }
     ensures fault { IfErr result (IsFaultAt files.now node) }
 {
     files_mean_one();
     match read_records(alloc, files.records.as_slice()) {
         Ok(read) => fitting(alloc, node, files, read.records),
-        Err(StoreFault::Damaged) => Err(FolderFault::Damaged(node)),
-        Err(StoreFault::OutOfMemory) => Err(FolderFault::OutOfMemory),
+        Err(StoreFault::Damaged) => Err(ShowFolderFault::Damaged(node)),
+        Err(StoreFault::OutOfMemory) => Err(ShowFolderFault::OutOfMemory),
         // Bytes that are there do not fail.
         Err(StoreFault::Device | StoreFault::Broken) => unreachable!(),
     }
@@ -183,7 +183,7 @@ fn fitting(
     node: usize,
     files: &NodeFiles,
     records: Vec<Record>,
-) -> Result<Vec<Record>, FolderFault>
+) -> Result<Vec<Record>, ShowFolderFault>
     ensures same { IfOk result (λ own. (own.items ≡ records.items) × Fits files.now.sums.items records.items) }
     ensures fault { IfErr result (IsMisfitFault files.now.sums.items records.items node) }
 {
@@ -191,11 +191,11 @@ fn fitting(
         Ok(None) => Ok(records),
         Ok(Some(_)) => {
             drop(records);
-            Err(FolderFault::Damaged(node))
+            Err(ShowFolderFault::Damaged(node))
         }
         Err(_) => {
             drop(records);
-            Err(FolderFault::OutOfMemory)
+            Err(ShowFolderFault::OutOfMemory)
         }
     }
 }
@@ -232,14 +232,14 @@ fn nodes_text(alloc: Global, all: &[Vec<Record>]) -> Result<String, AllocError>
     Ok(text)
 }
 
-fn put_text<W: Write>(w: &mut W, text: &[u8]) -> Result<(), FolderFault>
+fn put_text<W: Write>(w: &mut W, text: &[u8]) -> Result<(), ShowFolderFault>
     ensures all { OnOk result (Appends (W.contents w.old) (W.contents w.new) text.now) }
     ensures part { OnErr result (WritesBeginning text.now (W.contents w.old) (W.contents w.new)) }
     ensures fault { IfErr result (λ fault. fault ≡ NoWriter) }
 {
     match put(w, text) {
         Ok(()) => Ok(()),
-        Err(_) => Err(FolderFault::Io),
+        Err(_) => Err(ShowFolderFault::Io),
     }
 }
 
@@ -249,16 +249,16 @@ fn write_folder<W: Write>(
     all: &[Vec<Record>],
     report: &FolderReport,
     w: &mut W,
-) -> Result<(), FolderFault>
+) -> Result<(), ShowFolderFault>
     ensures { WritesFolder (folder_text (map (λ own. own.items) all.now) report.now) result (W.contents w.old) (W.contents w.new) }
 {
     let Ok(text) = nodes_text(alloc, all) else {
-        return Err(FolderFault::OutOfMemory);
+        return Err(ShowFolderFault::OutOfMemory);
     };
     put_text(w, text.as_bytes())?;
     match write_report(alloc, report, w) {
         Ok(()) => Ok(()),
-        Err(WriteFault::OutOfMemory) => Err(FolderFault::OutOfMemory),
-        Err(WriteFault::Io) => Err(FolderFault::Io),
+        Err(WriteFault::OutOfMemory) => Err(ShowFolderFault::OutOfMemory),
+        Err(WriteFault::Io) => Err(ShowFolderFault::Io),
     }
 }

@@ -12,7 +12,7 @@ mod lines;
 mod showing;
 mod status;
 
-pub use fault::{FolderFault, ShowFault};
+pub use fault::{ShowFault, ShowFolderFault};
 pub use folder::{folder_run, show_folder};
 pub use showing::{records_run, show_records};
 pub use status::{FAILURE, SUCCESS};
