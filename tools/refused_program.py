@@ -1,11 +1,14 @@
 #!/usr/bin/env python3
 """Refuses `flightd` one allocation or thread after another while it plays a script and while it serves, and gives a script faulty peers.
 
-    tools/refused_program.py [PROGRAM]
+    tools/refused_program.py [--part K] [PROGRAM]
 
 PROGRAM is crates/flightd/out/flightd, as it was built. refused.c, which cc builds into a folder, is preloaded into it: it counts all calls of
 malloc and the like and all starts of threads in the whole process, and refuses one of them. It refuses each of the first FIRST of a process,
 and DRAWN of the others, drawn by SEED. As threads run at the same time, a number does not mean the same request in each run.
+
+With --part it refuses only every fourth of these, from the first, second, third or fourth on, as K is 0, 1, 2 or 3. With `--part turn` K is
+the number of commits modulo 4, and is printed: so each gate (./test) tries the next part.
 
 - `flightd script` plays the calls of the script of examples/scripts in another order, and a script without calls. It must end with the
   expected lines; or with a refusal for want of memory in some of them, and after these what follows from it; or with `receipts bad`; or with
@@ -18,28 +21,23 @@ and DRAWN of the others, drawn by SEED. As threads run at the same time, a numbe
 
 It prints a row for each of the three: how many requests there are, how many were refused, and how the runs ended. The status is 1 if a run
 ended in another way: by a signal, without an answer, with another name, or with a wrong answer. It needs no proofs but those of the program,
-some minutes, and is not part of the gate."""
+and a minute or some minutes, or a quarter of that for one part."""
+import argparse
 import collections
 import json
-import os
-import random
 import re
 import socket
-import struct
 import subprocess
 import sys
 import tempfile
 import threading
 import time
-from pathlib import Path
 from typing import NamedTuple
 
+from refusing import Refusing, add_part, part_of, places_of
 from servers import CALL_SECONDS, LEARN_SECONDS, PROGRAM, TOP, Wrong, addresses, felzoren, free_port, records_in, reset, want
-from toolbox import show_help
 
-SOURCE = TOP / "tools" / "refused.c"
 SCRIPT = TOP / "examples" / "scripts" / "first_upload.json"
-SEED = 20261128
 # How many of the first requests are refused one after another, and how many of the others.
 FIRST, DRAWN = 300, 100
 # A run that has not ended after this many seconds counts as hung, but for a script that asks for a version: it does so up to 10,000 times if
@@ -50,36 +48,8 @@ NODES = 3
 REFUSALS = {("OutOfMemory", 8), ("Store", 13), ("Down", 14)}
 # The port of node 0 of a script's cluster, and the frame at the end of a request.
 FIRST_PORT, END_FRAME = 42_000, bytes.fromhex("8000000000")
-
-
 # The message, with status 2, if memory is refused while the arguments are read.
 WORDS_REFUSED = "error: out of memory\n"
-
-
-class Refusing:
-    """The library that is preloaded into a program, and the file to which it reports."""
-
-    def __init__(self, program, folder):
-        self.program, self.folder = program, Path(folder)
-        self.library, self.told = self.folder / "refused.so", self.folder / "told"
-        subprocess.run(["cc", "-O2", "-shared", "-fPIC", "-o", self.library, SOURCE], check=True)
-        self.told.write_bytes(bytes(16))
-
-    def start(self, words, at, **more):
-        """Starts a process whose request of this number is refused, with more variables in its environment."""
-        there = {**os.environ, "LD_PRELOAD": str(self.library), "REFUSED_TOLD": str(self.told), "REFUSED_AT": str(at), **more}
-        called = [self.program, *map(str, words)]
-        return subprocess.Popen(called, stdout=subprocess.PIPE, stderr=subprocess.PIPE, text=True, env=there)
-
-    def seen(self):
-        """How many requests there were, and whether one was refused."""
-        return struct.unpack("<QQ", self.told.read_bytes())
-
-
-def places_of(count):
-    """Which of `count` requests are refused, by their numbers from 1."""
-    others = range(FIRST + 1, count + 1)
-    return [*range(1, min(FIRST, count) + 1), *sorted(random.Random(SEED).sample(others, min(DRAWN, len(others))))]
 
 
 # ---- scripts
@@ -335,12 +305,12 @@ class Sum(NamedTuple):
     faults: list
 
 
-def runs_of(command, run, refusing):
-    """Refuses one request after another to a command."""
+def runs_of(command, run, refusing, part):
+    """Refuses one request after another to a command, or those of a part."""
     ended, faults = collections.Counter(), []
     want(run(refusing, 0), "went on")
     asked = refusing.seen()[0]
-    for at in places_of(asked):
+    for at in places_of(asked, FIRST, DRAWN, part):
         try:
             found = run(refusing, at)
             ended[found if refusing.seen()[1] else "not asked for"] += 1
@@ -356,13 +326,13 @@ def told(found):
     return f"| {found.command} | {found.asked:,} | {refused} | {named} | {on} | {calls_refused} | {found.ended[ASKS]} | {len(found.faults)} |"
 
 
-def main(program):
+def main(program, part):
     began = time.monotonic()
     with tempfile.TemporaryDirectory() as folder:
         refusing = Refusing(program, folder)
         print(f"{other_peers(refusing)} scripts with a call that is answered by another peer: each ends with its fault, after its lines")
         runs = (("`flightd script`", play_example), ("`flightd script`, without calls", play_nothing), ("`flightd serve`", serve))
-        sums = [runs_of(command, run, refusing) for command, run in runs]
+        sums = [runs_of(command, run, refusing, part) for command, run in runs]
     print("| Command | Asked for | Refused | Ended by a name | Went on | with a call that was refused | Still asked for a version | Otherwise |\n"
           "|---|---|---|---|---|---|---|---|")
     for found in sums:
@@ -375,8 +345,11 @@ def main(program):
 
 
 if __name__ == "__main__":
-    show_help(__doc__)
+    given = argparse.ArgumentParser(description=__doc__, formatter_class=argparse.RawDescriptionHelpFormatter)
+    given.add_argument("program", nargs="?", metavar="PROGRAM", default=str(PROGRAM))
+    add_part(given)
+    words = given.parse_args()
     try:
-        main(sys.argv[1] if len(sys.argv) > 1 else str(PROGRAM))
+        main(words.program, part_of(words.part, "tools/refused_program.py"))
     except (Wrong, OSError) as error:
         sys.exit(f"tools/refused_program.py: {error}")
