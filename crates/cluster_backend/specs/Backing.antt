@@ -82,8 +82,8 @@ told_as fault.Lost = faults.Store
 abbrev pub MayFail : (ℕ → SeatFault → Type 0) → ℕ → BackFault → Type 0
 MayFail fails node told = (told ≡ faults.OutOfMemory) ⊎ ((why : SeatFault) × fails node why × (told ≡ told_as why))
 
--- By what of a node is entered, what its tables may hold and why it may fail, this is an answer to the request.
-module _ (entered : ℕ → Query → EventResult → Type 0) (holds : ℕ → List Upload → Type 0) (fails : ℕ → SeatFault → Type 0) where
+-- By what of a node is entered, what its tables may hold, why it may fail and that the caller may leave, this is an answer to the request.
+module _ (entered : ℕ → Query → EventResult → Type 0) (holds : ℕ → List Upload → Type 0) (fails : ℕ → SeatFault → Type 0) (leaves : Type 0) where
   abbrev pub MayAnswer : Connected → Request → BackAnswer → Type 0
   MayAnswer at (describes table) (described d) =
       (uploads : List Upload) × holds at.node uploads × DescribesTable at.locations table (effective table uploads) d
@@ -105,5 +105,6 @@ module _ (entered : ℕ → Query → EventResult → Type 0) (holds : ℕ → L
       (entered at.node (query.Get asked) given.Unavailable × (told ≡ faults.Unavailable)) ⊎ MayFail fails at.node told
   MayAnswer at (puts text) (decided outcome) =
       (known : Outcome) × (told known ≡ outcome) × entered at.node (query.Outcome text) (given.Outcome known)
-  MayAnswer at (puts text) (failed told) = ((at.waits ≡ false) × (told ≡ faults.Unavailable)) ⊎ MayFail fails at.node told
+  MayAnswer at (puts text) (failed told) =
+      (((at.waits ≡ false) ⊎ leaves) × (told ≡ faults.Unavailable)) ⊎ MayFail fails at.node told
   MayAnswer at request other = ⊥

@@ -4,6 +4,7 @@ ghost use Rattle.std.specs.Prelude.{◌≡◌, true, false, [], map, string_byte
 ghost use Rattle.call_protocol.specs.declared.back_fault.BackFault.TheVariants.{OutOfMemory};
 ghost use Rattle.cluster_backend.specs.Backing.{MayAnswer, StaysAt};
 
+use crate::caller::Caller;
 use crate::fault::back_fault;
 use crate::nodes::Nodes;
 use crate::receipts::Receipts;
@@ -14,6 +15,7 @@ use node_threads::{Pending, Query};
 use std::alloc::{AllocError, Global};
 use std::marker::Model;
 use std::sync::Wait;
+use std::time::Clock;
 use table_types::Ticket;
 use table_types::laws::tables_have_one_shape;
 use table_versions::laws::values_hold_one_list_of_uploads;
@@ -22,17 +24,19 @@ use uploads::Upload;
 
 /// What one connection asks of one node of a cluster, and where the nodes are served.
 #[derive(Drop)]
-pub struct ClusterBackend<'a, R: Wait, C: Nodes, K: Receipts> {
+pub struct ClusterBackend<'a, R: Wait + Clock, C: Nodes, K: Receipts, P: Caller> {
     rt: &'a R,
     nodes: &'a C,
     receipts: &'a K,
+    caller: &'a P,
     node: usize,
     locations: &'a [String],
     pending: Option<Pending>,
     handed: Vec<Upload>,
 }
 
-impl<'a, R: Wait, C: Nodes, K: Receipts> Model for ClusterBackend<'a, R, C, K> {
+impl<'a, R: Wait + Clock, C: Nodes, K: Receipts, P: Caller> Model
+    for ClusterBackend<'a, R, C, K, P> {
     ghost use Rattle.cluster_backend.specs.Backing.{Connected, is_there};
     ghost use Rattle.std.specs.Prelude.{map, string_bytes};
 
@@ -46,23 +50,25 @@ impl<'a, R: Wait, C: Nodes, K: Receipts> Model for ClusterBackend<'a, R, C, K> {
     } };
 }
 
-impl<'a, R: Wait, C: Nodes, K: Receipts> ClusterBackend<'a, R, C, K> {
-    /// A backend that has handed over nothing, for the node of this number. It keeps the receipts there, and clients are told
-    /// these locations in this order.
+impl<'a, R: Wait + Clock, C: Nodes, K: Receipts, P: Caller> ClusterBackend<'a, R, C, K, P> {
+    /// A backend that has handed over nothing, for a call of this caller to the node of this number. It keeps the receipts there, and
+    /// clients are told these locations in this order.
     pub fn new(
         alloc: Global,
         rt: &'a R,
         nodes: &'a C,
         receipts: &'a K,
+        caller: &'a P,
         node: usize,
         locations: &'a [String],
-    ) -> ClusterBackend<'a, R, C, K>
+    ) -> ClusterBackend<'a, R, C, K, P>
         ensures { result ≡ record { node = node; locations = map string_bytes locations.now; handed = []; waits = false } }
     {
         ClusterBackend {
             rt,
             nodes,
             receipts,
+            caller,
             node,
             locations,
             pending: None,
@@ -71,8 +77,9 @@ impl<'a, R: Wait, C: Nodes, K: Receipts> ClusterBackend<'a, R, C, K> {
     }
 }
 
-impl<'a, R: Wait, C: Nodes, K: Receipts> Backend for ClusterBackend<'a, R, C, K> {
-    ghost may_answer = { MayAnswer C.entered C.holds C.fails };
+impl<'a, R: Wait + Clock, C: Nodes, K: Receipts, P: Caller> Backend
+    for ClusterBackend<'a, R, C, K, P> {
+    ghost may_answer = { MayAnswer C.entered C.holds C.fails P.may_leave };
 
     ghost handed = { λ b. b.handed };
 
@@ -101,8 +108,12 @@ impl<'a, R: Wait, C: Nodes, K: Receipts> Backend for ClusterBackend<'a, R, C, K>
         let Some(pending) = self.pending.take() else {
             return Err(BackFault::Unavailable);
         };
-        let receipt = match self.nodes.outcome(self.rt, self.node, upload, pending) {
-            Ok(receipt) => receipt,
+        let receipt = match self
+            .nodes
+            .outcome(self.rt, self.node, upload, pending, self.caller)
+        {
+            Ok(Some(receipt)) => receipt,
+            Ok(None) => return Err(BackFault::Unavailable),
             Err(fault) => return Err(back_fault(fault)),
         };
         let EventResult::Outcome(outcome) = receipt.answer else {

@@ -10,12 +10,14 @@
 #![tactic(auto)]
 
 mod backend;
+mod caller;
 mod fault;
 mod nodes;
 mod receipts;
 mod running;
 
 pub use backend::ClusterBackend;
+pub use caller::{Caller, Patient, TURN_MILLISECONDS};
 pub use fault::back_fault;
 pub use node_threads::{
     Beginning, Cluster, Config, Gate, Journal, MAX_JOURNAL_ENTRIES, MAX_SLOTS, Note, OpenGate,

@@ -2,6 +2,7 @@
 
 ghost use Rattle.std.specs.Prelude.{ℕ, List, map, string_bytes, IfOk, IfErr};
 ghost use Rattle.std.specs.List.{AllZip};
+ghost use Rattle.std.specs.Option.{IfSome, IfNone};
 ghost use Rattle.node_threads.specs.parts.table_types.specs.Uploads.{Upload as Uploaded};
 ghost use Rattle.node_threads.specs.parts.table_types.specs.Tables.{effective, table_names};
 ghost use Rattle.node_threads.specs.parts.table_versions.specs.Info.{IsLatest};
@@ -12,10 +13,12 @@ ghost use Rattle.node_threads.specs.seats.specs.declared.fault.SeatFault.{SeatFa
 ghost use Rattle.table_backend.specs.Backing.{TellsLatest};
 ghost use Rattle.cluster_backend.specs.Backing.{IsAnswerTo, AreAgreed};
 
+use crate::caller::Caller;
 use flight_calls::TableDescription;
 use node_threads::{Pending, Query, Receipt, SeatFault};
 use std::alloc::Global;
 use std::sync::Wait;
+use std::time::Clock;
 use table_versions::TableInfo;
 use uploads::Upload;
 
@@ -34,16 +37,19 @@ pub trait Nodes {
     fn put<R: Wait>(&self, rt: &R, node: usize, upload: &Upload) -> Result<Pending, SeatFault>
         ensures { IfErr result (fails node) };
 
-    /// Waits until the outcome of the upload that was put is known at the node and entered; the receipt has it.
-    fn outcome<R: Wait>(
+    /// Waits until the outcome of the upload that was put is known at the node and entered; the receipt has it. `None` where the
+    /// caller leaves before: then the upload waits no more, and may be decided even so.
+    fn outcome<R: Wait + Clock, P: Caller>(
         &self,
         rt: &R,
         node: usize,
         upload: &Upload,
         pending: Pending,
-    ) -> Result<Receipt, SeatFault>
-        ensures entered { IfOk result (λ receipt. entered node (Outcome upload.now) receipt.answer
-            × IsAnswerTo (Outcome upload.now) receipt.answer) }
+        caller: &P,
+    ) -> Result<Option<Receipt>, SeatFault>
+        ensures entered { IfOk result (λ found. IfSome found (λ receipt. entered node (Outcome upload.now) receipt.answer
+            × IsAnswerTo (Outcome upload.now) receipt.answer)) }
+        ensures left { IfOk result (λ found. IfNone found P.may_leave) }
         ensures fault { IfErr result (fails node) };
 
     /// Asks the node; the receipt has the answer, which is entered.

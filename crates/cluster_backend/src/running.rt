@@ -2,20 +2,25 @@
 
 ghost use Rattle.std.specs.Prelude.{◌≡◌, ◌≢◌, List, [], map, string_bytes, IfOk};
 ghost use Rattle.std.specs.List.{AllZip};
+ghost use Rattle.std.specs.Option.{IfNone};
 ghost use Rattle.node_threads.specs.parts.table_types.specs.Uploads.{Upload as Uploaded};
 ghost use Rattle.node_threads.specs.parts.table_types.specs.Tables.{effective, table_names};
 ghost use Rattle.node_threads.specs.parts.table_versions.specs.Info.{IsLatest};
 ghost use Rattle.table_backend.specs.Backing.{TellsLatest};
 ghost use Rattle.cluster_backend.specs.Backing.{AreAgreed, HasTables, IsEntered};
 
+use crate::caller::{Caller, TURN_MILLISECONDS};
 use crate::nodes::Nodes;
 use agreement::Refusal;
 use flight_calls::TableDescription;
 use node_core::Node;
-use node_threads::{Beginning, Gate, Pending, Query, Receipt, Retention, Running, Seat, SeatFault};
+use node_threads::{
+    Beginning, Ending, Gate, Pending, Query, Receipt, Retention, Running, Seat, SeatFault,
+};
 use stable_records::Stable;
 use std::alloc::{AllocError, Global};
 use std::sync::Wait;
+use std::time::{Clock, Duration};
 use table_versions::TableInfo;
 use table_versions::laws::tables_have_effective_uploads;
 use uploads::Upload;
@@ -32,21 +37,23 @@ impl<const N: usize, S: Stable + Drop, J: Beginning, G: Gate + Drop, M: Retentio
         Running::put(self, rt, node, upload)
     }
 
-    fn outcome<R: Wait>(
+    fn outcome<R: Wait + Clock, P: Caller>(
         &self,
         rt: &R,
         node: usize,
         upload: &Upload,
         pending: Pending,
-    ) -> Result<Receipt, SeatFault> {
-        let ended = pending.wait(rt);
-        drop(pending);
+        caller: &P,
+    ) -> Result<Option<Receipt>, SeatFault> {
+        let Some(ended) = ending_of(self, rt, node, pending, caller) else {
+            return Ok(None);
+        };
         let settled = ended?;
         if !settled.is_of(node, upload) {
             drop(settled);
             return Err(SeatFault::Strange);
         }
-        Ok(settled.into_receipt())
+        Ok(Some(settled.into_receipt()))
     }
 
     fn ask<R: Wait>(&self, rt: &R, node: usize, query: Query) -> Result<Receipt, SeatFault> {
@@ -79,6 +86,37 @@ impl<const N: usize, S: Stable + Drop, J: Beginning, G: Gate + Drop, M: Retentio
         let seat = seat.lock(rt);
         tables_at(alloc, &seat, locations)
     }
+}
+
+// How a put at the node ended, `None` where its caller left before.
+fn ending_of<
+    const N: usize,
+    R: Wait + Clock,
+    S: Stable + Drop,
+    J: Beginning,
+    G: Gate + Drop,
+    M: Retention,
+    P: Caller,
+>(
+    nodes: &Running<N, S, J, G, M>,
+    rt: &R,
+    node: usize,
+    pending: Pending,
+    caller: &P,
+) -> Option<Ending>
+    ensures { IfNone result P.may_leave }
+{
+    let mut waited = 0u64;
+    for _ in rt.forever() {
+        if let Some(ending) = pending.wait_for(rt, Duration::from_millis(TURN_MILLISECONDS)) {
+            return Some(ending);
+        }
+        waited = waited.saturating_add(TURN_MILLISECONDS);
+        if caller.leaves(waited) {
+            return nodes.leave(rt, node, pending);
+        }
+    }
+    Some(pending.wait(rt))
 }
 
 // The latest version of a table at this seat.

@@ -7,8 +7,8 @@ use call_protocol::BackFault;
 use client_calls::call_info;
 use flight_calls::Backend;
 use flight_service::{
-    AllReceipts, Beginning, ClusterBackend, OpenGate, OwnEntry, SeatFault, SeatInput,
-    serve_connection,
+    AllReceipts, Beginning, Caller, ClusterBackend, OpenGate, OwnEntry, Patient, SeatFault,
+    SeatInput, serve_connection,
 };
 use ghost_log::Opened;
 use std::alloc::Global;
@@ -16,18 +16,33 @@ use std::hash::RandomState;
 use std::marker::Brand;
 use std::sync::Wait;
 use std::test::Fail;
+use std::time::Clock;
 use table_versions::{Answer, Outcome};
 
 /// More messages than an upload takes.
 const MANY: u64 = 100;
 
-// Gives the node a tick, and hands each message on to each node, until no more are sent.
+/// A caller that leaves as soon as it is asked.
+struct Leaving;
+
+impl Caller for Leaving {
+    ghost may_leave = { Unit {0} };
+
+    fn leaves(&self, _waited: u64) -> bool {
+        true
+    }
+}
+
+// Gives the node a tick, and hands each message that is sent then on to each node, until no more are sent.
 fn decide<R: Wait, J: Beginning>(rt: &R, nodes: &Nodes<J, OpenGate>) -> Result<(), Why> {
+    let journal = nodes.cluster().journal().lock(rt);
+    let first = journal.sent_count();
+    drop(journal);
     match nodes.take_input(rt, 0, SeatInput::Tick(0)) {
         Ok(taken) => drop(taken),
         Err(_) => return Err("a tick is not taken"),
     }
-    for number in 0..MANY {
+    for number in first..first.saturating_add(MANY) {
         for node in 0..3 {
             match nodes.cluster().deliver(rt, &OpenGate, node, number) {
                 Ok(taken) => drop(taken),
@@ -40,7 +55,7 @@ fn decide<R: Wait, J: Beginning>(rt: &R, nodes: &Nodes<J, OpenGate>) -> Result<(
 }
 
 // What a connection to this node is answered to the ticket for this version.
-fn got<R: Wait, J: Beginning>(
+fn got<R: Wait + Clock, J: Beginning>(
     rt: &R,
     alloc: Global,
     nodes: &Nodes<J, OpenGate>,
@@ -49,19 +64,19 @@ fn got<R: Wait, J: Beginning>(
     version: u64,
 ) -> Result<Result<Answer, BackFault>, Why> {
     let ticket = ticket(alloc, version)?;
-    let mut backend = ClusterBackend::new(alloc, rt, nodes, receipts, node, &[]);
+    let mut backend = ClusterBackend::new(alloc, rt, nodes, receipts, &Patient, node, &[]);
     Ok(backend.get(alloc, &ticket))
 }
 
 // An upload is put and decided.
-fn puts<R: Wait, J: Beginning>(
+fn puts<R: Wait + Clock, J: Beginning>(
     rt: &R,
     alloc: Global,
     nodes: &Nodes<J, OpenGate>,
     receipts: &AllReceipts,
 ) -> Result<(), Why> {
     let upload = had(Box::new(alloc, upload(alloc, 1)?))?;
-    let mut backend = ClusterBackend::new(alloc, rt, nodes, receipts, 0, &[]);
+    let mut backend = ClusterBackend::new(alloc, rt, nodes, receipts, &Patient, 0, &[]);
     let is_unknown = matches!(backend.outcome(&upload), Err(BackFault::Unavailable));
     let is_put = backend.put(&upload).is_ok();
     let decided = decide(rt, nodes);
@@ -75,8 +90,33 @@ fn puts<R: Wait, J: Beginning>(
     check(is_applied, "another outcome")
 }
 
+// The caller of a second put leaves before it is decided: the upload waits no more, and is decided even so.
+fn leaves<R: Wait + Clock, J: Beginning>(
+    rt: &R,
+    alloc: Global,
+    nodes: &Nodes<J, OpenGate>,
+    receipts: &AllReceipts,
+) -> Result<(), Why> {
+    let upload = had(Box::new(alloc, upload(alloc, 2)?))?;
+    let mut backend = ClusterBackend::new(alloc, rt, nodes, receipts, &Leaving, 0, &[]);
+    let is_put = backend.put(&upload).is_ok();
+    let is_waiting = nodes.waits(rt, 0);
+    let is_left = matches!(backend.outcome(&upload), Err(BackFault::Unavailable));
+    drop(backend);
+    drop(upload);
+    check(is_put, "a second put fails")?;
+    check(is_waiting, "an upload does not wait")?;
+    check(is_left, "who leaves has an outcome")?;
+    check(!nodes.waits(rt, 0), "an upload waits whose caller has left")?;
+    decide(rt, nodes)?;
+    check(
+        got(rt, alloc, nodes, receipts, 1, 2)?.is_ok(),
+        "the second upload is not decided",
+    )
+}
+
 // What this node answers to the ticket for the first version.
-fn first_version<R: Wait, J: Beginning>(
+fn first_version<R: Wait + Clock, J: Beginning>(
     rt: &R,
     alloc: Global,
     nodes: &Nodes<J, OpenGate>,
@@ -88,7 +128,7 @@ fn first_version<R: Wait, J: Beginning>(
 }
 
 // Each node is asked for the upload, and for versions that it has not.
-fn gets<R: Wait, J: Beginning>(
+fn gets<R: Wait + Clock, J: Beginning>(
     rt: &R,
     alloc: Global,
     nodes: &Nodes<J, OpenGate>,
@@ -116,14 +156,14 @@ fn gets<R: Wait, J: Beginning>(
 }
 
 // Whether the table is described as it is, and its schema is the same by itself.
-fn describes_the_table<R: Wait, J: Beginning>(
+fn describes_the_table<R: Wait + Clock, J: Beginning>(
     rt: &R,
     alloc: Global,
     nodes: &Nodes<J, OpenGate>,
     receipts: &AllReceipts,
     locations: &[String],
 ) -> bool {
-    let mut backend = ClusterBackend::new(alloc, rt, nodes, receipts, 1, locations);
+    let mut backend = ClusterBackend::new(alloc, rt, nodes, receipts, &Patient, 1, locations);
     match (backend.info(alloc, "t"), backend.schema(alloc, "t")) {
         (Ok(found), Ok(schema)) => {
             found.info.version == 1
@@ -135,7 +175,7 @@ fn describes_the_table<R: Wait, J: Beginning>(
 }
 
 // What is told of the table, and of all tables.
-fn describes<R: Wait, J: Beginning>(
+fn describes<R: Wait + Clock, J: Beginning>(
     rt: &R,
     alloc: Global,
     nodes: &Nodes<J, OpenGate>,
@@ -144,7 +184,7 @@ fn describes<R: Wait, J: Beginning>(
     let mut locations = Vec::new(alloc);
     had(locations.push(had(String::from_str(alloc, "plain+tcp://127.0.0.1:42000"))?))?;
     let is_described = describes_the_table(rt, alloc, nodes, receipts, &locations);
-    let mut backend = ClusterBackend::new(alloc, rt, nodes, receipts, 1, &locations);
+    let mut backend = ClusterBackend::new(alloc, rt, nodes, receipts, &Patient, 1, &locations);
     let is_listed = match backend.list(alloc) {
         Ok(all) => all.len() == 1,
         Err(_) => false,
@@ -157,7 +197,7 @@ fn describes<R: Wait, J: Beginning>(
 }
 
 // A client's request over bytes, and the answer.
-fn answers<R: Wait, J: Beginning>(
+fn answers<R: Wait + Clock, J: Beginning>(
     rt: &R,
     alloc: Global,
     nodes: &Nodes<J, OpenGate>,
@@ -168,7 +208,17 @@ fn answers<R: Wait, J: Beginning>(
     drop(call_info(alloc, &mut nothing, &mut request, "t"));
     let mut input = request.as_slice();
     let mut answer = Vec::new(alloc);
-    let served = serve_connection(alloc, rt, nodes, receipts, 2, &[], &mut input, &mut answer);
+    let served = serve_connection(
+        alloc,
+        rt,
+        nodes,
+        receipts,
+        &Patient,
+        2,
+        &[],
+        &mut input,
+        &mut answer,
+    );
     check(served.is_ok(), "a call is not served")?;
     let mut output = answer.as_slice();
     let mut unread = Vec::new(alloc);
@@ -178,7 +228,7 @@ fn answers<R: Wait, J: Beginning>(
     }
 }
 
-fn plays<R: Wait, J: Beginning>(
+fn plays<R: Wait + Clock, J: Beginning>(
     rt: &R,
     alloc: Global,
     hashing: RandomState,
@@ -194,6 +244,7 @@ fn plays<R: Wait, J: Beginning>(
     gets(rt, alloc, &nodes, &receipts)?;
     describes(rt, alloc, &nodes, &receipts)?;
     answers(rt, alloc, &nodes, &receipts)?;
+    leaves(rt, alloc, &nodes, &receipts)?;
     let journal = nodes.cluster().journal().lock(rt);
     check(
         receipts.are_confirmed(rt, &journal),

@@ -23,6 +23,9 @@ pub(crate) type Nodes<J, G> = Running<3, MemoryStable, J, G>;
 /// Nodes whose records stand in files of disks in memory.
 pub(crate) type DiskNodes<J> = Running<3, DiskStable<MemoryDisk>, J, OpenGate>;
 
+/// How many entries the journal may have, unless a test says otherwise.
+const ENTRIES: u32 = 1_000_000;
+
 /// Why a test fails. Threads can hand it to one another.
 pub(crate) type Why = &'static str;
 
@@ -30,11 +33,11 @@ pub(crate) fn members() -> Result<Members, Why> {
     Ok(Members::new(3).ok_or("no members")?)
 }
 
-fn config() -> Result<Config, Why> {
+fn config(journal_limit: u32) -> Result<Config, Why> {
     Ok(Config {
         members: members()?,
         slot_limit: 1000,
-        journal_limit: 1_000_000,
+        journal_limit,
     })
 }
 
@@ -68,7 +71,22 @@ pub(crate) fn three<R: Wait, J: Beginning, G: Gate + Drop>(
     requires named { log ≡ J.book }
     requires start { J.start ≡ [] }
 {
-    let config = config()?;
+    three_up_to(rt, alloc, hashing, log, gate, ENTRIES)
+}
+
+/// As [`three`], whose journal may have so many entries.
+pub(crate) fn three_up_to<R: Wait, J: Beginning, G: Gate + Drop>(
+    rt: &R,
+    alloc: Global,
+    hashing: RandomState,
+    log: Opened<OwnEntry>,
+    gate: G,
+    journal_limit: u32,
+) -> Result<(Nodes<J, G>, Vec<Receiver<Note>>), Why>
+    requires named { log ≡ J.book }
+    requires start { J.start ≡ [] }
+{
+    let config = config(journal_limit)?;
     if !config.is_within_limits() {
         return Err("no configuration");
     }
@@ -100,7 +118,7 @@ pub(crate) fn three_on_disks<R: Wait, J: Beginning>(
     requires named { log ≡ J.book }
     requires start { J.start ≡ [] }
 {
-    let config = config()?;
+    let config = config(ENTRIES)?;
     if !config.is_within_limits() {
         return Err("no configuration");
     }

@@ -1,16 +1,19 @@
-//! Workers in threads: two callers put uploads at two nodes, while a third is started again and again.
+//! Workers in threads: two callers put uploads at two nodes, while a third is started again and again. Another thread sees to it that
+//! this ends.
 
 ghost use Rattle.std.specs.Prelude.{◌≡◌, []};
 
+use crate::flag::Flag;
 use crate::support::{Why, check, had, three, three_on_disks, ticket, told, upload};
 use crate::tested::Tested;
+use crate::watched::outcome_of;
 use call_protocol::BackFault;
 use client_calls::{Download, call_get};
 use crossbeam_channel::Receiver;
 use flight_calls::Backend;
 use flight_service::{
-    AllReceipts, Beginning, ClusterBackend, Nodes, Note, OpenGate, OwnEntry, Service, join_all,
-    serve_connection, start_workers,
+    AllReceipts, Beginning, ClusterBackend, Nodes, Note, OpenGate, OwnEntry, Patient, Service,
+    join_all, serve_connection, start_workers,
 };
 use ghost_log::Opened;
 use std::alloc::Global;
@@ -39,7 +42,7 @@ type Versions = Vec<(u64, u64)>;
 type Shared<C> = Arc<Service<C, AllReceipts>, Global>;
 
 // Puts an upload at a node, and gives the version that it made.
-fn put_one<R: Wait, C: Nodes + Drop>(
+fn put_one<R: Wait + Clock, C: Nodes + Drop>(
     rt: &R,
     alloc: Global,
     service: &Service<C, AllReceipts>,
@@ -52,6 +55,7 @@ fn put_one<R: Wait, C: Nodes + Drop>(
         rt,
         service.nodes(),
         service.receipts(),
+        &Patient,
         node,
         &[],
     );
@@ -63,7 +67,7 @@ fn put_one<R: Wait, C: Nodes + Drop>(
 }
 
 // Puts the uploads of a caller from this number on, one after the other.
-fn put_all<R: Wait, C: Nodes + Drop>(
+fn put_all<R: Wait + Clock, C: Nodes + Drop>(
     rt: &R,
     alloc: Global,
     service: &Service<C, AllReceipts>,
@@ -78,29 +82,15 @@ fn put_all<R: Wait, C: Nodes + Drop>(
     Ok(versions)
 }
 
-// The same, and nothing where a put fails: threads hand one another no texts.
-fn all_put<R: Wait, C: Nodes + Drop>(
-    rt: &R,
-    alloc: Global,
-    service: &Service<C, AllReceipts>,
-    node: usize,
-    first: u64,
-) -> Option<Versions> {
-    match put_all(rt, alloc, service, node, first) {
-        Ok(versions) => Some(versions),
-        Err(_) => None,
-    }
-}
-
 // A thread for a caller.
-fn start_caller<R: Threads + Wait + Copy + Send + 'static, C: Tested + Drop + 'static>(
+fn start_caller<R: Threads + Wait + Clock + Copy + Send + 'static, C: Tested + Drop + 'static>(
     rt: R,
     alloc: Global,
     service: Shared<C>,
     node: usize,
     first: u64,
-) -> Result<JoinHandle<Option<Versions>>, Why> {
-    let job = move || all_put(&rt, alloc, &*service, node, first);
+) -> Result<JoinHandle<Result<Versions, Why>>, Why> {
+    let job = move || put_all(&rt, alloc, &*service, node, first);
     had(thread::spawn(&rt, job))
 }
 
@@ -118,6 +108,7 @@ fn got<R: Threads + Wait + Clock, C: Nodes + Drop>(
         rt,
         service.nodes(),
         service.receipts(),
+        &Patient,
         node,
         &[],
     );
@@ -131,7 +122,7 @@ fn got<R: Threads + Wait + Clock, C: Nodes + Drop>(
 }
 
 // A version, as a client reads it of a node.
-fn downloaded<R: Wait, C: Nodes + Drop>(
+fn downloaded<R: Wait + Clock, C: Nodes + Drop>(
     rt: &R,
     alloc: Global,
     service: &Service<C, AllReceipts>,
@@ -149,6 +140,7 @@ fn downloaded<R: Wait, C: Nodes + Drop>(
         rt,
         nodes,
         receipts,
+        &Patient,
         node,
         &[],
         &mut input,
@@ -230,7 +222,7 @@ fn revive<R: Threads + Wait + Clock, C: Tested + Drop>(
 ) -> Result<(), Why> {
     let (nodes, receipts) = (service.nodes(), service.receipts());
     let ticket = ticket(alloc, version)?;
-    let mut backend = ClusterBackend::new(alloc, rt, nodes, receipts, 2, &[]);
+    let mut backend = ClusterBackend::new(alloc, rt, nodes, receipts, &Patient, 2, &[]);
     for _ in 0..TRIES {
         match backend.get(alloc, &ticket) {
             Ok(_) => return Ok(()),
@@ -254,12 +246,7 @@ fn call_twice<R: Threads + Wait + Clock + Copy + Send + 'static, C: Tested + Dro
     let first = first.join(&rt);
     let second = second.join(&rt);
     started?;
-    let Some(first) = first else {
-        return Err("a caller fails");
-    };
-    let Some(second) = second else {
-        return Err("another caller fails");
-    };
+    let (first, second) = (first?, second?);
     if may_fail {
         revive(&rt, alloc, &**service, 2 * PUTS)?;
     }
@@ -275,7 +262,7 @@ fn work<R: Threads + Wait + Clock + Copy + Send + 'static, C: Tested + Drop + 's
     may_fail: bool,
 ) -> Result<(), Why> {
     let receipts = AllReceipts::new(alloc);
-    let service = had(Service::new(alloc, nodes, receipts, 42_000, 3))?;
+    let service = had(Service::new(alloc, nodes, receipts, 42_000, 3, None))?;
     let service = had(Arc::new(alloc, service))?;
     let Ok(workers) = start_workers(rt, alloc, &service, notes) else {
         return Err("no workers");
@@ -294,6 +281,37 @@ fn work<R: Threads + Wait + Clock + Copy + Send + 'static, C: Tested + Drop + 's
     )
 }
 
+// The same in a thread, which raises the flag behind it.
+fn start_working<R: Threads + Wait + Clock + Copy + Send + 'static, C: Tested + Drop + 'static>(
+    rt: R,
+    alloc: Global,
+    nodes: C,
+    notes: Vec<Receiver<Note>>,
+    may_fail: bool,
+    ended: Arc<Flag, Global>,
+) -> Result<JoinHandle<Result<(), Why>>, Why> {
+    let job = move || {
+        let worked = work(rt, alloc, nodes, notes, may_fail);
+        ended.raise(&rt);
+        worked
+    };
+    had(thread::spawn(&rt, job))
+}
+
+// The nodes work, and two callers call, as long as a story may take.
+fn work_in_time<R: Threads + Wait + Clock + Copy + Send + 'static, C: Tested + Drop + 'static>(
+    rt: R,
+    alloc: Global,
+    nodes: C,
+    notes: Vec<Receiver<Note>>,
+    may_fail: bool,
+) -> Result<(), Why> {
+    let ended = had(Arc::new(alloc, Flag::new()))?;
+    let raised = had(Arc::try_clone(&ended))?;
+    let working = start_working(rt, alloc, nodes, notes, may_fail, raised)?;
+    outcome_of(&rt, working, &ended)
+}
+
 fn plays<R: Threads + Wait + Clock + Copy + Send + 'static, J: Beginning + Send + Sync + 'static>(
     rt: R,
     alloc: Global,
@@ -304,7 +322,7 @@ fn plays<R: Threads + Wait + Clock + Copy + Send + 'static, J: Beginning + Send 
     requires start { J.start ≡ [] }
 {
     let (nodes, notes) = three::<R, J, OpenGate>(&rt, alloc, hashing, log, OpenGate)?;
-    work(rt, alloc, nodes, notes, false)
+    work_in_time(rt, alloc, nodes, notes, false)
 }
 
 fn plays_on_disks<
@@ -321,7 +339,7 @@ fn plays_on_disks<
     requires start { J.start ≡ [] }
 {
     let (nodes, notes) = three_on_disks::<R, J>(&rt, alloc, hashing, log, calls_left)?;
-    work(rt, alloc, nodes, notes, true)
+    work_in_time(rt, alloc, nodes, notes, true)
 }
 
 #[test]

@@ -65,7 +65,7 @@ reads replaying = record {
 }
 reads serving = record {
   operands = tt;
-  options = (record { mark = refl; long = refl; joined_mark = λ _. refl; joined_long = λ _. refl; by_long = refl; by_id = refl }, (record { mark = refl; long = refl; joined_mark = λ _. refl; joined_long = λ _. refl; by_long = refl; by_id = refl }, (record { mark = refl; long = refl; joined_mark = λ _. refl; joined_long = λ _. refl; by_long = refl; by_id = refl }, tt)));
+  options = (record { mark = refl; long = refl; joined_mark = λ _. refl; joined_long = λ _. refl; by_long = refl; by_id = refl }, (record { mark = refl; long = refl; joined_mark = λ _. refl; joined_long = λ _. refl; by_long = refl; by_id = refl }, (record { mark = refl; long = refl; joined_mark = λ _. refl; joined_long = λ _. refl; by_long = refl; by_id = refl }, (record { mark = refl; long = refl; joined_mark = λ _. refl; joined_long = λ _. refl; by_long = refl; by_id = refl }, tt))));
   flags = (record { mark = refl; long = refl; joined_mark = λ _. refl; joined_long = λ _. refl; by_long = refl; by_id = refl }, tt);
   defaults = refl;
   valid = λ rows given. given;
@@ -142,8 +142,9 @@ module _ (values : List (Text × Text)) where
       let nodes = same_value serving (codes "nodes") refl in
       let port = same_value serving (codes "port") refl in
       let folder = same_value serving (codes "data") refl in
+      let wait = same_value serving (codes "wait") refl in
       let resumes = same_flag serving (codes "resume") refl in
-      λ i. serve (nodes i) (port i) (folder i) (resumes i)
+      λ i. serve (nodes i) (port i) (folder i) (wait i) (resumes i)
   asks_same scripting = ap (λ (file : Option Text). script (value_of file)) (same_value scripting (codes "FILE") refl)
   asks_same showing = ap (λ (file : Option Text). records (value_of file)) (same_value showing (codes "FILE") refl)
   asks_same putting =

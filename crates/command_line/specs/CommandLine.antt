@@ -69,7 +69,7 @@ takes_of accepting = operands_alone []
 takes_of auditing = record (operands_alone (codes "FILE" ∷ [])) { flags = codes "explain" ∷ [] }
 takes_of replaying = operands_alone (codes "FILE" ∷ [])
 takes_of serving = record (operands_alone []) {
-  options = codes "nodes" ∷ codes "port" ∷ codes "data" ∷ [];
+  options = codes "nodes" ∷ codes "port" ∷ codes "data" ∷ codes "wait" ∷ [];
   flags = codes "resume" ∷ [];
 }
 takes_of scripting = operands_alone (codes "FILE" ∷ [])
@@ -120,16 +120,16 @@ command_line = fold with_command (local_commands (with_version (new_app (codes "
 -- ---- what is asked for
 
 -- the acceptor; the audit of a file, its audit with the explanation, or its replay; a cluster, with the number of its
--- nodes, its first port and its folder, as far as these are told, and whether it goes on over the records that are
--- there; the script of a file; the records of a file; a put, with its address, table, file, upload's id and schema; a
--- get, with its address, table, version, and whether all locations are asked; the tables at an address; or what is told
--- of one of them
+-- nodes, its first port, its folder and the seconds that a put waits, as far as these are told, and whether it goes
+-- on over the records that are there; the script of a file; the records of a file; a put, with its address, table,
+-- file, upload's id and schema; a get, with its address, table, version, and whether all locations are asked; the
+-- tables at an address; or what is told of one of them
 pub data Asked : Type 0 where
   acceptor : Asked
   audit : Text → Asked
   explain : Text → Asked
   replay : Text → Asked
-  serve : Option Text → Option Text → Option Text → Bool → Asked
+  serve : Option Text → Option Text → Option Text → Option Text → Bool → Asked
   script : Text → Asked
   records : Text → Asked
   put : Text → Text → Text → Option Text → Option Text → Asked
@@ -146,8 +146,8 @@ asked_of declared.Acceptor = acceptor
 asked_of (declared.Audit file) = audit file.now
 asked_of (declared.Explain file) = explain file.now
 asked_of (declared.Replay file) = replay file.now
-asked_of (declared.Serve nodes port folder is_resumed) =
-    serve (text_of nodes) (text_of port) (text_of folder) is_resumed
+asked_of (declared.Serve nodes port folder wait is_resumed) =
+    serve (text_of nodes) (text_of port) (text_of folder) (text_of wait) is_resumed
 asked_of (declared.Script file) = script file.now
 asked_of (declared.Records file) = records file.now
 asked_of (declared.Put address table file id schema) = put address.now table.now file.now (text_of id) (text_of schema)
@@ -174,7 +174,7 @@ asks accepting under = acceptor
 asks auditing under = audit_for (is_yes (under (codes "explain"))) (value_of (under (codes "FILE")))
 asks replaying under = replay (value_of (under (codes "FILE")))
 asks serving under =
-    serve (under (codes "nodes")) (under (codes "port")) (under (codes "data")) (is_yes (under (codes "resume")))
+    serve (under (codes "nodes")) (under (codes "port")) (under (codes "data")) (under (codes "wait")) (is_yes (under (codes "resume")))
 asks scripting under = script (value_of (under (codes "FILE")))
 asks showing under = records (value_of (under (codes "FILE")))
 asks putting under =

@@ -27,15 +27,23 @@ IsPort n = (1024 ≤ n) × (n ≤ 65000)
 abbrev pub HasFolder : Option Text → Text → Type 0
 HasFolder folder text = (folder ≡ Some text) × (text ≢ [])
 
--- what the values of three options, of the nodes, of the port and of the folder, ask for, and why they ask for nothing
-abbrev pub ServedBy : Option Text → Option Text → Option Text → Result Served WordsFault → Type 0
-ServedBy nodes port folder (Ok served) =
+-- how many seconds a put may wait to be decided: those of a day at most
+abbrev pub IsWait : ℕ → Type 0
+IsWait n = (1 ≤ n) × (n ≤ 86400)
+
+-- what the values of four options, of the nodes, of the port, of the folder and of the wait, ask for, and why they ask for nothing
+abbrev pub ServedBy : Option Text → Option Text → Option Text → Option Text → Result Served WordsFault → Type 0
+ServedBy nodes port folder wait (Ok served) =
     Gives 3 nodes served.nodes × IsNodes served.nodes × Gives 42000 port served.port × IsPort served.port × HasFolder folder served.folder.now
-ServedBy nodes port folder (Err fault.Nodes) = (n : ℕ) → Gives 3 nodes n → ¬ IsNodes n
-ServedBy nodes port folder (Err fault.Port) = ((n : ℕ) × Gives 3 nodes n × IsNodes n) × ((n : ℕ) → Gives 42000 port n → ¬ IsPort n)
-ServedBy nodes port folder (Err fault.Folder) =
+    × Gives 60 wait served.wait × IsWait served.wait
+ServedBy nodes port folder wait (Err fault.Nodes) = (n : ℕ) → Gives 3 nodes n → ¬ IsNodes n
+ServedBy nodes port folder wait (Err fault.Port) = ((n : ℕ) × Gives 3 nodes n × IsNodes n) × ((n : ℕ) → Gives 42000 port n → ¬ IsPort n)
+ServedBy nodes port folder wait (Err fault.Folder) =
     ((n : ℕ) × Gives 3 nodes n × IsNodes n) × ((n : ℕ) × Gives 42000 port n × IsPort n) × ((text : Text) → ¬ HasFolder folder text)
-ServedBy nodes port folder (Err fault.Version) = ⊥
+ServedBy nodes port folder wait (Err fault.Wait) =
+    ((n : ℕ) × Gives 3 nodes n × IsNodes n) × ((n : ℕ) × Gives 42000 port n × IsPort n) × ((text : Text) × HasFolder folder text)
+    × ((n : ℕ) → Gives 60 wait n → ¬ IsWait n)
+ServedBy nodes port folder wait (Err fault.Version) = ⊥
 
 -- the versions of a table have numbers from 1 on, of 64 bits
 abbrev pub IsVersion : ℕ → Type 0
@@ -48,3 +56,4 @@ VersionBy text (Err fault.Version) = (n : ℕ) → Writes text n → ¬ IsVersio
 VersionBy text (Err fault.Nodes) = ⊥
 VersionBy text (Err fault.Port) = ⊥
 VersionBy text (Err fault.Folder) = ⊥
+VersionBy text (Err fault.Wait) = ⊥

@@ -88,6 +88,7 @@ fn serve<'a>(alloc: Global) -> Result<Command<'a>, AllocError>
         .arg(option(alloc, "nodes", "N", help::NODES))?
         .arg(option(alloc, "port", "P", help::PORT))?
         .arg(option(alloc, "data", "DIR", help::DATA))?
+        .arg(option(alloc, "wait", "SECONDS", help::WAIT))?
         .arg(flag(alloc, "resume", help::RESUME))
 }
 

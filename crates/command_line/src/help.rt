@@ -73,6 +73,11 @@ pub(crate) const DATA: &str =
     "The folder of the nodes' records, which is made where it is missing; without --resume it has none yet. \
      It has to be named";
 
+/// How long a put waits.
+pub(crate) const WAIT: &str =
+    "How long a put waits to be decided, in seconds, from 1 to 86400, where 60 is the default; \
+     then it ends as Unavailable, and may still be decided later";
+
 /// What the option to resume asks for.
 pub(crate) const RESUME: &str =
     "Goes on over the records that an earlier server left in DIR; in a folder without records it starts anew";

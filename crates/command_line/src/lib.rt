@@ -13,6 +13,7 @@ mod numbers;
 mod words;
 
 pub use numbers::{
-    DEFAULT_NODES, DEFAULT_PORT, LAST_PORT, LEAST_PORT, Served, WordsFault, served_by, version_by,
+    DEFAULT_NODES, DEFAULT_PORT, DEFAULT_WAIT, LAST_PORT, LEAST_PORT, LONGEST_WAIT, Served,
+    WordsFault, served_by, version_by,
 };
 pub use words::{Asked, asked_by, parse};

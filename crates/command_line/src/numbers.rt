@@ -2,7 +2,7 @@
 
 ghost use Rattle.std.specs.Prelude.{◌≡◌, ◌<◌, ◌≤◌, ◌^◌, ℕ, MatchOption, option_map};
 ghost use Rattle.clap.specs.Words.{Text};
-ghost use Rattle.command_line.specs.Numbers.{HasFolder, IsNodes, IsPort, Writes, Gives, ServedBy, VersionBy};
+ghost use Rattle.command_line.specs.Numbers.{HasFolder, IsNodes, IsPort, IsWait, Writes, Gives, ServedBy, VersionBy};
 
 use thiserror::Error;
 
@@ -18,6 +18,12 @@ pub const LEAST_PORT: u16 = 1_024;
 /// The last port that the first node may have: there is room behind it for those of the others.
 pub const LAST_PORT: u16 = 65_000;
 
+/// How many seconds a put waits to be decided where no words say.
+pub const DEFAULT_WAIT: u32 = 60;
+
+/// The most seconds that a put may wait to be decided: those of a day.
+pub const LONGEST_WAIT: u32 = 86_400;
+
 /// A cluster that is served.
 #[derive(Clone, Copy, Debug, PartialEq, Eq)]
 pub struct Served<'a> {
@@ -27,6 +33,8 @@ pub struct Served<'a> {
     pub port: u16,
     /// The folder of the nodes' records.
     pub folder: &'a str,
+    /// How many seconds a put waits to be decided.
+    pub wait: u32,
 }
 
 /// What is wrong with a number among the words, or with the folder. Its text says what is allowed.
@@ -41,32 +49,39 @@ pub enum WordsFault {
     /// There is no value of `--data`, or an empty one.
     #[error("--data names the folder of the nodes' records")]
     Folder,
+    /// The value of `--wait` is no number of seconds that a put may wait.
+    #[error("--wait takes a number of seconds from 1 to 86400")]
+    Wait,
     /// The version of a table is no number that one has.
     #[error("VERSION is a decimal number from 1 on")]
     Version,
 }
 
-/// The cluster that the values of `--nodes`, `--port` and `--data` ask for, where each of the first two has its default where it
-/// is not there.
+/// The cluster that the values of `--nodes`, `--port`, `--data` and `--wait` ask for, where each but the third has its default where
+/// it is not there.
 ///
 /// [`WordsFault::Nodes`] is told exactly where the first is no decimal number that is 3 or 5; [`WordsFault::Port`] exactly
-/// where it is, and the second is no decimal number from [`LEAST_PORT`] to [`LAST_PORT`]; and [`WordsFault::Folder`] exactly
-/// where both are, and the third is not there or is empty. A decimal number is digits alone.
+/// where it is, and the second is no decimal number from [`LEAST_PORT`] to [`LAST_PORT`]; [`WordsFault::Folder`] exactly
+/// where both are, and the third is not there or is empty; and [`WordsFault::Wait`] exactly where all three are as they have to be,
+/// and the fourth is no decimal number from 1 to [`LONGEST_WAIT`]. A decimal number is digits alone.
 pub fn served_by<'a>(
     nodes: Option<&str>,
     port: Option<&str>,
     folder: Option<&'a str>,
+    wait: Option<&str>,
 ) -> Result<Served<'a>, WordsFault>
     ensures { ServedBy (option_map (λ text. text.now) nodes.entry) (option_map (λ text. text.now) port.entry)
-        (option_map (λ text. text.now) folder.entry) result }
+        (option_map (λ text. text.now) folder.entry) (option_map (λ text. text.now) wait.entry) result }
 {
     let nodes = nodes_of(nodes).ok_or(WordsFault::Nodes)?;
     let port = port_of(port).ok_or(WordsFault::Port)?;
     let folder = folder_of(folder).ok_or(WordsFault::Folder)?;
+    let wait = wait_of(wait).ok_or(WordsFault::Wait)?;
     Ok(Served {
         nodes,
         port,
         folder,
+        wait,
     })
 }
 
@@ -117,6 +132,21 @@ fn folder_of<'a>(text: Option<&'a str>) -> Option<&'a str>
     match text {
         Some(folder) if !folder.is_empty() => Some(folder),
         _ => None,
+    }
+}
+
+fn wait_of(text: Option<&str>) -> Option<u32>
+    ensures { MatchOption result ((n : ℕ) → Gives 60 (option_map (λ text. text.now) text.entry) n → ¬ IsWait n)
+        (λ n. Gives 60 (option_map (λ text. text.now) text.entry) n × IsWait n) }
+{
+    let Some(text) = text else {
+        return Some(DEFAULT_WAIT);
+    };
+    let wait = u32::try_from(number_of(text)?).ok()?;
+    if 1 <= wait && wait <= LONGEST_WAIT {
+        Some(wait)
+    } else {
+        None
     }
 }
 

@@ -30,6 +30,8 @@ pub enum Asked<'a> {
         port: Option<&'a str>,
         /// The folder of their records.
         folder: Option<&'a str>,
+        /// How many seconds a put waits to be decided.
+        wait: Option<&'a str>,
         /// Whether the cluster goes on over the records that an earlier server left in the folder.
         is_resumed: bool,
     },
@@ -80,7 +82,7 @@ pub enum Asked<'a> {
 /// | `acceptor` | | |
 /// | `audit` | `FILE` | `--explain` |
 /// | `replay` | `FILE` | |
-/// | `serve` | | `--nodes N`, `--port P`, `--data DIR`, `--resume` |
+/// | `serve` | | `--nodes N`, `--port P`, `--data DIR`, `--wait SECONDS`, `--resume` |
 /// | `script` | `FILE` | |
 /// | `records` | `FILE` | |
 /// | `put` | `ADDRESS TABLE FILE` | `--id ID`, `--schema SCHEMA` |
@@ -150,6 +152,7 @@ fn asked_of<'a>(name: &str, found: &ArgMatches<'a>) -> Asked<'a>
             nodes: found.get_str("nodes"),
             port: found.get_str("port"),
             folder: found.get_str("data"),
+            wait: found.get_str("wait"),
             is_resumed: has_flag(found, "resume"),
         },
         "script" => Asked::Script(operand(found, "FILE")),

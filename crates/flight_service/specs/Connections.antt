@@ -13,9 +13,9 @@ use Rattle.cluster_backend.specs.Backing.{Connected, StaysAt, MayAnswer}
 abbrev pub connected_to : ℕ → List (List ℕ) → Connected
 connected_to node locations = record { node = node; locations = locations; handed = []; waits = false }
 
-module _ (entered : ℕ → Query → EventResult → Type 0) (holds : ℕ → List Upload → Type 0) (fails : ℕ → SeatFault → Type 0) where
+module _ (entered : ℕ → Query → EventResult → Type 0) (holds : ℕ → List Upload → Type 0) (fails : ℕ → SeatFault → Type 0) (leaves : Type 0) where
   abbrev pub ServesAt : Result (Unit {0}) CallFault → ℕ → List (List ℕ) → (text rest before after : List ℕ) → Type 0
   ServesAt result node locations text rest before after =
       (last : Connected)
-      × Serves (MayAnswer entered holds fails) (λ b. b.handed) (λ old sent new. StaysAt old new × (new.waits ≡ true)) StaysAt result
+      × Serves (MayAnswer entered holds fails leaves) (λ b. b.handed) (λ old sent new. StaysAt old new × (new.waits ≡ true)) StaysAt result
       (connected_to node locations) last text rest before after

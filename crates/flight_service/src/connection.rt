@@ -4,10 +4,11 @@ ghost use Rattle.std.specs.Prelude.{map, string_bytes};
 ghost use Rattle.grpc_frames.specs.FrameFaults.{WhereKnown};
 ghost use Rattle.flight_service.specs.Connections.{ServesAt};
 
+use crate::peer::Peer;
 use crate::service::Service;
 use crate::timely::TimelyWriter;
 use call_protocol::CallFault;
-use cluster_backend::{ClusterBackend, Nodes, Receipts};
+use cluster_backend::{Caller, ClusterBackend, Nodes, Receipts};
 use flight_calls::serve_call;
 use std::alloc::Global;
 use std::io::{BufReader, BufWriter, Read, Write};
@@ -24,12 +25,13 @@ pub const SILENCE_SECONDS: u64 = 60;
 /// How many bytes of a request are read and let go behind its answer, at most, so that the answer is not lost with them.
 const MOST_LEFT_BYTES: usize = 33_554_432;
 
-/// Serves one call to the node of this number, as [`serve_call`] does over a [`ClusterBackend`].
-pub fn serve_connection<R: Wait, I: Read, O: Write, C: Nodes, K: Receipts>(
+/// Serves one call of this caller to the node of this number, as [`serve_call`] does over a [`ClusterBackend`].
+pub fn serve_connection<R: Wait + Clock, I: Read, O: Write, C: Nodes, K: Receipts, P: Caller>(
     alloc: Global,
     rt: &R,
     nodes: &C,
     receipts: &K,
+    caller: &P,
     node: usize,
     locations: &[String],
     input: &mut I,
@@ -37,9 +39,9 @@ pub fn serve_connection<R: Wait, I: Read, O: Write, C: Nodes, K: Receipts>(
 ) -> Result<(), CallFault>
     ensures { WhereKnown (I.remaining input.old) (I.remaining input.new)
         (λ text rest. WhereKnown (O.contents output.old) (O.contents output.new)
-        (ServesAt C.entered C.holds C.fails result node (map string_bytes locations.now) text rest)) }
+        (ServesAt C.entered C.holds C.fails P.may_leave result node (map string_bytes locations.now) text rest)) }
 {
-    let mut backend = ClusterBackend::new(alloc, rt, nodes, receipts, node, locations);
+    let mut backend = ClusterBackend::new(alloc, rt, nodes, receipts, caller, node, locations);
     serve_call(alloc, input, output, &mut backend)
 }
 
@@ -67,6 +69,7 @@ pub(crate) fn answer_peer<R: Wait + Clock, C: Nodes + Drop, K: Receipts + Drop>(
         rt,
         service.nodes(),
         service.receipts(),
+        &Peer::new(stream, service.longest_wait()),
         node,
         service.locations(),
         &mut input,

@@ -2,7 +2,7 @@
 //!
 //! ```text
 //! let (nodes, notes) = three_nodes(&rt, alloc, hashing, log)?;                // their records are in memory
-//! let (service, workers) = open_service(rt, alloc, nodes, NoReceipts, notes, 42_000, 3)?;   // node k at port 42000 + k
+//! let (service, workers) = open_service(rt, alloc, nodes, NoReceipts, notes, 42_000, 3, None)?;   // node k at port 42000 + k
 //! service.nodes().stop(&rt);
 //! join_all(&rt, workers);
 //! ```
@@ -12,7 +12,9 @@
 //!
 //! [`serve_connection`] serves one call over any reader and writer; its contract says what goes out. What a peer may hold is
 //! bounded: at most [`MOST_CONNECTIONS`] calls are under way at a node, further connections wait unaccepted, and a peer that
-//! lets [`SILENCE_SECONDS`] pass without a byte, or does not take [`MOST_WRITE_BYTES`] in them, is cut off ([`TimelyWriter`]).
+//! lets [`SILENCE_SECONDS`] pass without a byte, or does not take [`MOST_WRITE_BYTES`] in them, is cut off ([`TimelyWriter`]). A put
+//! whose peer closes its end gives its place back within [`TURN_MILLISECONDS`], and so does one that was waited for as long as the
+//! service says: it ends as `Unavailable`, and its upload may still be decided.
 #![tactic(auto)]
 
 mod cluster;
@@ -20,6 +22,7 @@ mod connection;
 mod fault;
 mod listening;
 mod opening;
+mod peer;
 mod places;
 mod service;
 mod timely;
@@ -29,8 +32,9 @@ pub use cluster::{
     Started, config_of, five_nodes, open_counting_seat, open_seat, start_nodes, three_nodes,
 };
 pub use cluster_backend::{
-    AllReceipts, Beginning, Cluster, ClusterBackend, Config, Gate, Journal, NoReceipts, Nodes,
-    Note, OpenGate, OwnEntry, Recent, Retention, Running, Seat, SeatFault, SeatInput, Whole, audit,
+    AllReceipts, Beginning, Caller, Cluster, ClusterBackend, Config, Gate, Journal, NoReceipts,
+    Nodes, Note, OpenGate, OwnEntry, Patient, Recent, Retention, Running, Seat, SeatFault,
+    SeatInput, TURN_MILLISECONDS, Whole, audit,
 };
 pub use connection::{SILENCE_SECONDS, serve_connection};
 pub use fault::ServiceFault;

@@ -25,6 +25,7 @@ use std::hash::RandomState;
 use std::io::{BufReader, BufWriter, IsTerminal, Read};
 use std::process::ExitCode;
 use std::random::RandomSource;
+use std::time::Duration;
 use std::{fs, io};
 
 /// The exit status of words that are no call.
@@ -34,12 +35,13 @@ const NO_CALL: u8 = 2;
 enum Left {
     /// Nothing: the command has ended with this status.
     Nothing(u8),
-    /// A cluster is to be served, with its records in this folder, over which it goes on or not; a new one has this name. These are
-    /// the keys for its look-ups.
+    /// A cluster is to be served, with its records in this folder, over which it goes on or not, and puts that may take so long; a new
+    /// one has this name. These are the keys for its look-ups.
     Serve {
         nodes: u8,
         port: u16,
         folder: String,
+        wait: Duration,
         is_resumed: bool,
         id: [u8; 16],
         hashing: RandomState,
@@ -56,6 +58,7 @@ fn main(rt: HostRuntime) -> ExitCode {
                 nodes,
                 port,
                 folder,
+                wait,
                 is_resumed,
                 id,
                 hashing,
@@ -67,6 +70,7 @@ fn main(rt: HostRuntime) -> ExitCode {
             nodes,
             port,
             folder.as_str(),
+            wait,
             is_resumed,
             id,
             &mut rt.stdout(),
@@ -120,8 +124,9 @@ fn follow(rt: &HostRuntime, asked: Asked) -> io::Result<Left> {
             nodes,
             port,
             folder,
+            wait,
             is_resumed,
-        } => return serve(rt, nodes, port, folder, is_resumed),
+        } => return serve(rt, nodes, port, folder, wait, is_resumed),
         Asked::Script(file) => {
             return Ok(Left::Script(fs::read(rt, file)?, RandomState::new(rt)?));
         }
@@ -151,15 +156,17 @@ fn serve(
     nodes: Option<&str>,
     port: Option<&str>,
     folder: Option<&str>,
+    wait: Option<&str>,
     is_resumed: bool,
 ) -> io::Result<Left> {
     let mut id = [0; 16];
     rt.fill_bytes(&mut id)?;
-    match served_by(nodes, port, folder) {
+    match served_by(nodes, port, folder, wait) {
         Ok(served) => Ok(Left::Serve {
             nodes: served.nodes,
             port: served.port,
             folder: String::from_str(rt.alloc(), served.folder)?,
+            wait: Duration::from_secs(u64::from(served.wait)),
             is_resumed,
             id,
             hashing: RandomState::new(rt)?,

@@ -1,5 +1,5 @@
 -- What a node's step tells.
-use Rattle.std.proofs.Common.{◌≡◌, ℕ, ◌-◌, inl, inr, List, ◌++◌, length, length-append, arith, sym, ap, subst, ◌∙◌, Some}
+use Rattle.std.proofs.Common.{◌≡◌, ℕ, ◌-◌, inl, inr, List, ◌++◌, length, length-append, arith, sym, ap, ◌∙◌, Some}
 use Rattle.seats.specs.parts.ballots.specs.declared.message.Message.{Message}
 use Rattle.seats.specs.parts.table_types.specs.Uploads.{Upload}
 use Rattle.seats.specs.parts.table_types.specs.Tables.{Version, version_of}
@@ -11,16 +11,13 @@ use Rattle.seats.specs.parts.node_events.specs.declared.event_result.EventResult
 use Rattle.seats.specs.parts.node_events.specs.Told.{result_of}
 use Rattle.seats.specs.journal.specs.declared.receipt.Receipt.{Receipt}
 use Rattle.seats.specs.journal.specs.Journaled.{Journaled}
-use Rattle.seats.specs.parts.node_events.specs.declared.event.Event.TheVariants as event
 use Rattle.seats.specs.parts.table_types.specs.Ticket.{TableVersion}
 use Rattle.seats.specs.declared.input.Prepared.{Prepared}
-use Rattle.seats.specs.declared.query.Query.{Query}
 use Rattle.seats.specs.declared.query.Query.TheVariants as query
-use Rattle.seats.specs.declared.query.Found.{Found}
 use Rattle.seats.specs.declared.input.SeatInput.{SeatInput}
 use Rattle.seats.specs.Inputs.{event_at, given_for}
 use Rattle.seats.specs.State.{RunningSeat}
-use Rattle.seats.specs.Steps.{IsTaken, IsServed, asked_at, AnswersQuery}
+use Rattle.seats.specs.Steps.{IsTaken}
 use Rattle.node_worker.specs.declared.workplace.WorkInput.{WorkInput as Input}
 use Rattle.node_worker.specs.declared.workplace.Sent.{Sent}
 use Rattle.node_threads.specs.declared.steps.Taken.{Taken}
@@ -33,9 +30,6 @@ same_bytes x y is = cc
 
 answer_is_none : (x : List ℕ) → results.Answer x ≡ results.Unavailable → ⊥
 answer_is_none x is = cc
-
-same_outcome : (a b : ℕ) (x y : List ℕ) → event.Outcome a x ≡ event.Outcome b y → (a ≡ b) × (x ≡ y)
-same_outcome a b x y is = (cc, cc)
 
 got_version : (uploads : List Upload) (table : List ℕ) (version : ℕ) (given : EventResult) (x : List ℕ) → GetGives uploads table version (result_of given) → given ≡ Answer x
     → (found : Version) × (version_of table version uploads ≡ Some found) × (x ≡ answer_of found)
@@ -54,25 +48,6 @@ got_at node ticket receipt x frames asked is same =
       of = got.1;
       frames_are = same ∙ got.2;
     }
-
--- a question that was served has its receipt
-pub asked_so : {S : Type 0} (seat : RunningSeat S) (before after : Journaled) (found : Found) (receipt : Receipt) (asked : Query) (node : ℕ) (uploads : List Upload)
-    → IsServed seat before after found receipt → found.query ≡ asked → seat.node.me ≡ node → AnswersQuery uploads found.query receipt.answer → IsAskedAt node asked receipt
-asked_so seat before after found receipt asked node uploads served same placed answers = record {
-  event_is = ap (λ (r : Receipt). r.event) served.told ∙ (ap (λ (q : Query). asked_at seat.node.me q) same ∙ ap (λ (n : ℕ). asked_at n asked) placed);
-  uploads = uploads;
-  answers = subst (λ (q : Query). AnswersQuery uploads q receipt.answer) same answers;
-}
-
--- the input that was prepared at this node is the one that its receipt tells
-pub told_at : (me node : ℕ) (prepared input : SeatInput) (taken : Taken) → IsTold me prepared taken → prepared ≡ input → me ≡ node → IsTold node input taken
-told_at me node prepared input taken told same placed =
-    subst (λ (n : ℕ). IsTold n input taken) placed (subst (λ (i : SeatInput). IsTold me i taken) same told)
-
--- the receipt of a question about an upload says of which, and at which node
-pub settled_event : (node me : ℕ) (upload text : List ℕ) (receipt : Receipt) → IsAskedAt node (query.Outcome upload) receipt → receipt.event ≡ event.Outcome me text
-    → (me ≡ node) × (text ≡ upload)
-settled_event node me upload text receipt asked is = same_outcome me node text upload (sym is ∙ asked.event_is)
 
 -- a step that was taken tells its messages
 pub told_so : {S : Type 0} (old new : RunningSeat S) (before after : Journaled) (prepared : Prepared) (receipt : Receipt) (first next : ℕ) → IsTaken old new before after prepared receipt

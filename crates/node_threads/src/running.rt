@@ -11,13 +11,14 @@ use crate::gate::Gate;
 use crate::steps::Taken;
 use crate::workplace::NodeWorkplace;
 use agreement::Refusal;
-use crossbeam_channel::{Receiver, bounded, unbounded};
+use crossbeam_channel::{Receiver, RecvTimeoutError, bounded, unbounded};
 use node_worker::{Note, PutId, end_each, end_of, look_at_each};
 use seats::{Beginning, Receipt, Retention, SeatFault, SeatInput, Whole};
 use stable_records::Stable;
 use std::alloc::{AllocError, Global};
 use std::ops::Range;
 use std::sync::{Mutex, Wait};
+use std::time::{Clock, Duration};
 use table_types::Ticket;
 use table_versions::Answer;
 use uploads::Upload;
@@ -25,6 +26,7 @@ use uploads::Upload;
 /// A put that a node took. What becomes of the upload is told once it is known there.
 #[derive(Drop)]
 pub struct Pending {
+    put: PutId,
     ending: Receiver<Ending>,
 }
 
@@ -35,6 +37,15 @@ impl Pending {
         match self.ending.recv(rt) {
             Ok(ending) => ending,
             Err(_) => Err(SeatFault::Down),
+        }
+    }
+
+    /// As [`Pending::wait`], for so long at most: `None` where nothing is known by then.
+    pub fn wait_for<R: Wait + Clock>(&self, rt: &R, time: Duration) -> Option<Ending> {
+        match self.ending.recv_timeout(rt, time) {
+            Ok(ending) => Some(ending),
+            Err(RecvTimeoutError::Timeout) => None,
+            Err(RecvTimeoutError::Disconnected) => Some(Err(SeatFault::Down)),
         }
     }
 }
@@ -148,6 +159,15 @@ impl<const N: usize, S: Stable + Drop, J: Beginning, G: Gate + Drop, M: Retentio
         }
     }
 
+    /// The upload of a put waits at the node no more, and nothing tries for its sake to have it decided; it may be decided even so.
+    /// Gives how the put had ended before, if it had.
+    pub fn leave<R: Wait + Clock>(&self, rt: &R, node: usize, pending: Pending) -> Option<Ending> {
+        if let Some(desk) = self.desks.get(node) {
+            drop(desk.leave(rt, pending.put));
+        }
+        pending.ending.recv_timeout(rt, Duration::ZERO).ok()
+    }
+
     /// Hands an input to the node. Its worker is told nothing of it.
     pub fn take_input<R: Wait>(
         &self,
@@ -259,5 +279,5 @@ fn begin<R: Wait>(
         }
     };
     let put = desk.begin(rt, upload, reply)?;
-    Ok((put, Pending { ending }))
+    Ok((put, Pending { put, ending }))
 }

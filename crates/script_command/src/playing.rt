@@ -196,7 +196,7 @@ fn play_at<
 {
     let receipts = AllReceipts::new(alloc);
     let (service, workers) = match open_service(
-        rt, alloc, nodes, receipts, notes, FIRST_PORT, count,
+        rt, alloc, nodes, receipts, notes, FIRST_PORT, count, None,
     ) {
         Ok(opened) => opened,
         Err(fault) => return Err(not_served(fault)),

@@ -21,6 +21,6 @@ mod supervisor;
 
 pub use addresses::tell_addresses;
 pub use fault::ServeFault;
-pub use serving::{serve, serve_again, serve_run};
+pub use serving::{ServeOptions, serve, serve_again, serve_run};
 pub use status::{FAILURE, SUCCESS};
 pub use stores::FileStore;

@@ -32,14 +32,14 @@ use std::marker::Brand;
 use std::net::{Net, TcpListener, TcpStream};
 use std::sync::Wait;
 use std::thread::Threads;
-use std::time::Clock;
+use std::time::{Clock, Duration};
 
 /// `flightd serve`: serves a cluster of 3 or 5 nodes, node k at the port of 127.0.0.1 that is k more than the first, until it
 /// is ended from outside. Once all ports are open a line for each node goes to `w`, which is flushed ([`tell_addresses`]).
 /// `hashing` has the random keys that keep look-ups fast whatever names clients choose. Node k keeps its records in the file
 /// `node-k.rec` of `folder`, which is made where it is missing, and has the name `id` where it is new. Where `is_resumed` says so, the
 /// nodes go on over the records that an earlier server left there, and have learned at once what these say was chosen; else no file
-/// may have records yet.
+/// may have records yet. A put that is not decided after `wait` ends as `Unavailable`, and may be decided later.
 ///
 /// A fault's line goes to `e`: `flightd: Bind` where a port can't be had, `flightd: Members` where the cluster would have
 /// another number of nodes, `flightd: Open` where the folder or a file can't be opened or made, `flightd: Locked` where another
@@ -70,6 +70,7 @@ pub fn serve_run<
     nodes: u8,
     first_port: u16,
     folder: &str,
+    wait: Duration,
     is_resumed: bool,
     id: [u8; 16],
     w: &mut W,
@@ -82,7 +83,7 @@ pub fn serve_run<
         × Appends (W.contents w.old) (W.contents w.new) written }
 {
     match serve_from(
-        rt, alloc, hashing, nodes, first_port, folder, is_resumed, id, w,
+        rt, alloc, hashing, nodes, first_port, folder, wait, is_resumed, id, w,
     ) {
         Ok(()) => SUCCESS,
         Err(fault) => {
@@ -116,6 +117,7 @@ fn serve_from<
     nodes: u8,
     first_port: u16,
     folder: &str,
+    wait: Duration,
     is_resumed: bool,
     id: [u8; 16],
     w: &mut W,
@@ -131,14 +133,15 @@ fn serve_from<
         Ok(opened) => opened,
         Err(fault) => return Err(fault),
     };
-    let place = Place {
+    let options = ServeOptions {
         folder,
         identity: &identity,
+        wait,
     };
     if is_resumed {
-        serve_again(rt, alloc, hashing, nodes, first_port, stores, &place, w)
+        serve_again(rt, alloc, hashing, nodes, first_port, stores, &options, w)
     } else {
-        serve(rt, alloc, hashing, nodes, first_port, stores, &place, w)
+        serve(rt, alloc, hashing, nodes, first_port, stores, &options, w)
     }
 }
 
@@ -160,13 +163,16 @@ fn opened<R: Files<File = File> + Alloc<A = Global>>(
     }
 }
 
-/// Where the records of a cluster are, and what is put down there of it once its nodes have started.
+/// How a cluster is served besides: where its records are, what is put down there of it once its nodes have started, and how long a put
+/// may take.
 #[derive(Drop)]
-pub struct Place<'a> {
+pub struct ServeOptions<'a> {
     /// The folder.
     pub folder: &'a str,
     /// What the cluster is.
     pub identity: &'a Identity,
+    /// How long a put is waited for until it is decided. One that isn't by then ends as `Unavailable`, and may be decided later.
+    pub wait: Duration,
 }
 
 /// Serves a cluster as [`serve_run`] does, over the stores of its nodes, the last node's first, and gives the fault itself.
@@ -188,7 +194,7 @@ pub fn serve<
     nodes: u8,
     first_port: u16,
     stores: Vec<FileStore>,
-    place: &Place<'_>,
+    options: &ServeOptions<'_>,
     w: &mut W,
 ) -> Result<(), ServeFault>
     ensures all { OnOk result (Appends (W.contents w.old) (W.contents w.new) (addresses_text first_port nodes)) }
@@ -202,7 +208,7 @@ pub fn serve<
             hashing,
             first_port,
             stores,
-            place,
+            options,
             w,
             Opened::new(),
         ),
@@ -212,7 +218,7 @@ pub fn serve<
             hashing,
             first_port,
             stores,
-            place,
+            options,
             w,
             Opened::new(),
         ),
@@ -239,7 +245,7 @@ fn serve_three<
     hashing: RandomState,
     first_port: u16,
     stores: Vec<FileStore>,
-    place: &Place<'_>,
+    options: &ServeOptions<'_>,
     w: &mut W,
     log: Opened<OwnEntry>,
 ) -> Result<(), ServeFault>
@@ -250,7 +256,7 @@ fn serve_three<
         × Appends (W.contents w.old) (W.contents w.new) written) }
 {
     match three_nodes::<R, J>(&rt, alloc, hashing, stores, log) {
-        Ok((nodes, notes)) => serve_nodes(rt, alloc, nodes, notes, first_port, 3, place, w),
+        Ok((nodes, notes)) => serve_nodes(rt, alloc, nodes, notes, first_port, 3, options, w),
         Err(fault) => Err(fault),
     }
 }
@@ -274,7 +280,7 @@ fn serve_five<
     hashing: RandomState,
     first_port: u16,
     stores: Vec<FileStore>,
-    place: &Place<'_>,
+    options: &ServeOptions<'_>,
     w: &mut W,
     log: Opened<OwnEntry>,
 ) -> Result<(), ServeFault>
@@ -285,7 +291,7 @@ fn serve_five<
         × Appends (W.contents w.old) (W.contents w.new) written) }
 {
     match five_nodes::<R, J>(&rt, alloc, hashing, stores, log) {
-        Ok((nodes, notes)) => serve_nodes(rt, alloc, nodes, notes, first_port, 5, place, w),
+        Ok((nodes, notes)) => serve_nodes(rt, alloc, nodes, notes, first_port, 5, options, w),
         Err(fault) => Err(fault),
     }
 }
@@ -310,7 +316,7 @@ pub fn serve_again<
     nodes: u8,
     first_port: u16,
     stores: Vec<FileStore>,
-    place: &Place<'_>,
+    options: &ServeOptions<'_>,
     w: &mut W,
 ) -> Result<(), ServeFault>
     ensures all { OnOk result (Appends (W.contents w.old) (W.contents w.new) (addresses_text first_port nodes)) }
@@ -325,7 +331,9 @@ pub fn serve_again<
         }
     };
     match restart(&rt, alloc, hashing, &config, stores) {
-        Ok((old, told)) => { serve_old(rt, alloc, nodes, first_port, config, old, told, place, w) }
+        Ok((old, told)) => {
+            serve_old(rt, alloc, nodes, first_port, config, old, told, options, w)
+        }
         Err(fault) => Err(fault),
     }
 }
@@ -350,7 +358,7 @@ fn serve_old<
     config: Config,
     old: FileNodes,
     told: Vec<Message>,
-    place: &Place<'_>,
+    options: &ServeOptions<'_>,
     w: &mut W,
 ) -> Result<(), ServeFault>
     requires { AreStarted (config_of config) told.items old.items }
@@ -366,7 +374,7 @@ fn serve_old<
             config,
             old,
             told,
-            place,
+            options,
             w,
             Opened::new(),
         ),
@@ -377,7 +385,7 @@ fn serve_old<
             config,
             old,
             told,
-            place,
+            options,
             w,
             Opened::new(),
         ),
@@ -408,7 +416,7 @@ fn serve_three_again<
     config: Config,
     old: FileNodes,
     told: Vec<Message>,
-    place: &Place<'_>,
+    options: &ServeOptions<'_>,
     w: &mut W,
     log: Opened<OwnEntry>,
 ) -> Result<(), ServeFault>
@@ -428,7 +436,7 @@ fn serve_three_again<
         }
     };
     match three_again::<R, J>(&rt, alloc, &config, old, journal) {
-        Ok((nodes, notes)) => serve_nodes(rt, alloc, nodes, notes, first_port, 3, place, w),
+        Ok((nodes, notes)) => serve_nodes(rt, alloc, nodes, notes, first_port, 3, options, w),
         Err(fault) => Err(fault),
     }
 }
@@ -453,7 +461,7 @@ fn serve_five_again<
     config: Config,
     old: FileNodes,
     told: Vec<Message>,
-    place: &Place<'_>,
+    options: &ServeOptions<'_>,
     w: &mut W,
     log: Opened<OwnEntry>,
 ) -> Result<(), ServeFault>
@@ -473,7 +481,7 @@ fn serve_five_again<
         }
     };
     match five_again::<R, J>(&rt, alloc, &config, old, journal) {
-        Ok((nodes, notes)) => serve_nodes(rt, alloc, nodes, notes, first_port, 5, place, w),
+        Ok((nodes, notes)) => serve_nodes(rt, alloc, nodes, notes, first_port, 5, options, w),
         Err(fault) => Err(fault),
     }
 }
@@ -498,18 +506,25 @@ fn serve_nodes<
     notes: Vec<Receiver<Note>>,
     first_port: u16,
     count: u8,
-    place: &Place<'_>,
+    options: &ServeOptions<'_>,
     w: &mut W,
 ) -> Result<(), ServeFault>
     ensures all { OnOk result (Appends (W.contents w.old) (W.contents w.new) (addresses_text first_port count)) }
     ensures part { OnErr result ((written : List ℕ) × IsBeginning written (addresses_text first_port count)
         × Appends (W.contents w.old) (W.contents w.new) written) }
 {
-    if let Err(fault) = put_down(&rt, alloc, place.folder, place.identity) {
+    if let Err(fault) = put_down(&rt, alloc, options.folder, options.identity) {
         return Err(folder_fault(fault));
     }
     let (service, workers) = match open_service(
-        rt, alloc, nodes, NoReceipts, notes, first_port, count,
+        rt,
+        alloc,
+        nodes,
+        NoReceipts,
+        notes,
+        first_port,
+        count,
+        Some(options.wait),
     ) {
         Ok(opened) => opened,
         Err(fault) => return Err(fault_of(0, fault)),

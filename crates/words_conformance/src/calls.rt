@@ -88,6 +88,7 @@ fn takes_a_cluster(rt: HostRuntime) -> Result<(), Fail> {
             nodes,
             port,
             folder,
+            wait: None,
             is_resumed: false,
         };
         assert!(rt; asks_for(alloc, &words, wanted), "{call}");
@@ -116,7 +117,41 @@ fn takes_a_cluster_that_goes_on(rt: HostRuntime) -> Result<(), Fail> {
             nodes: None,
             port: None,
             folder,
+            wait: None,
             is_resumed,
+        };
+        assert!(rt; asks_for(alloc, &words, wanted), "{call}");
+    }
+    Ok(())
+}
+
+#[test]
+fn takes_a_cluster_whose_puts_wait(rt: HostRuntime) -> Result<(), Fail> {
+    let alloc = rt.alloc();
+    for (call, folder, wait) in [
+        ("flightd serve --wait 5", None, Some("5")),
+        ("flightd serve --wait=5", None, Some("5")),
+        ("flightd serve --wait 5 --", None, Some("5")),
+        ("flightd serve --wait 600 --data d", Some("d"), Some("600")),
+        ("flightd serve --data=d --wait=600", Some("d"), Some("600")),
+        ("flightd serve --data wait", Some("wait"), None),
+        ("flightd serve --data=--wait", Some("--wait"), None),
+        (
+            "flightd serve --data=--wait --wait wait",
+            Some("--wait"),
+            Some("wait"),
+        ),
+        // Which number it is is not looked at here.
+        ("flightd serve --wait=-1", None, Some("-1")),
+        ("flightd serve --wait= --data=", Some(""), Some("")),
+    ] {
+        let words = words_in(alloc, call)?;
+        let wanted = Asked::Serve {
+            nodes: None,
+            port: None,
+            folder,
+            wait,
+            is_resumed: false,
         };
         assert!(rt; asks_for(alloc, &words, wanted), "{call}");
     }

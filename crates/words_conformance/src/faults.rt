@@ -13,6 +13,7 @@ const NO_CALLS: [(ErrorKind, &str); 6] = [
          flightd info a t 1;flightd serve -p 9000;flightd serve --node 3;flightd serve --Port 9000;flightd list --id 7;\
          flightd put -id 7 a t f;flightd get a t --all;flightd get a t --all-location;flightd info --all-locations a t;\
          flightd script --explain f;flightd --nodes 3 serve;flightd get -a t;flightd serve --resume d;\
+         flightd serve --waits 5;flightd serve -wait 5;flightd serve --Wait 5;flightd script --wait 5 f;\
          flightd serve --resumed;flightd serve --res;flightd serve -resume;flightd serve --Resume;\
          flightd script --resume f;flightd --resume serve",
     ),
@@ -29,6 +30,7 @@ const NO_CALLS: [(ErrorKind, &str); 6] = [
     (
         ErrorKind::InvalidValue,
         "flightd serve --nodes;flightd serve --port;flightd serve --data;flightd serve --nodes --port 9000;\
+         flightd serve --wait;flightd serve --wait --data d;\
          flightd serve --data --resume;flightd put a t f --id;flightd put a t f --schema;flightd put --id -- a t f;\
          flightd put --id --schema s a t f",
     ),
@@ -37,6 +39,7 @@ const NO_CALLS: [(ErrorKind, &str); 6] = [
         ErrorKind::ArgumentConflict,
         "flightd serve --nodes 3 --nodes 3;flightd serve --data a --data b;flightd serve --port=1 --nodes 3 --port 2;flightd put --id 7 a t f --id 7;\
          flightd put --schema=s --schema=s a t f;flightd get --all-locations a t --all-locations;\
+         flightd serve --wait 5 --wait 5;flightd serve --wait=5 --data d --wait 6;\
          flightd serve --resume --resume;flightd serve --resume --data d --resume",
     ),
     // An option without a value has one.

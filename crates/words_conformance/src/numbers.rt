@@ -5,11 +5,12 @@ use command_line::{Served, WordsFault, served_by, version_by};
 #[test]
 fn takes_three_or_five_nodes(rt: HostRuntime) {
     assert!(rt;
-        served_by(None, None, Some("d"))
+        served_by(None, None, Some("d"), None)
             == Ok(Served {
                 nodes: 3,
                 port: 42_000,
-                folder: "d"
+                folder: "d",
+                wait: 60
             })
     );
     for (text, nodes) in [
@@ -19,11 +20,12 @@ fn takes_three_or_five_nodes(rt: HostRuntime) {
         ("0000000000000000000000005", 5),
     ] {
         assert!(rt;
-            served_by(Some(text), None, Some("a/b"))
+            served_by(Some(text), None, Some("a/b"), None)
                 == Ok(Served {
                     nodes,
                     port: 42_000,
-                    folder: "a/b"
+                    folder: "a/b",
+                    wait: 60
                 }),
             "{text}"
         );
@@ -50,12 +52,12 @@ fn takes_three_or_five_nodes(rt: HostRuntime) {
         "\u{663}",
     ] {
         assert!(rt;
-            served_by(Some(text), None, None) == Err(WordsFault::Nodes),
+            served_by(Some(text), None, None, None) == Err(WordsFault::Nodes),
             "{text}"
         );
         // The nodes are judged before the port.
         assert!(rt;
-            served_by(Some(text), Some("0"), None) == Err(WordsFault::Nodes),
+            served_by(Some(text), Some("0"), None, None) == Err(WordsFault::Nodes),
             "{text}"
         );
     }
@@ -70,20 +72,22 @@ fn takes_a_port_with_room_behind_it(rt: HostRuntime) {
         ("0042000", 42_000),
     ] {
         assert!(rt;
-            served_by(None, Some(text), Some("d"))
+            served_by(None, Some(text), Some("d"), None)
                 == Ok(Served {
                     nodes: 3,
                     port,
-                    folder: "d"
+                    folder: "d",
+                    wait: 60
                 }),
             "{text}"
         );
         assert!(rt;
-            served_by(Some("5"), Some(text), Some("d"))
+            served_by(Some("5"), Some(text), Some("d"), None)
                 == Ok(Served {
                     nodes: 5,
                     port,
-                    folder: "d"
+                    folder: "d",
+                    wait: 60
                 }),
             "{text}"
         );
@@ -107,7 +111,7 @@ fn takes_a_port_with_room_behind_it(rt: HostRuntime) {
         "port",
     ] {
         assert!(rt;
-            served_by(Some("5"), Some(text), None) == Err(WordsFault::Port),
+            served_by(Some("5"), Some(text), None, None) == Err(WordsFault::Port),
             "{text}"
         );
     }
@@ -115,8 +119,62 @@ fn takes_a_port_with_room_behind_it(rt: HostRuntime) {
 
 #[test]
 fn wants_a_folder(rt: HostRuntime) {
-    assert!(rt; served_by(None, None, None) == Err(WordsFault::Folder));
-    assert!(rt; served_by(Some("5"), Some("9000"), Some("")) == Err(WordsFault::Folder));
+    assert!(rt; served_by(None, None, None, None) == Err(WordsFault::Folder));
+    assert!(rt; served_by(Some("5"), Some("9000"), Some(""), Some("5")) == Err(WordsFault::Folder));
+}
+
+#[test]
+fn takes_a_wait_of_a_second_to_a_day(rt: HostRuntime) {
+    for (text, wait) in [("1", 1), ("60", 60), ("00600", 600), ("86400", 86_400)] {
+        assert!(rt;
+            served_by(Some("5"), Some("9000"), Some("d"), Some(text))
+                == Ok(Served {
+                    nodes: 5,
+                    port: 9_000,
+                    folder: "d",
+                    wait
+                }),
+            "{text}"
+        );
+    }
+    for text in [
+        "",
+        "0",
+        "000",
+        "86401",
+        "864000",
+        "4294967296",
+        "4294967356",
+        "18446744073709551676",
+        "-1",
+        "+60",
+        "60s",
+        "1.5",
+        "86,400",
+        " 60",
+        "60 ",
+        "0x3c",
+        "1e3",
+        "minute",
+    ] {
+        assert!(rt;
+            served_by(None, None, Some("d"), Some(text)) == Err(WordsFault::Wait),
+            "{text}"
+        );
+        // The nodes, the port and the folder are judged before the wait.
+        assert!(rt;
+            served_by(Some("4"), None, Some("d"), Some(text)) == Err(WordsFault::Nodes),
+            "{text}"
+        );
+        assert!(rt;
+            served_by(None, Some("0"), Some("d"), Some(text)) == Err(WordsFault::Port),
+            "{text}"
+        );
+        assert!(rt;
+            served_by(None, None, None, Some(text)) == Err(WordsFault::Folder),
+            "{text}"
+        );
+    }
 }
 
 #[test]
@@ -152,6 +210,10 @@ fn faults_say_what_is_allowed(rt: HostRuntime) -> Result<(), std::test::Fail> {
     for (fault, text) in [
         (WordsFault::Nodes, "--nodes takes 3 or 5"),
         (WordsFault::Port, "--port takes a number from 1024 to 65000"),
+        (
+            WordsFault::Wait,
+            "--wait takes a number of seconds from 1 to 86400",
+        ),
         (WordsFault::Version, "VERSION is a decimal number from 1 on"),
     ] {
         assert!(rt; format!(in alloc; "{fault}")?.as_str() == text, "{text}");

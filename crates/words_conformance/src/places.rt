@@ -14,14 +14,14 @@ const IDS: [&str; 2] = ["--id=7", "--id 7"];
 
 const SCHEMAS: [&str; 2] = ["--schema=s", "--schema s"];
 
-/// The other options of a cluster, in each order.
-const CLUSTERS: [[&str; 3]; 6] = [
-    ["--nodes 5", "--port 9000", "--data d"],
-    ["--nodes=5", "--data d", "--port=9000"],
-    ["--port 9000", "--nodes=5", "--data=d"],
-    ["--port=9000", "--data=d", "--nodes 5"],
-    ["--data d", "--nodes 5", "--port=9000"],
-    ["--data=d", "--port 9000", "--nodes=5"],
+/// The other options of a cluster: three in each order, and the wait in each place among them.
+const CLUSTERS: [[&str; 4]; 6] = [
+    ["--wait 7", "--nodes 5", "--port 9000", "--data d"],
+    ["--nodes=5", "--wait=7", "--data d", "--port=9000"],
+    ["--port 9000", "--nodes=5", "--wait 7", "--data=d"],
+    ["--port=9000", "--data=d", "--nodes 5", "--wait=7"],
+    ["--data d", "--nodes 5", "--wait=7", "--port=9000"],
+    ["--data=d", "--wait 7", "--port 9000", "--nodes=5"],
 ];
 
 fn push_words(alloc: Global, words: &mut Vec<String>, text: &str) -> Result<(), AllocError> {
@@ -110,11 +110,11 @@ fn takes_options_in_each_place(rt: HostRuntime) -> Result<(), Fail> {
 fn serve_with(
     alloc: Global,
     resumed_at: usize,
-    options: [&str; 3],
+    options: [&str; 4],
 ) -> Result<Vec<String>, AllocError> {
     let mut words = Vec::new(alloc);
     push_words(alloc, &mut words, "flightd serve")?;
-    for at in 0..4 {
+    for at in 0..5 {
         if at == resumed_at {
             push_words(alloc, &mut words, "--resume")?;
         }
@@ -128,14 +128,22 @@ fn serve_with(
 #[test]
 fn takes_the_word_to_resume_in_each_place(rt: HostRuntime) -> Result<(), Fail> {
     let alloc = rt.alloc();
-    // At place 4 the word is not there.
-    for (resumed_at, is_resumed) in [(0, true), (1, true), (2, true), (3, true), (4, false)] {
+    // At place 5 the word is not there.
+    for (resumed_at, is_resumed) in [
+        (0, true),
+        (1, true),
+        (2, true),
+        (3, true),
+        (4, true),
+        (5, false),
+    ] {
         for options in CLUSTERS {
             let words = serve_with(alloc, resumed_at, options)?;
             let wanted = Asked::Serve {
                 nodes: Some("5"),
                 port: Some("9000"),
                 folder: Some("d"),
+                wait: Some("7"),
                 is_resumed,
             };
             assert!(rt; asks_for(alloc, &words, wanted), "{resumed_at}");

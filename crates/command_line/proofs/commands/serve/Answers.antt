@@ -11,4 +11,5 @@ returns c =
     let made_1 = made_more _ _ _ _ _ start c.in_ok-arg.ensures c.option.ensures.rule c.option.ensures.local in
     let made_2 = made_more _ _ _ _ _ made_1 c.in_ok-arg-2.ensures c.option-2.ensures.rule c.option-2.ensures.local in
     let made_3 = made_more _ _ _ _ _ made_2 c.in_ok-arg-3.ensures c.option-3.ensures.rule c.option-3.ensures.local in
-    IfOk-weaker c.arg-4.result _ _ (λ made adds. made_more _ _ _ _ _ made_3 adds c.flag.ensures.rule c.flag.ensures.local) c.arg-4.ensures
+    let made_4 = made_more _ _ _ _ _ made_3 c.in_ok-arg-4.ensures c.option-4.ensures.rule c.option-4.ensures.local in
+    IfOk-weaker c.arg-5.result _ _ (λ made adds. made_more _ _ _ _ _ made_4 adds c.flag.ensures.rule c.flag.ensures.local) c.arg-5.ensures

@@ -16,4 +16,4 @@ returns-clause-described g c =
     let made = c.in_ok-of.ensures in
     let told = tells_latest locations table (effective table of.0) c.in-Ok-Some.field-0 c.in-Ok-Some.info c.in_ok-of.field-0 of.3 c.in-Ok-Some.field-0-is made.0 made.1 in
     let d = describes_latest table of.0 valid c.tables_have_one_shape.ensures.table (omega (arith, few, of.2.2)) locations c.in_ok-of.field-0 told in
-    (d.0, subst (λ b. MayAnswer g.C.Nodes.entered g.C.Nodes.holds g.C.Nodes.fails b (describes table) (described d.0)) c.self.view_is (of.0, of.1, d.1), d.2)
+    (d.0, subst (λ b. MayAnswer g.C.Nodes.entered g.C.Nodes.holds g.C.Nodes.fails g.P.Caller.may_leave b (describes table) (described d.0)) c.self.view_is (of.0, of.1, d.1), d.2)

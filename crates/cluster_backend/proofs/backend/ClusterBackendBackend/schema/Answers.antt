@@ -14,7 +14,7 @@ returns-clause-shown g c =
     let s = schema_of_latest table told.0 valid c.in-Ok-Some.field-0 c.in-Ok-Some.info told.3 c.in-Ok-Some.field-0-is in
     let is = c.into_schema.ensures ∙ s.3 in (
       s.0.schema,
-      subst (λ b. MayAnswer g.C.Nodes.entered g.C.Nodes.holds g.C.Nodes.fails b (shows table) (shown s.0.schema)) c.self.view_is (told.0, told.1, (s.0, s.1, s.2, refl)),
+      subst (λ b. MayAnswer g.C.Nodes.entered g.C.Nodes.holds g.C.Nodes.fails g.P.Caller.may_leave b (shows table) (shown s.0.schema)) c.self.view_is (told.0, told.1, (s.0, s.1, s.2, refl)),
       is,
       subst FitsFrame (sym is) s.4,
     )

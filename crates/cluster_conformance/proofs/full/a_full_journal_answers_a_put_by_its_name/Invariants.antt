@@ -1,4 +1,4 @@
-use Rattle.cluster_conformance.proofs.held.a_seat_that_is_held_stops_no_other_node.Given as goal
+use Rattle.cluster_conformance.proofs.full.a_full_journal_answers_a_put_by_its_name.Given as goal
 
 -- the log that was just opened
 abbrev pub ghosts-plays-J-Naming : goal.ghosts-plays-J-Naming
