@@ -87,6 +87,15 @@ fn length_of(file: &fs::File) -> io::Result<usize> {
     Ok(file.metadata()?.len() as usize)
 }
 
+/// Writes the bytes from a place on that is no further than the end. A file that ends before it was cut by somebody else, who does
+/// not ask for the lock: then nothing is written, and the call fails.
+fn write_within(file: &fs::File, bytes: &[u8], at: usize) -> io::Result<()> {
+    if length_of(file)? < at {
+        return Err(io::ErrorKind::UnexpectedEof.into());
+    }
+    file.write_all_at(bytes, at as u64)
+}
+
 impl Disk for FileDisk {
     ghost tells = { false };
 
@@ -114,8 +123,7 @@ impl Disk for FileDisk {
             self.failures.rise();
             return Err(DiskFailed);
         }
-        let written = self.file.write_all_at(bytes, at as u64);
-        counted(&mut self.failures, written)
+        counted(&mut self.failures, write_within(&self.file, bytes, at))
     }
 
     fn sync(&mut self) -> Result<(), DiskFailed> {
