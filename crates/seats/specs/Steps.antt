@@ -2,7 +2,7 @@
 -- what a node keeps before it answers). Seats, journals and receipts are this service's own.
 use Rattle.std.specs.Prelude.{◌≡◌, ◌≢◌, ◌⊎◌, ℕ, ◌<◌, Bool, false, IsTrue, None, Some, IsSome, Result, Ok, Err, List, [], length}
 use Rattle.journal.specs.parts.ballots.specs.declared.record.Record.{Record}
-use Rattle.stable_records.specs.Calls.{RaisesCount}
+use Rattle.stable_records.specs.Calls.{RaisesCount, ReadyAfterRecall}
 use Rattle.journal.specs.parts.agreement.specs.declared.refusal.Refusal.{Refusal}
 use Rattle.journal.specs.parts.agreement.specs.declared.refusal.Refusal.TheVariants as refusal
 use Rattle.journal.specs.parts.agreement_rules.specs.Views.{Views, started_with}
@@ -282,3 +282,14 @@ RestartGives old new before after (Err (fault.Refused why)) =
     IsOpen old before × (why ≡ refusal.OutOfMemory) × IsUnchanged old new before after
 RestartGives old new before after (Err (fault.Store why)) = IsOpen old before × IsUnchanged old new before after
 RestartGives old new before after (Err fault.Lost) = IsOpen old before × IsUnchanged old new before after
+
+-- Whether the store is ready: it was asked for its records, unless seat and journal are not seen to agree, or there is no room.
+abbrev pub ReadyAfterRestart : Result Receipt SeatFault → (old new : Bool) → Type 0
+ReadyAfterRestart (Ok _) old new = IsTrue new
+ReadyAfterRestart (Err fault.Down) old new = ⊥
+ReadyAfterRestart (Err fault.Strange) old new = new ≡ old
+ReadyAfterRestart (Err fault.JournalFull) old new = new ≡ old
+ReadyAfterRestart (Err fault.NotSent) old new = ⊥
+ReadyAfterRestart (Err (fault.Refused why)) old new = (new ≡ old) ⊎ IsTrue new
+ReadyAfterRestart (Err (fault.Store why)) old new = ReadyAfterRecall {T = Receipt} (Err why) old new
+ReadyAfterRestart (Err fault.Lost) old new = IsTrue new

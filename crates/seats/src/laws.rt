@@ -1,12 +1,14 @@
 //! Laws of running nodes.
 
-ghost use Rattle.std.specs.Prelude.{◌≡◌, List, ◌++◌};
+ghost use Rattle.std.specs.Prelude.{◌≡◌, List, [], ◌++◌};
 ghost use Rattle.journal.specs.parts.ballots.specs.declared.record.Record.{Record as Held};
 ghost use Rattle.journal.specs.parts.agreement_rules.specs.Views.{Views};
 ghost use Rattle.journal.specs.parts.histories.specs.Following.{Seat as HistorySeat, IsUp, at_first};
 ghost use Rattle.journal.specs.parts.histories.specs.Keeping.{AreKept};
 ghost use Rattle.journal.specs.parts.traces.specs.Told.{config_of};
-ghost use Rattle.seats.specs.State.{RunningSeat, IsLedTo};
+ghost use Rattle.journal.specs.Journaled.{Journaled, seats_in};
+ghost use Rattle.journal.specs.parts.traces.specs.Traced.{Tells};
+ghost use Rattle.seats.specs.State.{RunningSeat, IsLedTo, Agrees};
 
 use agreement_rules::laws::plans_keep_what_they_send;
 use stable_records::Stable;
@@ -24,3 +26,10 @@ pub fn own_records_are_kept<S: Stable>()
 {
     plans_keep_what_they_send();
 }
+
+/// A seat and a journal that have no entries agree, where they have one configuration and one start: so a node that was just
+/// opened agrees with a journal that was just made.
+pub fn fresh_seats_agree<S: Stable>()
+    ensures { (seat : RunningSeat S) (journal : Journaled) → seat.own ≡ [] → Tells journal.trace seat.config [] []
+        → journal.recovered ≡ [] → seats_in journal.start seat.node.me ≡ seat.start → Agrees seat journal }
+{}

@@ -1,12 +1,13 @@
 //! A restart.
 
-ghost use Rattle.std.specs.Prelude.{◌≡◌, ◌<◌, ◌∷◌, ◌++◌, [], length};
+ghost use Rattle.std.specs.Prelude.{◌≡◌, ◌<◌, ◌∷◌, ◌++◌, [], length, IsTrue, IfOk};
 ghost use Rattle.journal.specs.parts.node_events.specs.declared.event.Event.TheVariants.{Restart};
 ghost use Rattle.journal.specs.parts.node_events.specs.declared.event_result.EventResult.TheVariants.{Done};
 ghost use Rattle.journal.specs.Journaled.{HasRoom, MayEnter, HasEntry, EntersOwn};
 ghost use Rattle.journal.specs.Logged.{KeepsLog};
 ghost use Rattle.seats.specs.Entries.{restart_step, restart_entry};
-ghost use Rattle.seats.specs.Steps.{TellsEntry, Counts, RestartGives, OthersAgree, IsFaultOf};
+ghost use Rattle.stored_nodes.specs.Kept.{AreRecalled};
+ghost use Rattle.seats.specs.Steps.{TellsEntry, Counts, RestartGives, ReadyAfterRestart, OthersAgree, IsFaultOf};
 
 use crate::fault::SeatFault;
 use crate::own_entries::OwnEntries;
@@ -21,7 +22,8 @@ use std::alloc::Global;
 use stored_nodes::StoredNodeFault;
 
 impl<S: Stable + Drop, J: Beginning, M: Retention> Seat<S, J, M> {
-    /// Starts the node again, up or down, with the records that it kept and nothing else, and enters that.
+    /// Starts the node again, up or down, with the records that it kept and nothing else, and enters that. Its store gave these
+    /// back.
     ///
     /// The first of these faults is told that stands, memory apart: [`SeatFault::Strange`] exactly where the seat is not
     /// seen to agree with the journal; [`SeatFault::JournalFull`]; [`SeatFault::Store`], the store's fault in recalling its
@@ -35,6 +37,9 @@ impl<S: Stable + Drop, J: Beginning, M: Retention> Seat<S, J, M> {
     pub fn restart(&mut self, journal: &mut Journal<J, M>) -> Result<Receipt, SeatFault>
         ensures gives { RestartGives self.old self.new journal.old journal.new result }
         ensures counted { Counts S.tells result (S.faults self.old.node.store) (S.faults self.new.node.store) }
+        ensures ready { ReadyAfterRestart result (S.is_ready self.old.node.store) (S.is_ready self.new.node.store) }
+        ensures recalled { IfOk result (λ _. IsTrue S.tells
+            → AreRecalled (S.finds self.old.node.store) (S.finds self.new.node.store) self.new.node.records) }
         ensures others { OthersAgree self.old.node.me journal.old journal.new }
         ensures log { KeepsLog journal.old journal.new }
     {

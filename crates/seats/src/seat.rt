@@ -132,6 +132,8 @@ impl<S: Stable + Drop, J: Beginning> Seat<S, J, Whole> {
         ensures config { IfOk result (λ opened. IfSome opened (λ seat. seat.config ≡ config)) }
         ensures own { IfOk result (λ opened. IfSome opened (λ seat. seat.own ≡ [])) }
         ensures stands { IfOk result (λ opened. IfSome opened (λ seat. StandsUp seat.node (started_with []))) }
+        ensures ready { IfOk result (λ opened. IfSome opened (λ seat. IsTrue (S.is_ready seat.node.store))) }
+        ensures none { IfOk result (λ opened. IfSome opened (λ seat. IsTrue S.tells → S.finds store (Some []))) }
         ensures some { result ≡ Ok None → IsTrue S.tells
             → (records : List Held) × S.finds store (Some records) × (records ≢ []) }
         ensures fault { IfErr result (λ fault. (fault ≡ OutOfMemory)

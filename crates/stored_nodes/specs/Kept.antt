@@ -4,8 +4,8 @@ use Rattle.std.specs.Prelude.{◌≡◌, ◌⊎◌, ℕ, ◌<◌, Bool, true, Is
 use Rattle.ballots.specs.declared.record.Record.{Record}
 use Rattle.stable_records.specs.declared.fault.StoreFault.{StoreFault}
 use Rattle.stable_records.specs.declared.fault.StoreFault.TheVariants as store
-use Rattle.stable_records.specs.Found.{Found}
-use Rattle.stable_records.specs.Calls.{RaisesCount}
+use Rattle.stable_records.specs.Found.{Found, FindsOnly}
+use Rattle.stable_records.specs.Calls.{RaisesCount, ReadyAfterRecall}
 use Rattle.histories.specs.Following.{with_due}
 use Rattle.stored_nodes.specs.declared.fault.StoredNodeFault.{StoredNodeFault}
 use Rattle.stored_nodes.specs.declared.fault.StoredNodeFault.TheVariants.{OutOfMemory, Store, Lost}
@@ -50,6 +50,17 @@ CountsRecall tells (Ok _) old new = new ≡ old
 CountsRecall tells (Err OutOfMemory) old new = new ≡ old
 CountsRecall tells (Err (Store fault)) old new = RaisesCount fault old new
 CountsRecall tells (Err Lost) old new = (IsTrue tells → ⊥) × (new ≡ old)
+
+-- The store was asked: it is ready where it gave records back, whichever they are, and else as its own fault leaves it.
+abbrev pub ReadyAfterRecover : {T : Type 0} → Result T StoredNodeFault → (old new : Bool) → Type 0
+ReadyAfterRecover (Ok _) old new = IsTrue new
+ReadyAfterRecover (Err OutOfMemory) old new = IsTrue new
+ReadyAfterRecover (Err (Store fault)) old new = ReadyAfterRecall {T = Unit {0}} (Err fault) old new
+ReadyAfterRecover (Err Lost) old new = IsTrue new
+
+-- These records were found in the store, and from then on they alone are.
+abbrev pub AreRecalled : (old new : Found → Type 0) → List Record → Type 0
+AreRecalled old new records = old (Some records) × FindsOnly new records
 
 -- Likewise of the record that is due, if one is.
 abbrev pub DueLeaves : {T : Type 0} → Option Record → Result T StoreFault → (old new : List Record) → (doubted : Option Record) → Type 0

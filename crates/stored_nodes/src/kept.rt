@@ -7,7 +7,7 @@ ghost use Rattle.ballots.specs.declared.record.Record.{Record as Held};
 ghost use Rattle.stable_records.specs.Found.{Found, FindsOnly};
 ghost use Rattle.stable_records.specs.Calls.{CountsFault, RaisesCount};
 ghost use Rattle.histories.specs.Following.{with_due};
-ghost use Rattle.stored_nodes.specs.Kept.{FindsKept, RecoversAs, KeepLeaves, CountsRecall};
+ghost use Rattle.stored_nodes.specs.Kept.{FindsKept, RecoversAs, KeepLeaves, CountsRecall, ReadyAfterRecover, AreRecalled};
 
 use crate::fault::StoredNodeFault;
 use ballots::Record;
@@ -64,6 +64,8 @@ impl<S: Stable + Drop> KeptRecords<S> {
     pub(crate) fn open(alloc: Global, mut store: S) -> Result<Option<KeptRecords<S>>, StoreFault>
         ensures empty { IfOk result (λ opened. IfSome opened
             (λ kept. (kept.records.items ≡ []) × (kept.doubted ≡ None))) }
+        ensures ready { IfOk result (λ opened. IfSome opened (λ kept. IsTrue (S.is_ready kept.store))) }
+        ensures none { IfOk result (λ opened. IfSome opened (λ kept. IsTrue S.tells → S.finds store (Some []))) }
         ensures some { result ≡ Ok None → IsTrue S.tells
             → (records : List Held) × S.finds store (Some records) × (records ≢ []) }
         ensures fault { IfErr result (λ fault. (left : S) × RaisesCount fault (S.faults store) (S.faults left)) }
@@ -112,7 +114,9 @@ impl<S: Stable + Drop> KeptRecords<S> {
         ensures recalled { IfOk result
             (λ found. found.0.items ≡ with_due found.1 self.old.records.items self.old.doubted) }
         ensures certain { IfOk result (λ found. self.old.doubted ≡ None → found.1 ≡ false) }
-        ensures finds { IfOk result (λ found. IsTrue S.tells → FindsOnly (S.finds self.new.store) found.0.items) }
+        ensures finds { IfOk result (λ found. IsTrue S.tells
+            → AreRecalled (S.finds self.old.store) (S.finds self.new.store) found.0.items) }
+        ensures ready { ReadyAfterRecover result (S.is_ready self.old.store) (S.is_ready self.new.store) }
         ensures records { self.new.records ≡ self.old.records }
         ensures doubted { self.new.doubted ≡ self.old.doubted }
         ensures counted { CountsRecall S.tells result (S.faults self.old.store) (S.faults self.new.store) }

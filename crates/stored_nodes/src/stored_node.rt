@@ -11,7 +11,7 @@ ghost use Rattle.stored_nodes.specs.State.{IsPlaced, Stands};
 ghost use Rattle.stored_nodes.specs.Parts.{IsPlannedFor, PlanAnswers, StandsStill, IsUpFor, PlanTaken, RecoverGives};
 ghost use Rattle.stable_records.specs.declared.fault.StoreFault.TheVariants.{OutOfMemory};
 ghost use Rattle.stable_records.specs.Calls.{CountsFault, RaisesCount};
-ghost use Rattle.stored_nodes.specs.Kept.{CountsRecall};
+ghost use Rattle.stored_nodes.specs.Kept.{CountsRecall, ReadyAfterRecover, AreRecalled};
 
 use crate::due::records_are_due;
 use crate::fault::StoredNodeFault;
@@ -95,6 +95,8 @@ impl<S: Stable + Drop> StoredNode<S> {
         ensures me { IfOk result (λ opened. IfSome opened (λ seat. seat.me ≡ me)) }
         ensures config { IfOk result (λ opened. IfSome opened (λ seat. seat.config ≡ config)) }
         ensures stands { IfOk result (λ opened. IfSome opened (λ seat. Stands seat (IsUp (started_with [])))) }
+        ensures ready { IfOk result (λ opened. IfSome opened (λ seat. IsTrue (S.is_ready seat.store))) }
+        ensures none { IfOk result (λ opened. IfSome opened (λ seat. IsTrue S.tells → S.finds store (Some []))) }
         ensures some { result ≡ Ok None → IsTrue S.tells
             → (records : List Held) × S.finds store (Some records) × (records ≢ []) }
         ensures fault { IfErr result (λ fault. (fault ≡ OutOfMemory)
@@ -186,6 +188,9 @@ impl<S: Stable + Drop> StoredNode<S> {
     pub fn recover(&mut self) -> Result<bool, StoredNodeFault>
         ensures counted { CountsRecall S.tells result (S.faults self.old.store) (S.faults self.new.store) }
         ensures gives { RecoverGives self.old self.new result }
+        ensures ready { ReadyAfterRecover result (S.is_ready self.old.store) (S.is_ready self.new.store) }
+        ensures recalled { IfOk result (λ _. IsTrue S.tells
+            → AreRecalled (S.finds self.old.store) (S.finds self.new.store) self.new.records) }
     {
         let (records, recovered) = match self.kept.recalled(self.alloc) {
             Ok(found) => found,
