@@ -63,12 +63,13 @@ def free_port(count):
     raise Wrong("no ports are free")
 
 
-def file_limit(count):
-    """Limits the files of a process that is started with it to `count` bytes, as on a full disk, until somebody allows more."""
+def file_limit(count, ignores=True):
+    """Limits the files of a process that is started with it to `count` bytes, as on a full disk, until somebody allows more. A longer write
+    fails if the process ignores SIGXFSZ, and otherwise ends it."""
 
     def limit():
         resource.setrlimit(resource.RLIMIT_FSIZE, (count, resource.getrlimit(resource.RLIMIT_FSIZE)[1]))
-        signal.signal(signal.SIGXFSZ, signal.SIG_IGN)
+        signal.signal(signal.SIGXFSZ, signal.SIG_IGN if ignores else signal.SIG_DFL)
 
     return limit
 
@@ -93,12 +94,13 @@ def serve_words(program, nodes, port, folder, resumed=False):
     return [program, "serve", "--nodes", str(nodes), "--port", str(port), "--data", folder, *["--resume"] * resumed]
 
 
-def started(program, nodes, folder, limit=None, resumed=False):
-    """Starts a server with this many nodes and their records in this folder; if it is resumed, over the records there. Returns the process,
-    its clients, and the port of its first node."""
+def started(program, nodes, folder, limit=None, resumed=False, more=(), variables=None):
+    """Starts a server with this many nodes and their records in this folder; if it is resumed, over the records there. It is given more
+    words, and more variables in its environment. Returns the process, its clients, and the port of its first node."""
     port = free_port(nodes)
-    words = serve_words(program, nodes, port, folder, resumed)
-    process = subprocess.Popen(words, stdout=subprocess.PIPE, stderr=subprocess.PIPE, text=True, preexec_fn=limit)
+    words = [*serve_words(program, nodes, port, folder, resumed), *more]
+    how = {"preexec_fn": limit, "env": {**os.environ, **(variables or {})}}
+    process = subprocess.Popen(words, stdout=subprocess.PIPE, stderr=subprocess.PIPE, text=True, **how)
     lines = addresses(port, nodes)
     found = [process.stdout.readline() for _ in lines]
     if found != lines:
@@ -108,12 +110,12 @@ def started(program, nodes, folder, limit=None, resumed=False):
 
 
 @contextlib.contextmanager
-def server(program, nodes, folder=None, limit=None, resumed=False, ending=signal.SIGTERM):
+def server(program, nodes, folder=None, limit=None, resumed=False, ending=signal.SIGTERM, variables=None):
     """Starts a server, with its records in this folder or in one that is removed afterwards, and yields its clients and the port of its
     first node. At the end it sends this signal to the server."""
     with contextlib.ExitStack() as stack:
         folder = folder or stack.enter_context(tempfile.TemporaryDirectory())
-        process, clients, port = started(program, nodes, folder, limit, resumed)
+        process, clients, port = started(program, nodes, folder, limit, resumed, variables=variables)
         try:
             yield clients, port
             want(process.poll(), None)

@@ -12,8 +12,11 @@ Servers with `--resume` are started over the files of earlier ones that were kil
 acknowledged before, byte for byte, an upload that is put again gets its version, and records are only added to the files; if there are no
 files, they start anew. A folder in which a file is missing, cut, damaged, old, exchanged or in use, or whose cluster.json does not fit,
 keeps a server from starting, and is left as it was. The tool causes each fault that keeps a server or a script from starting or from
-reporting, except for an unreadable file, and for memory that is refused later than at the start (tools/refused_program.py). The status is
-1 if a check fails."""
+reporting, except for an unreadable file, and for memory that is refused later than at the start (tools/refused_program.py).
+
+Last it preloads disks.c, which cc builds into a folder, into servers. The library counts the syncs of their records. It has a sync fail:
+that node stays down, and the others serve. And it has the disks of two of three nodes be full, so that no put is decided: callers leave, or
+are refused after as many seconds as `--wait` says, and once there is room puts are acknowledged again. The status is 1 if a check fails."""
 import concurrent.futures
 import contextlib
 import fcntl
@@ -35,9 +38,10 @@ import threading
 import time
 from pathlib import Path
 
-from servers import CALL_SECONDS, LEARN_SECONDS, MOST_CONNECTIONS, PROGRAM, TOP, Wrong, addresses, felzoren, file_limit, free_port, got, learned
-from folder_model import missing_sums, report_of
-from servers import limited, records_in, records_of, request_of, reset, serve_words, server, started, want, without_progress
+from servers import CALL_SECONDS, LEARN_SECONDS, MEMORY, MOST_CONNECTIONS, PROGRAM, TOP, Wrong, addresses, felzoren, file_limit, free_port
+from folder_model import chosen_by, missing_sums, report_of
+from servers import got, learned, limited, look, records_in, records_of, request_of, reset, serve_words, server, started, want
+from servers import without_progress
 from toolbox import show_help
 
 # For how long an answer is held back: a call shows no progress for a second.
@@ -48,8 +52,18 @@ MEMORY_STEP, MOST_MEMORY = 4 << 20, 1 << 30
 CUTS, SEED = 60, 20261127
 # The limit of files for a process whose standard output is a file with little room: a server's other files are smaller.
 FILE_BYTES = 1 << 16
+# The limit of files for a server whose files are full after some uploads.
+FULL_BYTES = 8_000
 # How many servers are resumed over one folder, one after another.
 RESUMED = 5
+# Which syncs after a start fail: the two of the first record of a put, which begins an attempt, of the third one, which promises, and of
+# the sixth one, which accepts the upload if no node is late. And how many tries to start the node again are waited for.
+UNSYNCED, TRIES = (1, 2, 5, 6, 11, 12), 2
+# How many callers leave, more than a node has places; how many seconds a put waits until it is refused; and by how many an answer may be
+# late.
+LEAVING, WAIT_SECONDS, LATE_SECONDS = 140, 10, 5
+# How many bytes are cut off a file that a server has.
+CUT_BYTES = 10
 ROWS = [{"shop": "Bern", "sold": 3}, {"shop": "Zürich", "sold": None}]
 # The second line of a fault about a file or a folder, or how that line begins.
 OLD, MISSING = "has records: --resume goes on over them", "is missing: "
@@ -493,6 +507,8 @@ def go_on_over(program, nodes, folder, table, acks):
             want(clients[-1].put(table, ROWS, id=ack.id), ack)
         acks.append(clients[0].put(table, ROWS))
         want(acks[-1].version > latest, True)
+        # A node that is ended before it opens the first gate leaves a file that has changed and has no more records.
+        stand_everywhere(folder, nodes, bytes.fromhex(acks[-1].id))
     only_added(old, texts_in(folder))
 
 
@@ -553,12 +569,12 @@ def in_time(call, seconds=LEARN_SECONDS):
             time.sleep(0.1)
 
 
-def full_later(program):
+def full_later(program, limit, resumes_with):
     """Files that are full after some uploads: the next put ends with Store, and what was acknowledged is served by the other nodes, and soon
-    by this one too, which starts again. Once there is room, it takes puts. A server that is resumed over these files serves the same."""
+    by this one too, which starts again. Once there is room, it takes puts. A server of `resumes_with` over these files serves the same."""
     with tempfile.TemporaryDirectory() as folder:
         acks = []
-        process, clients, _ = started(program, 3, folder, file_limit(8_000))
+        process, clients, _ = started(program, 3, folder, limit)
         try:
             try:
                 while True:
@@ -579,7 +595,19 @@ def full_later(program):
         want(without_progress(error), "")
         want("was down, and has started again" in error, True)
         acks.sort(key=lambda ack: ack.version)
-        go_on_over(program, 3, folder, "full", acks)
+        go_on_over(resumes_with, 3, folder, "full", acks)
+
+
+def by_script(program):
+    """The same for the script ./flightd, started by somebody who does not ignore SIGXFSZ. The script and the program are copied into a
+    folder where the program counts as built from the sources, so that it isn't built."""
+    with tempfile.TemporaryDirectory() as top:
+        built = Path(f"{top}/crates/flightd/out/flightd")
+        built.parent.mkdir(parents=True)
+        for name in ("crates.txt", "HANDLES"):
+            Path(f"{top}/{name}").touch()
+        shutil.copy(program, built)
+        full_later(shutil.copy(TOP / "flightd", top), file_limit(FULL_BYTES, ignores=False), program)
 
 
 def acknowledged_until_killed(program, nodes, folder, seconds, least):
@@ -957,6 +985,226 @@ def refuses_to_resume(program):
             refuses_as_it_is(program, folder, is_marked)
 
 
+# ---- disks that fail
+
+
+class Disk:
+    """The library that is preloaded into a server as its disk, and the file in which it counts."""
+
+    def __init__(self, top):
+        self.library, self.told = Path(top) / "disks.so", Path(top) / "told"
+        subprocess.run(["cc", "-O2", "-shared", "-fPIC", "-o", self.library, TOP / "tools" / "disks.c"], check=True)
+        self.told.write_bytes(bytes(16))
+
+    def variables(self, **more):
+        """The variables of a server that has this disk."""
+        return {"LD_PRELOAD": str(self.library), "DISK_TOLD": str(self.told), **more}
+
+    def counted(self):
+        """How many syncs of files of records there were, and how many writes to such a file over one that was not synced."""
+        return struct.unpack("<QQ", self.told.read_bytes())
+
+
+def synced(program):
+    """Six puts at one node: each record is written and synced, and then its gate is opened and synced. Returns the syncs of a start, and
+    how many records there were."""
+    with tempfile.TemporaryDirectory() as top:
+        disk, folder = Disk(top), f"{top}/data"
+        with server(program, 3, folder, variables=disk.variables()) as (clients, _):
+            start, _ = disk.counted()
+            for _ in range(PUTS):
+                name = bytes.fromhex(clients[0].put("synced", ROWS).id)
+                uploads_kept(folder, 3, [name])
+                stand_everywhere(folder, 3, name)
+            # A node answers a get once it has kept the record that it was at.
+            for client in clients:
+                want(got(client, "synced", PUTS), ROWS * PUTS)
+            count = sum(len(records_in(f"{folder}/node-{number}.rec")) for number in range(3))
+            want(disk.counted(), (start + 2 * count, 0))
+    return start, count
+
+
+def acknowledged_by(clients, node):
+    """The acknowledgement of an upload by this node, or by the next one if this one is down."""
+    try:
+        return clients[node].put("unsynced", ROWS)
+    except felzoren.Refused as refused:
+        want(refused.name in ("Store", "Down"), True)
+        return clients[(node + 1) % len(clients)].put("unsynced", ROWS, id=refused.id)
+
+
+def stays_down(process, fault):
+    """The node of a server that is reported to be down for this fault of its disk, at each try to start it again."""
+    told_of = "".join(process.stderr.readline() for _ in range(TRIES))
+    node = told_of[5:6]
+    want(told_of, f"node {node} is down, and can't be started again yet: Store: {fault}\n" * TRIES)
+    return int(node)
+
+
+def chosen_once(folder, nodes, acks):
+    """Each acknowledged upload was accepted by most nodes at one ballot, in one slot alone."""
+    chosen, _ = chosen_by([records_in(f"{folder}/node-{number}.rec") for number in range(nodes)])
+    counts = [sum(bytes.fromhex(ack.id) in (value or b"") for value in chosen.values()) for ack in acks]
+    want(counts, [1] * len(acks))
+
+
+def failed_sync(program, folder, disk, number):
+    """The sync of this number fails: its node stays down, and the others serve. Returns what was acknowledged."""
+    process, clients, _ = started(program, 3, folder, variables=disk.variables(DISK_FAILS=str(number)))
+    watch = threading.Timer(CALL_SECONDS, process.kill)
+    watch.start()
+    try:
+        acks = [acknowledged_by(clients, node) for node in range(3)]
+        down = clients.pop(stays_down(process, "Device"))
+        want(refusal(down.put, "unsynced", ROWS), ("Down", 14))
+        want(refusal(down.get, "unsynced", 1), ("Down", 14))
+        acks += [client.put("unsynced", ROWS) for client in clients]
+        for client in clients:
+            want(got(client, "unsynced", len(acks)), ROWS * len(acks))
+        want(process.poll(), None)
+    finally:
+        watch.cancel()
+        process.terminate()
+        error = process.stderr.read()
+        process.communicate(timeout=CALL_SECONDS)
+    want(without_progress(error), "")
+    return acks
+
+
+def unsynced(program, start):
+    """Servers one of whose syncs fails, another one for each: what was acknowledged is in most nodes' files, once, and the next server
+    serves it."""
+    for number in UNSYNCED:
+        with tempfile.TemporaryDirectory() as top:
+            folder = f"{top}/data"
+            acks = failed_sync(program, folder, Disk(top), start + number)
+            chosen_once(folder, 3, acks)
+            go_on_over(program, 3, folder, "unsynced", acks)
+
+
+def cut_beneath(program):
+    """The file of a node is cut while its server has it: the node goes down at its next record and stays down, and nothing is written to the
+    file. The others serve what was acknowledged."""
+    with tempfile.TemporaryDirectory() as folder:
+        process, clients, _ = started(program, 3, folder)
+        watch = threading.Timer(CALL_SECONDS, process.kill)
+        watch.start()
+        try:
+            stand_everywhere(folder, 3, bytes.fromhex(clients[0].put("cut", ROWS).id))
+            file = Path(f"{folder}/node-1.rec")
+            os.truncate(file, file.stat().st_size - CUT_BYTES)
+            left = file.read_bytes()
+            clients[0].put("cut", ROWS)
+            want(stays_down(process, "Damaged"), 1)
+            want(file.read_bytes() == left, True)
+            want(refusal(clients[1].get, "cut", 1), ("Down", 14))
+            for client in (clients[0], clients[2]):
+                want(got(client, "cut", 2), ROWS * 2)
+            want(process.poll(), None)
+        finally:
+            watch.cancel()
+            process.terminate()
+            process.communicate(timeout=CALL_SECONDS)
+
+
+# ---- puts that are not decided
+
+
+def has_threads(process, count):
+    """Waits until a server has so many threads."""
+    end = time.monotonic() + LEARN_SECONDS
+    while look(process).threads != count:
+        if time.monotonic() > end:
+            raise Wrong(f"{look(process).threads} threads in place of {count}")
+        time.sleep(0.01)
+
+
+def refused_after(client, name):
+    """The refusal of a put that is not decided, and after how many seconds it comes."""
+    began = time.monotonic()
+    return refusal(client.put, "left", ROWS, id=name), time.monotonic() - began
+
+
+def callers_leave(process, idle, client, port, names):
+    """While a caller waits at node 0 until it is refused, others begin puts there and close their connections. The server, which has `idle`
+    threads when nobody calls, then has none for them any more."""
+    with concurrent.futures.ThreadPoolExecutor(1) as pool, contextlib.ExitStack() as callers:
+        has_threads(process, idle)
+        waiting = pool.submit(refused_after, client, names[0])
+        has_threads(process, idle + 1)
+        for name in names[1:]:
+            caller = callers.enter_context(socket.create_connection(("127.0.0.1", port), CALL_SECONDS))
+            caller.sendall(request_of(lambda client, name=name: client.put("left", ROWS, id=name)))
+        has_threads(process, idle + MOST_CONNECTIONS)
+        callers.close()
+        has_threads(process, idle + 1)
+        want(waiting.done(), False)
+        found, seconds = waiting.result(WAIT_SECONDS + CALL_SECONDS)
+        want((found, WAIT_SECONDS <= seconds < WAIT_SECONDS + LATE_SECONDS), (("Unavailable", 14), True))
+    has_threads(process, idle)
+
+
+def room_again(client, name, seconds):
+    """Once there is room again, after so many seconds, a put is acknowledged. A node is down for at most a second longer than all the time
+    since it first was, and whether that is over is looked up each second."""
+    began = time.monotonic()
+    learned(lambda: client.put("left", ROWS, id=name))
+    want(time.monotonic() - began < seconds + 2 + LATE_SECONDS, True)
+
+
+def count_once(clients, names):
+    """Each upload is put again, also those whose callers left, and makes one version, at each node. Returns how many had been decided."""
+    before = clients[0].info("left").ticket.version
+    acks = [clients[0].put("left", ROWS, id=name) for name in names]
+    wanted = [ack.id for ack in sorted(acks, key=lambda ack: ack.version)]
+    want(sorted(ack.version for ack in acks), list(range(1, len(names) + 1)))
+    for client in clients:
+        found = in_time(lambda client=client: client.get("left", len(names)), 4 * LEARN_SECONDS)
+        want([it.id for it in found.uploads], wanted)
+    return before
+
+
+def undecided_puts(program):
+    """The disks of two of three nodes are full, so no put is decided: callers leave and give their places back, one is refused in time, and
+    once there is room a put is acknowledged. The uploads of the callers that left may be decided too. Returns how many were, with the
+    others."""
+    # The upload of the caller that is refused, those of the callers that leave, and that of the put which is acknowledged.
+    names = [bytes([number]) * 16 for number in range(1, 1 + LEAVING + 2)]
+    with tempfile.TemporaryDirectory(dir=MEMORY) as top:
+        full = Path(f"{top}/full")
+        variables = Disk(top).variables(DISK_FULL="node-1:node-2", DISK_FULL_WHILE=str(full))
+        process, clients, port = started(program, 3, f"{top}/data", more=("--wait", str(WAIT_SECONDS)), variables=variables)
+        try:
+            idle = look(process).threads
+            want(clients[0].put("sales", ROWS).version, 1)
+            full.touch()
+            began = time.monotonic()
+            callers_leave(process, idle, clients[0], port, names[:-1])
+            full.unlink()
+            room_again(clients[0], names[-1], time.monotonic() - began)
+            count = count_once(clients, names)
+            silent_peers(clients, port)
+            want(process.poll(), None)
+        finally:
+            process.terminate()
+            _, error = process.communicate(timeout=CALL_SECONDS)
+        want(without_progress(error), "")
+    return count
+
+
+def failing_disks(program):
+    """Runs the checks of servers whose disks fail, or are full, and prints what they found."""
+    start, count = synced(program)
+    print(f"{count} records of {PUTS} puts: each was synced twice, before its gate is opened and after")
+    unsynced(program, start)
+    print(f"{len(UNSYNCED)} servers one of whose syncs failed: that node stays down, the others serve, and the next server serves what was "
+          "acknowledged")
+    cut_beneath(program)
+    count = undecided_puts(program)
+    print(f"{LEAVING} callers left while no put could be decided, and gave their places back; once there was room, {count} of "
+          f"{LEAVING + 2} uploads were decided before they were put again, and each counts once")
+
+
 def scripts(program):
     """Each script prints the lines in the file beside it."""
     files = sorted((TOP / "examples" / "scripts").glob("*.json"))
@@ -997,10 +1245,12 @@ def main(program):
     little_memory(program)
     bad_files(program)
     no_folder(program)
-    full_later(program)
+    full_later(program, file_limit(FULL_BYTES), program)
+    by_script(program)
     counts = [killed(program, nodes, seconds) for nodes in (3, 5) for seconds in (1, 2)]
     print(f"{sum(counts)} uploads were acknowledged by servers that were then killed: each is in the files of most nodes, and is served by servers "
           "that are resumed over them")
+    failing_disks(program)
 
 
 if __name__ == "__main__":
