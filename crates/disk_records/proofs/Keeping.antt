@@ -115,7 +115,13 @@ module _ (content : List ℕ) (may_leave : List ℕ → Type 0) (gate : ℕ)
           let P : List ℕ → Type 0 = λ l. FileMeans l (records ++ told ∷ []) in
           subst P (sym settled.bytes) (gate_open block told t)
 
-      after_stands : LeavesOnly after may_be_left
+      -- whatever it meant before
+      pub file_means : (before : List Record) → FileMeans content before → FileMeans after (before ++ told ∷ [])
+      file_means before meant =
+          let P : List Record → Type 0 = λ l. FileMeans after (l ++ told ∷ []) in
+          subst P (sym (alone before meant)) after_means
+
+      pub after_stands : LeavesOnly after may_be_left
       after_stands file left = settled.stands file left ∙ sym settled.bytes
 
       found_after : (found : Found) → FoundIn may_be_left found → found ≡ Some (records ++ told ∷ [])

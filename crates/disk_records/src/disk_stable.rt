@@ -1,12 +1,14 @@
 //! A store for records on a disk.
 
-ghost use Rattle.std.specs.Prelude.{◌≡◌, ◌+◌, ◌<◌, false, IsTrue, is_some, IsErrOf};
+ghost use Rattle.std.specs.Prelude.{◌≡◌, ◌+◌, ◌<◌, false, List, [], ◌∷◌, ◌++◌, IsTrue, is_some, IfOk, OnOk, IsErrOf};
 ghost use Rattle.std.specs.Option.{ForSome};
+ghost use Rattle.ballots.specs.declared.record.Record.{Record as Held};
 ghost use Rattle.stable_records.specs.declared.fault.StoreFault.TheVariants.{Device, Damaged, Broken};
 ghost use Rattle.stable_records.specs.Calls.{CountsFault, ReadyAfterKeep, ReadyAfterRecall, Keeps, Recalls, LeftInKeep};
 ghost use Rattle.stable_records.specs.Moments.{AnyCrashLeaves};
 ghost use Rattle.disk_records.specs.RecordFile.{FileMeans};
 ghost use Rattle.disk_records.specs.Reading.{MeansNothing};
+ghost use Rattle.disk_records.specs.Disk.{LeavesOnly};
 ghost use Rattle.disk_records.specs.Ready.{FoundIn, IsGateOf, Notes, one_is_found, found_now};
 
 use crate::block::block_of;
@@ -84,8 +86,9 @@ impl<D: Disk> Stable for DiskStable<D> {
 
     ghost finds_since = { λ s t. FoundIn (D.left_since s.disk t) };
 
-    /// Beside what every store promises: it is [`StoreFault::Device`] only where a call of the disk failed, and where
-    /// it is [`StoreFault::Broken`] no call of the disk was made.
+    /// Beside what every store promises: behind `Ok` the file means the records that it meant, with this one behind them, and all of
+    /// it stands. It is [`StoreFault::Device`] only where a call of the disk failed, and where it is [`StoreFault::Broken`] no call of
+    /// the disk was made.
     fn keep(&mut self, told: &Record) -> Result<(), StoreFault>
         ensures counted { CountsFault result
             (⟦<DiskStable<D> as Stable>⟧.faults self.old) (⟦<DiskStable<D> as Stable>⟧.faults self.new) }
@@ -96,6 +99,9 @@ impl<D: Disk> Stable for DiskStable<D> {
         ensures crash { IsTrue D.tells → AnyCrashLeaves ⟦<DiskStable<D> as Stable>⟧.moment
             ⟦<DiskStable<D> as Stable>⟧.finds_since self.old self.new
             (LeftInKeep told.now result (⟦<DiskStable<D> as Stable>⟧.finds self.old)) }
+        ensures written { IsTrue D.tells → (records : List Held) → FileMeans (D.content (disk_of self.old)) records
+            → OnOk result (FileMeans (D.content (disk_of self.new)) (records ++ told.now ∷ [])
+            × LeavesOnly (D.content (disk_of self.new)) (D.may_leave (disk_of self.new))) }
         ensures device { IsErrOf result Device → D.failures (disk_of self.old) < D.failures (disk_of self.new) }
         ensures broken { IsErrOf result Broken → disk_of self.new ≡ disk_of self.old }
     {
@@ -119,8 +125,8 @@ impl<D: Disk> Stable for DiskStable<D> {
         }
     }
 
-    /// Beside what every store promises: it is [`StoreFault::Device`] only where a call of the disk failed, and
-    /// [`StoreFault::Damaged`] only where the file's bytes mean no records. It takes as much memory as the file has
+    /// Beside what every store promises: the records are those that the file's bytes mean. It is [`StoreFault::Device`] only where a
+    /// call of the disk failed, and [`StoreFault::Damaged`] only where the file's bytes mean no records. It takes as much memory as the file has
     /// bytes, and what its records take.
     fn recall(&mut self, alloc: Global) -> Result<Vec<Record>, StoreFault>
         ensures counted { CountsFault result
@@ -132,6 +138,7 @@ impl<D: Disk> Stable for DiskStable<D> {
         ensures crash { IsTrue D.tells → AnyCrashLeaves ⟦<DiskStable<D> as Stable>⟧.moment
             ⟦<DiskStable<D> as Stable>⟧.finds_since self.old self.new
             (⟦<DiskStable<D> as Stable>⟧.finds self.old) }
+        ensures read { IsTrue D.tells → IfOk result (λ records. FileMeans (D.content (disk_of self.old)) records.items) }
         ensures device { IsErrOf result Device → D.failures (disk_of self.old) < D.failures (disk_of self.new) }
         ensures damaged { IsTrue D.tells → IsErrOf result Damaged
             → MeansNothing (FileMeans (D.content (disk_of self.old))) }

@@ -4,7 +4,7 @@ use Rattle.disk_records.specs.declared.disk_stable.DiskStable.{DiskStable}
 use Rattle.disk_records.specs.DiskCalls.{IsAddedOrNot}
 use Rattle.disk_records.specs.Ready.{FoundIn, IsGateOf, stands_of}
 use Rattle.disk_records.proofs.Runs.{at_end}
-use Rattle.disk_records.proofs.Keeping.{text_of, is_within, with_or_without, record_is_added, next_gate}
+use Rattle.disk_records.proofs.Keeping.{text_of, is_within, with_or_without, record_is_added, file_means, after_stands, next_gate}
 use Rattle.disk_records.proofs.Stores.{store_crash, same_place}
 use Rattle.disk_records.proofs.disk_stable.DiskStableStable.keep.Goals as goal
 
@@ -60,6 +60,22 @@ returns-in-Ok-add_block-clause-kept g c = λ told.
     c.files_mean_one.ensures.records (g.met.D.Disk.content_may_stay old told) block c.args.told.now text
     (g.D.Disk.content new) (g.D.Disk.may_leave new) (c.in-Ok-add_block.ensures.added told)
     (g.met.D.Disk.content_may_stay new told)
+
+pub returns-in-Ok-add_block-clause-written : goal.returns-in-Ok-add_block-clause-written
+returns-in-Ok-add_block-clause-written g c = λ told records meant.
+    let old = c.args.self.now.disk in
+    let new = c.add_block.new.disk in
+    let gate = c.in-Some.gate in
+    let block = c.deref.result.now in
+    let text = text_of block c.in-Ok.block.items c.args.told.now c.deref.ensures.value c.in-Ok.ensures.bytes
+    c.in-Ok.ensures.fits c.in-Ok.ensures.means in
+    let ready = (c.args.self.now.known gate c.in-Some.is).ready told in
+    let here = g.met.D.Disk.content_may_stay old told in (
+      file_means (g.D.Disk.content old) (g.D.Disk.may_leave old) gate ready c.files_mean_one.ensures.records here block c.args.told.now text
+          (g.D.Disk.content new) (g.D.Disk.may_leave new) (c.in-Ok-add_block.ensures.added told) records meant,
+      after_stands (g.D.Disk.content old) (g.D.Disk.may_leave old) gate ready c.files_mean_one.ensures.records here block c.args.told.now text
+          (g.D.Disk.content new) (g.D.Disk.may_leave new) (c.in-Ok-add_block.ensures.added told),
+    )
 
 pub returns-in-Ok-add_block-clause-crash : goal.returns-in-Ok-add_block-clause-crash
 returns-in-Ok-add_block-clause-crash g c = λ told.

@@ -41,6 +41,9 @@ returns-in-Ok-clause-recalled g c = λ told.
           (g.met.D.Disk.content_may_stay new told) read.1.stands,
     )
 
+pub returns-in-Ok-clause-read : goal.returns-in-Ok-clause-read
+returns-in-Ok-clause-read g c = λ told. (c.in-Ok.ensures.read told).0
+
 pub returns-in-Err-clause-recalled : goal.returns-in-Err-clause-recalled
 returns-in-Err-clause-recalled g c = λ told.
     let old = c.args.self.now.disk in
