@@ -26,7 +26,7 @@ pub(crate) type DiskNodes<J> = Running<3, DiskStable<MemoryDisk>, J, OpenGate>;
 /// How many entries the journal may have, unless a test says otherwise.
 const ENTRIES: u32 = 1_000_000;
 
-/// Why a test fails. Threads can hand it to one another.
+/// Why a test fails.
 pub(crate) type Why = &'static str;
 
 pub(crate) fn members() -> Result<Members, Why> {
@@ -150,6 +150,17 @@ pub(crate) fn upload(alloc: Global, number: u64) -> Result<Upload, Why> {
 pub(crate) fn ticket(alloc: Global, version: u64) -> Result<Ticket, Why> {
     let table = had(String::from_str(alloc, "t"))?;
     Ok(Ticket::new(table, version).ok_or("no ticket")?)
+}
+
+/// What was done, or the reason as a text that threads can hand to one another; none where memory is refused for it.
+pub(crate) fn owned<T>(alloc: Global, done: Result<T, Why>) -> Result<T, String> {
+    match done {
+        Ok(done) => Ok(done),
+        Err(why) => match String::from_str(alloc, why) {
+            Ok(text) => Err(text),
+            Err(_) => Err(String::new(alloc)),
+        },
+    }
 }
 
 /// Fails for this reason.

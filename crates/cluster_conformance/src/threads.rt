@@ -4,7 +4,7 @@
 ghost use Rattle.std.specs.Prelude.{◌≡◌, []};
 
 use crate::flag::Flag;
-use crate::support::{Why, check, had, three, three_on_disks, ticket, told, upload};
+use crate::support::{Why, check, had, owned, three, three_on_disks, ticket, upload};
 use crate::tested::Tested;
 use crate::watched::outcome_of;
 use call_protocol::BackFault;
@@ -82,6 +82,20 @@ fn put_all<R: Wait + Clock, C: Nodes + Drop>(
     Ok(versions)
 }
 
+// The same, and nothing where a put fails.
+fn all_put<R: Wait + Clock, C: Nodes + Drop>(
+    rt: &R,
+    alloc: Global,
+    service: &Service<C, AllReceipts>,
+    node: usize,
+    first: u64,
+) -> Option<Versions> {
+    match put_all(rt, alloc, service, node, first) {
+        Ok(versions) => Some(versions),
+        Err(_) => None,
+    }
+}
+
 // A thread for a caller.
 fn start_caller<R: Threads + Wait + Clock + Copy + Send + 'static, C: Tested + Drop + 'static>(
     rt: R,
@@ -89,8 +103,8 @@ fn start_caller<R: Threads + Wait + Clock + Copy + Send + 'static, C: Tested + D
     service: Shared<C>,
     node: usize,
     first: u64,
-) -> Result<JoinHandle<Result<Versions, Why>>, Why> {
-    let job = move || put_all(&rt, alloc, &*service, node, first);
+) -> Result<JoinHandle<Option<Versions>>, Why> {
+    let job = move || all_put(&rt, alloc, &*service, node, first);
     had(thread::spawn(&rt, job))
 }
 
@@ -246,7 +260,9 @@ fn call_twice<R: Threads + Wait + Clock + Copy + Send + 'static, C: Tested + Dro
     let first = first.join(&rt);
     let second = second.join(&rt);
     started?;
-    let (first, second) = (first?, second?);
+    let (Some(first), Some(second)) = (first, second) else {
+        return Err("a put fails");
+    };
     if may_fail {
         revive(&rt, alloc, &**service, 2 * PUTS)?;
     }
@@ -289,9 +305,9 @@ fn start_working<R: Threads + Wait + Clock + Copy + Send + 'static, C: Tested + 
     notes: Vec<Receiver<Note>>,
     may_fail: bool,
     ended: Arc<Flag, Global>,
-) -> Result<JoinHandle<Result<(), Why>>, Why> {
+) -> Result<JoinHandle<Result<(), String>>, Why> {
     let job = move || {
-        let worked = work(rt, alloc, nodes, notes, may_fail);
+        let worked = owned(alloc, work(rt, alloc, nodes, notes, may_fail));
         ended.raise(&rt);
         worked
     };
@@ -305,11 +321,11 @@ fn work_in_time<R: Threads + Wait + Clock + Copy + Send + 'static, C: Tested + D
     nodes: C,
     notes: Vec<Receiver<Note>>,
     may_fail: bool,
-) -> Result<(), Why> {
-    let ended = had(Arc::new(alloc, Flag::new()))?;
-    let raised = had(Arc::try_clone(&ended))?;
-    let working = start_working(rt, alloc, nodes, notes, may_fail, raised)?;
-    outcome_of(&rt, working, &ended)
+) -> Result<(), String> {
+    let ended = owned(alloc, had(Arc::new(alloc, Flag::new())))?;
+    let raised = owned(alloc, had(Arc::try_clone(&ended)))?;
+    let started = start_working(rt, alloc, nodes, notes, may_fail, raised);
+    outcome_of(&rt, alloc, owned(alloc, started)?, &ended)
 }
 
 fn plays<R: Threads + Wait + Clock + Copy + Send + 'static, J: Beginning + Send + Sync + 'static>(
@@ -317,11 +333,14 @@ fn plays<R: Threads + Wait + Clock + Copy + Send + 'static, J: Beginning + Send 
     alloc: Global,
     hashing: RandomState,
     log: Opened<OwnEntry>,
-) -> Result<(), Why>
+) -> Result<(), String>
     requires named { log ≡ J.book }
     requires start { J.start ≡ [] }
 {
-    let (nodes, notes) = three::<R, J, OpenGate>(&rt, alloc, hashing, log, OpenGate)?;
+    let (nodes, notes) = owned(
+        alloc,
+        three::<R, J, OpenGate>(&rt, alloc, hashing, log, OpenGate),
+    )?;
     work_in_time(rt, alloc, nodes, notes, false)
 }
 
@@ -334,29 +353,32 @@ fn plays_on_disks<
     hashing: RandomState,
     log: Opened<OwnEntry>,
     calls_left: u64,
-) -> Result<(), Why>
+) -> Result<(), String>
     requires named { log ≡ J.book }
     requires start { J.start ≡ [] }
 {
-    let (nodes, notes) = three_on_disks::<R, J>(&rt, alloc, hashing, log, calls_left)?;
+    let (nodes, notes) = owned(
+        alloc,
+        three_on_disks::<R, J>(&rt, alloc, hashing, log, calls_left),
+    )?;
     work_in_time(rt, alloc, nodes, notes, true)
 }
 
 #[test]
 fn callers_put_beside_restarts(rt: HostRuntime) -> Result<(), Fail> {
     let hashing = RandomState::new(&rt)?;
-    told(plays::<_, Brand>(rt, rt.alloc(), hashing, Opened::new()))
+    Ok(plays::<_, Brand>(rt, rt.alloc(), hashing, Opened::new())?)
 }
 
 // A disk's sixth call is of its node's first keep, and its sixtieth of a later one.
 #[test]
 fn callers_put_beside_a_disk_that_fails_at_first(rt: HostRuntime) -> Result<(), Fail> {
     let hashing = RandomState::new(&rt)?;
-    told(plays_on_disks::<_, Brand>(rt, rt.alloc(), hashing, Opened::new(), 5))
+    Ok(plays_on_disks::<_, Brand>(rt, rt.alloc(), hashing, Opened::new(), 5)?)
 }
 
 #[test]
 fn callers_put_beside_a_disk_that_fails_later(rt: HostRuntime) -> Result<(), Fail> {
     let hashing = RandomState::new(&rt)?;
-    told(plays_on_disks::<_, Brand>(rt, rt.alloc(), hashing, Opened::new(), 59))
+    Ok(plays_on_disks::<_, Brand>(rt, rt.alloc(), hashing, Opened::new(), 59)?)
 }

@@ -103,7 +103,7 @@ impl<R: Threads + Wait + Clock + Drop + Send + Sync, J: Beginning + Send + Sync>
         let guard = seat.lock(&rt);
         let waiting = start_asking(rt, alloc, first_port)?;
         let is_asked = self.is_asked.is_up_within(&rt, TURNS);
-        let answered = answers(&rt, alloc, first_port.saturating_add(1), TURNS);
+        let answered = asks_beside(&rt, alloc, first_port);
         drop(guard);
         let waited = waiting.join(&rt);
         check(is_asked, "the end of a call is not read")?;
@@ -112,23 +112,21 @@ impl<R: Threads + Wait + Clock + Drop + Send + Sync, J: Beginning + Send + Sync>
     }
 }
 
-// Whether the node at this port says within so many milliseconds of a version that nobody has put that it is unavailable.
-fn answers<R: Net<Stream = TcpStream>>(rt: &R, alloc: Global, port: u16, within: u32) -> bool {
+// A connection to the node at this port, which waits so many milliseconds for a byte.
+fn connected<R: Net<Stream = TcpStream>>(rt: &R, port: u16, within: u32) -> Result<TcpStream, Why> {
+    let stream = had(TcpStream::connect(rt, address_of(port)))?;
+    had(stream.set_read_timeout(Some(Duration::from_millis(u64::from(within)))))?;
+    Ok(stream)
+}
+
+// Whether the node at the other end says of a version that nobody has put that it is unavailable.
+fn answers(alloc: Global, stream: &TcpStream) -> bool {
     let Ok(ticket) = ticket(alloc, 1) else {
         return false;
     };
-    let Ok(stream) = TcpStream::connect(rt, address_of(port)) else {
-        return false;
-    };
-    if stream
-        .set_read_timeout(Some(Duration::from_millis(u64::from(within))))
-        .is_err()
-    {
-        return false;
-    }
     let (Ok(mut input), Ok(mut output)) = (
-        BufReader::new(alloc, &stream),
-        BufWriter::new(alloc, &stream),
+        BufReader::new(alloc, stream),
+        BufWriter::new(alloc, stream),
     ) else {
         return false;
     };
@@ -138,13 +136,22 @@ fn answers<R: Net<Stream = TcpStream>>(rt: &R, alloc: Global, port: u16, within:
     }
 }
 
+// Whether node 1 answers.
+fn asks_beside<R: Net<Stream = TcpStream>>(rt: &R, alloc: Global, first_port: u16) -> bool {
+    match connected(rt, first_port.saturating_add(1), TURNS) {
+        Ok(stream) => answers(alloc, &stream),
+        Err(_) => false,
+    }
+}
+
 // A thread that asks node 0, and waits for its answer three times as long as the call may be held.
 fn start_asking<R: Net<Stream = TcpStream> + Threads + Copy + Send + 'static>(
     rt: R,
     alloc: Global,
     first_port: u16,
 ) -> Result<JoinHandle<bool>, Why> {
-    let job = move || answers(&rt, alloc, first_port, 3 * TURNS);
+    let stream = connected(&rt, first_port, 3 * TURNS)?;
+    let job = move || answers(alloc, &stream);
     had(thread::spawn(&rt, job))
 }
 
@@ -156,7 +163,7 @@ fn answer_meanwhile<
     let signals = nodes.signals();
     let held = start_asking(rt, alloc, first_port)?;
     let has_come = signals.has_come.is_up_within(&rt, TURNS);
-    let answered = answers(&rt, alloc, first_port.saturating_add(1), TURNS);
+    let answered = asks_beside(&rt, alloc, first_port);
     signals.is_open.raise(&rt);
     let waited = held.join(&rt);
     check(has_come, "no call comes to the gate")?;

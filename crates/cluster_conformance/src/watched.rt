@@ -1,7 +1,8 @@
 //! Stories that have to end in time.
 
 use crate::flag::Flag;
-use crate::support::Why;
+use crate::support::owned;
+use std::alloc::Global;
 use std::sync::Wait;
 use std::thread::{JoinHandle, Threads};
 use std::time::Clock;
@@ -12,13 +13,14 @@ const TURNS: u32 = 60_000;
 /// What comes of a story that a thread plays, which raises the flag behind it. A story that has not ended after [`TURNS`] looks fails.
 pub(crate) fn outcome_of<R: Threads + Wait + Clock>(
     rt: &R,
-    playing: JoinHandle<Result<(), Why>>,
+    alloc: Global,
+    playing: JoinHandle<Result<(), String>>,
     ended: &Flag,
-) -> Result<(), Why> {
+) -> Result<(), String> {
     if ended.is_up_within(rt, TURNS) {
         playing.join(rt)
     } else {
         drop(playing);
-        Err("a story does not end")
+        owned(alloc, Err("a story does not end"))
     }
 }
