@@ -40,12 +40,12 @@ pub(crate) struct Signals {
 /// A gate that holds each call at node 0 back until it is opened, or until the call has waited too long.
 #[derive(Drop)]
 pub(crate) struct HoldingGate<R> {
-    rt: R,
+    rt: Arc<R, Global>,
     signals: Signals,
 }
 
 impl<R> HoldingGate<R> {
-    fn new(rt: R) -> HoldingGate<R> {
+    fn new(rt: Arc<R, Global>) -> HoldingGate<R> {
         HoldingGate {
             rt,
             signals: Signals {
@@ -62,9 +62,9 @@ impl<R: Threads + Wait + Clock> Gate for HoldingGate<R> {
         if node != 0 {
             return;
         }
-        self.signals.has_come.raise(&self.rt);
-        if !self.signals.is_open.is_up_within(&self.rt, TURNS) {
-            self.signals.is_late.raise(&self.rt);
+        self.signals.has_come.raise(&*self.rt);
+        if !self.signals.is_open.is_up_within(&*self.rt, TURNS) {
+            self.signals.is_late.raise(&*self.rt);
         }
     }
 }
@@ -74,14 +74,15 @@ pub(crate) trait Held: Works {
     /// What becomes of calls at their gate.
     fn signals(&self) -> &Signals;
 
-    /// Whether node 1 answers a call while another waits for the seat of node 0, which is held meanwhile, and whether that is
-    /// answered afterwards.
-    fn answer_beside<Q: Net<Stream = TcpStream> + Threads + Wait + Clock + Copy + Send + 'static>(
+    /// Holds the seat of node 0, and raises the flag then, until node 0 is asked and the node at the other end of the stream was: whether
+    /// the first came to pass in time, and the other node answered.
+    fn hold_beside<Q: Threads + Wait + Clock>(
         &self,
-        rt: Q,
+        rt: &Q,
         alloc: Global,
-        first_port: u16,
-    ) -> Result<(), Why>;
+        held: &Flag,
+        stream: &TcpStream,
+    ) -> (bool, bool);
 }
 
 impl<R: Threads + Wait + Clock + Drop + Send + Sync, J: Beginning + Send + Sync> Held
@@ -90,25 +91,23 @@ impl<R: Threads + Wait + Clock + Drop + Send + Sync, J: Beginning + Send + Sync>
         &Running::gate(&self.nodes).signals
     }
 
-    fn answer_beside<Q: Net<Stream = TcpStream> + Threads + Wait + Clock + Copy + Send + 'static>(
+    fn hold_beside<Q: Threads + Wait + Clock>(
         &self,
-        rt: Q,
+        rt: &Q,
         alloc: Global,
-        first_port: u16,
-    ) -> Result<(), Why> {
+        held: &Flag,
+        stream: &TcpStream,
+    ) -> (bool, bool) {
         let Some(seat) = self.nodes.cluster().seat(0) else {
-            return Err("no seat");
+            return (false, false);
         };
-        self.is_asked.lower(&rt);
-        let guard = seat.lock(&rt);
-        let waiting = start_asking(rt, alloc, first_port)?;
-        let is_asked = self.is_asked.is_up_within(&rt, TURNS);
-        let answered = asks_beside(&rt, alloc, first_port);
+        self.is_asked.lower(rt);
+        let guard = seat.lock(rt);
+        held.raise(rt);
+        let is_asked = self.is_asked.is_up_within(rt, TURNS);
+        let answered = answers(alloc, stream);
         drop(guard);
-        let waited = waiting.join(&rt);
-        check(is_asked, "the end of a call is not read")?;
-        check(answered, "node 1 waits for the seat of node 0")?;
-        check(waited, "the call that waited has another answer")
+        (is_asked, answered)
     }
 }
 
@@ -155,6 +154,34 @@ fn start_asking<R: Net<Stream = TcpStream> + Threads + Copy + Send + 'static>(
     had(thread::spawn(&rt, job))
 }
 
+// A thread that asks node 0 once its seat is held.
+fn start_waiting<R: Threads + Wait + Clock + Copy + Send + 'static>(
+    rt: R,
+    alloc: Global,
+    held: Arc<Flag, Global>,
+    stream: TcpStream,
+) -> Result<JoinHandle<bool>, Why> {
+    let job = move || held.is_up_within(&rt, TURNS) && answers(alloc, &stream);
+    had(thread::spawn(&rt, job))
+}
+
+// A call waits for the seat of node 0 until node 1 has answered another.
+fn answer_beside<
+    R: Net<Stream = TcpStream> + Threads + Wait + Clock + Copy + Send + 'static,
+    C: Held,
+>(rt: R, alloc: Global, nodes: &C, first_port: u16) -> Result<(), Why> {
+    let held = had(Arc::new(alloc, Flag::new()))?;
+    let raised = had(Arc::try_clone(&held))?;
+    let beside = connected(&rt, first_port.saturating_add(1), TURNS)?;
+    let stream = connected(&rt, first_port, 3 * TURNS)?;
+    let waiting = start_waiting(rt, alloc, raised, stream)?;
+    let (is_asked, answered) = nodes.hold_beside(&rt, alloc, &*held, &beside);
+    let waited = waiting.join(&rt);
+    check(is_asked, "the end of a call is not read")?;
+    check(answered, "node 1 waits for the seat of node 0")?;
+    check(waited, "the call that waited has another answer")
+}
+
 // A call is held at the gate of node 0 until node 1 has answered another.
 fn answer_meanwhile<
     R: Net<Stream = TcpStream> + Threads + Wait + Clock + Copy + Send + 'static,
@@ -193,7 +220,7 @@ fn call_at_once<
     let silent = TcpStream::connect(&rt, address_of(first_port.saturating_add(1)));
     check(silent.is_ok(), "no connection")?;
     answer_meanwhile(rt, alloc, service.nodes(), first_port)?;
-    service.nodes().answer_beside(rt, alloc, first_port)
+    answer_beside(rt, alloc, service.nodes(), first_port)
 }
 
 fn plays<
@@ -211,7 +238,7 @@ fn plays<
     requires named { log ≡ J.book }
     requires start { J.start ≡ [] }
 {
-    let gate = HoldingGate::new(rt);
+    let gate = HoldingGate::new(had(Arc::new(alloc, rt))?);
     let (nodes, notes) = three::<R, J, HoldingGate<R>>(&rt, alloc, hashing, log, gate)?;
     drop(notes);
     let nodes = Asked {
