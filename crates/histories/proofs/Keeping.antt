@@ -1,5 +1,5 @@
 -- The records that a history leaves a node are those that it kept: of what it sent, and of the cuts whose record was recovered.
-use Rattle.std.proofs.Common.{◌≡◌, ℕ, ◌&&◌, inl, inr, Bool, true, false, if◌then◌else◌, Option, None, Some, List, [], ◌∷◌, ◌++◌, length, take, drop, filter_map, refl, sym, ap, subst, ◌∙◌, append_assoc}
+use Rattle.std.proofs.Common.{◌≡◌, ℕ, ◌&&◌, inl, inr, Bool, true, false, if◌then◌else◌, Option, None, Some, List, [], ◌∷◌, ◌++◌, length, filter_map, refl, sym, ap, subst, ◌∙◌, append_assoc}
 use Rattle.std.specs.List.{cons_option}
 use Rattle.std.proofs.lemmas.List.{append-nil}
 use Rattle.ballots.specs.declared.message.Message.{Message}
@@ -10,8 +10,7 @@ use Rattle.table_types.specs.Uploads.{Upload}
 use Rattle.table_types.specs.Tables.{effective, outcome_of}
 use Rattle.table_types.specs.Answers.{answer_of}
 use Rattle.agreement_rules.specs.Views.{Config, Views, started_with}
-use Rattle.agreement_rules.specs.Due.{Plan, Due, Refuses, Plans, TickIsDue, PartIsDue, has_seen}
-use Rattle.agreement_rules.specs.Due as due
+use Rattle.agreement_rules.specs.Due.{Plan, Refuses, Plans, TickIsDue, PartIsDue, has_seen}
 use Rattle.agreement_rules.specs.Keeping.{record_of}
 use Rattle.histories.specs.Due.{Input, IsDue, PutIsDue, BodyIsDue, MessageIsDue, LearnsOf}
 use Rattle.histories.specs.Due as input
@@ -19,9 +18,9 @@ use Rattle.histories.specs.Event.{Event, is_restart}
 use Rattle.histories.specs.Event as event
 use Rattle.histories.specs.EventResult.{EventResult, is_done}
 use Rattle.histories.specs.EventResult as results
-use Rattle.histories.specs.Following.{Seat, IsUp, IsDown, with_due, down, reason_of, WantsMemory, PutGives, SendsGives, InputGives, CutGives, Delivers, GetGivesIfAble, InfoGivesIfAble, OutcomeGives, QuestionGives, RestartGives, UpGives, RefusesAsDown, DownGives, SeatGives}
-use Rattle.histories.specs.Owning.{Entry, handed_in, sends_in, is_turned_away, Leads, OwnReaches}
-use Rattle.histories.specs.Keeping.{is_recovered, restarts, IsDueAtCut, if_recovered, AreKept, records_in}
+use Rattle.histories.specs.Following.{Seat, IsUp, IsDown, with_due, reason_of, PutGives, SendsGives, InputGives, CutGives, Delivers, GetGivesIfAble, InfoGivesIfAble, RestartGives, UpGives, RefusesAsDown, DownGives, SeatGives}
+use Rattle.histories.specs.Owning.{Entry, handed_in, sends_in, is_turned_away, OwnReaches}
+use Rattle.histories.specs.Keeping.{is_recovered, IsDueAtCut, if_recovered, AreKept, records_in}
 use Rattle.histories.proofs.Own.{handed_away, handed_there}
 
 -- ---- a plan keeps what it sends

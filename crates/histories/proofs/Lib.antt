@@ -13,5 +13,6 @@ pub mod Learning
 pub mod Again
 pub mod Keeping
 pub mod OneDue
+pub mod OneSeat
 pub mod Within
 pub mod SomeDue

@@ -1,12 +1,11 @@
 -- What is due to one input is one thing.
-use Rattle.std.proofs.Common.{◌≡◌, ℕ, ◌<◌, ◌⊎◌, inl, inr, List, [], ◌∷◌, ◌++◌, length, map, refl, sym, ap, subst, ◌∙◌, arith}
+use Rattle.std.proofs.Common.{◌≡◌, ℕ, ◌⊎◌, inl, inr, List, [], ◌∷◌, ◌++◌, length, map, sym, ap, subst, ◌∙◌, arith}
 use Rattle.ballots.specs.declared.value.Value.{Value}
 use Rattle.ballots.specs.declared.message.Message.{Message}
 use Rattle.ballots.specs.declared.message.Body.{Body}
 use Rattle.ballots.specs.declared.message.Body.TheVariants as body
 use Rattle.ballots.specs.Message.{value_bytes}
 use Rattle.learner.specs.Calls.{Call as LearnerCall}
-use Rattle.learner.specs.Calls as learner
 use Rattle.table_types.specs.Uploads.{Upload, upload_text}
 use Rattle.table_types.specs.Valid.{IsUpload}
 use Rattle.table_types.specs.Tables.{outcome_of, unknown}
@@ -26,10 +25,10 @@ pub record OneDueLaws : Type 0 where
   pub encoding : (x y : Upload) → IsUpload x → IsUpload y → upload_text x ≡ upload_text y → x ≡ y
 
 module _ (laws : OneDueLaws) where
-  one_upload : (text : List ℕ) (x y : Upload) → IsTextOf text x → IsTextOf text y → x ≡ y
+  pub one_upload : (text : List ℕ) (x y : Upload) → IsTextOf text x → IsTextOf text y → x ≡ y
   one_upload text x y is also = laws.encoding x y is.0 also.0 (is.1 ∙ sym also.1)
 
-  one_list : (members : ℕ) (calls : List LearnerCall) (xs ys : List Upload) → HasUploads members calls xs → HasUploads members calls ys → xs ≡ ys
+  pub one_list : (members : ℕ) (calls : List LearnerCall) (xs ys : List Upload) → HasUploads members calls xs → HasUploads members calls ys → xs ≡ ys
   one_list members calls xs ys has also =
       laws.uploads (map value_bytes has.values) xs ys has.are
       (subst (λ (vs : List Value). AreUploadsIn vs ys) (sym (laws.prefix members calls has.values also.values has.prefix also.prefix)) also.are)

@@ -1,5 +1,5 @@
 -- It cannot be that nothing is due to an input, where a history left the node as it is.
-use Rattle.std.proofs.Common.{◌≡◌, ℕ, ◌<◌, ◌≤◌, ◌⊎◌, inl, inr, List, [], ◌∷◌, ◌++◌, length, map, Some, refl, sym, subst, arith}
+use Rattle.std.proofs.Common.{◌≡◌, ℕ, ◌≤◌, ◌⊎◌, inl, inr, List, [], ◌∷◌, length, map, refl, subst, arith}
 use Rattle.std.specs.List.{Contains}
 use Rattle.std.proofs.lemmas.Bool.{cases_lt}
 use Rattle.std.proofs.lemmas.Option.{slice_get_cases}
@@ -10,13 +10,12 @@ use Rattle.ballots.specs.declared.message.Body.TheVariants as body
 use Rattle.ballots.specs.Message.{value_bytes}
 use Rattle.learner.specs.Calls.{Call as LearnerCall, slot_of, IsLearned}
 use Rattle.learner.specs.Calls as learner
-use Rattle.learner.specs.Votes.{IsDecidedOrChosen, IsChosen}
 use Rattle.table_types.specs.Uploads.{Upload}
 use Rattle.table_types.specs.Tables.{outcome_of, unknown}
 use Rattle.agreement_rules.specs.Views.{Config, Views, with_waiting, IsFree, HasPrefix}
 use Rattle.agreement_rules.specs.Due.{Plan, Due, Refuses, Plans, SlotsSpent, OutOfRange, quietly, also_learns, IsMessageOf, has_seen, TickIsDue, PartIsDue}
 use Rattle.histories.specs.Texts.{IsTextOf, IsUploadText, AreUploadsOf, HasUploads}
-use Rattle.histories.specs.Due.{Input, Put, Tick, Deliver, Waits, IsKnown, waits_too, PutIsDue, AreStillWaiting, LearnsOf, BodyIsDue, MessageIsDue, IsDue, IsWellFormed}
+use Rattle.histories.specs.Due.{Input, Put, Tick, Deliver, Waits, waits_too, AreStillWaiting, LearnsOf, BodyIsDue, IsDue, IsWellFormed}
 use Rattle.histories.proofs.Lists.{in_front, behind_front}
 use Rattle.histories.proofs.Learners.{LearnerLaw}
 use Rattle.histories.proofs.Within.{IsSound}

@@ -1,5 +1,5 @@
 -- What a history leaves a node: its learner was called for slots below the limit alone, and what waits are uploads.
-use Rattle.std.proofs.Common.{◌≡◌, ◌≢◌, ℕ, ◌<◌, ◌+◌, inl, inr, Bool, Option, None, Some, List, [], ◌∷◌, ◌++◌, length, refl, sym, ap, subst, ◌∙◌}
+use Rattle.std.proofs.Common.{◌≡◌, ℕ, ◌<◌, ◌+◌, inl, inr, Bool, Option, List, [], ◌∷◌, ◌++◌, refl, sym, ap, subst, ◌∙◌}
 use Rattle.std.specs.List.{Contains, cons_option}
 use Rattle.std.proofs.lemmas.Bool.{cases_eq}
 use Rattle.std.proofs.lemmas.List.{append-nil}
@@ -10,20 +10,18 @@ use Rattle.ballots.specs.declared.message.Body.TheVariants as body
 use Rattle.learner.specs.Calls.{Call as LearnerCall, slot_of}
 use Rattle.learner.specs.Calls as learner
 use Rattle.table_types.specs.Uploads.{Upload}
-use Rattle.table_types.specs.Tables.{outcome_of, unknown}
 use Rattle.agreement_rules.specs.Views.{Config, Views, started_with}
 use Rattle.agreement_rules.specs.Due.{Plan, Due, Refuses, Plans, Aim, Attempts, AsksFrom, AsksAt, AimIsDue, TickIsDue, PartIsDue, IsMessageOf, has_seen}
 use Rattle.agreement_rules.specs.Due as due
 use Rattle.agreement_rules.specs.Calling.{proposer_calls_of, learner_calls_of}
-use Rattle.histories.specs.Texts.{IsTextOf, IsUploadText}
+use Rattle.histories.specs.Texts.{IsUploadText}
 use Rattle.histories.specs.Due.{Input, IsDue, PutIsDue, AreStillWaiting, LearnsOf, BodyIsDue, MessageIsDue}
 use Rattle.histories.specs.Due as input
 use Rattle.histories.specs.Event.{Event, node_of}
 use Rattle.histories.specs.Event as event
 use Rattle.histories.specs.EventResult.{EventResult, count_of}
-use Rattle.histories.specs.EventResult as results
 use Rattle.histories.specs.History.{Step}
-use Rattle.histories.specs.Following.{Seat, IsUp, IsDown, recovered_in, down, PutGives, SendsGives, InputGives, CutGives, Delivers, RestartGives, UpGives, DownGives, RefusesAsDown, SeatGives, StepFollows, StepsReach, at_first}
+use Rattle.histories.specs.Following.{Seat, IsUp, IsDown, recovered_in, down, PutGives, SendsGives, InputGives, CutGives, RestartGives, UpGives, RefusesAsDown, SeatGives, StepFollows, StepsReach, at_first}
 use Rattle.histories.proofs.Lists.{nothing_in, first_or_rest, last_or_before}
 
 pub record IsSound (config : Config) (views : Views) : Type 0 where

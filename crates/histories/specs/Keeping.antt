@@ -3,7 +3,7 @@
 use Rattle.std.specs.Prelude.{◌≡◌, ◌&&◌, Bool, true, false, if◌then◌else◌, Option, None, Some, List, [], ◌∷◌, ◌++◌, filter_map}
 use Rattle.ballots.specs.declared.message.Message.{Message}
 use Rattle.ballots.specs.declared.record.Record.{Record}
-use Rattle.agreement_rules.specs.Views.{Config, Views}
+use Rattle.agreement_rules.specs.Views.{Config}
 use Rattle.agreement_rules.specs.Due.{TickKeeps, MessageKeeps}
 use Rattle.agreement_rules.specs.Keeping.{record_of}
 use Rattle.histories.specs.Event.{Event, is_restart}

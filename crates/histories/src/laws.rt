@@ -1,19 +1,20 @@
 //! Laws of histories whose nodes follow their rules.
 
-ghost use Rattle.std.specs.Prelude.{◌≡◌, ℕ, ◌<◌, Bool, List, [], ◌∷◌, ◌++◌, length};
+ghost use Rattle.std.specs.Prelude.{◌≡◌, ◌≢◌, ℕ, ◌<◌, Bool, List, [], ◌∷◌, ◌++◌, length};
 ghost use Rattle.ballots.specs.declared.message.Message.{Message};
+ghost use Rattle.ballots.specs.declared.record.Record.{Record};
 ghost use Rattle.std.specs.List.{Contains};
 ghost use Rattle.learner.specs.Calls.{Call as LearnerCall, slot_of};
 ghost use Rattle.lawful_histories.specs.Lawful.{IsLawful};
 ghost use Rattle.histories.specs.Texts.{IsUploadText};
 ghost use Rattle.histories.specs.History.{Step, History};
-ghost use Rattle.histories.specs.Event.{node_of};
-ghost use Rattle.histories.specs.EventResult.{count_of};
+ghost use Rattle.histories.specs.Event.{Event, node_of};
+ghost use Rattle.histories.specs.EventResult.{EventResult, Refused, OutOfMemory, count_of};
 ghost use Rattle.agreement_rules.specs.Views.{Config, Views, started_with};
 ghost use Rattle.agreement_rules.specs.Due.{Due};
 ghost use Rattle.histories.specs.Due.{Input, IsDue, IsWellFormed};
 ghost use Rattle.histories.specs.Following.{Seat, IsUp, SeatGives, IsAsked, StepFollows, ReachesFrom, Reaches, with_seat, Follows};
-ghost use Rattle.histories.specs.Owning.{entries_of, own, OwnReaches};
+ghost use Rattle.histories.specs.Owning.{Entry, entries_of, own, Leads, OwnReaches};
 ghost use Rattle.histories.specs.Keeping.{AreKept, records_in};
 
 use agreement_rules::laws::{
@@ -154,4 +155,35 @@ pub fn records_are_kept()
         → AreKept config (IsUp (started_with [])) (own node sent steps recovered) (records_in (seats node)) }
 {
     plans_keep_what_they_send();
+}
+
+/// What a step gives a node is one thing, unless memory is refused; and whatever it gives, it leaves the node in one way. So
+/// the steps of a history, and the node's own entries too, leave a node as they do, and in no other way.
+pub fn steps_are_one()
+    ensures given { (config : Config) (sent : List Message) (next : ℕ) (recovered : Bool) (old new other : Seat) (event : Event)
+        (x y : EventResult) → x ≢ Refused OutOfMemory → y ≢ Refused OutOfMemory
+        → SeatGives config sent next recovered old event x new → SeatGives config sent next recovered old event y other
+        → x ≡ y }
+    ensures left { (config : Config) (sent : List Message) (next : ℕ) (recovered : Bool) (old new other : Seat) (event : Event)
+        (x : EventResult) → SeatGives config sent next recovered old event x new
+        → SeatGives config sent next recovered old event x other → new ≡ other }
+    ensures entries { (config : Config) (old new other : Seat) (entry : Entry) → Leads config old entry new
+        → Leads config old entry other → new ≡ other }
+{
+    part_is_one();
+    prefixes_are_one();
+    texts_hold_one_list_of_uploads();
+    uploads_have_one_encoding();
+}
+
+/// The records that a node's entries made it keep are one list: each message that it sent has its own record, a cut in doubt
+/// the one that was due there, and nothing else leaves any (Lamport, *Paxos Made Simple*, section 2.5).
+pub fn kept_records_are_one()
+    ensures { (config : Config) (seat : Seat) (entries : List Entry) (a b : List Record) → AreKept config seat entries a
+        → AreKept config seat entries b → a ≡ b }
+{
+    part_is_one();
+    prefixes_are_one();
+    texts_hold_one_list_of_uploads();
+    uploads_have_one_encoding();
 }
