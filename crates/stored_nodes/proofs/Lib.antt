@@ -9,3 +9,4 @@ mod Arms
 mod Answering
 mod Planning
 mod Reopening
+mod Failing

@@ -80,6 +80,19 @@ SeatApplies old new seat before after e given =
 
 -- ---- an event that is not, for want of memory
 
+-- the event hands the node this input, where these messages were sent before
+abbrev pub IsHanded : List Message → Event → Input → Type 0
+IsHanded sent (event.Put node text) asked = asked ≡ input.Put text
+IsHanded sent (event.Tick node left) asked = asked ≡ input.Tick left
+IsHanded sent (event.Deliver node number) asked =
+    (m : Message) × (slice_get sent number ≡ Some m) × (asked ≡ input.Deliver m)
+IsHanded sent (event.TickCut node left) asked = ⊥
+IsHanded sent (event.DeliverCut node number) asked = ⊥
+IsHanded sent (event.Restart node) asked = ⊥
+IsHanded sent (event.Get node table version) asked = ⊥
+IsHanded sent (event.Info node table) asked = ⊥
+IsHanded sent (event.Outcome node text) asked = ⊥
+
 -- messages are due to the input
 abbrev pub SendsFor : Config → ℕ → Views → Input → Type 0
 SendsFor config me views of = (plan : Plan) × IsDue config me views of (Plans plan) × (plan.sends ≢ [])

@@ -25,6 +25,7 @@ mod events;
 mod fault;
 mod handing;
 mod kept;
+pub mod laws;
 mod opening;
 mod questions;
 mod reasons;
