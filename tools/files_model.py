@@ -80,14 +80,14 @@ def member(value, name):
 def members_in(value):
     members = member(value, "members")
     if not is_whole(members, 1, MOST_MEMBERS):
-        raise Flaw("`members` is not there, or is no whole number from 1 to 7")
+        raise Flaw("`members` is missing or not a whole number from 1 to 7")
     return members
 
 
 def array_in(value, name):
     items = member(value, name)
     if not isinstance(items, list):
-        raise Flaw(f"`{name}` is not there, or is no array")
+        raise Flaw(f"`{name}` is missing or not an array")
     return items
 
 
@@ -106,13 +106,13 @@ def said_of(parts):
 def message_at(place, item):
     flaw = f"message {place} of `sent`"
     if not isinstance(item, str):
-        raise Flaw(f"{flaw} is no text")
+        raise Flaw(f"{flaw} is not a string")
     if not re.fullmatch("(?:[0-9a-fA-F]{2})*", item):
-        raise Flaw(f"{flaw} is no pairs of hexadecimal digits")
+        raise Flaw(f"{flaw} is not pairs of hexadecimal digits")
     try:
         return said_of(parts_of(bytes.fromhex(item), MESSAGE, HEAD, IN_MESSAGE))
     except Faults as faults:
-        raise Flaw(*(f"{flaw} is spelled in digits, but its bytes mean no message: {it}" for it in sorted(faults.names))) from None
+        raise Flaw(*(f"{flaw} is not a valid message: {it}" for it in sorted(faults.names))) from None
 
 
 def run_in(file):
@@ -234,7 +234,7 @@ def records(file):
                 raise Faults("CutShort")
             lines.append(record_line(len(lines), parts_of(file[at + 5 : end], RECORD, [], IN_RECORD)))
         except Faults:
-            return 1, "", [f"flightd: Damaged\nbyte {at}: no whole record stands behind this gate, which is open\n"]
+            return 1, "", [f"flightd: Damaged\nbyte {at}: this gate is open, but the record after it is incomplete\n"]
         at = end
     return 0, "".join(f"{it}\n" for it in lines), [""]
 
@@ -296,7 +296,7 @@ def upload_at(place, value):
     batches = values if is_one else []
     is_one = is_one and all(isinstance(it, list) for it in batches)
     if not is_one or not all(cell is None or is_whole(cell, -128, 127) for it in batches for cell in it):
-        raise Flaw(f"upload {place} of `uploads` tells no upload that is taken")
+        raise Flaw(f"upload {place} of `uploads` is not a valid upload")
     return {"table": table, "id": id, "values": values, "name": name}
 
 
@@ -316,7 +316,7 @@ def event_at(place, value, uploads):
     is_one = isinstance(value, list) and len(value) > 1 and isinstance(value[0], str) and value[0] in WANTED and is_whole(value[1], 0, MOST)
     kinds = WANTED[value[0]] if is_one else []
     if not is_one or len(value) != 2 + len(kinds) or not all(map(is_wanted, kinds, value[2:], [uploads] * len(kinds))):
-        raise Flaw(f"event {place} of `events` is no array of a word, a node's number and what the word asks for")
+        raise Flaw(f"event {place} of `events` is not an array of a word, a node's number and that word's arguments")
     return value
 
 
@@ -324,7 +324,7 @@ def schedule_in(file):
     value = json_of(file)
     members, slots = members_in(value), member(value, "slot_limit")
     if not is_whole(slots, 1, MOST_SLOTS):
-        raise Flaw("`slot_limit` is not there, or is no whole number from 1 to 1,000,000")
+        raise Flaw("`slot_limit` is missing or not a whole number from 1 to 1,000,000")
     uploads, events = array_in(value, "uploads"), array_in(value, "events")
     uploads = [upload_at(place, it) for place, it in enumerate(uploads)]
     events = [event_at(place, it, len(uploads)) for place, it in enumerate(events)]

@@ -183,13 +183,13 @@ def is_played(outcome, lines):
 FLAWS = {
     "text": "the file is not UTF-8",
     "json": "the file is not one JSON value",
-    "members": "`members` is not there, or is no whole number from 1 to 7",
-    "slot_limit": "`slot_limit` is not there, or is no whole number from 1 to 1,000,000",
-    "uploads": "`uploads` is not there, or is no array",
-    "events": "`events` is not there, or is no array",
-    "upload": "upload 0 of `uploads` tells no upload that is taken",
-    "event": "event 0 of `events` is no array of a word, a node's number and what the word asks for",
-    "last event": "event 3 of `events` is no array of a word, a node's number and what the word asks for",
+    "members": "`members` is missing or not a whole number from 1 to 7",
+    "slot_limit": "`slot_limit` is missing or not a whole number from 1 to 1,000,000",
+    "uploads": "`uploads` is missing or not an array",
+    "events": "`events` is missing or not an array",
+    "upload": "upload 0 of `uploads` is not a valid upload",
+    "event": "event 0 of `events` is not an array of a word, a node's number and that word's arguments",
+    "last event": "event 3 of `events` is not an array of a word, a node's number and that word's arguments",
 }
 
 
@@ -252,7 +252,7 @@ def beginnings_of_records(program):
     gates = [sum(map(len, blocks[:count])) for count in range(len(blocks) + 1)]
     for size in range(len(whole)):
         place = max(gate for gate in gates if gate < max(size, 1))
-        damage = f"byte {place}: no whole record stands behind this gate, which is open"
+        damage = f"byte {place}: this gate is open, but the record after it is incomplete"
         wanted = (1, b"", f"flightd: Damaged\n{damage}\n".encode()) if size > 1 else (0, b"", b"")
         yield f"the first {size} bytes of a file of records", program.over("records", whole[:size]) == wanted
     outcome = program.over("records", whole)

@@ -69,8 +69,8 @@ ROWS = [{"shop": "Bern", "sold": 3}, {"shop": "Zürich", "sold": None}]
 OLD, MISSING = "has records: --resume goes on over them", "is missing: "
 # Its text about damage, after the byte; and that about a file whose first record is not whole.
 COPIES = "; put back whole copies of the node's two files, as they were last"
-NO_RECORD, CHANGED = "no whole record stands behind this gate, which is open", "the record behind this gate is not the one that was kept"
-CLOSED = "this gate is closed, and a record was kept behind it"
+NO_RECORD, CHANGED = "this gate is open, but the record after it is incomplete", "the record after this gate is not the one that was written"
+CLOSED = "this gate is closed, but a record was written after it"
 NO_RECORDS = f"byte 0: {NO_RECORD}{COPIES}"
 IN_USE, NOT_OPENED = "is in use by another process", "can't be opened or made"
 SHORTER, OTHER_COUNT = "is shorter than the last server left it: ", "has the files of another number of nodes: "
@@ -412,7 +412,7 @@ def bad_script(program):
     with tempfile.TemporaryDirectory() as folder:
         file = Path(folder) / "calls.json"
         file.write_text('{"nodes":3,"calls":[["info",0,"t"],["info",3,"t"]]}', encoding="utf-8")
-        call = "call 1 of `calls` is no array of a word, a node's number and what the word asks for"
+        call = "call 1 of `calls` is not an array of a word, a node's number and that word's arguments"
         want(told(program, ["script", str(file)]), (1, "", f"flightd: BadScript\nflightd: {call}\n"))
 
 
@@ -467,7 +467,7 @@ def show_records(program, file):
     *front, last = records_in(file)
     place = sum(5 + len(record) for record in front)
     Path(file).write_bytes(Path(file).read_bytes()[: place + 5 + len(last) - 1])
-    damage = f"byte {place}: no whole record stands behind this gate, which is open\n"
+    damage = f"byte {place}: this gate is open, but the record after it is incomplete\n"
     want(told(program, ["records", file]), (1, "", "flightd: Damaged\n" + damage))
 
 

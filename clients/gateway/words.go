@@ -19,7 +19,7 @@ Usage: felzoren-gateway --first PORT NODE..
 Clients connect by gRPC over HTTP/2, without TLS. The gateway ends by SIGTERM or SIGINT.
 
 Example: felzoren-gateway --first 43000 127.0.0.1:42000 127.0.0.1:42001 127.0.0.1:42002
-Exit status: 0 ended by a signal, or help; 1 a fault; 2 words that are no call.
+Exit status: 0 ended by a signal, or help; 1 a fault; 2 invalid arguments.
 `
 
 // mostNodes is the largest number of nodes of a cluster.

@@ -1,6 +1,6 @@
 //! One node's part in agreement (Lamport, *Paxos Made Simple*, sections 2 and 3): its acceptor, its proposer, its
 //! learner and the log of what is decided, as one, by what a node owes to the messages that come (`Due` in the
-//! definitions of `histories`).
+//! definitions of `agreement_rules`).
 //!
 //! A call decides a step, makes the room that it will want, and changes nothing else. The record that a step has is
 //! kept before the step is taken, and its messages go out after:

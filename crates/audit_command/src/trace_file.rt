@@ -44,10 +44,10 @@ pub enum TraceFlaw {
     #[error("the file is not one JSON value")]
     NotJson,
     /// It is no object with a whole number `members`, 1 to [`MAX_MEMBERS`].
-    #[error("`members` is not there, or is no whole number from 1 to 7")]
+    #[error("`members` is missing or not a whole number from 1 to 7")]
     Members,
     /// It is no object with an array `sent`.
-    #[error("`sent` is not there, or is no array")]
+    #[error("`sent` is missing or not an array")]
     Sent,
     /// The message in this place of `sent`, from 0, is none.
     #[error("message {place} of `sent` {flaw}")]
@@ -62,14 +62,14 @@ pub enum TraceFlaw {
 /// What is wrong with an item of `sent`.
 #[derive(Clone, Copy, Debug, PartialEq, Eq, Error)]
 pub enum MessageFlaw {
-    /// It is no text.
-    #[error("is no text")]
+    /// It is not a string.
+    #[error("is not a string")]
     NotText,
-    /// The text is no pairs of hexadecimal digits.
-    #[error("is no pairs of hexadecimal digits")]
+    /// The text is not pairs of hexadecimal digits.
+    #[error("is not pairs of hexadecimal digits")]
     NotHexadecimal,
     /// The bytes that the digits spell mean no message.
-    #[error("is spelled in digits, but its bytes mean no message: {0}")]
+    #[error("is not a valid message: {0}")]
     NoMessage(MessageFault),
 }
 

@@ -1,4 +1,4 @@
-//! `flightd put`, `get`, `list` and `info`: a client's words, done over any connections and writers.
+//! `flightd put`, `get`, `list` and `info`: the commands of a client, over any connections and writers.
 //!
 //! Each word has a function `.._run`, which reads its words, makes its calls, each over a connection of its own
 //! ([`Connect`] of `client_connections`), prints what was told, reports a fault in a line, and gives the exit status. The

@@ -7,8 +7,8 @@ pub(crate) const PROGRAM: &str =
 /// How the program ends.
 pub(crate) const PROGRAM_MORE: &str = "\
 Example: flightd audit --explain run.json
-Exit status: 0 success; 1 a fault, or a recorded run that is unlawful; 2 words that are no call.
-A fault is told in a line on standard error. docs/FORMATS.md has the bytes and the files.";
+Exit status: 0 success; 1 a fault, or a recorded run that is unlawful; 2 invalid arguments.
+An error is one line on standard error. docs/FORMATS.md has the bytes and the files.";
 
 /// What the acceptor does.
 pub(crate) const ACCEPTOR: &str =
@@ -18,7 +18,7 @@ pub(crate) const ACCEPTOR: &str =
 pub(crate) const ACCEPTOR_MORE: &str = "\
 Example: flightd acceptor < asked.frames > answered.frames
 Input: frames on standard input, each of a message of Paxos (docs/FORMATS.md). Each Prepare and Accept is answered.
-Exit status: 0 at the end of the input; 1 after a fault; 2 words that are no call.";
+Exit status: 0 at the end of the input; 1 after a fault; 2 invalid arguments.";
 
 /// What the audit does.
 pub(crate) const AUDIT: &str =
@@ -28,14 +28,14 @@ pub(crate) const AUDIT: &str =
 pub(crate) const AUDIT_MORE: &str = "\
 Example: flightd audit --explain run.json
 Input: FILE, a JSON object with the number of members and the messages that they sent (docs/FORMATS.md).
-Exit status: 0 lawful; 1 unlawful, or a fault; 2 words that are no call.";
+Exit status: 0 lawful; 1 unlawful, or a fault; 2 invalid arguments.";
 
 /// What the file of an audit is.
 pub(crate) const RUN_FILE: &str = "A recorded run of Paxos messages";
 
 /// What the audit's option asks for.
 pub(crate) const EXPLAIN: &str =
-    "Behind unlawful prints the first message that breaks a rule, and a line for each rule that it breaks; of a file that tells no run says what is wrong";
+    "After unlawful, also prints the first message that breaks a rule, and a line for each rule that it breaks";
 
 /// What the replay does.
 pub(crate) const REPLAY: &str =
@@ -45,7 +45,7 @@ pub(crate) const REPLAY: &str =
 pub(crate) const REPLAY_MORE: &str = "\
 Example: flightd replay schedule.json
 Input: FILE, a JSON object with members, slots, uploads and events (docs/FORMATS.md).
-Exit status: 0 where every line was written; 1 after a fault; 2 words that are no call.";
+Exit status: 0 where every line was written; 1 after a fault; 2 invalid arguments.";
 
 /// What the file of a replay is.
 pub(crate) const SCHEDULE_FILE: &str = "A schedule of events";
@@ -59,7 +59,7 @@ pub(crate) const SERVE_MORE: &str = "\
 Example: flightd serve --data records --resume --nodes 5 --port 42000 serves nodes 0 to 4 at the ports 42000 to 42004.
 Output: once all ports are open, a line for each node with its address. Node k keeps its records in DIR/node-k.rec.
 With --resume every version that an earlier server acknowledged is served again.
-Exit status: 1 after a fault; 2 words that are no call.";
+Exit status: 1 after a fault; 2 invalid arguments.";
 
 /// How many nodes are served.
 pub(crate) const NODES: &str = "How many nodes the cluster has: 3, the default, or 5";
@@ -90,7 +90,7 @@ pub(crate) const SCRIPT: &str =
 pub(crate) const SCRIPT_MORE: &str = "\
 Example: flightd script calls.json
 Input: FILE, a JSON object with the number of nodes and the calls.
-Exit status: 0 where the receipts of all answers are right; 1 where not, or after a fault; 2 words that are no call.";
+Exit status: 0 where the receipts of all answers are right; 1 where not, or after a fault; 2 invalid arguments.";
 
 /// What the file of a script is.
 pub(crate) const SCRIPT_FILE: &str = "A script of calls";
@@ -104,7 +104,7 @@ pub(crate) const RECORDS_MORE: &str = "\
 Example: flightd records data/node-0.rec prints a line for each record; flightd records data says of all nodes' files how
 many slots are decided, which tables and versions they make, and which slots are open. Nothing is written or changed.
 Input: FILE, the file of a node that was served, or the folder with the files of all (docs/FORMATS.md).
-Exit status: 0 where all was printed; 1 after a fault, as a file that is damaged; 2 words that are no call.";
+Exit status: 0 where all was printed; 1 after a fault, as a file that is damaged; 2 invalid arguments.";
 
 /// What the file of records is.
 pub(crate) const RECORDS_FILE: &str = "A node's file of records, or the folder of a cluster";
@@ -117,7 +117,7 @@ pub(crate) const PUT: &str =
 pub(crate) const PUT_MORE: &str = "\
 Example: flightd put 127.0.0.1:42000 cities cities.jsonl --id 000102030405060708090a0b0c0d0e0f
 Input: FILE, rows as lines of JSON (docs/FORMATS.md).
-Exit status: 0 where the server has them; the status of a refusal, where the server refuses (docs/FORMATS.md); 1 after another fault; 2 words that are no call.";
+Exit status: 0 where the server has them; the status of a refusal, where the server refuses (docs/FORMATS.md); 1 after another fault; 2 invalid arguments.";
 
 /// Where a server is.
 pub(crate) const ADDRESS: &str = "Where the server is, as HOST:PORT";
@@ -130,7 +130,7 @@ pub(crate) const ROWS_FILE: &str = "A file of rows, or - for standard input";
 
 /// What names an upload.
 pub(crate) const ID: &str =
-    "The upload's id, 32 lower-case hexadecimal digits, drawn where it is not told: what is put again by one id stands once";
+    "The upload's id, 32 lower-case hexadecimal digits; random if omitted. The same upload put again with its id counts once";
 
 /// What the schema of a put is.
 pub(crate) const SCHEMA: &str =
@@ -144,7 +144,7 @@ pub(crate) const GET: &str =
 pub(crate) const GET_MORE: &str = "\
 Example: flightd get 127.0.0.1:42000 cities 2
 Output: rows as lines of JSON (docs/FORMATS.md).
-Exit status: 0 where every row was printed; the status of a refusal, where the server refuses (docs/FORMATS.md); 1 after another fault; 2 words that are no call.";
+Exit status: 0 where every row was printed; the status of a refusal, where the server refuses (docs/FORMATS.md); 1 after another fault; 2 invalid arguments.";
 
 /// Which version is got.
 pub(crate) const VERSION: &str = "The version's number, from 1 on; without it, the latest version";
@@ -159,7 +159,7 @@ pub(crate) const LIST: &str = "Prints the tables of a server, a line for each";
 /// How listing ends.
 pub(crate) const LIST_MORE: &str = "\
 Example: flightd list 127.0.0.1:42000
-Exit status: 0 where every line was printed; the status of a refusal, where the server refuses (docs/FORMATS.md); 1 after another fault; 2 words that are no call.";
+Exit status: 0 where every line was printed; the status of a refusal, where the server refuses (docs/FORMATS.md); 1 after another fault; 2 invalid arguments.";
 
 /// What is told of a table.
 pub(crate) const INFO: &str =
@@ -168,4 +168,4 @@ pub(crate) const INFO: &str =
 /// How telling of a table ends.
 pub(crate) const INFO_MORE: &str = "\
 Example: flightd info 127.0.0.1:42000 cities
-Exit status: 0 where it was printed; the status of a refusal, where the server refuses (docs/FORMATS.md); 1 after another fault; 2 words that are no call.";
+Exit status: 0 where it was printed; the status of a refusal, where the server refuses (docs/FORMATS.md); 1 after another fault; 2 invalid arguments.";

@@ -1,4 +1,4 @@
-//! The words that the program is called with.
+//! The command line of the program.
 //!
 //! `parse` reads them, and `asked_by` says what they ask for: the acceptor, the audit of a file, with its explanation or
 //! without, or its replay; a cluster that is served, or one that a script is run at; a node's records; or a call of a server. A caller prints

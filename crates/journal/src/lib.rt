@@ -1,7 +1,7 @@
-//! The journal of nodes that run at once, and the receipts of what stands there.
+//! The journal of nodes that run concurrently, and the receipts of its steps.
 //!
-//! Nodes in one process enter what they do into one [`Journal`], each step behind those before: an event, what it gave,
-//! and the messages that it sent. Its type keeps that every step followed by the rules of a node (`Following` of
+//! Nodes in one process enter what they do into one [`Journal`], one step after the other: an event, its result, and the
+//! messages that it sent. Its type keeps that every step followed by the rules of a node (`Following` of
 //! `histories`), whichever node took it. So what it tells is a history that clients may rely on: answers to one ticket have
 //! equal bytes, and an upload that was told to be applied stands once in every later version (`Safe` of
 //! `safe_histories`).

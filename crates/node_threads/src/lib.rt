@@ -1,4 +1,4 @@
-//! Several nodes in one process, each behind a lock of its own, with one journal behind another.
+//! Several nodes in one process, each protected by a lock of its own, and their one journal by another.
 //!
 //! A [`Cluster`] has the seats of its nodes and their journal. Its calls take the locks, always a seat's first and then the
 //! journal's, and never two seats': what comes to a node is worked out with the seat alone, while other nodes go on; then one

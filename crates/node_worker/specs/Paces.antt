@@ -59,7 +59,7 @@ is_progress (body.Accepted acceptance) = true
 is_progress body.Ask = false
 is_progress (body.Decided value) = true
 
--- so many of its ticks sent an Ask since an Accepted or a Decided came, or an event that is no tick, no delivery and no answer
+-- the number of its ticks that sent an Ask since an Accepted or a Decided came, or an event that is no tick, no delivery and no answer
 abbrev pub asked : List Happening → ℕ
 asked [] = 0
 asked (Passed time ∷ before) = asked before
@@ -67,7 +67,7 @@ asked (Came message ∷ before) = if is_progress message.body then 0 else asked 
 asked (Acted ∷ before) = 0
 asked (Ticked sent ∷ before) = if option_map_or (λ message. is_ask message.body) sent false then suc (asked before) else asked before
 
--- so many of its ticks began an attempt since then, or since an Ask came, which tells that its sender is there
+-- the number of its ticks that began an attempt since then, or since an Ask came, which tells that its sender is there
 abbrev pub tried : List Happening → ℕ
 tried [] = 0
 tried (Passed time ∷ before) = tried before
@@ -75,11 +75,11 @@ tried (Came message ∷ before) = if is_progress message.body || is_ask message.
 tried (Acted ∷ before) = 0
 tried (Ticked sent ∷ before) = if option_map_or (λ message. is_prepare message.body) sent false then suc (tried before) else tried before
 
--- so many milliseconds, behind so many tries: 50 at first, and twice as many with each of them, up to 51,200
+-- the milliseconds that it waits after this number of tries: 50 at first, and twice as many with each of them, up to 51,200
 abbrev pub wait_behind : ℕ → ℕ
 wait_behind tries = min (50 * 2 ^ tries) 51200
 
--- A tick is due after so many milliseconds without a message: the longer of what its Asks and its attempts make it wait.
+-- A tick is due after this many milliseconds without a message: the longer of what its Asks and its attempts make it wait.
 abbrev pub wait_after : List Happening → ℕ
 wait_after happened = max (wait_behind (asked happened)) (wait_behind (tried happened))
 

@@ -51,7 +51,7 @@ fn is_cut_line(alloc: Global, lines: &[u8], room: usize) -> bool {
 #[test]
 fn fails_where_its_fault_cannot_be_said(rt: HostRuntime) {
     let lines =
-        b"flightd: BadTrace\nflightd: `members` is not there, or is no whole number from 1 to 7\n";
+        b"flightd: BadTrace\nflightd: `members` is missing or not a whole number from 1 to 7\n";
     for room in 0..=lines.len() {
         assert!(rt; is_cut_line(rt.alloc(), lines, room), "in {room} bytes");
     }

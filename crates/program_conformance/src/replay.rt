@@ -49,7 +49,7 @@ fn is_cut_line(alloc: Global, hashing: RandomState, lines: &[u8], room: usize) -
 fn fails_where_its_fault_cannot_be_told(rt: HostRuntime) -> Result<(), Fail> {
     let hashing = RandomState::new(&rt)?;
     let lines =
-        b"flightd: BadSchedule\nflightd: `members` is not there, or is no whole number from 1 to 7\n";
+        b"flightd: BadSchedule\nflightd: `members` is missing or not a whole number from 1 to 7\n";
     for room in 0..=lines.len() {
         assert!(rt;
             is_cut_line(rt.alloc(), hashing, lines, room),
@@ -65,35 +65,35 @@ const NO_SCHEDULES: [(&[u8], &str); 10] = [
     (b"{\"members\":3", "the file is not one JSON value"),
     (
         b"{\"members\":8,\"slot_limit\":0}",
-        "`members` is not there, or is no whole number from 1 to 7",
+        "`members` is missing or not a whole number from 1 to 7",
     ),
     (
         b"{\"members\":3,\"slot_limit\":0}",
-        "`slot_limit` is not there, or is no whole number from 1 to 1,000,000",
+        "`slot_limit` is missing or not a whole number from 1 to 1,000,000",
     ),
     (
         b"{\"members\":3,\"slot_limit\":2,\"uploads\":{},\"events\":{}}",
-        "`uploads` is not there, or is no array",
+        "`uploads` is missing or not an array",
     ),
     (
         b"{\"members\":3,\"slot_limit\":2,\"uploads\":[7]}",
-        "`events` is not there, or is no array",
+        "`events` is missing or not an array",
     ),
     (
         b"{\"members\":3,\"slot_limit\":2,\"uploads\":[7],\"events\":[7]}",
-        "upload 0 of `uploads` tells no upload that is taken",
+        "upload 0 of `uploads` is not a valid upload",
     ),
     (
         b"{\"members\":3,\"slot_limit\":2,\"uploads\":[],\"events\":[[\"put\",0,0]]}",
-        "event 0 of `events` is no array of a word, a node's number and what the word asks for",
+        "event 0 of `events` is not an array of a word, a node's number and that word's arguments",
     ),
     (
         b"{\"members\":3,\"slot_limit\":2,\"uploads\":[],\"events\":[[\"restart\",0],[\"tick\",0,256],[\"x\"]]}",
-        "event 1 of `events` is no array of a word, a node's number and what the word asks for",
+        "event 1 of `events` is not an array of a word, a node's number and that word's arguments",
     ),
     (
         b"{\"members\":3,\"slot_limit\":2,\"uploads\":[],\"events\":[[\"restart\",0],[\"tick\",0,255],[]]}",
-        "event 2 of `events` is no array of a word, a node's number and what the word asks for",
+        "event 2 of `events` is not an array of a word, a node's number and that word's arguments",
     ),
 ];
 

@@ -18,13 +18,13 @@ use thiserror::Error;
 #[derive(Clone, Copy, Debug, PartialEq, Eq, Error)]
 pub enum DamageKind {
     /// It is open, and no whole record with a gate behind it follows.
-    #[error("no whole record stands behind this gate, which is open")]
+    #[error("this gate is open, but the record after it is incomplete")]
     NoRecord,
     /// The record behind it is not the one that was kept.
-    #[error("the record behind this gate is not the one that was kept")]
+    #[error("the record after this gate is not the one that was written")]
     Changed,
     /// It is closed, and a record was kept behind it.
-    #[error("this gate is closed, and a record was kept behind it")]
+    #[error("this gate is closed, but a record was written after it")]
     Closed,
 }
 

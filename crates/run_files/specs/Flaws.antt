@@ -71,7 +71,7 @@ TellsMembers d members = (number_at (codes "members") d ≡ Some members) × IsM
 abbrev pub IsConfigured : Data → Type 0
 IsConfigured d = (config : Config) × TellsConfig d config
 
--- an array `events` is there, and of the items of `uploads` the one at this place tells no upload that is taken
+-- an array `events` is there, and of the items of `uploads` the one at this place is not a valid upload
 pub record HasBadUpload (d : Data) (place : ℕ) : Type 0 where
   pub configured : IsConfigured d
   pub events : HasArray (codes "events") d

@@ -21,22 +21,22 @@ pub enum ScheduleFlaw {
     #[error("{0}")]
     Text(TextFlaw),
     /// It is no object with a whole number `members`, 1 to [`MAX_MEMBERS`](ballots::MAX_MEMBERS).
-    #[error("`members` is not there, or is no whole number from 1 to 7")]
+    #[error("`members` is missing or not a whole number from 1 to 7")]
     Members,
     /// It is no object with a whole number `slot_limit`, 1 to [`MAX_SLOTS`](traces::MAX_SLOTS).
-    #[error("`slot_limit` is not there, or is no whole number from 1 to 1,000,000")]
+    #[error("`slot_limit` is missing or not a whole number from 1 to 1,000,000")]
     SlotLimit,
     /// It is no object with an array `uploads`.
-    #[error("`uploads` is not there, or is no array")]
+    #[error("`uploads` is missing or not an array")]
     Uploads,
     /// It is no object with an array `events`.
-    #[error("`events` is not there, or is no array")]
+    #[error("`events` is missing or not an array")]
     Events,
-    /// The item in this place of `uploads`, from 0, tells no upload that is taken.
-    #[error("upload {0} of `uploads` tells no upload that is taken")]
+    /// The item in this place of `uploads`, from 0, is not a valid upload.
+    #[error("upload {0} of `uploads` is not a valid upload")]
     Upload(usize),
     /// The item in this place of `events`, from 0, tells no event.
-    #[error("event {0} of `events` is no array of a word, a node's number and what the word asks for")]
+    #[error("event {0} of `events` is not an array of a word, a node's number and that word's arguments")]
     Event(usize),
 }
 
@@ -48,12 +48,12 @@ pub enum ScriptFlaw {
     #[error("{0}")]
     Text(TextFlaw),
     /// It is no object with a whole number `nodes`, 3 or 5.
-    #[error("`nodes` is not there, or is neither 3 nor 5")]
+    #[error("`nodes` is missing or neither 3 nor 5")]
     Nodes,
     /// It is no object with an array `calls`.
-    #[error("`calls` is not there, or is no array")]
+    #[error("`calls` is missing or not an array")]
     Calls,
     /// The item in this place of `calls`, from 0, tells no call.
-    #[error("call {0} of `calls` is no array of a word, a node's number and what the word asks for")]
+    #[error("call {0} of `calls` is not an array of a word, a node's number and that word's arguments")]
     Call(usize),
 }

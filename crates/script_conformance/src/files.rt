@@ -276,22 +276,22 @@ fn flaw_of(alloc: Global, file: &[u8]) -> Result<String, Fail> {
 const FLAWS: [(&[u8], &[u8]); 8] = [
     (b"{\"nodes\":3}\xff", b"the file is not UTF-8"),
     (b"{\"nodes\":3", b"the file is not one JSON value"),
-    (b"[]", b"`nodes` is not there, or is neither 3 nor 5"),
+    (b"[]", b"`nodes` is missing or neither 3 nor 5"),
     (
         b"{\"nodes\":4}",
-        b"`nodes` is not there, or is neither 3 nor 5",
+        b"`nodes` is missing or neither 3 nor 5",
     ),
     (
         b"{\"nodes\":3,\"calls\":{}}",
-        b"`calls` is not there, or is no array",
+        b"`calls` is missing or not an array",
     ),
     (
         b"{\"nodes\":3,\"calls\":[[\"info\",3,\"t\"]]}",
-        b"call 0 of `calls` is no array of a word, a node's number and what the word asks for",
+        b"call 0 of `calls` is not an array of a word, a node's number and that word's arguments",
     ),
     (
         b"{\"nodes\":5,\"calls\":[[\"info\",3,\"t\"],[\"get\",4,\"t\",1],[\"put\",0,0],0]}",
-        b"call 2 of `calls` is no array of a word, a node's number and what the word asks for",
+        b"call 2 of `calls` is not an array of a word, a node's number and that word's arguments",
     ),
     (b"{\"nodes\":5,\"calls\":[[\"info\",3,\"t\"]]}", b""),
 ];

@@ -1,4 +1,4 @@
-//! Nodes that run at once: each a seat of its own, all of them with one journal.
+//! Nodes that run concurrently: each a seat of its own, all of them with one journal.
 //!
 //! A [`Seat`] is a node with the store of its records and the list of what it did itself. It enters what it does into the
 //! [`Journal`] of all nodes, and does so only where the journal has just its own entries of this node. What has to be

@@ -1,5 +1,5 @@
-//! Conformance tests of `stable_records`: that whoever stands on a store needs its contract alone, by functions that
-//! are generic over it and proved from it, and what the contract does not say of the stores that there are.
+//! Conformance tests of `stable_records`: that code which is generic over a store needs only its contract, by functions that
+//! are proved from it, and what the contract does not say of the stores that there are.
 //!
 //! The crate has no code but tests, so that what is proved in the crates below is not proved again together with them.
 #![tactic(auto)]

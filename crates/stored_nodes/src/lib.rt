@@ -15,9 +15,9 @@
 //! record of a plan and then does what was planned, and [`StoredNode::recover`] opens the node with all records that its store
 //! has.
 //!
-//! It stands on any store ([`stable_records::Stable`]), which it asks to keep and to recall and nothing else. The records
-//! that it kept it knows itself too: a restart that is given others back is refused ([`StoredNodeFault::Lost`]), so that what a
-//! node answers after a restart never rests on a store that forgot.
+//! It works over any store ([`stable_records::Stable`]), which it asks to keep and to recall and nothing else. It also remembers
+//! the records that it kept: a restart at which the store returns others is refused ([`StoredNodeFault::Lost`]), so that what a
+//! node answers after a restart never depends on a store that forgot.
 #![tactic(auto)]
 
 mod due;

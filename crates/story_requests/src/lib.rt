@@ -1,4 +1,4 @@
-//! What the programs share that stories are told through: requests that they read, and answers that they print.
+//! What the story programs share: reading requests, and printing answers.
 //!
 //! A request is a line of words with one space between: what is asked, and then its arguments. A number is written in
 //! decimal digits, bytes as hexadecimal digits, with `-` for none. The answer is a line of such words too: numbers,

@@ -1,4 +1,4 @@
-//! Runs of nodes by a list of events: what each event gave, and what that is worth to clients.
+//! Runs of nodes by a list of events: the result of each event, and what clients may conclude from it.
 //!
 //! An [`Event`] is of one node: a client hands in an upload or asks for something, time passes, a message is delivered,
 //! or the node goes down or restarts. Any list of events may be applied. A message is lost where nothing delivers it;
