@@ -27,7 +27,7 @@ pub struct Numbers {
 
 /// A field of each kind of bytes.
 #[derive(Drop)]
-pub struct Words {
+pub struct ByteFields {
     /// Bytes, field 1.
     pub payload: Vec<u8>,
     /// A string, field 2.
@@ -98,7 +98,7 @@ impl CanonicalMessage for Numbers {
     }
 }
 
-impl ProtoMessage for Words {
+impl ProtoMessage for ByteFields {
     ghost use Rattle.std.proofs.Common.{rules};
     ghost use Rattle.wire_conformance.specs.Sample.{words_descriptor};
     ghost use Rattle.std.specs.Prelude.{map};
@@ -108,8 +108,8 @@ impl ProtoMessage for Words {
 
     ghost values = { λ m. (m.payload.items, (string_bytes m.name, (map string_bytes m.tags.items, tt))) };
 
-    fn empty(alloc: Global) -> Words {
-        Words {
+    fn empty(alloc: Global) -> ByteFields {
+        ByteFields {
             payload: Vec::new(alloc),
             name: String::new(alloc),
             tags: Vec::new(alloc),
@@ -150,7 +150,7 @@ impl ProtoMessage for Words {
     ghost rises = { Prim.search rules };
 }
 
-impl CanonicalMessage for Words {
+impl CanonicalMessage for ByteFields {
     #[tactic(auto, using(proto_messages::proofs::CallerLemmas::strips))]
     fn strip<'a>(&self, bytes: &'a [u8]) -> Option<&'a [u8]> {
         let bytes = strip_bytes(bytes, 1, &self.payload)?;

@@ -3,7 +3,7 @@
 
 use super::samples::words_of;
 use super::texts::are_equal;
-use crate::sample::{Numbers, Words};
+use crate::sample::{ByteFields, Numbers};
 use proto_fields::{ContentRef, split_field};
 use proto_messages::{ProtoMessage, append_one, merge_one};
 use std::alloc::Global;
@@ -94,13 +94,13 @@ fn field_of_words(alloc: Global) -> Result<Vec<u8>, Fail> {
 }
 
 /// Whether the words have that payload, and nothing else.
-fn are_long_words(words: &Words) -> bool {
+fn are_long_words(words: &ByteFields) -> bool {
     let is_alone = words.name.is_empty() && words.tags.is_empty();
     is_alone && are_sevens(words.payload.as_slice(), 16_384)
 }
 
 /// Whether they were read.
-fn are_long_words_read(read: &Option<Words>) -> bool {
+fn are_long_words_read(read: &Option<ByteFields>) -> bool {
     match read {
         Some(words) => are_long_words(words),
         None => false,
@@ -109,7 +109,7 @@ fn are_long_words_read(read: &Option<Words>) -> bool {
 
 /// Whether the embedded words of a field are those.
 fn holds_long_words(alloc: Global, content: ContentRef<'_>) -> Result<bool, Fail> {
-    let mut read: Option<Words> = None;
+    let mut read: Option<ByteFields> = None;
     merge_one(alloc, &mut read, content)?;
     Ok(are_long_words_read(&read))
 }

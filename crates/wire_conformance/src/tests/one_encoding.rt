@@ -2,7 +2,7 @@
 
 use super::samples::words_of;
 use super::texts::{expect_of, expect_row, spelled, two_cells};
-use crate::sample::{Numbers, Words};
+use crate::sample::{ByteFields, Numbers};
 use proto_fields::WireFault;
 use proto_messages::{CanonicalMessage, ProtoMessage};
 use std::alloc::{AllocError, Global};
@@ -75,7 +75,7 @@ fn tells_the_one_encoding_of_numbers(rt: HostRuntime) -> Result<(), Fail> {
 
 #[test]
 fn tells_the_one_encoding_of_words(rt: HostRuntime) -> Result<(), Fail> {
-    expect_rows::<Words>(&rt, rt.alloc(), WORDS)
+    expect_rows::<ByteFields>(&rt, rt.alloc(), WORDS)
 }
 
 /// Puts so many tags of a byte.
@@ -86,15 +86,15 @@ fn push_tags(alloc: Global, tags: &mut Vec<String>, count: usize) -> Result<(), 
     Ok(())
 }
 
-/// Words with a payload of so many bytes, and as many tags up to [`MAX_TAGS`].
-fn long_words(alloc: Global, len: usize) -> Result<Words, AllocError> {
+/// Byte fields with a payload of so many bytes, and as many tags up to [`MAX_TAGS`].
+fn long_words(alloc: Global, len: usize) -> Result<ByteFields, AllocError> {
     let mut words = words_of(alloc, len)?;
     push_tags(alloc, &mut words.tags, len.min(MAX_TAGS))?;
     Ok(words)
 }
 
 /// How many texts that end within this one are told to be the encoding of the words.
-fn cuts_told(words: &Words, text: &[u8]) -> usize {
+fn cuts_told(words: &ByteFields, text: &[u8]) -> usize {
     let mut told: usize = 0;
     for end in 0..text.len() {
         if words.is_encoded_as(&text[..end]) {
@@ -112,7 +112,7 @@ fn flip(text: &mut [u8], place: usize) {
 }
 
 /// How many texts with one bit that is not this one's are told to be the encoding of the words.
-fn changes_told(words: &Words, text: &mut [u8]) -> usize {
+fn changes_told(words: &ByteFields, text: &mut [u8]) -> usize {
     let mut told: usize = 0;
     for place in 0..text.len() {
         flip(text, place);
@@ -125,20 +125,20 @@ fn changes_told(words: &Words, text: &mut [u8]) -> usize {
 }
 
 /// Whether the words' encoding is told, and no cut and no change of it is.
-fn is_told_alone(words: &Words, text: &mut [u8]) -> bool {
+fn is_told_alone(words: &ByteFields, text: &mut [u8]) -> bool {
     let is_own = words.is_encoded_as(text);
     is_own && cuts_told(words, text) == 0 && changes_told(words, text) == 0
 }
 
 /// And no addition to it.
-fn is_alone(words: &Words, text: &mut Vec<u8>) -> Result<bool, AllocError> {
+fn is_alone(words: &ByteFields, text: &mut Vec<u8>) -> Result<bool, AllocError> {
     let is_alone = is_told_alone(words, text.as_mut_slice());
     text.push(0)?;
     Ok(is_alone && !words.is_encoded_as(text.as_slice()))
 }
 
 /// Whether the encoding of these words stands alone.
-fn has_one_encoding(alloc: Global, words: &Words) -> Result<bool, Fail> {
+fn has_one_encoding(alloc: Global, words: &ByteFields) -> Result<bool, Fail> {
     let mut text = Vec::new(alloc);
     words.encode(&mut text)?;
     Ok(is_alone(words, &mut text)?)

@@ -1,7 +1,7 @@
 //! Messages with a field of every kind against bytes worked out by hand (Protocol Buffers, "Encoding").
 
 use super::texts::{are_equal, expect_row, spelled, two_cells};
-use crate::sample::{Numbers, Words};
+use crate::sample::{ByteFields, Numbers};
 use proto_fields::WireFault;
 use proto_messages::ProtoMessage;
 use std::alloc::{AllocError, Global};
@@ -30,10 +30,10 @@ const NUMBERS: &str = "\
 00|BadKey
 08ffffffffffffffffff02|BadVarint";
 
-/// Words with a payload of so many bytes, and nothing else.
-pub fn words_of(alloc: Global, len: usize) -> Result<Words, AllocError> {
+/// Byte fields with a payload of so many bytes, and nothing else.
+pub fn words_of(alloc: Global, len: usize) -> Result<ByteFields, AllocError> {
     let payload = Vec::from_elem(alloc, 7, len)?;
-    Ok(Words {
+    Ok(ByteFields {
         payload,
         name: String::new(alloc),
         tags: Vec::new(alloc),
@@ -85,13 +85,13 @@ fn are_tags(tags: &[String]) -> bool {
 }
 
 /// Whether the words hold those of [`WORDS`].
-fn are_words(words: &Words) -> bool {
+fn are_words(words: &ByteFields) -> bool {
     let is_named = words.name.as_str() == "é" && are_tags(words.tags.as_slice());
     is_named && are_equal(words.payload.as_slice(), &[0, 255])
 }
 
 /// Whether they were read.
-fn are_words_read(read: &Result<Words, WireFault>) -> bool {
+fn are_words_read(read: &Result<ByteFields, WireFault>) -> bool {
     match read {
         Ok(words) => are_words(words),
         Err(_) => false,
@@ -101,7 +101,7 @@ fn are_words_read(read: &Result<Words, WireFault>) -> bool {
 #[test]
 fn reads_words(rt: HostRuntime) -> Result<(), Fail> {
     let bytes = spelled(rt.alloc(), WORDS)?;
-    assert!(rt; are_words_read(&Words::decode(rt.alloc(), bytes.as_slice())));
+    assert!(rt; are_words_read(&ByteFields::decode(rt.alloc(), bytes.as_slice())));
     Ok(())
 }
 
@@ -136,6 +136,6 @@ fn writes_numbers(rt: HostRuntime) -> Result<(), Fail> {
 
 #[test]
 fn writes_words(rt: HostRuntime) -> Result<(), Fail> {
-    assert!(rt; comes_back::<Words>(rt.alloc(), WORDS)?);
+    assert!(rt; comes_back::<ByteFields>(rt.alloc(), WORDS)?);
     Ok(())
 }
