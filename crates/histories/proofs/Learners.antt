@@ -9,7 +9,9 @@ use Rattle.decided_log.specs.Asked.{decided_message, asked_of}
 use Rattle.learner.specs.Calls.{Call as Told, IsLearned}
 use Rattle.learner.specs.Calls as told
 use Rattle.learner.specs.Votes.{IsDecidedOrChosen, IsChosen}
-use Rattle.lawful_histories.specs.Messages.{accept, accepted, decided}
+use Rattle.lawful_histories.specs.Saying.{Saying}
+use Rattle.lawful_histories.specs.Saying as say
+use Rattle.lawful_histories.specs.Messages.{decided}
 use Rattle.agreement_rules.specs.Views.{HasPrefix}
 use Rattle.histories.proofs.Rules.{AllowsDecided}
 use Rattle.histories.proofs.Knowing.{WasTold}
@@ -27,19 +29,17 @@ AskedLaw = (node from k : ℕ) (prefix : List Value) → k < length (asked_of no
 
 -- ---- what is learned
 
-module _ (learns : LearnerLaw) (members : ℕ) (Was : Message → Type 0)
-    (proposed : (a s : ℕ) (b : Ballot) (v : Value) → Was (accepted a s b v) → (p : ℕ) × Was (accept p s b v))
-    (one_value : (p q s : ℕ) (b : Ballot) (v w : Value) → Was (accept p s b v) → Was (accept q s b w) → v ≡ w)
-    (chosen : (p s : ℕ) (v : Value) → Was (decided p s v) → AllowsDecided members Was s v)
-    (heard : List Told) (told_of : (call : Told) → Contains heard call → WasTold Was call) where
+module _ (learns : LearnerLaw) (members : ℕ) (WasSaid : ℕ → Saying → Type 0)
+    (proposed : (s a : ℕ) (b : Ballot) (v : Value) → WasSaid s (say.Accepted a b v) → WasSaid s (say.Accept b v))
+    (one_value : (s : ℕ) (b : Ballot) (v w : Value) → WasSaid s (say.Accept b v) → WasSaid s (say.Accept b w) → v ≡ w)
+    (chosen : (s : ℕ) (v : Value) → WasSaid s (say.Decided v) → AllowsDecided members (WasSaid s) v)
+    (heard : List Told) (told_of : (call : Told) → Contains heard call → WasTold WasSaid call) where
   module _ (slot : ℕ) (v : Value) where
-    accepted_alike : (a c : ℕ) (b : Ballot) (w : Value) → Was (accepted a slot b w) → Was (accepted c slot b v) → Was (accepted a slot b v)
+    accepted_alike : (a c : ℕ) (b : Ballot) (w : Value) → WasSaid slot (say.Accepted a b w) → WasSaid slot (say.Accepted c b v) → WasSaid slot (say.Accepted a b v)
     accepted_alike a c b w one other =
-        let first = proposed a slot b w one in
-        let second = proposed c slot b v other in
-        subst (λ (x : Value). Was (accepted a slot b x)) (one_value first.0 second.0 slot b w v first.1 second.1) one
+        subst (λ (x : Value). WasSaid slot (say.Accepted a b x)) (one_value slot b w v (proposed slot a b w one) (proposed slot c b v other)) one
 
-    majority_chose : IsChosen members heard slot v → AllowsDecided members Was slot v
+    majority_chose : IsChosen members heard slot v → AllowsDecided members (WasSaid slot) v
     majority_chose it = (
       it.ballot,
       record {
@@ -52,9 +52,9 @@ module _ (learns : LearnerLaw) (members : ℕ) (Was : Message → Type 0)
       },
     )
 
-    pub learned_was_chosen : IsLearned members heard slot v → AllowsDecided members Was slot v
-    learned_was_chosen learned = elim (learns members heard slot v learned) as (λ _. AllowsDecided members Was slot v) [
-      | inl decision ↦ let it = told_of (told.Decided slot v) decision in chosen it.0 slot v it.1
+    pub learned_was_chosen : IsLearned members heard slot v → AllowsDecided members (WasSaid slot) v
+    learned_was_chosen learned = elim (learns members heard slot v learned) as (λ _. AllowsDecided members (WasSaid slot) v) [
+      | inl decision ↦ chosen slot v (told_of (told.Decided slot v) decision)
       | inr majority ↦ majority_chose majority
     ]
 
@@ -65,7 +65,7 @@ module _ (learns : LearnerLaw) (members : ℕ) (Was : Message → Type 0)
     pub slot : ℕ
     pub value : Value
     pub is : m ≡ decided me slot value
-    pub chosen_is : AllowsDecided members Was slot value
+    pub chosen_is : AllowsDecided members (WasSaid slot) value
 
   pub asked_is_chosen : AskedLaw → (me from : ℕ) (values : List Value) → HasPrefix members heard values → (m : Message) → Contains (asked_of me values from) m → TellsChosen me m
   asked_is_chosen asked me from values prefix m (k, within, at) =
@@ -77,13 +77,13 @@ module _ (learns : LearnerLaw) (members : ℕ) (Was : Message → Type 0)
         chosen_is = learned_was_chosen (from + k) it.0 (prefix.learned (from + k) it.0 it.1);
       }
 
--- more messages change nothing of it
-pub chosen_still : (members : ℕ) (Was Now : Message → Type 0) (s : ℕ) (v : Value) → ((m : Message) → Was m → Now m) → AllowsDecided members Was s v → AllowsDecided members Now s v
-chosen_still members Was Now s v kept it = (
+-- what is said later changes nothing of it
+pub chosen_still : (members : ℕ) (Was Now : Saying → Type 0) (v : Value) → ((x : Saying) → Was x → Now x) → AllowsDecided members Was v → AllowsDecided members Now v
+chosen_still members Was Now v kept it = (
   it.0,
   record {
     is_in = it.1.is_in;
     majority = it.1.majority;
-    each = λ a lt in'. kept (accepted a s it.0 v) (it.1.each a lt in');
+    each = λ a lt in'. kept (say.Accepted a it.0 v) (it.1.each a lt in');
   },
 )

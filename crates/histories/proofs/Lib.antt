@@ -1,4 +1,5 @@
 pub mod Lists
+pub mod Sayings
 pub mod Rules
 pub mod Knowing
 pub mod Acceptors

@@ -111,6 +111,22 @@ pub out_of_map : {X Y : Type 0} (h : X → Option Y) (xs : List X) (y : Y) → C
 out_of_map h [] y has = absurd (nothing_in y has)
 out_of_map h (z ∷ xs) y has = out_map_step h z xs y (h z) refl has (out_of_map h xs y)
 
+-- at the end, or before it
+pub last_given : {X Y : Type 0} (h : X → Option Y) (xs : List X) (x : X) (y : Y) → h x ≡ Some y → Contains (filter_map h (xs ++ x ∷ [])) y
+last_given h xs x y gives = into_map h (xs ++ x ∷ []) x y gives (last_in xs x)
+
+pub before_last_given : {X Y : Type 0} (h : X → Option Y) (xs : List X) (x : X) (y : Y) → Contains (filter_map h xs) y → Contains (filter_map h (xs ++ x ∷ [])) y
+before_last_given h xs x y has = let it = out_of_map h xs y has in into_map h (xs ++ x ∷ []) it.of y it.gives (before_last xs x it.of it.is_in)
+
+pub last_or_before_given : {X Y : Type 0} (h : X → Option Y) (xs : List X) (x : X) (y : Y) → Contains (filter_map h (xs ++ x ∷ [])) y
+    → Contains (filter_map h xs) y ⊎ (h x ≡ Some y)
+last_or_before_given h xs x y has =
+    let it = out_of_map h (xs ++ x ∷ []) y has in
+    elim (last_or_before xs x it.of it.is_in) as (λ _. Contains (filter_map h xs) y ⊎ (h x ≡ Some y)) [
+      | inl there ↦ inl (into_map h xs it.of y it.gives there)
+      | inr last ↦ inr (subst (λ z. h z ≡ Some y) last it.gives)
+    ]
+
 -- ---- one element more
 
 -- where a list with one more is split, at the last element or before it

@@ -8,7 +8,6 @@ use Rattle.ballots.specs.Ballot.{Ballot, IsBelow}
 use Rattle.ballots.specs.declared.value.Value.{Value}
 use Rattle.ballots.specs.declared.record.Record.{Record}
 use Rattle.ballots.specs.declared.record.Record.TheVariants.{Began}
-use Rattle.ballots.specs.declared.message.Message.{Message}
 use Rattle.ballots.specs.Acceptance.{acceptance}
 use Rattle.ballots.proofs.CallerLemmas.{majority_stays}
 use Rattle.proposer.specs.Call.{Begun, Promise, Call, Begins, Promises, Nacks}
@@ -16,11 +15,11 @@ use Rattle.proposer.specs.Choosing.{Report as Reported, is_from, is_sender, HasM
 use Rattle.proposer.specs.Attempting.{IsOpen, ends, is_for, promise_in, answering, LeadsToAccept}
 use Rattle.proposer.specs.Promised.{IsAnswerTo}
 use Rattle.learner.specs.Calls.{Call as Told}
-use Rattle.lawful_histories.specs.Saying.{Report, IsUpTo}
+use Rattle.lawful_histories.specs.Saying.{Report, IsUpTo, Saying}
+use Rattle.lawful_histories.specs.Saying as say
 use Rattle.lawful_histories.specs.Majorities.{MajorityOf}
-use Rattle.lawful_histories.specs.Messages.{promise, accept}
 use Rattle.histories.proofs.Lists.{nothing_in, in_front, behind_front, in_middle, first_or_rest, last_or_before, before_last, last_in, into_filter, out_of_filter, SplitsMore, at_last, earlier, splits_more, all_front, all_last}
-use Rattle.histories.proofs.Rules.{AllowsAccept, HasHighest}
+use Rattle.histories.proofs.Rules.{IsSafeAt, AllowsAccept, HasHighest}
 use Rattle.histories.proofs.Knowing.{KnowsCalls}
 
 -- ---- the laws of a proposer that are used here
@@ -113,21 +112,21 @@ open_more calls call begun since is_open = open_by_split calls call begun since 
 
 -- ---- what is known with one call more
 
-module _ (members : ℕ) (Was : Message → Type 0) (me : ℕ) (records : List Record) (asked : List Call) (heard : List Told) (knows : KnowsCalls members Was me records asked heard) where
+module _ (members : ℕ) (WasSaid : ℕ → Saying → Type 0) (me : ℕ) (records : List Record) (asked : List Call) (heard : List Told) (knows : KnowsCalls members WasSaid me records asked heard) where
   abbrev Completed : Begun → List Call → Type 0
   Completed b since = HasMajority members (answering members b since)
 
   still_complete : (call : Call) (b : Begun) (since : List Call) → (call ≡ Begins b → ⊥) → OpenMore asked call b since
-      → (p s : ℕ) (v : Value) → Was (accept p s b.ballot v) → Completed b since
-  still_complete call b since no_begin (begins_now e) p s v was = absurd (no_begin e)
-  still_complete call b since no_begin (was_open rest e is_open not_ended) p s v was =
-      subst (λ (l : List Call). Completed b l) (sym e) (majority_more members b rest call (knows.complete b rest is_open p s v was))
+      → (s : ℕ) (v : Value) → WasSaid s (say.Accept b.ballot v) → Completed b since
+  still_complete call b since no_begin (begins_now e) s v was = absurd (no_begin e)
+  still_complete call b since no_begin (was_open rest e is_open not_ended) s v was =
+      subst (λ (l : List Call). Completed b l) (sym e) (majority_more members b rest call (knows.complete b rest is_open s v was))
 
-  pub promised_too : (q : Promise) → Was (promise q.sender q.slot q.ballot q.report) → KnowsCalls members Was me records (asked ++ Promises q ∷ []) heard
+  pub promised_too : (q : Promise) → WasSaid q.slot (say.Promise q.sender q.ballot q.report) → KnowsCalls members WasSaid me records (asked ++ Promises q ∷ []) heard
   promised_too q was = record {
-    promises = λ p has. elim (last_or_before asked (Promises q) (Promises p) has) as (λ _. Was (promise p.sender p.slot p.ballot p.report)) [
+    promises = λ p has. elim (last_or_before asked (Promises q) (Promises p) has) as (λ _. WasSaid p.slot (say.Promise p.sender p.ballot p.report)) [
       | inl there ↦ knows.promises p there
-      | inr last ↦ let same : q ≡ p = cc in subst (λ (x : Promise). Was (promise x.sender x.slot x.ballot x.report)) same was
+      | inr last ↦ let same : q ≡ p = cc in subst (λ (x : Promise). WasSaid x.slot (say.Promise x.sender x.ballot x.report)) same was
     ];
     begun = λ b has. elim (last_or_before asked (Promises q) (Begins b) has) as (λ _. (b.ballot.node ≡ me) × Contains records (Began b.ballot)) [
       | inl there ↦ knows.begun b there
@@ -137,9 +136,9 @@ module _ (members : ℕ) (Was : Message → Type 0) (me : ℕ) (records : List R
     told_of = knows.told_of;
   }
 
-  pub nacked_too : (slot : ℕ) (ballot : Ballot) → KnowsCalls members Was me records (asked ++ Nacks slot ballot ∷ []) heard
+  pub nacked_too : (slot : ℕ) (ballot : Ballot) → KnowsCalls members WasSaid me records (asked ++ Nacks slot ballot ∷ []) heard
   nacked_too slot ballot = record {
-    promises = λ p has. elim (last_or_before asked (Nacks slot ballot) (Promises p) has) as (λ _. Was (promise p.sender p.slot p.ballot p.report)) [
+    promises = λ p has. elim (last_or_before asked (Nacks slot ballot) (Promises p) has) as (λ _. WasSaid p.slot (say.Promise p.sender p.ballot p.report)) [
       | inl there ↦ knows.promises p there
       | inr last ↦ absurd (let no : Promises p ≡ Nacks slot ballot = last in cc)
     ];
@@ -152,16 +151,16 @@ module _ (members : ℕ) (Was : Message → Type 0) (me : ℕ) (records : List R
   }
 
   -- an attempt begins at a ballot of this node, of which there is a record more, and at which nothing was proposed
-  module _ (new : Begun) (own : new.ballot.node ≡ me) (fresh : (p s : ℕ) (v : Value) → Was (accept p s new.ballot v) → ⊥) where
-    begun_complete : (b : Begun) (since : List Call) → OpenMore asked (Begins new) b since → (p s : ℕ) (v : Value) → Was (accept p s b.ballot v) → Completed b since
-    begun_complete b since (begins_now e) p s v was =
+  module _ (new : Begun) (own : new.ballot.node ≡ me) (fresh : (s : ℕ) (v : Value) → WasSaid s (say.Accept new.ballot v) → ⊥) where
+    begun_complete : (b : Begun) (since : List Call) → OpenMore asked (Begins new) b since → (s : ℕ) (v : Value) → WasSaid s (say.Accept b.ballot v) → Completed b since
+    begun_complete b since (begins_now e) s v was =
         let same : new ≡ b = cc in
-        absurd (fresh p s v (subst (λ (x : Begun). Was (accept p s x.ballot v)) (sym same) was))
-    begun_complete b since (was_open rest e is_open not_ended) p s v was = absurd (let no : true ≡ false = not_ended in cc)
+        absurd (fresh s v (subst (λ (x : Begun). WasSaid s (say.Accept x.ballot v)) (sym same) was))
+    begun_complete b since (was_open rest e is_open not_ended) s v was = absurd (let no : true ≡ false = not_ended in cc)
 
-    pub begun_too : KnowsCalls members Was me (records ++ Began new.ballot ∷ []) (asked ++ Begins new ∷ []) heard
+    pub begun_too : KnowsCalls members WasSaid me (records ++ Began new.ballot ∷ []) (asked ++ Begins new ∷ []) heard
     begun_too = record {
-      promises = λ p has. elim (last_or_before asked (Begins new) (Promises p) has) as (λ _. Was (promise p.sender p.slot p.ballot p.report)) [
+      promises = λ p has. elim (last_or_before asked (Begins new) (Promises p) has) as (λ _. WasSaid p.slot (say.Promise p.sender p.ballot p.report)) [
         | inl there ↦ knows.promises p there
         | inr last ↦ absurd (let no : Promises p ≡ Begins new = last in cc)
       ];
@@ -176,9 +175,9 @@ module _ (members : ℕ) (Was : Message → Type 0) (me : ℕ) (records : List R
     }
 
 -- one record more changes nothing of the calls
-pub calls_with_record : (members : ℕ) (Was : Message → Type 0) (me : ℕ) (records : List Record) (r : Record) (asked : List Call) (heard : List Told)
-    → KnowsCalls members Was me records asked heard → KnowsCalls members Was me (records ++ r ∷ []) asked heard
-calls_with_record members Was me records r asked heard knows = record {
+pub calls_with_record : (members : ℕ) (WasSaid : ℕ → Saying → Type 0) (me : ℕ) (records : List Record) (r : Record) (asked : List Call) (heard : List Told)
+    → KnowsCalls members WasSaid me records asked heard → KnowsCalls members WasSaid me (records ++ r ∷ []) asked heard
+calls_with_record members WasSaid me records r asked heard knows = record {
   promises = knows.promises;
   begun = λ b has. let it = knows.begun b has in (it.0, before_last records r (Began b.ballot) it.1);
   complete = knows.complete;
@@ -187,11 +186,15 @@ calls_with_record members Was me records r asked heard knows = record {
 
 -- ---- an Accept
 
-module _ (laws : ProposerLaws) (members : ℕ) (Was : Message → Type 0) (me : ℕ) (records : List Record) (asked : List Call) (heard : List Told)
-    (knows : KnowsCalls members Was me records asked heard)
-    (q : Promise) (was_sent : Was (promise q.sender q.slot q.ballot q.report)) (answer : ℕ × Ballot × Value) (accepts : LeadsToAccept members asked q answer) where
+module _ (laws : ProposerLaws) (members : ℕ) (WasSaid : ℕ → Saying → Type 0) (me : ℕ) (records : List Record) (asked : List Call) (heard : List Told)
+    (knows : KnowsCalls members WasSaid me records asked heard)
+    (q : Promise) (was_sent : WasSaid q.slot (say.Promise q.sender q.ballot q.report)) (answer : ℕ × Ballot × Value) (accepts : LeadsToAccept members asked q answer) where
   abbrev Now : List Call
   Now = accepts.since ++ Promises q ∷ []
+
+  -- said of the attempt's slot
+  abbrev Was : Saying → Type 0
+  Was x = WasSaid accepts.begun.slot x
 
   abbrev Answering : List Promise
   Answering = answering members accepts.begun Now
@@ -204,21 +207,21 @@ module _ (laws : ProposerLaws) (members : ℕ) (Was : Message → Type 0) (me : 
       subst (λ (l : List Call). Contains l (Promises p)) (sym accepts.open_is.split)
       (Contains-append_right accepts.open_is.before (Begins accepts.begun ∷ accepts.since) (Promises p) (behind_front (Begins accepts.begun) (Promises p) accepts.since has))
 
-  was_handed : (p : Promise) → Contains Now (Promises p) → Was (promise p.sender p.slot p.ballot p.report)
-  was_handed p has = elim (last_or_before accepts.since (Promises q) (Promises p) has) as (λ _. Was (promise p.sender p.slot p.ballot p.report)) [
+  was_handed : (p : Promise) → Contains Now (Promises p) → WasSaid p.slot (say.Promise p.sender p.ballot p.report)
+  was_handed p has = elim (last_or_before accepts.since (Promises q) (Promises p) has) as (λ _. WasSaid p.slot (say.Promise p.sender p.ballot p.report)) [
     | inl there ↦ knows.promises p (asked_before p there)
-    | inr last ↦ let same : q ≡ p = cc in subst (λ (x : Promise). Was (promise x.sender x.slot x.ballot x.report)) same was_sent
+    | inr last ↦ let same : q ≡ p = cc in subst (λ (x : Promise). WasSaid x.slot (say.Promise x.sender x.ballot x.report)) same was_sent
   ]
 
   answered : (p : Promise) → Contains Counted p → Contains Now (Promises p) × IsAnswerTo members accepts.begun p
   answered p has = (laws.answers members accepts.begun Now p).0 (first_in Answering p has)
 
   -- what counts was sent, for this slot and at this ballot
-  was_promised : (p : Promise) → Contains Counted p → Was (promise p.sender accepts.begun.slot accepts.begun.ballot p.report)
+  was_promised : (p : Promise) → Contains Counted p → Was (say.Promise p.sender accepts.begun.ballot p.report)
   was_promised p has =
       let it = answered p has in
-      subst (λ (s : ℕ). Was (promise p.sender s accepts.begun.ballot p.report)) it.1.slot
-      (subst (λ (b : Ballot). Was (promise p.sender p.slot b p.report)) it.1.ballot (was_handed p it.0))
+      subst (λ (s : ℕ). WasSaid s (say.Promise p.sender accepts.begun.ballot p.report)) it.1.slot
+      (subst (λ (b : Ballot). WasSaid p.slot (say.Promise p.sender b p.report)) it.1.ballot (was_handed p it.0))
 
   -- where nothing is reported
   module _ (none : reports_of Counted ≡ []) where
@@ -227,14 +230,14 @@ module _ (laws : ProposerLaws) (members : ℕ) (Was : Message → Type 0) (me : 
     no_report p has (Some x) e =
         absurd (nothing_in x (subst (λ (l : List Reported). Contains l x) none ((laws.reports Counted x).1 (p, has, e))))
 
-    free : MajorityOf members (λ a. Was (promise a accepts.begun.slot accepts.begun.ballot None))
+    free : MajorityOf members (λ a. Was (say.Promise a accepts.begun.ballot None))
     free = record {
       is_in = is_sender Answering;
       majority = accepts.completes.now;
       each = λ a lt in'.
           let p = first_from a Answering in' in
-          subst (λ (x : ℕ). Was (promise x accepts.begun.slot accepts.begun.ballot None)) p.2
-          (subst (λ (r : Report). Was (promise p.0.sender accepts.begun.slot accepts.begun.ballot r)) (no_report p.0 p.1 p.0.report refl) (was_promised p.0 p.1));
+          subst (λ (x : ℕ). Was (say.Promise x accepts.begun.ballot None)) p.2
+          (subst (λ (r : Report). Was (say.Promise p.0.sender accepts.begun.ballot r)) (no_report p.0 p.1 p.0.report refl) (was_promised p.0 p.1));
     }
 
   -- where something is, with the highest report
@@ -247,7 +250,7 @@ module _ (laws : ProposerLaws) (members : ℕ) (Was : Message → Type 0) (me : 
     reporter : (p : Promise) × Contains Counted p × (p.report ≡ Some (acceptance top answer.2))
     reporter = (laws.reports Counted (acceptance top answer.2)).0 is_reported
 
-    highest : HasHighest members Was accepts.begun.slot accepts.begun.ballot answer.2
+    highest : HasHighest members Was accepts.begun.ballot answer.2
     highest = let it = reporter in record {
       highest = top;
       promised = record {
@@ -256,34 +259,32 @@ module _ (laws : ProposerLaws) (members : ℕ) (Was : Message → Type 0) (me : 
         each = λ a lt in'.
             let p = first_from a Answering in' in (
               p.0.report,
-              subst (λ (x : ℕ). Was (promise x accepts.begun.slot accepts.begun.ballot p.0.report)) p.2 (was_promised p.0 p.1),
+              subst (λ (x : ℕ). Was (say.Promise x accepts.begun.ballot p.0.report)) p.2 (was_promised p.0 p.1),
               up_to p.0 p.1 p.0.report refl,
             );
       };
       reporter = it.0.sender;
       is_member = (answered it.0 it.1).1.member;
       is_in = sender_in Answering it.0 (first_in Answering it.0 it.1);
-      reported = subst (λ (r : Report). Was (promise it.0.sender accepts.begun.slot accepts.begun.ballot r)) it.2 (was_promised it.0 it.1);
+      reported = subst (λ (r : Report). Was (say.Promise it.0.sender accepts.begun.ballot r)) it.2 (was_promised it.0 it.1);
     }
 
-  abbrev IsSafeFor : ℕ → Ballot → Type 0
-  IsSafeFor s b = MajorityOf members (λ a. Was (promise a s b None)) ⊎ HasHighest members Was s b answer.2
-
-  safe : IsSafeFor accepts.begun.slot accepts.begun.ballot
-  safe = elim (laws.highest accepts.begun.candidate (reports_of Counted) answer.2 accepts.value_is) as (λ _. IsSafeFor accepts.begun.slot accepts.begun.ballot) [
+  safe : IsSafeAt members Was accepts.begun.ballot answer.2
+  safe = elim (laws.highest accepts.begun.candidate (reports_of Counted) answer.2 accepts.value_is) as (λ _. IsSafeAt members Was accepts.begun.ballot answer.2) [
     | inl none ↦ inl (free none.0)
     | inr some ↦ inr (highest some.0 some.1 some.2)
   ]
 
-  pub nothing_before : (p s : ℕ) (v : Value) → Was (accept p s answer.1 v) → ⊥
-  nothing_before p s v was =
-      accepts.completes.before (knows.complete accepts.begun accepts.since accepts.open_is p s v
-      (subst (λ (b : Ballot). Was (accept p s b v)) accepts.ballot_is was))
+  pub nothing_before : (s : ℕ) (v : Value) → WasSaid s (say.Accept answer.1 v) → ⊥
+  nothing_before s v was =
+      accepts.completes.before (knows.complete accepts.begun accepts.since accepts.open_is s v
+      (subst (λ (b : Ballot). WasSaid s (say.Accept b v)) accepts.ballot_is was))
 
-  pub accept_is_allowed : AllowsAccept members Was answer.0 (acceptance answer.1 answer.2)
+  pub accept_is_allowed : AllowsAccept members (WasSaid answer.0) answer.1 answer.2
   accept_is_allowed = record {
-    one_value = λ p v was. absurd (nothing_before p answer.0 v was);
-    safe = subst (λ (s : ℕ). IsSafeFor s answer.1) (sym accepts.slot_is) (subst (λ (b : Ballot). IsSafeFor accepts.begun.slot b) (sym accepts.ballot_is) safe);
+    one_value = λ v was. absurd (nothing_before answer.0 v was);
+    safe = subst (λ (s : ℕ). IsSafeAt members (WasSaid s) answer.1 answer.2) (sym accepts.slot_is)
+        (subst (λ (b : Ballot). IsSafeAt members Was b answer.2) (sym accepts.ballot_is) safe);
   }
 
   -- the ballot is the node's own, with a record

@@ -11,8 +11,8 @@ use Rattle.ballots.specs.Message.{message}
 use Rattle.proposer.specs.Call.{Begun, Call as Asked, Begins}
 use Rattle.table_types.specs.Uploads.{Upload}
 use Rattle.lawful_histories.specs.Lawful.{IsLawful}
-use Rattle.lawful_histories.specs.HistoryLaws.{LawfulByMessages}
-use Rattle.lawful_histories.specs.Messages.{accept, Sent, SentBefore}
+use Rattle.lawful_histories.specs.Saying.{Saying, says, sayings}
+use Rattle.lawful_histories.specs.Saying as say
 use Rattle.agreement_rules.specs.Views.{Config, Views, started_with}
 use Rattle.agreement_rules.specs.Due.{Plan, Due, Refuses, Plans, record_due, BodyKeeps, MessageKeeps, TickKeeps}
 use Rattle.histories.specs.Due.{Input, IsDue, InputKeeps}
@@ -25,7 +25,8 @@ use Rattle.histories.specs.EventResult as results
 use Rattle.histories.specs.History.{Step, History}
 use Rattle.histories.specs.Following.{Seat, IsUp, IsDown, recovered_in, down, reason_of, WantsMemory, PutGives, SendsGives, InputGives, CutGives, Delivers, GetGives, InfoGives, GetGivesIfAble, InfoGivesIfAble, OutcomeGives, QuestionGives, RestartGives, UpGives, RefusesAsDown, DownGives, SeatGives, StepFollows, StepsReach, at_first, Follows}
 use Rattle.histories.proofs.Lists.{nothing_in}
-use Rattle.histories.proofs.Rules.{Allows, rules_are_kept}
+use Rattle.histories.proofs.Sayings.{WasSaidBefore, of_its_slot, said_by, were_said}
+use Rattle.histories.proofs.Rules.{AllowsSaying, AreAllowed, slot_is_lawful}
 use Rattle.histories.proofs.Knowing.{IsOwn, MayBeDue, KnowsRecords, KnowsSeat, one_record_more, knows_with_due}
 use Rattle.histories.proofs.Dues.{Laws, kept_with, MayBeSent, Keeps, KeepsIfPlanned, of_message, of_tick, of_put}
 use Rattle.histories.proofs.Sending.{kept, came, each_allowed, ApartIfUp, seat_later, other_later}
@@ -36,13 +37,14 @@ nothing_open : (b : Begun) (before since : List Asked) → [] ≡ before ++ Begi
 nothing_open b [] since e = cc
 nothing_open b (call ∷ before) since e = cc
 
-pub knows_at_start : (members : ℕ) (Was : Message → Type 0) (me : ℕ) (records : List Record) → KnowsRecords Was me records → KnowsSeat members Was me (IsUp (started_with records))
-knows_at_start members Was me records knows = record {
+pub knows_at_start : (members : ℕ) (WasSaid : ℕ → Saying → Type 0) (me : ℕ) (records : List Record) → KnowsRecords WasSaid me records
+    → KnowsSeat members WasSaid me (IsUp (started_with records))
+knows_at_start members WasSaid me records knows = record {
   records = λ found. knows;
   up = record {
     promises = λ p has. absurd (nothing_in _ has);
     begun = λ b has. absurd (nothing_in _ has);
-    complete = λ b since is_open p s v was. absurd (nothing_open b is_open.before since is_open.split);
+    complete = λ b since is_open s v was. absurd (nothing_open b is_open.before since is_open.split);
     told_of = λ call has. absurd (nothing_in call has);
   };
 }
@@ -50,8 +52,8 @@ knows_at_start members Was me records knows = record {
 -- ---- what one node's step leaves
 
 module _ (config : Config) (sent : List Message) (next me : ℕ) where
-  abbrev Was : Message → Type 0
-  Was m = SentBefore sent next m
+  abbrev WasSaid : ℕ → Saying → Type 0
+  WasSaid s x = WasSaidBefore sent next s x
 
   -- the messages that go out, all its own and allowed, and what the node knows then
   pub record Moves (given : EventResult) (new : Seat) : Type 0 where
@@ -60,33 +62,33 @@ module _ (config : Config) (sent : List Message) (next me : ℕ) where
     pub placed : take (length ms) (drop next sent) ≡ ms
     pub own : (m : Message) → Contains ms m → IsOwn me m
     pub allowed : MayBeSent config.members sent next ms
-    pub after : KnowsSeat config.members (λ m. SentBefore sent (next + length ms) m) me new
+    pub after : KnowsSeat config.members (WasSaidBefore sent (next + length ms)) me new
 
   -- nothing goes out
   apart_of_none : (seat : Seat) → ApartIfUp config.members [] seat
-  apart_of_none (IsUp views) = λ b since is_open p s v has. absurd (nothing_in (accept p s b.ballot v) has)
+  apart_of_none (IsUp views) = λ b since is_open s v (m, has, is). absurd (nothing_in m has)
   apart_of_none (IsDown records due) = tt
 
-  rests : (given : EventResult) (new : Seat) → count_of given ≡ 0 → KnowsSeat config.members Was me new → Moves given new
+  rests : (given : EventResult) (new : Seat) → count_of given ≡ 0 → KnowsSeat config.members WasSaid me new → Moves given new
   rests given new none knows = record {
     ms = [];
     count = none;
     placed = refl;
     own = λ m has. absurd (nothing_in m has);
     allowed = inr (λ m has k le. absurd (nothing_in m has));
-    after = seat_later config.members Was (λ m. SentBefore sent (next + length {A = Message} []) m) [] (kept sent next [] refl) (came sent next [] refl) me new knows
+    after = seat_later config.members WasSaid (WasSaidBefore sent (next + length {A = Message} [])) [] (kept sent next [] refl) (came sent next [] refl) me new knows
         (λ found m has. absurd (nothing_in m has)) (apart_of_none new);
   }
 
-  given_rests : (given other : EventResult) (new seat : Seat) → given ≡ other → count_of other ≡ 0 → new ≡ seat → KnowsSeat config.members Was me seat → Moves given new
+  given_rests : (given other : EventResult) (new seat : Seat) → given ≡ other → count_of other ≡ 0 → new ≡ seat → KnowsSeat config.members WasSaid me seat → Moves given new
   given_rests given other new seat is none same knows =
-      rests given new (ap count_of is ∙ none) (subst (λ (s : Seat). KnowsSeat config.members Was me s) (sym same) knows)
+      rests given new (ap count_of is ∙ none) (subst (λ (s : Seat). KnowsSeat config.members WasSaid me s) (sym same) knows)
 
   -- ---- a node that is up
 
-  module _ (laws : Laws) (lawful : (k : ℕ) (m : Message) → k < next → Sent sent k m → Allows config.members (SentBefore sent k) m)
-      (views : Views) (knows : KnowsSeat config.members Was me (IsUp views)) where
-    abbrev of_records : KnowsRecords Was me views.records
+  module _ (laws : Laws) (lawful : AreAllowed config.members sent next)
+      (views : Views) (knows : KnowsSeat config.members WasSaid me (IsUp views)) where
+    abbrev of_records : KnowsRecords WasSaid me views.records
     of_records = knows.records true
 
     abbrev KeepsDue : Due → Type 0
@@ -96,13 +98,13 @@ module _ (config : Config) (sent : List Message) (next me : ℕ) where
     stays given other new is none same = given_rests given other new (IsUp views) is none same knows
 
     -- what is due leaves the node, before the messages go out
-    records_after : (due : Option Record) → MayBeDue Was due → KnowsRecords Was me (kept_with views.records due)
+    records_after : (due : Option Record) → MayBeDue WasSaid due → KnowsRecords WasSaid me (kept_with views.records due)
     records_after None may = of_records
-    records_after (Some r) may = one_record_more Was me views.records r of_records may
+    records_after (Some r) may = one_record_more WasSaid me views.records r of_records may
 
-    planned_seat : (plan : Plan) → Keeps config.members sent next me views.records plan → KnowsSeat config.members Was me (IsUp plan.after)
+    planned_seat : (plan : Plan) → Keeps config.members sent next me views.records plan → KnowsSeat config.members WasSaid me (IsUp plan.after)
     planned_seat plan keeps = record {
-      records = λ found. subst (λ (l : List Record). KnowsRecords Was me l) (sym keeps.records_are) (records_after plan.kept keeps.due);
+      records = λ found. subst (λ (l : List Record). KnowsRecords WasSaid me l) (sym keeps.records_are) (records_after plan.kept keeps.due);
       up = keeps.calls;
     }
 
@@ -115,8 +117,8 @@ module _ (config : Config) (sent : List Message) (next me : ℕ) where
       placed = placed;
       own = keeps.own;
       allowed = keeps.allowed;
-      after = subst (λ (s : Seat). KnowsSeat config.members (λ m. SentBefore sent (next + length plan.sends) m) me s) (sym same)
-          (seat_later config.members Was (λ m. SentBefore sent (next + length plan.sends) m) plan.sends (kept sent next plan.sends placed) (came sent next plan.sends placed) me (IsUp plan.after)
+      after = subst (λ (s : Seat). KnowsSeat config.members (WasSaidBefore sent (next + length plan.sends)) me s) (sym same)
+          (seat_later config.members WasSaid (WasSaidBefore sent (next + length plan.sends)) plan.sends (kept sent next plan.sends placed) (came sent next plan.sends placed) me (IsUp plan.after)
           (planned_seat plan keeps) (λ found m has. keeps.covered m has) keeps.apart);
     }
 
@@ -135,18 +137,19 @@ module _ (config : Config) (sent : List Message) (next me : ℕ) where
     wants given new (is, same) = stays given (results.Refused results.OutOfMemory) new is refl same
 
     -- a cut: the record that is due is kept, or it is not
-    record_may : (due : Due) → KeepsDue due → MayBeDue Was (record_due due)
+    record_may : (due : Due) → KeepsDue due → MayBeDue WasSaid (record_due due)
     record_may (Refuses refusal) keeps = tt
     record_may (Plans plan) keeps = keeps.due
 
     -- a record of no message was proposed by nobody, and that of an acceptance by who sent the Accept
-    may_be_none : (kept : Option Record) → kept ≡ None → MayBeDue Was kept
-    may_be_none kept is = subst (MayBeDue Was) (sym is) tt
+    may_be_none : (kept : Option Record) → kept ≡ None → MayBeDue WasSaid kept
+    may_be_none kept is = subst (MayBeDue WasSaid) (sym is) tt
 
-    body_may : (sender slot : ℕ) (b : Body) (kept : Option Record) → Was (message sender slot b) → BodyKeeps views.records slot b kept → MayBeDue Was kept
-    body_may sender slot (body.Prepare ballot) kept was (standing, restored, inl (above, is)) = subst (MayBeDue Was) (sym is) tt
+    body_may : (sender slot : ℕ) (b : Body) (kept : Option Record) → ((s : ℕ) → WasSaid s (says (message sender slot b) s)) → BodyKeeps views.records slot b kept → MayBeDue WasSaid kept
+    body_may sender slot (body.Prepare ballot) kept was (standing, restored, inl (above, is)) = subst (MayBeDue WasSaid) (sym is) tt
     body_may sender slot (body.Prepare ballot) kept was (standing, restored, inr (not, is)) = may_be_none kept is
-    body_may sender slot (body.Accept proposal) kept was (standing, restored, inl (above, is)) = subst (MayBeDue Was) (sym is) (sender, was)
+    body_may sender slot (body.Accept proposal) kept was (standing, restored, inl (above, is)) =
+        subst (MayBeDue WasSaid) (sym is) (of_its_slot WasSaid slot (say.Accept proposal.ballot proposal.value) was)
     body_may sender slot (body.Accept proposal) kept was (standing, restored, inr (not, is)) = may_be_none kept is
     body_may sender slot (body.Promise ballot report) kept was is = may_be_none kept is
     body_may sender slot (body.Nack ballot promised) kept was is = may_be_none kept is
@@ -154,21 +157,21 @@ module _ (config : Config) (sent : List Message) (next me : ℕ) where
     body_may sender slot (body.Decided value) kept was is = may_be_none kept is
     body_may sender slot body.Ask kept was is = may_be_none kept is
 
-    message_may : (m : Message) (kept : Option Record) → Was m → MessageKeeps config views m kept → MayBeDue Was kept
+    message_may : (m : Message) (kept : Option Record) → ((s : ℕ) → WasSaid s (says m s)) → MessageKeeps config views m kept → MayBeDue WasSaid kept
     message_may m kept was (inl (is_of, keeps)) = body_may m.sender m.slot m.body kept was keeps
     message_may m kept was (inr (stranger, is)) = may_be_none kept is
 
-    down_with : (due : Option Record) → MayBeDue Was due → KnowsSeat config.members Was me (IsDown views.records due)
-    down_with due may = record { records = λ found. knows_with_due Was me found views.records due of_records may; up = tt }
+    down_with : (due : Option Record) → MayBeDue WasSaid due → KnowsSeat config.members WasSaid me (IsDown views.records due)
+    down_with due may = record { records = λ found. knows_with_due WasSaid me found views.records due of_records may; up = tt }
 
-    of_cut : (asked : Input) (given : EventResult) (new : Seat) → ((kept : Option Record) → InputKeeps config me views asked kept → MayBeDue Was kept)
+    of_cut : (asked : Input) (given : EventResult) (new : Seat) → ((kept : Option Record) → InputKeeps config me views asked kept → MayBeDue WasSaid kept)
         → CutGives config me views asked given new → Moves given new
     of_cut asked given new may (is, (kept, keeps, same)) =
         given_rests given results.Done new (IsDown views.records kept) is refl same (down_with kept (may kept keeps))
 
     tick_may : (left : ℕ) → ((due : Due) → IsDue config me views (input.Tick left) due → KeepsDue due) → (kept : Option Record)
-        → TickKeeps config me views left kept → MayBeDue Was kept
-    tick_may left keeps kept (due, is_due, is) = subst (MayBeDue Was) (sym is) (record_may due (keeps due is_due))
+        → TickKeeps config me views left kept → MayBeDue WasSaid kept
+    tick_may left keeps kept (due, is_due, is) = subst (MayBeDue WasSaid) (sym is) (record_may due (keeps due is_due))
 
     -- what is due to an input
     of_due_step : (asked : Input) (given : EventResult) (new : Seat) → ((due : Due) → IsDue config me views asked due → KeepsDue due)
@@ -182,8 +185,8 @@ module _ (config : Config) (sent : List Message) (next me : ℕ) where
     of_due_put asked given new keeps (inr (allowed, out)) = wants given new out
 
     -- a message that is delivered was sent
-    delivered : (number : ℕ) (m : Message) → number < next → slice_get sent number ≡ Some m → SentBefore sent next m
-    delivered number m lt is = (number, lt, (slice_get_within sent number m is, get_or_from_slice_get sent number m m is))
+    delivered : (number : ℕ) (m : Message) → number < next → slice_get sent number ≡ Some m → (s : ℕ) → WasSaid s (says m s)
+    delivered number m lt is s = were_said sent s next m number lt (slice_get_within sent number m is, get_or_from_slice_get sent number m m is)
 
     due_of_message : (number : ℕ) (m : Message) → number < next → slice_get sent number ≡ Some m → (due : Due) → IsDue config me views (input.Deliver m) due → KeepsDue due
     due_of_message number m lt is due is_due = of_message laws config sent next me lawful views of_records knows.up m due (delivered number m lt is) is_due
@@ -228,25 +231,25 @@ module _ (config : Config) (sent : List Message) (next me : ℕ) where
     of_question : (Gives : List Upload → EventResult → Type 0) (given : EventResult) (new : Seat) → ((uploads : List Upload) → Gives uploads given → count_of given ≡ 0)
         → QuestionGives config views Gives given new → Moves given new
     of_question Gives given new counts (uploads, has, gives, same) =
-        rests given new (counts uploads gives) (subst (λ (s : Seat). KnowsSeat config.members Was me s) (sym same) knows)
+        rests given new (counts uploads gives) (subst (λ (s : Seat). KnowsSeat config.members WasSaid me s) (sym same) knows)
 
   -- ---- a start
 
-  down_knows : (old : Seat) → KnowsSeat config.members Was me old → KnowsSeat config.members Was me (down old)
+  down_knows : (old : Seat) → KnowsSeat config.members WasSaid me old → KnowsSeat config.members WasSaid me (down old)
   down_knows (IsUp views) knows = record { records = λ found. knows.records true; up = tt }
   down_knows (IsDown records due) knows = knows
 
-  of_restart : (found : Bool) (old : Seat) (given : EventResult) (new : Seat) → KnowsSeat config.members Was me old → RestartGives found old given new → Moves given new
+  of_restart : (found : Bool) (old : Seat) (given : EventResult) (new : Seat) → KnowsSeat config.members WasSaid me old → RestartGives found old given new → Moves given new
   of_restart found old given new knows (inl (is, same)) =
-      given_rests given results.Done new (IsUp (started_with (recovered_in found old))) is refl same (knows_at_start config.members Was me (recovered_in found old) (knows.records found))
+      given_rests given results.Done new (IsUp (started_with (recovered_in found old))) is refl same (knows_at_start config.members WasSaid me (recovered_in found old) (knows.records found))
   of_restart found old given new knows (inr (is, same)) = given_rests given (results.Refused results.OutOfMemory) new (down old) is refl same (down_knows old knows)
 
   -- ---- a node that is down
 
-  refuses : (old : Seat) (given : EventResult) (new : Seat) → KnowsSeat config.members Was me old → RefusesAsDown old given new → Moves given new
+  refuses : (old : Seat) (given : EventResult) (new : Seat) → KnowsSeat config.members WasSaid me old → RefusesAsDown old given new → Moves given new
   refuses old given new knows (is, same) = given_rests given (results.Refused results.Down) new old is refl same knows
 
-  of_down : (found : Bool) (old : Seat) (e : Event) (given : EventResult) (new : Seat) → KnowsSeat config.members Was me old → DownGives found old e given new → Moves given new
+  of_down : (found : Bool) (old : Seat) (e : Event) (given : EventResult) (new : Seat) → KnowsSeat config.members WasSaid me old → DownGives found old e given new → Moves given new
   of_down found old (event.Put node text) given new knows gives = refuses old given new knows gives
   of_down found old (event.Tick node left) given new knows gives = refuses old given new knows gives
   of_down found old (event.Deliver node number) given new knows gives = refuses old given new knows gives
@@ -259,9 +262,9 @@ module _ (config : Config) (sent : List Message) (next me : ℕ) where
 
 -- ---- any event of a node
 
-module _ (laws : Laws) (config : Config) (sent : List Message) (next : ℕ) (lawful : (k : ℕ) (m : Message) → k < next → Sent sent k m → Allows config.members (SentBefore sent k) m) where
+module _ (laws : Laws) (config : Config) (sent : List Message) (next : ℕ) (lawful : AreAllowed config.members sent next) where
   abbrev KnowsNow : ℕ → Seat → Type 0
-  KnowsNow me seat = KnowsSeat config.members (λ m. SentBefore sent next m) me seat
+  KnowsNow me seat = KnowsSeat config.members (WasSaidBefore sent next) me seat
 
   of_up : (found : Bool) (views : Views) (e : Event) (given : EventResult) (new : Seat) → KnowsNow (node_of e) (IsUp views)
       → UpGives config sent next found views e given new → Moves config sent next (node_of e) given new
@@ -292,10 +295,10 @@ module _ (laws : Laws) (config : Config) (sent : List Message) (next : ℕ) (law
 
 -- ---- all nodes
 
--- what was sent before this place is allowed, and every node knows what it has to
+-- what was said before this place is allowed, and every node knows what it has to
 pub record Holds (config : Config) (sent : List Message) (next : ℕ) (seats : ℕ → Seat) : Type 0 where
-  pub lawful : (k : ℕ) (m : Message) → k < next → Sent sent k m → Allows config.members (SentBefore sent k) m
-  pub each_knows : (a : ℕ) → KnowsSeat config.members (λ m. SentBefore sent next m) a (seats a)
+  pub lawful : AreAllowed config.members sent next
+  pub each_knows : (a : ℕ) → KnowsSeat config.members (WasSaidBefore sent next) a (seats a)
 
 module _ (laws : Laws) (config : Config) (sent : List Message) where
   module _ (next : ℕ) (old new : ℕ → Seat) (holds : Holds config sent next old) (me : ℕ) (given : EventResult) (moves : Moves config sent next me given (new me))
@@ -303,21 +306,21 @@ module _ (laws : Laws) (config : Config) (sent : List Message) where
     abbrev End : ℕ
     End = next + length moves.ms
 
-    lawful_then : (k : ℕ) (m : Message) → k < End → Sent sent k m → Allows config.members (SentBefore sent k) m
-    lawful_then k m lt h = elim (cases_lt k next) as (λ _. Allows config.members (SentBefore sent k) m) [
-      | inl before ↦ holds.lawful k m before h
-      | inr ge ↦ each_allowed sent next moves.ms moves.placed config.members moves.allowed k m ge lt h
+    lawful_then : AreAllowed config.members sent End
+    lawful_then s k x lt h = elim (cases_lt k next) as (λ _. AllowsSaying config.members (WasSaidBefore sent k s) x) [
+      | inl before ↦ holds.lawful s k x before h
+      | inr ge ↦ each_allowed sent next moves.ms moves.placed config.members moves.allowed s k x ge lt h
     ]
 
     abbrev KnowsThen : ℕ → Seat → Type 0
-    KnowsThen a seat = KnowsSeat config.members (λ m. SentBefore sent End m) a seat
+    KnowsThen a seat = KnowsSeat config.members (WasSaidBefore sent End) a seat
 
     knows_then : (a : ℕ) → KnowsThen a (new a)
     knows_then a = elim (cases_eq a me) as (λ _. KnowsThen a (new a)) [
       | inl own ↦ subst (λ (x : ℕ). KnowsThen x (new x)) (sym own) moves.after
       | inr other ↦
           subst (λ (s : Seat). KnowsThen a s) (sym (others a other))
-          (other_later config.members (λ m. SentBefore sent next m) (λ m. SentBefore sent End m) moves.ms (kept sent next moves.ms moves.placed) (came sent next moves.ms moves.placed)
+          (other_later config.members (WasSaidBefore sent next) (WasSaidBefore sent End) moves.ms (kept sent next moves.ms moves.placed) (came sent next moves.ms moves.placed)
           a me other moves.own (old a) (holds.each_knows a))
     ]
 
@@ -331,7 +334,7 @@ module _ (laws : Laws) (config : Config) (sent : List Message) where
       let end : next + count_of given ≡ next = omega (arith, ap count_of is) in
       subst (λ (n : ℕ). Holds config sent n new) (sym end) (record {
         lawful = holds.lawful;
-        each_knows = λ a. subst (λ (s : Seat). KnowsSeat config.members (λ m. SentBefore sent next m) a s) (sym (same a)) (holds.each_knows a);
+        each_knows = λ a. subst (λ (s : Seat). KnowsSeat config.members (WasSaidBefore sent next) a s) (sym (same a)) (holds.each_knows a);
       })
 
   one_step : (next : ℕ) (old : ℕ → Seat) (step : Step) (found : Bool) (new : ℕ → Seat) → Holds config sent next old → StepFollows config sent next old step found new
@@ -342,29 +345,28 @@ module _ (laws : Laws) (config : Config) (sent : List Message) where
   one_step next old step found new holds (inr (no_member, is, same)) = outside next old new step.result holds is same
 
   all_steps : (steps : List Step) (found : List Bool) (next : ℕ) (seats last : ℕ → Seat) → Holds config sent next seats → StepsReach config sent seats next steps found last
-      → (k : ℕ) (m : Message) → k < length sent → Sent sent k m → Allows config.members (SentBefore sent k) m
-  all_steps [] found next seats last holds (none, end, same) k m lt h = holds.lawful k m (omega (arith, lt, end)) h
-  all_steps (step ∷ steps) [] next seats last holds reaches k m lt h = absurd reaches
-  all_steps (step ∷ steps) (f ∷ found) next seats last holds (after, follows, asked, rest) k m lt h =
-      all_steps steps found (next + count_of step.result) after last (one_step next seats step f after holds follows) rest k m lt h
+      → AreAllowed config.members sent (length sent)
+  all_steps [] found next seats last holds (none, end, same) s k x lt h = holds.lawful s k x (omega (arith, lt, end)) h
+  all_steps (step ∷ steps) [] next seats last holds reaches s k x lt h = absurd reaches
+  all_steps (step ∷ steps) (f ∷ found) next seats last holds (after, follows, asked, rest) s k x lt h =
+      all_steps steps found (next + count_of step.result) after last (one_step next seats step f after holds follows) rest s k x lt h
 
-  nothing_sent : (m : Message) → SentBefore sent 0 m → ⊥
-  nothing_sent m h = absurd (omega (arith, h.1))
+  nothing_said : (s : ℕ) (x : Saying) → WasSaidBefore sent 0 s x → ⊥
+  nothing_said s x h = absurd (omega (arith, h.1))
 
   holds_at_first : Holds config sent 0 at_first
   holds_at_first = record {
-    lawful = λ k m lt h. absurd (omega (arith, lt));
-    each_knows = λ a. knows_at_start config.members (λ m. SentBefore sent 0 m) a [] (record {
-      covers = λ m was. absurd (nothing_sent m was);
-      proposed = λ slot x has. absurd (nothing_in _ has);
+    lawful = λ s k x lt h. absurd (omega (arith, lt));
+    each_knows = λ a. knows_at_start config.members (WasSaidBefore sent 0) a [] (record {
+      covers = λ s x was. absurd (nothing_said s x was);
+      proposed = λ s x has. absurd (nothing_in _ has);
     });
   }
 
 -- ---- the law
 
-pub follows_is_lawful : Laws → LawfulByMessages → (history : History) → Follows history → IsLawful history.config.members history.sent
-follows_is_lawful laws by_messages history follows =
-    (by_messages history.config.members history.sent).1
-    (rules_are_kept history.config.members history.sent
-    (all_steps laws history.config history.sent history.steps follows.recovered 0 at_first follows.seats (holds_at_first laws history.config history.sent)
-    follows.reached))
+pub follows_is_lawful : Laws → (history : History) → Follows history → IsLawful history.config.members history.sent
+follows_is_lawful laws history follows s =
+    slot_is_lawful history.config.members (sayings history.sent s)
+    (λ k x lt h. all_steps laws history.config history.sent history.steps follows.recovered 0 at_first follows.seats (holds_at_first laws history.config history.sent)
+    follows.reached s k x (let there = said_by history.sent s k x h in there.1.0) h)

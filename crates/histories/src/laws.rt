@@ -22,7 +22,6 @@ use agreement_rules::laws::{
     prefixes_are_one, something_is_due as part_owes_something,
 };
 use decided_log::laws::asked_is_a_run_of_the_prefix;
-use lawful_histories::laws::lawful_by_messages;
 use learner::laws::learned_is_decided_or_chosen;
 use proposer::laws::{
     answers_are_one, attempts_open_and_end, choices_are_one, majorities_are_of_members,
@@ -70,7 +69,6 @@ pub fn what_follows_is_lawful()
     majorities_are_of_members();
     learned_is_decided_or_chosen();
     asked_is_a_run_of_the_prefix();
-    lawful_by_messages();
 }
 
 /// A step that follows still follows when more messages are sent later: what is due to a node is asked of what was sent

@@ -17,4 +17,4 @@ returns c =
       learner = c.learned_is_decided_or_chosen.ensures.only;
       asked = c.asked_is_a_run_of_the_prefix.ensures.each;
     } in
-    follows_is_lawful laws c.lawful_by_messages.ensures.lawful
+    follows_is_lawful laws
