@@ -1,7 +1,7 @@
 //! Laws of lawful histories.
 
 ghost use Rattle.lawful_histories.specs.Lawful.{OneValue, ChosenValueStays};
-ghost use Rattle.lawful_histories.specs.HistoryLaws.{SayingsAreMessages, LawfulByMessages};
+ghost use Rattle.lawful_histories.specs.HistoryLaws.{SayingsAreMessages, SayingsAreSent, LawfulByMessages};
 ghost use Rattle.lawful_histories.specs.HistoryLaws.{DecidedIsOne, DecidedIsChosen, PromisesRise};
 ghost use Rattle.lawful_histories.specs.HistoryLaws.{PromisesAboveItsVotes, ReportsItsVotes, ReportsItsValue};
 ghost use Rattle.lawful_histories.specs.HistoryLaws.{NothingIsLawful, BeginningsAreLawful};
@@ -35,9 +35,11 @@ pub fn promises_rise()
 
 /// A history is lawful slot by slot exactly where its messages, place by place, keep the rules of Paxos: an Accepted
 /// was proposed and is not below what its sender promised or accepted, a Promise is above that and reports the highest
-/// Accepted, an Accept is the only one of its ballot and safe, and a Decided was chosen.
+/// Accepted, an Accept is the only one of its ballot and safe, and a Decided was chosen. A place says of a slot what the
+/// message does that stands there.
 pub fn lawful_by_messages()
     ensures says { SayingsAreMessages }
+    ensures sent { SayingsAreSent }
     ensures lawful { LawfulByMessages }
 {}
 

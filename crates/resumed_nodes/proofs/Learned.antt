@@ -12,7 +12,8 @@ use Rattle.learner.specs.Calls.{IsLearned}
 use Rattle.learner.specs.Calls as learner
 use Rattle.learner.specs.Votes.{MajorityAccepted}
 use Rattle.lawful_histories.specs.Majorities.{MajorityOf}
-use Rattle.lawful_histories.specs.Messages.{accepted, decided, KeepsTheRules}
+use Rattle.lawful_histories.specs.Saying.{Accepted}
+use Rattle.lawful_histories.specs.Messages.{accepted, decided, Says, SaysBefore, KeepsTheRules}
 use Rattle.agreement_rules.specs.Views.{Config, HasPrefix}
 use Rattle.agreement_rules.specs.Calling.{learner_calls_of}
 use Rattle.agreement_rules.specs.Keeping.{record_of}
@@ -83,13 +84,17 @@ module _ (sent : List Message) where
 
   -- ---- what it learned a majority accepted
 
+  said_and_sent : (k slot a : ℕ) (ballot : Ballot) (value : Value) → Says sent k slot (Accepted a ballot value) → Contains sent (accepted a slot ballot value)
+  said_and_sent k slot a ballot value (m, (within, same), is) = subst (Contains sent) is (k, within, same)
+
   a_majority_accepted : (members : ℕ) (steps : List Step) (node slot : ℕ) (value : Value) → KeepsTheRules members sent → HasLearned members sent steps node slot value
       → (ballot : Ballot) × MajorityOf members (λ a. Contains sent (accepted a slot ballot value))
   a_majority_accepted members steps node slot value rules (inl (sender, has)) =
       let there = heard_was_sent steps node (decided sender slot value) has in
-      let chosen = rules.decided_was_chosen there.0 sender slot value (there.1, there.2) in (
+      let chosen = rules.decided_was_chosen there.0 slot value (decided sender slot value, (there.1, there.2), (sender, refl)) in (
         chosen.0,
-        majority_of members _ (λ a. Contains sent (accepted a slot chosen.0 value)) (λ a member said. (said.0, said.2.0, said.2.1)) chosen.1,
+        majority_of members (λ a. SaysBefore sent there.0 slot (Accepted a chosen.0 value)) (λ a. Contains sent (accepted a slot chosen.0 value))
+            (λ a member said. said_and_sent said.0 slot a chosen.0 value said.2) chosen.1,
       )
   a_majority_accepted members steps node slot value rules (inr (ballot, most)) = (
     ballot,

@@ -1,25 +1,27 @@
 -- What was told as decided, or shows a majority, was chosen.
-use Rattle.std.proofs.Common.{◌≡◌, ℕ, IsSomeAnd, List, refl, sym, subst}
+use Rattle.std.proofs.Common.{◌≡◌, ℕ, IsSomeAnd, List, sym, subst}
 use Rattle.std.specs.List.{Any}
 use Rattle.ballots.specs.Ballot.{Ballot}
 use Rattle.ballots.specs.declared.value.Value.{Value}
 use Rattle.ballots.specs.declared.message.Message.{Message}
 use Rattle.ballots.specs.declared.message.Body.{Body}
 use Rattle.ballots.specs.declared.message.Body.TheVariants as body
-use Rattle.lawful_histories.specs.Messages.{accepted, decided, SentBefore, KeepsTheRules}
+use Rattle.lawful_histories.specs.Saying.{Accepted, Decided}
+use Rattle.lawful_histories.specs.Messages.{SaysBefore, KeepsTheRules}
 use Rattle.run_breaches.specs.Earlier.{acceptance_in, Accepts, Decides, MostAccepted, WasChosen, ShowsChosen}
 use Rattle.run_breaches.proofs.Majorities.{most_weaker, some_of}
-use Rattle.run_breaches.proofs.Places.{any_there, found_as}
+use Rattle.run_breaches.proofs.Places.{found_says}
+use Rattle.run_breaches.proofs.Following.{as_accepted}
 use Rattle.run_breaches.proofs.Sendings.{decision_is}
 
 module _ (n s : ℕ) (before : List Message) (v : Value) where
   pub chosen_where_decided : KeepsTheRules n before → Any (Decides s v) before → WasChosen n s before v
   chosen_where_decided rules h =
       let e : Message = h.1 in
-      let it = rules.decided_was_chosen h.0 e.sender s v (found_as before (Decides s v) h (decided e.sender s v) (decision_is s v e h.4)) in (
+      let it = rules.decided_was_chosen h.0 s v (found_says before (Decides s v) h s (Decided v) (e.sender, decision_is s v e h.4)) in (
         it.0,
-        most_weaker n (λ a. SentBefore before h.0 (accepted a s it.0 v)) (λ a. Any (Accepts s it.0 v a) before) (λ a lt was.
-            any_there before (Accepts s it.0 v a) was.0 (accepted a s it.0 v) was.2 (refl, refl, (refl, refl))) it.1,
+        most_weaker n (λ a. SaysBefore before h.0 s (Accepted a it.0 v)) (λ a. Any (Accepts s it.0 v a) before) (λ a lt was.
+            as_accepted n s before it.0 v a was.0 was.2) it.1,
       )
 
   chosen_body : (x : Body) → IsSomeAnd (acceptance_in x) (λ p. (p.value ≡ v) × MostAccepted n s before p.ballot v) → WasChosen n s before v

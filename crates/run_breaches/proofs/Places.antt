@@ -3,7 +3,8 @@ use Rattle.std.proofs.Common.{◌≡◌, ℕ, ◌+◌, ◌<◌, ◌≤◌, List,
 use Rattle.std.specs.List.{All, Any}
 use Rattle.std.proofs.lemmas.List.{length_push, get_or_push, get_or_append_left, get_or_default}
 use Rattle.ballots.specs.declared.message.Message.{Message}
-use Rattle.lawful_histories.specs.Messages.{Sent, SentBefore}
+use Rattle.lawful_histories.specs.Saying.{Saying}
+use Rattle.lawful_histories.specs.Messages.{Sent, IsSaidBy, Says, SaysBefore}
 
 module _ (before : List Message) where
   -- the message in a place
@@ -20,9 +21,9 @@ module _ (before : List Message) where
   pub any_there : (P : Message → Type 0) (j : ℕ) (x : Message) → Sent before j x → P x → Any P before
   any_there P j x h p = (j, x, h.0, h.1, p)
 
-  -- what is found there, under another name
-  pub found_as : (P : Message → Type 0) (h : Any P before) (x : Message) → h.1 ≡ x → Sent before h.0 x
-  found_as P h x same = (h.2, subst (λ (y : Message). get_or before h.0 y ≡ y) same h.3)
+  -- what is found there says it
+  pub found_says : (P : Message → Type 0) (h : Any P before) (s : ℕ) (x : Saying) → IsSaidBy h.1 s x → Says before h.0 s x
+  found_says P h s x by = (h.1, (h.2, h.3), by)
 
   module _ (m : Message) where
     abbrev pub longer : List Message
@@ -47,15 +48,30 @@ module _ (before : List Message) where
     pub last_sent : Sent longer (length before) m
     last_sent = (omega (arith, longer_length), get_or_push before m m (length before) refl)
 
-    pub earlier : (j k : ℕ) (x y : Message) → j < k → length before ≤ k → Sent longer k x → Sent longer j y → Sent before j y
-    earlier j k x y lt le there here = let last = at_last k x le there in older j y (omega (arith, lt, last)) here
+    -- ---- and of what they say
 
-    -- what was sent before a place was sent before it still
-    pub still_before : (k : ℕ) (x : Message) → SentBefore before k x → SentBefore longer k x
-    still_before k x h = (h.0, h.1, newer h.0 x h.2)
+    pub older_says : (j s : ℕ) (x : Saying) → j < length before → Says longer j s x → Says before j s x
+    older_says j s x lt (y, h, by) = (y, older j y lt h, by)
 
-    pub before_last : (k j : ℕ) (x : Message) → length before ≤ k → Sent before j x → SentBefore longer k x
-    before_last k j x le h = (j, (let lt : j < length before = h.0 in omega (arith, le, lt)), newer j x h)
+    newer_says : (j s : ℕ) (x : Saying) → Says before j s x → Says longer j s x
+    newer_says j s x (y, h, by) = (y, newer j y h, by)
 
-    pub last_before : (x : Message) → SentBefore longer (length before) x → (j : ℕ) × Sent before j x
-    last_before x h = (h.0, older h.0 x h.1 h.2)
+    -- what is said in the last place, the last message says
+    pub last_by : (k s : ℕ) (x : Saying) → length before ≤ k → Says longer k s x → IsSaidBy m s x
+    last_by k s x le (y, h, by) = subst (λ (z : Message). IsSaidBy z s x) (sym (last_is k y le h)) by
+
+    pub last_says : (s : ℕ) (x : Saying) → IsSaidBy m s x → Says longer (length before) s x
+    last_says s x by = (m, last_sent, by)
+
+    pub earlier_says : (j k s t : ℕ) (x y : Saying) → j < k → length before ≤ k → Says longer k s x → Says longer j t y → Says before j t y
+    earlier_says j k s t x y lt le there here = let last = at_last k there.0 le there.1 in older_says j t y (omega (arith, lt, last)) here
+
+    -- what was said before a place was said before it still
+    pub still_before : (k s : ℕ) (x : Saying) → SaysBefore before k s x → SaysBefore longer k s x
+    still_before k s x h = (h.0, h.1, newer_says h.0 s x h.2)
+
+    pub before_last : (k j s : ℕ) (x : Saying) → length before ≤ k → Says before j s x → SaysBefore longer k s x
+    before_last k j s x le h = (j, (let lt : j < length before = h.1.0 in omega (arith, le, lt)), newer_says j s x h)
+
+    pub last_before : (s : ℕ) (x : Saying) → SaysBefore longer (length before) s x → (j : ℕ) × Says before j s x
+    last_before s x h = (h.0, older_says h.0 s x h.1 h.2)

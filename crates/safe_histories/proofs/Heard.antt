@@ -150,7 +150,7 @@ module _ (members : ℕ) (sent : List Message) (lawful : IsLawful members sent) 
     learned_is_chosen slot value (inl (sender, there)) =
         let m = decided sender slot value in
         let at = contains_from_in sent m (were_sent m (in_from_contains messages m there)) in
-        laws.decided members sent at.0 sender slot value lawful (at.1, at.2)
+        laws.decided members sent at.0 slot value lawful (m, (at.1, at.2), (sender, refl))
     learned_is_chosen slot value (inr (ballot, most)) = (
       ballot,
       record {
