@@ -17,7 +17,7 @@ from toolbox import show_help
 from wire_model import Faults, bytes_field, file_of, number_field, put, rows, split, varint
 
 DATA = Path(__file__).resolve().parent.parent / "crates" / "paxos_stories" / "data"
-MAX_NODE, MAX_SLOT, MAX_ROUND = 6, 999_999, 4_000_000_000
+MAX_NODE, MAX_SLOT, MAX_ROUND, MAX_VALUE = 6, 999_999, 4_000_000_000, 16 * 1024 * 1024
 KINDS = ["", "Prepare", "Promise", "Nack", "Accept", "Accepted", "Ask", "Decided"]
 
 
@@ -34,7 +34,8 @@ def shown_value(value):
 MESSAGE = {1: "kind", 2: "sender", 3: "slot", 5: "round", 6: "node", 7: "second round", 8: "second node", 9: "value"}
 RECORD = {1: "kind", 2: "slot", 3: "round", 4: "node", 5: "value"}
 LIMITS = {"sender": (0, MAX_NODE), "slot": (0, MAX_SLOT), "round": (1, MAX_ROUND), "node": (0, MAX_NODE)}
-LIMITS |= {"second round": (1, MAX_ROUND), "second node": (0, MAX_NODE)}
+# Of a value, how many bytes it may have.
+LIMITS |= {"second round": (1, MAX_ROUND), "second node": (0, MAX_NODE), "value": (0, MAX_VALUE)}
 HEAD, FIRST, SECOND = ["sender", "slot"], ["round", "node"], ["second round", "second node"]
 IN_MESSAGE = {1: FIRST, 2: FIRST, 3: FIRST + SECOND, 4: FIRST + ["value"], 5: FIRST + ["value"], 6: [], 7: ["value"]}
 IN_RECORD = {1: FIRST, 2: ["slot", *FIRST], 3: ["slot", *FIRST, "value"]}
@@ -64,9 +65,10 @@ def faults_in(parts, names):
     """What is wrong with these parts."""
     faults = set()
     for name in names:
-        if parts[name] is None:
+        part = len(parts[name]) if isinstance(parts[name], bytes) else parts[name]
+        if part is None:
             faults.add("BadWireType")
-        elif name != "value" and not LIMITS[name][0] <= parts[name] <= LIMITS[name][1]:
+        elif not LIMITS[name][0] <= part <= LIMITS[name][1]:
             faults.add("OutOfRange")
     return faults
 
